@@ -1,0 +1,14 @@
+pub mod Lists
+pub mod Rows
+pub mod Legal
+pub mod Tests
+pub mod Leaves
+pub mod Order
+pub mod Sorted
+pub mod Walks
+pub mod Shown
+pub mod Adds
+pub mod Writes
+pub mod Drafts
+pub mod Laws
+pub mod WorkedRows

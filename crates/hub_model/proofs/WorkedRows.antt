@@ -1,0 +1,38 @@
+-- Worked rows: what the definitions say of some small journals and logs.
+use Rattle.std.proofs.Common.{◌≡◌, ℕ, List, [], ◌∷◌, false, refl}
+use Rattle.std.specs.Prelude.{Option, Some, None, codes}
+use Rattle.hub_model.specs.Revision.{Revision}
+use Rattle.hub_model.specs.Journal.{Edit}
+use Rattle.hub_model.specs.Walk.{shown}
+use Rattle.hub_model.specs.Missing.{Asked, possible_ancestors, wanted}
+
+abbrev r : ℕ → List ℕ → Revision
+r n h = record { generation = n; hash = h }
+
+abbrev doc : List ℕ → List Revision → Edit
+doc id path = record { id = id; path = path; deleted = false; body = codes "{}" }
+
+-- a, b, then a again
+abbrev two : List Edit
+two = doc (codes "a") (r 1 (codes "a") ∷ []) ∷ doc (codes "b") (r 1 (codes "b") ∷ []) ∷ doc (codes "a") (r 2 (codes "c") ∷ r 1 (codes "a") ∷ []) ∷ []
+
+abbrev asked : List ℕ → List Revision → Asked
+asked id revs = record { id = id; revs = revs }
+
+-- what is missing of a, b and an unknown document
+missing_rows : wanted two (asked (codes "a") (r 1 (codes "a") ∷ r 2 (codes "d") ∷ r 3 (codes "e") ∷ []) ∷ asked (codes "b") (r 1 (codes "b") ∷ []) ∷ asked (codes "z") (r 1 (codes "q") ∷ []) ∷ [])
+    ≡ asked (codes "a") (r 2 (codes "d") ∷ r 3 (codes "e") ∷ []) ∷ asked (codes "z") (r 1 (codes "q") ∷ []) ∷ []
+missing_rows = refl
+
+ancestors_row : possible_ancestors two (codes "a") (r 1 (codes "a") ∷ r 2 (codes "d") ∷ r 3 (codes "e") ∷ []) ≡ r 2 (codes "c") ∷ []
+ancestors_row = refl
+
+-- an ancestor with a body, a leaf with its history, and an unknown revision
+shown_ancestor : shown two (codes "a") (r 1 (codes "a")) ≡ Some (doc (codes "a") (r 1 (codes "a") ∷ []))
+shown_ancestor = refl
+
+shown_leaf : shown two (codes "a") (r 2 (codes "c")) ≡ Some (doc (codes "a") (r 2 (codes "c") ∷ r 1 (codes "a") ∷ []))
+shown_leaf = refl
+
+shown_unknown : shown two (codes "a") (r 9 (codes "z")) ≡ None
+shown_unknown = refl

@@ -1,0 +1,81 @@
+-- An edit whose revision the database makes (CouchDB API reference, PUT and DELETE of a document, _bulk_docs).
+use Rattle.std.specs.Prelude.{◌≡◌, ◌⊎◌, ◌≤◌, ◌<◌, length, ℕ, ◌+◌, List, [], ◌∷◌, ◌++◌, Bool, true, false, if◌then◌else◌, nat_le, Option, Some, None, codes}
+use Rattle.md5.specs.Md5.{md5}
+use Rattle.hex.specs.Hex.{encode_lower}
+use Rattle.json.specs.Print.{quoted}
+use Rattle.hub_model.specs.Revision.{Revision, text_of}
+use Rattle.hub_model.specs.Path.{IsFirst, names}
+use Rattle.hub_model.specs.Journal.{Edit, IsKnown, is_known}
+use Rattle.hub_model.specs.Leaves.{IsLeaf, IsMarked, IsWinner, Leaf, leaves_of, revisions_of}
+use Rattle.hub_model.specs.Walk.{IsWalk, line_of}
+use Rattle.hub_model.specs.declared.outcomes.Fault.TheVariants.{Conflict, GenerationLimit, SequenceFull}
+use Rattle.hub_model.specs.declared.outcomes.Outcome.{Outcome}
+use Rattle.hub_model.specs.declared.outcomes.Outcome.TheVariants.{Stored, Known, Refused}
+use Rattle.hub_model.specs.Outcome.{Stores, refuses, adds}
+
+-- an edit before its revision is made. rev names the leaf that it extends
+pub record Draft : Type 0 where
+  pub id : List ℕ
+  pub rev : Option Revision
+  pub deleted : Bool
+  pub body : List ℕ
+
+-- The path that a draft extends, if there is one: the named leaf's; without a name none for an unknown document,
+-- and else a deleted winner's.
+abbrev pub extended : List Edit → List ℕ → List Leaf → Option Revision → Option (List Revision)
+extended J id leaves (Some rev) = if names (revisions_of leaves) rev then Some (line_of J id rev) else None
+extended J id [] None = Some []
+extended J id (winner ∷ others) None = if winner.edit.deleted then Some (line_of J id winner.rev) else None
+
+-- the JSON text of a truth value
+abbrev pub bool_text : Bool → List ℕ
+bool_text false = codes "false"
+bool_text true = codes "true"
+
+-- the JSON text of the revision that is extended
+abbrev pub parent_text : List Revision → List ℕ
+parent_text [] = codes "null"
+parent_text (r ∷ older) = quoted (text_of r)
+
+-- `[deleted,parent,id,body]`, which this project hashes
+abbrev pub draft_text : Draft → List Revision → List ℕ
+draft_text d path = codes "[" ++ bool_text d.deleted ++ codes "," ++ parent_text path ++ codes "," ++ quoted d.id ++ codes "," ++ d.body ++ codes "]"
+
+-- the generation of the revision that is extended, 0 where there is none
+abbrev pub generation_of : List Revision → ℕ
+generation_of [] = 0
+generation_of (r ∷ older) = r.generation
+
+-- the draft's revision where it extends the path
+abbrev pub made : Draft → List Revision → Revision
+made d path = record { generation = generation_of path + 1; hash = encode_lower (md5 (draft_text d path)) }
+
+-- the edit that a draft becomes
+abbrev pub edit_of : Draft → List Revision → Edit
+edit_of d path = record { id = d.id; path = made d path ∷ path; deleted = d.deleted; body = d.body }
+
+-- what storing it answers where it extends this path
+abbrev pub makes_on : ℕ → List Edit → Draft → Option (List Revision) → Stores
+makes_on limit J d None = refuses J Conflict
+makes_on limit J d (Some path) =
+    if nat_le 65535 (generation_of path) then refuses J GenerationLimit
+    else if is_known J d.id (made d path) then refuses J Conflict
+    else adds limit J (edit_of d path)
+
+-- what storing it answers, and the journal after it
+abbrev pub makes : ℕ → List Edit → Draft → Stores
+makes limit J d = makes_on limit J d (extended J d.id (leaves_of J d.id) d.rev)
+
+-- path is what a draft that names this revision extends, or one that names none
+abbrev pub Extends : List Edit → List ℕ → Option Revision → List Revision → Type 0
+Extends J id (Some r) path = IsLeaf J id r × IsFirst path r × IsWalk J id path
+Extends J id None path = (((r : Revision) → ¬ IsKnown J id r) × (path ≡ [])) ⊎ ((r : Revision) × IsWinner J id r × IsMarked J id r true × IsFirst path r × IsWalk J id path)
+
+-- storing a draft as a relation: after J it may come out so and leave the journal so
+abbrev pub Makes : ℕ → List Edit → Draft → Outcome Revision → List Edit → Type 0
+Makes limit J d (Stored r) new = (path : List Revision) × Extends J d.id d.rev path × (generation_of path < 65535) × (r ≡ made d path) × (¬ IsKnown J d.id r) × (length J < limit) × (new ≡ J ++ edit_of d path ∷ [])
+Makes limit J d Known new = ⊥
+Makes limit J d (Refused Conflict) new = (((path : List Revision) → ¬ Extends J d.id d.rev path) ⊎ ((path : List Revision) × Extends J d.id d.rev path × (generation_of path < 65535) × IsKnown J d.id (made d path))) × (new ≡ J)
+Makes limit J d (Refused GenerationLimit) new = (path : List Revision) × Extends J d.id d.rev path × (65535 ≤ generation_of path) × (new ≡ J)
+Makes limit J d (Refused SequenceFull) new = (path : List Revision) × Extends J d.id d.rev path × (generation_of path < 65535) × (¬ IsKnown J d.id (made d path)) × (limit ≤ length J) × (new ≡ J)
+Makes limit J d (Refused _) new = ⊥

@@ -1,0 +1,11 @@
+pub mod Revision
+pub mod Path
+pub mod Journal
+pub mod Leaves
+pub mod Walk
+pub mod Current
+pub mod Row
+pub mod Outcome
+pub mod Draft
+pub mod Missing
+pub mod Laws

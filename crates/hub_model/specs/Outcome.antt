@@ -1,0 +1,63 @@
+-- What storing documents one after the other answers, and the journal after it (CouchDB API reference, _bulk_docs).
+use Rattle.std.specs.Prelude.{◌≡◌, ℕ, ◌≤◌, ◌<◌, List, [], ◌∷◌, ◌++◌, length, Bool, true, false, if◌then◌else◌, nat_le, unwrap_or}
+use Rattle.hub_model.specs.declared.outcomes.Fault.{Fault}
+use Rattle.hub_model.specs.declared.outcomes.Fault.TheVariants.{Deleted, Contradicts, SequenceFull}
+use Rattle.hub_model.specs.declared.outcomes.Outcome.{Outcome}
+use Rattle.hub_model.specs.declared.outcomes.Outcome.TheVariants.{Stored, Known, Refused}
+use Rattle.hub_model.specs.Revision.{Revision}
+use Rattle.hub_model.specs.Journal.{Edit, IsHead, IsKnown, IsAcceptable, head_of, is_head_known, is_acceptable}
+
+-- what storing one document answers, and the journal after it
+pub record Stores : Type 0 where
+  pub outcome : Outcome Revision
+  pub journal : List Edit
+
+-- the document is refused, and the journal stays
+abbrev pub refuses : List Edit → Fault → Stores
+refuses J fault = record { outcome = Refused fault; journal = J }
+
+-- the edit is added, where the journal has less than `limit` edits
+abbrev pub adds : ℕ → List Edit → Edit → Stores
+adds limit J e =
+    if nat_le limit (length J) then refuses J SequenceFull
+    else record { outcome = Stored (unwrap_or (head_of e) (record { generation = 0; hash = [] })); journal = J ++ e ∷ [] }
+
+-- an edit with its history, as a replicator sends it (new_edits=false)
+abbrev pub merges : ℕ → List Edit → Edit → Stores
+merges limit J e =
+    if is_head_known J e.id e.path then record { outcome = Known; journal = J }
+    else if is_acceptable J e then adds limit J e
+    else refuses J Contradicts
+
+-- the same as a relation: after J the edit may come out so and leave the journal so
+abbrev pub Takes : ℕ → List Edit → Edit → Outcome Revision → List Edit → Type 0
+Takes limit J e (Stored r) new = IsAcceptable J e × (length J < limit) × (new ≡ J ++ e ∷ []) × IsHead e r
+Takes limit J e Known new = (r : Revision) × IsHead e r × IsKnown J e.id r × (new ≡ J)
+Takes limit J e (Refused Contradicts) new = ((r : Revision) → IsHead e r → ¬ IsKnown J e.id r) × (¬ IsAcceptable J e) × (new ≡ J)
+Takes limit J e (Refused SequenceFull) new = IsAcceptable J e × (limit ≤ length J) × (new ≡ J)
+Takes limit J e (Refused _) new = ⊥
+
+-- one after the other
+abbrev pub TakesAll : ℕ → List Edit → List Edit → List (Outcome Revision) → List Edit → Type 0
+TakesAll limit J [] [] new = new ≡ J
+TakesAll limit J [] (o ∷ os) new = ⊥
+TakesAll limit J (e ∷ es) [] new = ⊥
+TakesAll limit J (e ∷ es) (o ∷ os) new = (mid : List Edit) × Takes limit J e o mid × TakesAll limit mid es os new
+
+-- what storing several answers, and the journal after them
+pub record StoresAll : Type 0 where
+  pub outcomes : List (Outcome Revision)
+  pub journal : List Edit
+
+-- documents one after the other, by this way of storing one, on a database that stands or was deleted
+abbrev pub stores_all : {A : Type 0} → (List Edit → A → Stores) → Bool → List Edit → List A → StoresAll
+stores_all store deleted J [] = record { outcomes = []; journal = J }
+stores_all store true J (x ∷ xs) = record { outcomes = Refused Deleted ∷ (stores_all store true J xs).outcomes; journal = J }
+stores_all store false J (x ∷ xs) =
+    let here = store J x in
+    let rest = stores_all store false here.journal xs in
+    record { outcomes = here.outcome ∷ rest.outcomes; journal = rest.journal }
+
+-- edits with their histories, one after the other
+abbrev pub merges_all : ℕ → List Edit → List Edit → StoresAll
+merges_all limit J edits = stores_all (merges limit) false J edits

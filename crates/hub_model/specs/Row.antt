@@ -1,0 +1,48 @@
+-- What a row of changes shows (CouchDB API reference, _changes with style and include_docs).
+use Rattle.std.specs.Prelude.{◌≡◌, ℕ, List, [], ◌∷◌, length, take, Contains, Bool, true, false, Option, Some, None}
+use Rattle.hub_model.specs.declared.feeds.Style.{Style}
+use Rattle.hub_model.specs.declared.feeds.Style.TheVariants.{MainOnly, AllDocs}
+use Rattle.hub_model.specs.Revision.{Revision}
+use Rattle.hub_model.specs.Journal.{Edit}
+use Rattle.hub_model.specs.Leaves.{Leaf, leaves_of, revisions_of}
+use Rattle.hub_model.specs.Current.{Current, current}
+
+-- seen is how many edits there were when the row was made
+pub record ChangeRow : Type 0 where
+  pub seq : ℕ
+  pub id : List ℕ
+  pub changes : List Revision
+  pub deleted : Bool
+  pub doc : Option Edit
+  pub seen : ℕ
+
+-- of leaves best first, the revisions that a row lists
+abbrev pub changes_of : Style → List Leaf → List Revision
+changes_of MainOnly leaves = take 1 (revisions_of leaves)
+changes_of AllDocs leaves = revisions_of leaves
+
+-- whether the winner is deleted
+abbrev pub is_deleted : List Leaf → Bool
+is_deleted [] = false
+is_deleted (winner ∷ others) = winner.edit.deleted
+
+-- the winner's document, where it is asked for
+abbrev pub doc_of : Bool → List Leaf → Option Edit
+doc_of false leaves = None
+doc_of true [] = None
+doc_of true (winner ∷ others) = Some winner.edit
+
+-- a current row as it is shown while J is the journal
+abbrev pub row_of : List Edit → Style → Bool → Current → ChangeRow
+row_of J style include_docs c = record {
+  seq = c.seq;
+  id = c.id;
+  changes = changes_of style (leaves_of J c.id);
+  deleted = is_deleted (leaves_of J c.id);
+  doc = doc_of include_docs (leaves_of J c.id);
+  seen = length J;
+}
+
+-- the row is a current one, as it is shown while J is the journal
+abbrev pub IsRow : List Edit → Style → Bool → ChangeRow → Type 0
+IsRow J style include_docs row = (c : Current) × Contains (current J) c × (row ≡ row_of J style include_docs c)

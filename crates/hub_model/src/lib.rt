@@ -1,0 +1,52 @@
+//! The definitions that every crate's contracts speak of (`specs/`), the words that code and
+//! definitions share, and the laws that tie the definitions to one another. Each law is the
+//! contract of a function that does nothing.
+#![tactic(auto)]
+
+ghost use Rattle.hub_model.specs.Laws.{KnownIsTested, HistoryIsTested, AcceptableIsTested, LeavesAreListed, LeavesHaveEdits, WinnerIsFirst, LineIsWalk, ShownIsRight, NoneIsShown, RowsAreCurrent, RowsRise, MergesTake, MergesTakeAll, MergesStayLegal, DraftsStayLegal, DraftsExtend, DraftsTake, KnownHasLeaf, MissingIsUnknown};
+
+mod feeds;
+mod outcomes;
+
+pub use feeds::{Item, Mode, Style};
+pub use outcomes::{Fault, Outcome};
+
+/// The tests of what is known, of histories and of what may be stored are right.
+pub fn tests_decide()
+    ensures known { KnownIsTested }
+    ensures history { HistoryIsTested }
+    ensures acceptable { AcceptableIsTested }
+    ensures missing { MissingIsUnknown }
+{}
+
+/// The leaves of a document are its known revisions behind none, each once, best first, and the
+/// first of them is its winner.
+pub fn leaves_are_listed()
+    ensures listed { LeavesAreListed }
+    ensures edits { LeavesHaveEdits }
+    ensures winner { WinnerIsFirst }
+    ensures some { KnownHasLeaf }
+{}
+
+/// What is shown of a revision is all that stands behind it, its mark and its body.
+pub fn showing()
+    ensures line { LineIsWalk }
+    ensures right { ShownIsRight }
+    ensures none { NoneIsShown }
+{}
+
+/// The current rows are the entries that no later one of their document follows, rising.
+pub fn current_rows()
+    ensures entries { RowsAreCurrent }
+    ensures rise { RowsRise }
+{}
+
+/// Storing edits is what its relation allows, and a legal journal stays legal.
+pub fn storing()
+    ensures one { MergesTake }
+    ensures all { MergesTakeAll }
+    ensures merged { MergesStayLegal }
+    ensures drafted { DraftsStayLegal }
+    ensures extended { DraftsExtend }
+    ensures drafts { DraftsTake }
+{}
