@@ -1,0 +1,3 @@
+mod PathLemmas
+mod RevisionLemmas
+mod TextLemmas

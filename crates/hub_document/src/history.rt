@@ -1,0 +1,115 @@
+//! The revision and the history that a document's members name.
+
+ghost use Rattle.std.specs.Prelude.{◌≡◌, IfOk, option_map};
+ghost use Rattle.serde_json.specs.View.{view, items_view};
+ghost use Rattle.hub_document.specs.Members.{rev_of as rev_in, falling, history_in, is_head as is_head_of, alone as alone_of, path_of as path_in};
+
+use crate::path::Path;
+use crate::revision::RevId;
+use serde_json::Value;
+use std::alloc::{AllocError, Global};
+
+pub(crate) fn rev_of(value: &Value, new_edits: bool) -> Option<Option<RevId>>
+    ensures { result ≡ rev_in new_edits (view value.now) }
+{
+    let Some(rev) = value.get("_rev") else {
+        if new_edits || value.get("_revisions").is_some() {
+            return Some(None);
+        }
+        return None;
+    };
+    let text = rev.as_str()?;
+    let rev = RevId::read(text)?;
+    Some(Some(rev))
+}
+
+fn falling_from(
+    alloc: Global,
+    start: u16,
+    ids: &Vec<Value>,
+) -> Result<Option<Vec<RevId>>, AllocError>
+    ensures { IfOk result (λ o. option_map (λ v. v.items) o
+        ≡ falling start (items_view ids.now.items)) }
+{
+    let mut revisions = Vec::new(alloc);
+    let mut left = start;
+    for id in ids {
+        if left == 0 {
+            return Ok(None);
+        }
+        let Some(hash) = id.as_str() else {
+            return Ok(None);
+        };
+        let Some(rev) = RevId::from_parts(left, hash.as_bytes()) else {
+            return Ok(None);
+        };
+        revisions.push(rev)?;
+        left -= 1;
+    }
+    if left == 0 {
+        Ok(Some(revisions))
+    } else {
+        Ok(None)
+    }
+}
+
+fn history_of(alloc: Global, value: &Value) -> Result<Option<Vec<RevId>>, AllocError>
+    ensures { IfOk result (λ o. option_map (λ v. v.items) o ≡ history_in (view value.now)) }
+{
+    let Some(start) = value.get("start").and_then(Value::as_u64) else {
+        return Ok(None);
+    };
+    let Some(ids) = value.get("ids").and_then(Value::as_array) else {
+        return Ok(None);
+    };
+    if start == 0 || start > 65535 {
+        return Ok(None);
+    }
+    falling_from(alloc, start as u16, ids)
+}
+
+fn is_head(rev: Option<RevId>, revisions: &[RevId]) -> bool
+    ensures { result ≡ is_head_of rev revisions.now }
+{
+    let Some(r) = rev else {
+        return true;
+    };
+    match revisions {
+        [] => false,
+        [s, ..] => r.generation() == s.generation() && r.hash() == s.hash(),
+    }
+}
+
+fn alone(alloc: Global, rev: Option<RevId>) -> Result<Option<Path>, AllocError>
+    ensures { IfOk result (λ o. o ≡ alone_of rev) }
+{
+    let Some(r) = rev else {
+        return Ok(None);
+    };
+    if r.generation() != 1 {
+        return Ok(None);
+    }
+    let mut revisions = Vec::new(alloc);
+    revisions.push(r)?;
+    Ok(Some(Path::new(revisions)))
+}
+
+pub(crate) fn path_of(
+    alloc: Global,
+    rev: Option<RevId>,
+    value: &Value,
+) -> Result<Option<Path>, AllocError>
+    ensures { IfOk result (λ o. o ≡ path_in rev (view value.now)) }
+{
+    let Some(history) = value.get("_revisions") else {
+        return alone(alloc, rev);
+    };
+    let Some(revisions) = history_of(alloc, history)? else {
+        return Ok(None);
+    };
+    if is_head(rev, revisions.as_slice()) {
+        Ok(Some(Path::new(revisions)))
+    } else {
+        Ok(None)
+    }
+}

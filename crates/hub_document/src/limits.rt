@@ -1,0 +1,48 @@
+//! How much a hub holds and reads.
+
+ghost use Rattle.hub_document.specs.Limited.{IsLimited};
+
+/// The limits of a hub. Tests lower them; none may be 0 or above its number in `Limits::full`.
+#[derive(Clone, Copy, Debug, PartialEq, Eq)]
+pub struct Limits {
+    /// The bytes of a request's body: 8,388,608.
+    pub body: u64,
+    /// The bytes of a request's head: 16,384.
+    pub head: u64,
+    /// The header fields of a request: 64.
+    pub headers: u64,
+    /// The databases of a hub: 256.
+    pub databases: u64,
+    /// The feeds of a database that are not finished: 1,024.
+    pub feeds: u64,
+    /// The items that wait for a feed's subscriber: 64.
+    pub lane: u64,
+    /// The items that a feed is handed in one holding of the lock: 64.
+    pub hold: u64,
+    /// The edits of a database: 4,294,967,295.
+    pub journal: u64,
+    /// The entries of a replication log's history: 50.
+    pub history: u64,
+    ghost limited: { IsLimited body head headers databases feeds lane hold journal history },
+}
+
+impl Limits {
+    ghost use Rattle.hub_document.specs.Profile.{IsProfile};
+
+    /// The limits of a hub that serves.
+    pub fn full() -> Limits
+        ensures { IsProfile result }
+    {
+        Limits {
+            body: 8_388_608,
+            head: 16_384,
+            headers: 64,
+            databases: 256,
+            feeds: 1_024,
+            lane: 64,
+            hold: 64,
+            journal: 4_294_967_295,
+            history: 50,
+        }
+    }
+}

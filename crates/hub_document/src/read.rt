@@ -1,0 +1,163 @@
+//! Documents from JSON texts and values.
+
+ghost use Rattle.std.specs.Prelude.{◌≡◌, ◌⊎◌, IfOk, IfErr, Ok, Err, Some, None, false};
+ghost use Rattle.serde_json.specs.View.{view, members_view};
+ghost use Rattle.hub_document.specs.Read.{with_path as path_gives, with_rev as rev_gives, with_id as id_gives, document_of, history_of as history_in, doc_of, doc_in, json_of};
+ghost use Rattle.hub_document.specs.Members.{deleted_of};
+ghost use Rattle.serde_json.specs.Written.{members_have_float as members_have_float_in};
+
+use crate::body::body_of;
+use crate::doc::{Doc, DocFault};
+use crate::doc_id::DocId;
+use crate::history::{path_of, rev_of};
+use crate::members::{are_good_members, id_of, is_deleted, members_have_float};
+use crate::path::Path;
+use crate::revision::RevId;
+use serde_json::{Map, Value};
+use std::alloc::{AllocError, Global};
+
+type History = (Option<RevId>, Option<Path>);
+
+fn history_of(
+    alloc: Global,
+    new_edits: bool,
+    rev: Option<RevId>,
+    value: &Value,
+) -> Result<Option<History>, AllocError>
+    ensures { IfOk result (λ o. o ≡ history_in new_edits rev (view value.now)) }
+{
+    if new_edits {
+        return Ok(Some((rev, None)));
+    }
+    let Some(path) = path_of(alloc, rev, value)? else {
+        return Ok(None);
+    };
+    let head = path.head();
+    Ok(Some((Some(head), Some(path))))
+}
+
+fn with_path(
+    alloc: Global,
+    value: &Value,
+    members: &Map<String, Value>,
+    id: &str,
+    rev: Option<RevId>,
+    path: Option<Path>,
+) -> Result<Doc, DocFault>
+    requires { members_have_float_in (members_view members.now.entries) ≡ false }
+    ensures ok { IfOk result (λ d. path_gives (view value.now) (members_view members.now.entries) id.now rev path ≡ Ok d) }
+    ensures err { IfErr result (λ e. (e ≡ DocFault.NoMemory)
+        ⊎ (path_gives (view value.now) (members_view members.now.entries) id.now rev path ≡ Err e)) }
+{
+    if !are_good_members(members) {
+        return Err(DocFault::BadMember);
+    }
+    if id.len() > 512 {
+        return Err(DocFault::TooLong);
+    }
+    let id = DocId::copied(alloc, id)?;
+    let body = body_of(alloc, members)?;
+    let deleted = is_deleted(value);
+    Ok(Doc {
+        id,
+        rev,
+        path,
+        deleted,
+        body,
+    })
+}
+
+fn with_rev(
+    alloc: Global,
+    new_edits: bool,
+    value: &Value,
+    members: &Map<String, Value>,
+    id: &str,
+    rev: Option<RevId>,
+) -> Result<Doc, DocFault>
+    requires { members_have_float_in (members_view members.now.entries) ≡ false }
+    ensures ok { IfOk result (λ d. rev_gives new_edits (view value.now) (members_view members.now.entries) id.now rev ≡ Ok d) }
+    ensures err { IfErr result (λ e. (e ≡ DocFault.NoMemory)
+        ⊎ (rev_gives new_edits (view value.now) (members_view members.now.entries) id.now rev ≡ Err e)) }
+{
+    let Some((head, path)) = history_of(alloc, new_edits, rev, value)? else {
+        return Err(DocFault::BadRevisions);
+    };
+    with_path(alloc, value, members, id, head, path)
+}
+
+fn with_id(
+    alloc: Global,
+    new_edits: bool,
+    value: &Value,
+    members: &Map<String, Value>,
+    id: &str,
+) -> Result<Doc, DocFault>
+    requires { members_have_float_in (members_view members.now.entries) ≡ false }
+    ensures ok { IfOk result (λ d. id_gives new_edits (view value.now) (members_view members.now.entries) id.now ≡ Ok d) }
+    ensures err { IfErr result (λ e. (e ≡ DocFault.NoMemory)
+        ⊎ (id_gives new_edits (view value.now) (members_view members.now.entries) id.now ≡ Err e)) }
+{
+    let Some(rev) = rev_of(value, new_edits) else {
+        return Err(DocFault::BadRev);
+    };
+    with_rev(alloc, new_edits, value, members, id, rev)
+}
+
+fn document_from(
+    alloc: Global,
+    new_edits: bool,
+    value: &Value,
+    members: &Map<String, Value>,
+) -> Result<Doc, DocFault>
+    ensures ok { IfOk result (λ d. document_of new_edits (view value.now) (members_view members.now.entries) ≡ Ok d) }
+    ensures err { IfErr result (λ e. (e ≡ DocFault.NoMemory)
+        ⊎ (document_of new_edits (view value.now) (members_view members.now.entries) ≡ Err e)) }
+{
+    if members_have_float(members) {
+        return Err(DocFault::BadNumber);
+    }
+    let Some(id) = id_of(value) else {
+        return Err(DocFault::BadId);
+    };
+    with_id(alloc, new_edits, value, members, id)
+}
+
+impl Doc {
+    pub fn of_value(alloc: Global, value: &Value, new_edits: bool) -> Result<Doc, DocFault>
+        ensures ok { IfOk result (λ d. doc_of new_edits (view value.now) ≡ Ok d) }
+        ensures err { IfErr result (λ e. (e ≡ DocFault.NoMemory)
+            ⊎ (doc_of new_edits (view value.now) ≡ Err e)) }
+    {
+        let Some(members) = value.as_object() else {
+            return Err(DocFault::NotObject);
+        };
+        document_from(alloc, new_edits, value, members)
+    }
+
+    pub fn read(alloc: Global, bytes: &[u8], new_edits: bool) -> Result<Doc, DocFault>
+        ensures ok { IfOk result (λ d. doc_in new_edits bytes.now ≡ Ok d) }
+        ensures err { IfErr result (λ e. (e ≡ DocFault.NoMemory)
+            ⊎ (doc_in new_edits bytes.now ≡ Err e)) }
+    {
+        let value = parsed(alloc, bytes)?;
+        Doc::of_value(alloc, &value, new_edits)
+    }
+}
+
+fn parsed(alloc: Global, bytes: &[u8]) -> Result<Value, DocFault>
+    ensures ok { IfOk result (λ v. json_of bytes.now ≡ Some (view v)) }
+    ensures err { IfErr result (λ e. (e ≡ DocFault.NoMemory)
+        ⊎ ((e ≡ DocFault.NotJson) × (json_of bytes.now ≡ None))) }
+{
+    match Value::from_slice(alloc, bytes) {
+        Ok(value) => Ok(value),
+        Err(e) => {
+            if e.is_memory() {
+                Err(DocFault::NoMemory)
+            } else {
+                Err(DocFault::NotJson)
+            }
+        }
+    }
+}

@@ -1,0 +1,138 @@
+ghost use Rattle.std.specs.Prelude.{◌≡◌, ◌≤◌, ◌-◌, ◌<◌, ◌^◌, ◌++◌, length, replicate, option_map, IfSome, OnOk, OnErr};
+ghost use Rattle.std.specs.List.{list_all};
+ghost use Rattle.hub_model.specs.Revision.{IsRevision, text_of, is_hash_byte as is_letter};
+ghost use Rattle.hub_document.specs.RevText.{number_of, is_hash as is_hash_text, with_hash, revision_of};
+
+use itoa::Buffer;
+use std::alloc::AllocError;
+use std::marker::Model;
+
+/// A revision id, `N-H`: the generation, 1 to 65,535, and a hash of 1 to 64 letters and digits.
+#[derive(Clone, Copy, Debug, PartialEq, Eq)]
+pub struct RevId {
+    number: u16,
+    len: u8,
+    bytes: [u8; 64],
+}
+
+impl Model for RevId {
+    ghost use Rattle.hub_model.specs.Revision.{Revision};
+
+    ghost Value = { Revision };
+
+    ghost use Rattle.hub_document.specs.Fields.{IsLaidOut};
+    ghost use Rattle.hub_document.specs.Inside.{fields_of, revision_in, fields_of-revision_in};
+
+    ghost view = { revision_in };
+
+    ghost invariant = { λ r. IsLaidOut r.number r.len r.bytes };
+
+    ghost inverse = { fields_of };
+
+    ghost inverse_ok = { fields_of-revision_in };
+}
+
+impl RevId {
+    pub fn generation(&self) -> u16
+        ensures value { result ≡ self.now.generation }
+        ensures good { IsRevision self.now }
+    {
+        self.number
+    }
+
+    pub fn hash(&self) -> &[u8]
+        ensures { result.now ≡ self.now.hash }
+    {
+        &self.bytes[..self.len as usize]
+    }
+}
+
+// The generation, and what stands past its dash.
+fn read_number(bytes: &[u8]) -> Option<(u16, &[u8])>
+    ensures value { option_map (λ p. (p.0, p.1.now)) result ≡ number_of 0 bytes.now }
+    ensures from_one { IfSome result (λ p. 1 ≤ p.0) }
+{
+    let mut number: u32 = 0;
+    for (at, byte) in bytes.iter().enumerate() {
+        if *byte == b'-' {
+            if number == 0 {
+                return None;
+            }
+            return Some((number as u16, &bytes[at + 1..]));
+        }
+        if *byte < b'0' || *byte > b'9' {
+            return None;
+        }
+        number = 10 * number + u32::from(*byte - b'0');
+        if number == 0 || number > 65535 {
+            return None;
+        }
+    }
+    None
+}
+
+fn is_hash_byte(b: u8) -> bool
+    ensures { result ≡ is_letter b }
+{
+    (b >= b'0' && b <= b'9') || (b >= b'A' && b <= b'Z') || (b >= b'a' && b <= b'z')
+}
+
+fn are_letters(bytes: &[u8]) -> bool
+    ensures { result ≡ list_all is_letter bytes.now }
+{
+    bytes.iter().all(|b| is_hash_byte(*b))
+}
+
+fn is_hash(bytes: &[u8]) -> bool
+    ensures { result ≡ is_hash_text bytes.now }
+{
+    1 <= bytes.len() && bytes.len() <= 64 && are_letters(bytes)
+}
+
+// The hash, and zeros after it.
+fn padded(hash: &[u8]) -> [u8; 64]
+    requires { length hash.now ≤ 64 }
+    ensures { result ≡ hash.now ++ replicate (64 - length hash.now) 0 }
+{
+    let mut kept = [0u8; 64];
+    kept[..hash.len()].copy_from_slice(hash);
+    kept
+}
+
+impl RevId {
+    pub fn read(text: &str) -> Option<RevId>
+        ensures value { result ≡ revision_of text.now }
+        ensures text { IfSome result (λ r. text_of r ≡ text.now) }
+    {
+        let bytes = text.as_bytes();
+        let (number, hash) = read_number(bytes)?;
+        RevId::from_parts(number, hash)
+    }
+
+    pub fn from_parts(generation: u16, hash: &[u8]) -> Option<RevId>
+        requires { 1 ≤ generation }
+        ensures { result ≡ with_hash generation hash.now }
+    {
+        if !is_hash(hash) {
+            return None;
+        }
+        Some(RevId {
+            number: generation,
+            len: hash.len() as u8,
+            bytes: padded(hash),
+        })
+    }
+
+    pub fn print(&self, out: &mut Vec<u8>) -> Result<(), AllocError>
+        ensures ok { OnOk result (out.new.items ≡ out.old.items ++ text_of self.now) }
+        ensures err { OnErr result (out.new.items ≡ out.old.items) }
+    {
+        let mut buffer = Buffer::new();
+        let number = buffer.format(self.number).as_bytes();
+        let hash = self.hash();
+        out.try_reserve(number.len() + 1 + hash.len())?;
+        out.extend_from_slice(number)?;
+        out.push(b'-')?;
+        out.extend_from_slice(hash)
+    }
+}

@@ -1,0 +1,37 @@
+//! Lists of revisions.
+
+ghost use Rattle.std.specs.Prelude.{◌≡◌};
+
+use crate::revision::RevId;
+use std::marker::Model;
+
+/// A list of revisions, as a row of changes shows them.
+#[derive(Debug, Drop)]
+pub struct Revisions {
+    list: Vec<RevId>,
+}
+
+impl Model for Revisions {
+    ghost use Rattle.std.specs.Prelude.{List};
+    ghost use Rattle.hub_model.specs.Revision.{Revision};
+
+    ghost Value = { List Revision };
+
+    ghost view = { λ a. a.list.items };
+}
+
+impl Revisions {
+    /// The list that the vector holds.
+    pub fn new(list: Vec<RevId>) -> Revisions
+        ensures { result ≡ list.items }
+    {
+        Revisions { list }
+    }
+
+    /// The revisions in order.
+    pub fn as_slice(&self) -> &[RevId]
+        ensures { result.now ≡ self.now }
+    {
+        self.list.as_slice()
+    }
+}

@@ -1,0 +1,101 @@
+-- What the parser's answers say of the heads within the limits.
+use Rattle.std.proofs.Common.{◌≡◌, ℕ, ◌+◌, ◌<◌, ◌≤◌, ◌⊎◌, inl, inr, Bool, true, false, ◌&&◌, cond, List, [], ◌∷◌, ◌++◌, length, map, take, drop, Option, Some, None, Result, Ok, Err, refl, sym, ap, ◌∙◌, arith, nat_le, bytes_eq, codes}
+use Rattle.std.specs.List.{list_all, list_any}
+use Rattle.std.specs.Str.Parse.{digits_value}
+use Rattle.std.proofs.lemmas.Grind.{common_steps}
+use Rattle.httparse.specs.Grammar.{RequestHead, print_request, ReadsRequest, HasNoRequest, NeverHasRequest}
+use Rattle.httparse.specs.Spans.{header_bytes, span_bytes, name_and_value, IsRequestOf, RequestOverflows}
+use Rattle.httparse.specs.declared.spans.HeaderSpan.{HeaderSpan}
+use Rattle.httparse.specs.declared.spans.RequestSpans.{RequestSpans}
+use Rattle.httparse.proofs.GrammarLemmas.{request_prefix_free}
+use Rattle.hub_http.specs.declared.fault.HttpFault.{HttpFault}
+use Rattle.hub_http.specs.declared.fault.HttpFault.TheVariants.{NoMemory, BadHead, HeadTooLong, BodyTooLong, Version, Coding, Ended, IoFault}
+use Rattle.hub_http.specs.declared.head.Head.{Head}
+use Rattle.hub_http.specs.Heads.{Pair, is_digits, body_limit, length_of, length_asked, asked, is_target, is_named, values_named, asks_close, Begins, BeginsFaulty, IsHeadAt, NeverHasHead, LookFaults, length_by, pairs_of}
+
+-- a head past the limit is the only one
+pub too_long : (buf : List ℕ) (headers : List HeaderSpan) (r : RequestSpans) → IsRequestOf buf headers r → 16384 < r.len → NeverHasHead buf
+too_long buf headers r x far more k q b =
+    let same = request_prefix_free buf more x.0 k (drop r.len buf) q x.1.reads b.reads in
+    let e : length (print_request x.0) ≡ length (print_request k) = ap (λ h. length (print_request h)) same.0 in
+    omega (arith, x.1.len, b.len, e)
+
+pub too_many : (buf : List ℕ) → RequestOverflows 64 buf → NeverHasHead buf
+too_many buf o more k q b = let h = o more k q b.reads in omega (arith, h, b.fields)
+
+-- the head that was found has few enough fields
+few_fields : (buf : List ℕ) (headers : List HeaderSpan) (r : RequestSpans) (h : RequestHead) → length headers ≡ 64
+    → map (header_bytes buf) (take r.headers headers) ≡ map name_and_value h.fields → length h.fields ≤ 64
+few_fields buf headers r h room e = grind (arith, common_steps, ap length e)
+
+pub begins : (buf : List ℕ) (headers : List HeaderSpan) (r : RequestSpans) (x : IsRequestOf buf headers r) → length headers ≡ 64 → r.len ≤ 16384 → Begins buf x.0 (drop r.len buf)
+begins buf headers r x room short = record {
+  reads = x.1.reads;
+  len = omega (arith, x.1.len, short);
+  fields = few_fields buf headers r x.0 room x.1.fields;
+}
+
+pub asked_is : (buf : List ℕ) (headers : List HeaderSpan) (r : RequestSpans) (x : IsRequestOf buf headers r)
+    → asked r.version (span_bytes buf r.path) (map (header_bytes buf) (take r.headers headers)) ≡ length_by x.0
+asked_is buf headers r x =
+    ap (λ v. asked v (span_bytes buf r.path) (map (header_bytes buf) (take r.headers headers))) x.1.version
+    ∙ ap (λ t. asked x.0.minor t (map (header_bytes buf) (take r.headers headers))) x.1.path
+    ∙ ap (λ ps. asked x.0.minor x.0.target ps) x.1.fields
+
+pub begins_faulty : (buf : List ℕ) (headers : List HeaderSpan) (r : RequestSpans) (e : HttpFault) → IsRequestOf buf headers r → length headers ≡ 64 → r.len ≤ 16384
+    → asked r.version (span_bytes buf r.path) (map (header_bytes buf) (take r.headers headers)) ≡ Err e → BeginsFaulty buf e
+begins_faulty buf headers r e x room short h =
+    (x.0, drop r.len buf, begins buf headers r x room short, sym (asked_is buf headers r x) ∙ h)
+
+one_faults : (a b : Bool) (n : ℕ) (e : HttpFault) → cond a (cond b (Ok (Some n)) (Err BodyTooLong)) (Err BadHead) ≡ Err e → (e ≡ BadHead) ⊎ (e ≡ BodyTooLong)
+one_faults true true n e h = absurd (cc)
+one_faults true false n e h = inr (cc)
+one_faults false b n e h = inl (cc)
+
+length_of_faults : (vs : List (List ℕ)) (e : HttpFault) → length_of vs ≡ Err e → (e ≡ BadHead) ⊎ (e ≡ BodyTooLong)
+unfolding length_of
+length_of_faults [] e h = absurd (cc)
+length_of_faults (v ∷ vs) e h = one_faults (is_digits v && list_all (λ w. bytes_eq w v) vs) (nat_le (digits_value 10 v) body_limit) (digits_value 10 v) e h
+
+-- a head has one of these faults
+abbrev pub IsAskFault : HttpFault → Type 0
+IsAskFault e = ((e ≡ BadHead) ⊎ (e ≡ BodyTooLong)) ⊎ ((e ≡ Version) ⊎ (e ≡ Coding))
+
+asked_choice : (a b c : Bool) (r : Result (Option ℕ) HttpFault) (e : HttpFault) → (r ≡ Err e → (e ≡ BadHead) ⊎ (e ≡ BodyTooLong))
+    → cond a (cond b (Err Coding) (cond c r (Err BadHead))) (Err Version) ≡ Err e → IsAskFault e
+asked_choice true true c r e f h = inr (inr (cc))
+asked_choice true false true r e f h = inl (f h)
+asked_choice true false false r e f h = inl (inl (cc))
+asked_choice false b c r e f h = inr (inl (cc))
+
+pub asked_faults : (minor : ℕ) (target : List ℕ) (pairs : List Pair) (e : HttpFault) → asked minor target pairs ≡ Err e → IsAskFault e
+unfolding asked
+asked_faults minor target pairs e h =
+    asked_choice _ _ (is_target target) (length_of (values_named (codes "content-length") pairs)) e (length_of_faults _ e) h
+
+pub look_faults : (buf : List ℕ) (e : HttpFault) → IsAskFault e → BeginsFaulty buf e → LookFaults buf e
+look_faults buf NoMemory a b = tt
+look_faults buf BadHead a b = inr b
+look_faults buf HeadTooLong a b = absurd (elim a [ inl x ↦ elim x [ inl y ↦ cc | inr y ↦ cc ] | inr x ↦ elim x [ inl y ↦ cc | inr y ↦ cc ] ])
+look_faults buf BodyTooLong a b = b
+look_faults buf Version a b = b
+look_faults buf Coding a b = b
+look_faults buf Ended a b = absurd (elim a [ inl x ↦ elim x [ inl y ↦ cc | inr y ↦ cc ] | inr x ↦ elim x [ inl y ↦ cc | inr y ↦ cc ] ])
+look_faults buf IoFault a b = absurd (elim a [ inl x ↦ elim x [ inl y ↦ cc | inr y ↦ cc ] | inr x ↦ elim x [ inl y ↦ cc | inr y ↦ cc ] ])
+
+pub whole_head : (buf : List ℕ) (headers : List HeaderSpan) (r : RequestSpans) (f : Head) (x : IsRequestOf buf headers r) → length headers ≡ 64 → r.len ≤ 16384
+    → f.len ≡ r.len → f.method.items ≡ span_bytes buf r.method → f.target.items ≡ span_bytes buf r.path
+    → asked r.version (span_bytes buf r.path) (map (header_bytes buf) (take r.headers headers)) ≡ Ok f.length
+    → f.close ≡ list_any asks_close (map (header_bytes buf) (take r.headers headers))
+    → (h : RequestHead) × IsHeadAt buf f h
+whole_head buf headers r f x room short len method target length close = (
+  x.0,
+  record {
+    begins = rw len (begins buf headers r x room short);
+    len = len ∙ x.1.len;
+    method = method ∙ x.1.method;
+    target = target ∙ x.1.path;
+    length = sym (asked_is buf headers r x) ∙ length;
+    close = close ∙ ap (list_any asks_close) x.1.fields;
+  },
+)

@@ -1,0 +1,9 @@
+pub mod FrontLemmas
+pub mod HeadLemmas
+pub mod Inserts
+pub mod LengthLemmas
+pub mod ReadLemmas
+pub mod RequestLemmas
+pub mod SendLemmas
+pub mod StreamLemmas
+pub mod UniqueLemmas

@@ -1,0 +1,113 @@
+-- From what is held to the bytes that are told.
+use Rattle.std.proofs.Common.{◌≡◌, ℕ, ◌+◌, ◌<◌, ◌≤◌, Bool, true, false, ◌&&◌, cond, List, [], ◌∷◌, ◌++◌, length, take, drop, Option, Some, None, Result, Ok, Err, IfSome, is_some, unwrap_or, refl, sym, ap, subst, ◌∙◌, arith, nat_le, append_assoc, take-append-drop, codes, bytes_eq, ◌^◌}
+use borrow.Author.Tests.{leb-true}
+use Rattle.std.proofs.lemmas.Grind.{common_steps}
+use Rattle.std.proofs.lemmas.Bool.Decides.{nat_tests}
+use Rattle.std.proofs.lemmas.List.{drop-drop, drop_at}
+use Rattle.std.specs.List.{list_all, list_any}
+use Rattle.std.specs.Str.Parse.{digits_value}
+use Rattle.std.specs.Io.KnownBytes.{Keeps, prepend_known}
+use Rattle.httparse.specs.Grammar.{RequestHead, print_request, ReadsRequest, HasNoRequest}
+use Rattle.httparse.proofs.GrammarLemmas.{ReadsRequest-append}
+use Rattle.hub_http.specs.declared.fault.HttpFault.{HttpFault}
+use Rattle.hub_http.specs.declared.fault.HttpFault.TheVariants.{BadHead, BodyTooLong, Version, Coding}
+use Rattle.hub_http.specs.declared.head.Head.{Head}
+use Rattle.hub_http.specs.declared.request.Request.{Request}
+use Rattle.hub_http.specs.Heads.{Pair, Begins, IsHeadAt, NeverHasHead, length_by, length_of, length_asked, asked, is_digits, is_target, values_named, pairs_of, body_limit}
+use Rattle.hub_http.specs.Stream.{Spells, SpelledBy, asked_by, Leaves}
+
+-- where a text ends in its front
+splits : (p r a m : List ℕ) → p ++ r ≡ a ++ m → length p ≤ length a → (q : List ℕ) × (a ≡ p ++ q)
+splits [] r a m e l = (a, refl)
+splits (x ∷ p) r [] m e l = absurd (omega arith)
+splits (x ∷ p) r (y ∷ a) m e l =
+    let tail : p ++ r ≡ a ++ m = cc in
+    let head : x ≡ y = cc in
+    let rest = splits p r a m tail (omega arith) in (rest.0, cc (head, rest.1))
+
+-- a part with no head in it, as long as a head may be
+pub never_after_part : (held : List ℕ) → 16384 ≤ length held → HasNoRequest held → NeverHasHead held
+never_after_part held long none more h rest b =
+    let cut = splits (print_request h) rest held more (sym b.reads.1) (omega (arith, b.len)) in
+    none h cut.0 (b.reads.0, cut.1)
+
+pub keeps_some : (a b : Option (List ℕ)) (P : List ℕ → Type 0) → Keeps a b → IfSome b P → IfSome a P
+keeps_some None b P k p = tt
+keeps_some (Some x) None P k p = absurd k
+keeps_some (Some x) (Some y) P k p = subst P k p
+
+pub spelled : (held1 held2 held3 y : List ℕ) (f : Head) (q : Request) (n : ℕ) (x : (h : RequestHead) × IsHeadAt held1 f h)
+    → ((more : List ℕ) × (held2 ≡ held1 ++ more)) → f.len + n ≤ length held2 → n ≡ unwrap_or f.length 0
+    → q.body.items ≡ take n (drop f.len held2) → held3 ≡ drop (f.len + n) held2
+    → q.method.items ≡ f.method.items → q.target.items ≡ f.target.items → q.has_length ≡ is_some f.length → q.close ≡ f.close
+    → Spells (held2 ++ y) (asked_by q) (held3 ++ y)
+spelled held1 held2 held3 y f q n x grown room size body left method target has close =
+    let h = x.0 in
+    let at = x.1 in
+    let r1 : ReadsRequest held2 h (drop f.len held1 ++ grown.0) =
+    rw grown.1 (ReadsRequest-append held1 h (drop f.len held1) grown.0 at.begins.reads) in
+    let whole : drop f.len held2 ≡ drop f.len held1 ++ grown.0 =
+    ap (drop f.len) r1.1 ∙ drop_at (print_request h) (drop f.len held1 ++ grown.0) f.len (sym at.len) in
+    let parts : q.body.items ++ held3 ≡ drop f.len held1 ++ grown.0 =
+    ap (λ l. l ++ held3) body ∙ ap (λ l. take n (drop f.len held2) ++ l) (left ∙ sym (drop-drop n f.len held2)) ∙ take-append-drop n (drop f.len held2) ∙ whole in
+    let r2 : ReadsRequest (held2 ++ y) h ((drop f.len held1 ++ grown.0) ++ y) = ReadsRequest-append held2 h _ y r1 in
+    let tail : (drop f.len held1 ++ grown.0) ++ y ≡ q.body.items ++ (held3 ++ y) = ap (λ l. l ++ y) (sym parts) ∙ append_assoc q.body.items held3 y in
+    let sized : length (take n (drop f.len held2)) ≡ n = grind (arith, common_steps) in (
+      h,
+      record {
+        begins = record { reads = (r2.0, r2.1 ∙ ap (λ l. print_request h ++ l) tail); len = at.begins.len; fields = at.begins.fields };
+        length = f.length;
+        length_is = at.length;
+        method = method ∙ at.method;
+        target = target ∙ at.target;
+        has_length = has;
+        close = close ∙ at.close;
+        body = ap length body ∙ sized ∙ size;
+      },
+    )
+
+pub told_request : (a0 left1 left2 : Option (List ℕ)) (held1 held2 held3 : List ℕ) (f : Head) (q : Request) (n : ℕ)
+    → Keeps a0 (prepend_known held1 left1) → ((h : RequestHead) × IsHeadAt held1 f h)
+    → Keeps (prepend_known held1 left1) (prepend_known held2 left2) → ((more : List ℕ) × (held2 ≡ held1 ++ more))
+    → f.len + n ≤ length held2 → n ≡ unwrap_or f.length 0
+    → q.body.items ≡ take n (drop f.len held2) → held3 ≡ drop (f.len + n) held2
+    → q.method.items ≡ f.method.items → q.target.items ≡ f.target.items → q.has_length ≡ is_some f.length → q.close ≡ f.close
+    → IfSome a0 (λ bytes. Leaves bytes (Ok (Some q)) (prepend_known held3 left2))
+told_request a0 left1 None held1 held2 held3 f q n k1 x k2 grown room size body left method target has close =
+    keeps_some a0 (prepend_known held1 left1) (λ bytes. Leaves bytes (Ok (Some q)) None) k1
+    (keeps_some (prepend_known held1 left1) None (λ bytes. Leaves bytes (Ok (Some q)) None) k2 tt)
+told_request a0 left1 (Some y) held1 held2 held3 f q n k1 x k2 grown room size body left method target has close =
+    keeps_some a0 (prepend_known held1 left1) (λ bytes. Leaves bytes (Ok (Some q)) (Some (held3 ++ y))) k1
+    (keeps_some (prepend_known held1 left1) (Some (held2 ++ y)) (λ bytes. Leaves bytes (Ok (Some q)) (Some (held3 ++ y))) k2
+    (spelled held1 held2 held3 y f q n x grown room size body left method target has close))
+
+one_bound : (a b : Bool) (m : ℕ) (l : Option ℕ) → (b ≡ true → m ≤ 8388608) → cond a (cond b (Ok (Some m)) (Err BodyTooLong)) (Err BadHead) ≡ Ok l → unwrap_or l 0 ≤ 8388608
+one_bound true true m l e h =
+    let same : Some m ≡ l = cc in subst (λ (o : Option ℕ). unwrap_or o 0 ≤ 8388608) same (e refl)
+one_bound true false m l e h = absurd (cc)
+one_bound false b m l e h = absurd (cc)
+
+length_of_bound : (vs : List (List ℕ)) (l : Option ℕ) → length_of vs ≡ Ok l → unwrap_or l 0 ≤ 8388608
+unfolding length_of
+length_of_bound [] l h =
+    let same : None ≡ l = cc in subst (λ (o : Option ℕ). unwrap_or o 0 ≤ 8388608) same (omega arith)
+length_of_bound (v ∷ vs) l h =
+    one_bound (is_digits v && list_all (λ w. bytes_eq w v) vs) (nat_le (digits_value 10 v) body_limit) (digits_value 10 v) l
+    (λ (t : nat_le (digits_value 10 v) 8388608 ≡ true). leb-true (digits_value 10 v) 8388608 t) h
+
+asked_bound_choice : (a b c : Bool) (r : Result (Option ℕ) HttpFault) (l : Option ℕ) → (r ≡ Ok l → unwrap_or l 0 ≤ 8388608)
+    → cond a (cond b (Err Coding) (cond c r (Err BadHead))) (Err Version) ≡ Ok l → unwrap_or l 0 ≤ 8388608
+asked_bound_choice true true c r l f h = absurd (cc)
+asked_bound_choice true false true r l f h = f h
+asked_bound_choice true false false r l f h = absurd (cc)
+asked_bound_choice false b c r l f h = absurd (cc)
+
+asked_bound : (minor : ℕ) (target : List ℕ) (pairs : List Pair) (l : Option ℕ) → asked minor target pairs ≡ Ok l → unwrap_or l 0 ≤ 8388608
+unfolding asked
+asked_bound minor target pairs l h =
+    asked_bound_choice _ _ (is_target target) (length_of (values_named (codes "content-length") pairs)) l (length_of_bound _ l) h
+
+pub head_fits : (held : List ℕ) (f : Head) (n : ℕ) → ((h : RequestHead) × IsHeadAt held f h) → n ≡ unwrap_or f.length 0 → f.len + n < 2 ^ 64
+head_fits held f n x e =
+    let body = asked_bound x.0.minor x.0.target (pairs_of x.0) f.length x.1.length in
+    omega (arith, body, e, x.1.len, x.1.begins.len)

@@ -1,0 +1,10 @@
+use Rattle.std.proofs.Common.{map, codes, drop, option_copied}
+use Rattle.httparse.specs.Spans.{header_bytes}
+use Rattle.hub_http.specs.Heads.{values_named, SoFar}
+use Rattle.hub_http.proofs.head.one_value.Given as goal
+
+abbrev pub invariant-loop-header : goal.invariant-loop-header
+invariant-loop-header l =
+    SoFar (option_copied l.seen)
+    (values_named (codes "content-length") (map (header_bytes l.buf) l.headers))
+    (values_named (codes "content-length") (map (header_bytes l.buf) (drop l.header-index l.headers)))

@@ -1,0 +1,13 @@
+use Rattle.std.proofs.Common.{◌≡◌, ◌≤◌, ℕ, ◌++◌, List, length}
+use Rattle.std.specs.Io.KnownBytes.{Appends}
+use Rattle.hub_http.proofs.io.write_all.Given as goal
+
+abbrev pub invariant-loop-rest : goal.invariant-loop-rest
+invariant-loop-rest g l =
+    let written = g.W.Output.written in
+    let faults = g.W.Output.fault_count in
+    ((done : List ℕ) × (l.bytes ≡ done ++ l.rest) × Appends (written l.fn.writer) (written l.writer) done)
+    × (faults l.fn.writer ≤ faults l.writer)
+
+abbrev pub decreases-loop-rest : goal.decreases-loop-rest
+decreases-loop-rest g l = length l.rest

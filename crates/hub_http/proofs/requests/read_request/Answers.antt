@@ -1,0 +1,23 @@
+use Rattle.std.proofs.Common.{rules, arith, ◌≡◌, ◌+◌, ◌<◌, ◌≤◌, Ok, refl}
+use Rattle.hub_http.specs.declared.request.Request.{Request}
+use Rattle.hub_http.proofs.RequestLemmas.{told_request, head_fits}
+use Rattle.hub_http.proofs.requests.read_request.Goals as goal
+
+pub overflow_add-head : goal.overflow_add-head
+overflow_add-head g c =
+    let found = rw c.in-Ok-Some.field-0-is at c.in-Ok-Some.ensures.found in
+    omega (arith, head_fits c.find_head.new.held.items c.in-Ok-Some.head c.unwrap_or-body_len.result found c.unwrap_or-body_len.ensures)
+
+pub returns-clause-told : goal.returns-clause-told
+returns-clause-told g c =
+    let found = rw c.in-Ok-Some.field-0-is at c.in-Ok-Some.ensures.found in
+    let request : Request = record {
+      method = c.in-Ok-Some.head.method;
+      target = c.in-Ok-Some.head.target;
+      has_length = c.is_some.result;
+      close = c.in-Ok-Some.head.close;
+      body = c.in-Ok.body;
+    } in
+    told_request _ _ _ c.find_head.new.held.items c.fill.new.held.items c.take_body.new.held.items c.in-Ok-Some.head request c.unwrap_or-body_len.result
+    c.in-Ok-Some.ensures.kept found c.in-Ok-true.ensures.kept c.in-Ok-true.ensures.grown (c.in-Ok-true.ensures.full c.in-Ok-true.field-0-test) c.unwrap_or-body_len.ensures
+    c.in-Ok.ensures.ok.0 c.in-Ok.ensures.ok.1 refl refl c.is_some.ensures refl

@@ -1,0 +1,24 @@
+use Rattle.std.proofs.Common.{refl}
+use Rattle.matchit.proofs.OnLiterals.{matchit_on_literals}
+use Rattle.hub_http.specs.Table.{table, with_route}
+use Rattle.hub_http.proofs.route.rows.Goals as goal
+
+pub returns : goal.returns
+unfolding matchit_on_literals table with_route
+returns c = record {
+  welcome = refl;
+  all_dbs = refl;
+  db_updates = refl;
+  database = refl;
+  slash = refl;
+  bulk_docs = refl;
+  changes = refl;
+  revs_diff = refl;
+  full_commit = refl;
+  document = refl;
+  longer = refl;
+  design = refl;
+  local = refl;
+  deep = refl;
+  empty = refl;
+}

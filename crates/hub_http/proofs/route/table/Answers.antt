@@ -1,0 +1,8 @@
+use Rattle.std.proofs.Common.{rules, ◌≡◌, ap, ◌∙◌, codes, refl}
+use Rattle.hub_http.specs.declared.route.Kind.TheVariants.{Welcome, AllDbs, DbUpdates, Database, BulkDocs, Changes, RevsDiff, FullCommit, Document, Design, Local}
+use Rattle.hub_http.specs.Table.{Routes, with_route, table}
+use Rattle.hub_http.proofs.route.table.Goals as goal
+
+pub returns : goal.returns
+unfolding table
+returns c = rw (c.in_ok-add-12.ensures, c.in_ok-add-11.ensures, c.in_ok-add-10.ensures, c.in_ok-add-9.ensures, c.in_ok-add-8.ensures, c.in_ok-add-7.ensures, c.in_ok-add-6.ensures, c.in_ok-add-5.ensures, c.in_ok-add-4.ensures, c.in_ok-add-3.ensures, c.in_ok-add-2.ensures, c.in_ok-add.ensures, c.new-router.ensures) refl

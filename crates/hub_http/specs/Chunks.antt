@@ -1,0 +1,18 @@
+-- What is written for a text.
+use Rattle.std.specs.Prelude.{ℕ, List, [], ◌∷◌, ◌++◌, ⊤, codes, Result, Ok, Err, Option}
+use Rattle.std.specs.Io.KnownBytes.{Keeps, Appends}
+use Rattle.hub_http.specs.Counts.{AppendsFront}
+use Rattle.hub_http.specs.Texts.{chunk_text}
+use Rattle.hub_http.specs.declared.chunk.ChunkFault.{ChunkFault}
+use Rattle.hub_http.specs.declared.chunk.ChunkFault.TheVariants.{NoMemory, IoFault}
+
+-- one chunk for a text that isn't empty
+abbrev pub text_chunks : List ℕ → List ℕ
+text_chunks [] = []
+text_chunks (b ∷ bs) = chunk_text (b ∷ bs)
+
+-- the bytes were written, or after a fault a front of them
+abbrev pub Writes : List ℕ → Result (Unit {0}) ChunkFault → Option (List ℕ) → Option (List ℕ) → Type 0
+Writes bytes (Ok u) old new = Appends old new bytes
+Writes bytes (Err NoMemory) old new = Keeps old new
+Writes bytes (Err IoFault) old new = AppendsFront old new bytes

@@ -1,0 +1,141 @@
+-- What the head of a request asks for.
+use Rattle.std.specs.Prelude.{◌≡◌, ℕ, ◌<◌, ◌≤◌, ◌⊎◌, Bool, true, false, not, ◌&&◌, ◌||◌, ◌==◌, List, [], ◌∷◌, ◌++◌, length, map, drop, Option, Some, None, Result, Ok, Err, if◌then◌else◌, nat_lt, nat_le, codes, bytes_eq, ⊤}
+use Rattle.std.specs.List.{list_all, list_any}
+use Rattle.std.specs.Char.{is_ascii_digit, to_ascii_lowercase}
+use Rattle.std.specs.Str.Parse.{digits_value}
+use Rattle.httparse.specs.Grammar.{RequestHead, print_request, ReadsRequest, HasNoRequest, NeverHasRequest}
+use Rattle.httparse.specs.Spans.{name_and_value, span_bytes}
+use Rattle.hub_http.specs.declared.fault.HttpFault.{HttpFault}
+use Rattle.hub_http.specs.declared.fault.HttpFault.TheVariants.{NoMemory, BadHead, HeadTooLong, BodyTooLong, Version, Coding, Ended, IoFault}
+use Rattle.hub_http.specs.declared.head.Head.{Head}
+
+-- a head of at most so many bytes
+abbrev pub head_limit : ℕ
+head_limit = 16384
+
+-- and fields
+abbrev pub field_limit : ℕ
+field_limit = 64
+
+-- a body of at most so many bytes
+abbrev pub body_limit : ℕ
+body_limit = 8388608
+
+-- a field's name, and its value without the white space around it
+abbrev pub Pair : Type 0
+Pair = List ℕ × List ℕ
+
+-- the same letters, in any case
+unfoldable pub same_word : List ℕ → List ℕ → Bool
+same_word a b = bytes_eq (map to_ascii_lowercase a) (map to_ascii_lowercase b)
+
+-- the field has this name
+abbrev pub is_named : List ℕ → Pair → Bool
+is_named name p = same_word p.0 name
+
+-- the field asks to close the connection
+abbrev pub asks_close : Pair → Bool
+asks_close p = same_word p.0 (codes "connection") && same_word p.1 (codes "close")
+
+-- the values of the fields of this name, in order
+abbrev pub values_named : List ℕ → List Pair → List (List ℕ)
+values_named name [] = []
+values_named name (p ∷ ps) = if is_named name p then p.1 ∷ values_named name ps else values_named name ps
+
+-- decimal digits, at least one
+abbrev pub is_digits : List ℕ → Bool
+is_digits v = nat_lt 0 (length v) && list_all is_ascii_digit v
+
+-- the length that the values give: each is the same text, of digits
+unfoldable pub length_of : List (List ℕ) → Result (Option ℕ) HttpFault
+length_of [] = Ok None
+length_of (v ∷ vs) =
+    if is_digits v && list_all (λ w. bytes_eq w v) vs
+    then (if nat_le (digits_value 10 v) body_limit then Ok (Some (digits_value 10 v)) else Err BodyTooLong)
+    else Err BadHead
+
+-- the values seen so far, the first of them if there is one, of all of which these are left
+abbrev pub SoFar : Option (List ℕ) → List (List ℕ) → List (List ℕ) → Type 0
+SoFar None all rest = all ≡ rest
+SoFar (Some v) all rest =
+    (vs : List (List ℕ)) × (all ≡ v ∷ (vs ++ rest)) × (list_all (λ w. bytes_eq w v) vs ≡ true)
+
+-- the length that one value gives
+unfoldable pub length_in : List ℕ → Result ℕ HttpFault
+length_in v =
+    if is_digits v
+    then (if nat_le (digits_value 10 v) body_limit then Ok (digits_value 10 v) else Err BodyTooLong)
+    else Err BadHead
+
+-- the target begins with a slash
+abbrev pub is_target : List ℕ → Bool
+is_target [] = false
+is_target (b ∷ bs) = b == 47
+
+-- what a head asks for, or its first fault
+abbrev pub length_asked : Bool → List Pair → Result (Option ℕ) HttpFault
+length_asked target pairs = if target then length_of (values_named (codes "content-length") pairs) else Err BadHead
+
+unfoldable pub asked : ℕ → List ℕ → List Pair → Result (Option ℕ) HttpFault
+asked minor target pairs =
+    if minor == 1
+    then (if list_any (is_named (codes "transfer-encoding")) pairs
+    then Err Coding
+    else length_asked (is_target target) pairs)
+    else Err Version
+
+-- the fields of a head as pairs
+abbrev pub pairs_of : RequestHead → List Pair
+pairs_of h = map name_and_value h.fields
+
+-- the length that a head asks for, or its first fault
+abbrev pub length_by : RequestHead → Result (Option ℕ) HttpFault
+length_by h = asked h.minor h.target (pairs_of h)
+
+-- the connection closes after the answer
+abbrev pub close_by : RequestHead → Bool
+close_by h = list_any asks_close (pairs_of h)
+
+-- bytes begin with the head h, within the limits, and then rest
+pub record Begins (bytes : List ℕ) (h : RequestHead) (rest : List ℕ) : Type 0 where
+  pub reads : ReadsRequest bytes h rest
+  pub len : length (print_request h) ≤ head_limit
+  pub fields : length h.fields ≤ field_limit
+
+-- bytes begin with no such head
+abbrev pub HasNoHead : List ℕ → Type 0
+HasNoHead bytes = (h : RequestHead) (rest : List ℕ) → ¬ (Begins bytes h rest)
+
+-- nor do they whatever follows
+abbrev pub NeverHasHead : List ℕ → Type 0
+NeverHasHead bytes = (more : List ℕ) → HasNoHead (bytes ++ more)
+
+-- the first f.len bytes of buf are the head h, and f has what it asks for
+pub record IsHeadAt (buf : List ℕ) (f : Head) (h : RequestHead) : Type 0 where
+  pub begins : Begins buf h (drop f.len buf)
+  pub len : f.len ≡ length (print_request h)
+  pub method : f.method.items ≡ h.method
+  pub target : f.target.items ≡ h.target
+  pub length : length_by h ≡ Ok f.length
+  pub close : f.close ≡ close_by h
+
+-- the bytes begin with a head that has this fault
+abbrev pub BeginsFaulty : List ℕ → HttpFault → Type 0
+BeginsFaulty bytes e = (h : RequestHead) × (rest : List ℕ) × Begins bytes h rest × (length_by h ≡ Err e)
+
+-- what a fault says of the bytes in which a head was looked for
+abbrev pub LookFaults : List ℕ → HttpFault → Type 0
+LookFaults buf NoMemory = ⊤
+LookFaults buf BadHead = NeverHasRequest buf ⊎ BeginsFaulty buf BadHead
+LookFaults buf HeadTooLong = NeverHasHead buf
+LookFaults buf BodyTooLong = BeginsFaulty buf BodyTooLong
+LookFaults buf Version = BeginsFaulty buf Version
+LookFaults buf Coding = BeginsFaulty buf Coding
+LookFaults buf Ended = ⊥
+LookFaults buf IoFault = ⊥
+
+-- what looking for a head in buf answers
+abbrev pub Looks : List ℕ → Result (Option Head) HttpFault → Type 0
+Looks buf (Ok None) = HasNoRequest buf
+Looks buf (Ok (Some f)) = (h : RequestHead) × IsHeadAt buf f h
+Looks buf (Err e) = LookFaults buf e

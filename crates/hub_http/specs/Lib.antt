@@ -1,0 +1,9 @@
+pub mod Counts
+pub mod Heads
+pub mod Stream
+pub mod Words
+pub mod Refusals
+pub mod Texts
+pub mod Chunks
+pub mod Items
+pub mod Table

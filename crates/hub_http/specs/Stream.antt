@@ -1,0 +1,103 @@
+-- The requests that bytes spell.
+use Rattle.std.specs.Prelude.{◌≡◌, ⊤, ℕ, ◌<◌, ◌≤◌, ◌⊎◌, Bool, List, [], ◌∷◌, ◌++◌, length, take, Option, Some, None, Result, Ok, Err, is_some, unwrap_or, IfSome}
+use Rattle.httparse.specs.Grammar.{RequestHead, print_request, ReadsRequest, NeverHasRequest}
+use Rattle.hub_http.specs.declared.fault.HttpFault.{HttpFault}
+use Rattle.hub_http.specs.declared.fault.HttpFault.TheVariants.{NoMemory, BadHead, HeadTooLong, BodyTooLong, Version, Coding, Ended, IoFault}
+use Rattle.hub_http.specs.declared.request.Request.{Request}
+use Rattle.std.specs.Io.KnownBytes.{IsAtEnd, prepend_known}
+use Rattle.hub_http.specs.declared.head.Head.{Head}
+use Rattle.hub_http.specs.Heads.{head_limit, length_by, close_by, Begins, HasNoHead, NeverHasHead, BeginsFaulty, IsHeadAt}
+
+-- a request without where it lies in memory
+pub record Asked : Type 0 where
+  pub method : List ℕ
+  pub target : List ℕ
+  pub has_length : Bool
+  pub close : Bool
+  pub body : List ℕ
+
+abbrev pub asked_by : Request → Asked
+asked_by q = record {
+  method = q.method.items;
+  target = q.target.items;
+  has_length = q.has_length;
+  close = q.close;
+  body = q.body.items;
+}
+
+-- bytes are the head h, the body that it asks for, and then rest; a says what was asked
+pub record SpelledBy (bytes : List ℕ) (a : Asked) (rest : List ℕ) (h : RequestHead) : Type 0 where
+  pub begins : Begins bytes h (a.body ++ rest)
+  pub length : Option ℕ
+  pub length_is : length_by h ≡ Ok length
+  pub method : a.method ≡ h.method
+  pub target : a.target ≡ h.target
+  pub has_length : a.has_length ≡ is_some length
+  pub close : a.close ≡ close_by h
+  pub body : Rattle.std.specs.Prelude.length a.body ≡ unwrap_or length 0
+
+-- bytes are that request and then rest
+abbrev pub Spells : List ℕ → Asked → List ℕ → Type 0
+Spells bytes a rest = (h : RequestHead) × SpelledBy bytes a rest h
+
+-- the bytes end in the body that their head asks for
+abbrev pub IsCut : List ℕ → Type 0
+IsCut bytes =
+    (h : RequestHead) × (part : List ℕ) × (n : ℕ) × Begins bytes h part × (length_by h ≡ Ok (Some n)) × (length part < n)
+
+-- the bytes that are held and then those that are left, where they are told
+abbrev pub known : List ℕ → Option (List ℕ) → Option (List ℕ)
+known held left = prepend_known held left
+
+-- what a fault of looking for a head says of the bytes that are held and those that are left
+abbrev pub FindFaults : List ℕ → Option (List ℕ) → HttpFault → Type 0
+FindFaults held left NoMemory = ⊤
+FindFaults held left BadHead = NeverHasRequest held ⊎ BeginsFaulty held BadHead
+FindFaults held left HeadTooLong = (0 < length held) × NeverHasHead held
+FindFaults held left BodyTooLong = BeginsFaulty held BodyTooLong
+FindFaults held left Version = BeginsFaulty held Version
+FindFaults held left Coding = BeginsFaulty held Coding
+FindFaults held left Ended = (0 < length held) × HasNoHead held × (length held ≤ head_limit) × IsAtEnd left
+FindFaults held left IoFault = ⊤
+
+-- what looking for a head answers over a reader
+abbrev pub Finds : List ℕ → Option (List ℕ) → Result (Option Head) HttpFault → Type 0
+Finds held left (Ok (Some f)) = (h : RequestHead) × IsHeadAt held f h
+Finds held left (Ok None) = (held ≡ []) × IsAtEnd left
+Finds held left (Err e) = FindFaults held left e
+
+-- the bytes spell no request, and may be refused so
+abbrev pub Faults : List ℕ → HttpFault → Type 0
+Faults bytes NoMemory = ⊤
+Faults bytes BadHead = (NeverHasRequest bytes) ⊎ BeginsFaulty bytes BadHead
+Faults bytes HeadTooLong = (0 < length bytes) × HasNoHead bytes
+Faults bytes BodyTooLong = BeginsFaulty bytes BodyTooLong
+Faults bytes Version = BeginsFaulty bytes Version
+Faults bytes Coding = BeginsFaulty bytes Coding
+Faults bytes Ended = ((0 < length bytes) × HasNoHead bytes × (length bytes ≤ head_limit)) ⊎ IsCut bytes
+Faults bytes IoFault = ⊤
+
+-- what is left after a call of `next` over these bytes
+abbrev pub Leaves : List ℕ → Result (Option Request) HttpFault → Option (List ℕ) → Type 0
+Leaves bytes r None = ⊥
+Leaves bytes (Ok (Some q)) (Some rest) = Spells bytes (asked_by q) rest
+Leaves bytes (Ok None) (Some rest) = (bytes ≡ []) × (rest ≡ [])
+Leaves bytes (Err NoMemory) (Some rest) = rest ≡ bytes
+Leaves bytes (Err e) (Some rest) = Faults bytes e
+
+-- how bytes go on after whole requests: not at all, or with this fault
+abbrev pub EndsIn : List ℕ → Option HttpFault → Type 0
+EndsIn bytes None = bytes ≡ []
+EndsIn bytes (Some e) = Faults bytes e
+
+-- the bytes spell these requests, one after the other, and then end so
+abbrev pub SpellsAll : List ℕ → List Asked → Option HttpFault → Type 0
+SpellsAll bytes [] end = EndsIn bytes end
+SpellsAll bytes (a ∷ more) end = (rest : List ℕ) × Spells bytes a rest × SpellsAll rest more end
+
+-- the bytes spell these requests and then what the rest spells
+abbrev pub Leads : Option (List ℕ) → Option (List ℕ) → List Asked → Type 0
+Leads None rest before = ⊤
+Leads (Some bytes) None before = ⊥
+Leads (Some bytes) (Some rest) before =
+    (more : List Asked) (end : Option HttpFault) → SpellsAll rest more end → SpellsAll bytes (before ++ more) end

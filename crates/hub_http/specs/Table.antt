@@ -1,0 +1,46 @@
+-- The table of routes.
+use Rattle.std.specs.Prelude.{◌≡◌, ℕ, List, [], ◌∷◌, Option, Some, None, Result, Ok, Err, codes}
+use Rattle.matchit.specs.declared.error.InsertError.{InsertError}
+use Rattle.matchit.specs.Rows.{RowsOf}
+use Rattle.matchit.specs.Order.{placed}
+use Rattle.matchit.specs.Route.{Scan, parse_route}
+use Rattle.matchit.specs.Router.{RouteOf, route_from}
+use Rattle.matchit.specs.Seek.{first}
+use Rattle.hub_http.specs.declared.route.Kind.{Kind}
+use Rattle.hub_http.specs.declared.route.Kind.TheVariants.{Welcome, AllDbs, DbUpdates, Database, BulkDocs, Changes, RevsDiff, FullCommit, Document, Design, Local}
+
+abbrev pub Routes : Type 0
+Routes = RowsOf (RouteOf Kind)
+
+abbrev pub with_scan : Result Scan InsertError → Kind → Routes → Routes
+with_scan (Ok s) kind rows = placed (s.pattern, route_from s kind) rows
+with_scan (Err e) kind rows = rows
+
+-- the rows with one more
+unfoldable pub with_route : List ℕ → Kind → Routes → Routes
+with_route text kind rows = with_scan (parse_route text) kind rows
+
+-- the routes in order
+unfoldable pub table : Routes
+table =
+    with_route (codes "/{db}/_local/{name}") Local
+    (with_route (codes "/{db}/_design/{name}") Design
+    (with_route (codes "/{db}/{id}") Document
+    (with_route (codes "/{db}/_ensure_full_commit") FullCommit
+    (with_route (codes "/{db}/_revs_diff") RevsDiff
+    (with_route (codes "/{db}/_changes") Changes
+    (with_route (codes "/{db}/_bulk_docs") BulkDocs
+    (with_route (codes "/{db}/") Database
+    (with_route (codes "/{db}") Database
+    (with_route (codes "/_db_updates") DbUpdates
+    (with_route (codes "/_all_dbs") AllDbs
+    (with_route (codes "/") Welcome [])))))))))))
+
+-- the kind of a route
+abbrev pub kind_of : Option (RouteOf Kind) → Option Kind
+kind_of None = None
+kind_of (Some r) = Some r.value
+
+-- what a path names by the table
+abbrev pub kind_at : List ℕ → Option Kind
+kind_at path = kind_of (first table path)

@@ -1,0 +1,57 @@
+-- The texts of answers and chunks.
+use Rattle.std.specs.Prelude.{ℕ, List, [], ◌∷◌, ◌++◌, length, Bool, true, false, Option, Some, None, if◌then◌else◌, codes, decimal}
+use Rattle.std.specs.Fmt.{digits}
+use Rattle.http.specs.StatusCode.{reason_phrase}
+use Rattle.hub_http.specs.declared.refusal.Refusal.{Refusal}
+use Rattle.hub_http.specs.declared.reply.Reply.{Reply}
+use Rattle.hub_http.specs.declared.reply.Reply.TheVariants.{Done, Refused}
+use Rattle.hub_http.specs.Refusals.{status_of, error_of, reason_of}
+
+-- the canonical phrase, empty where there is none
+abbrev pub phrase_or_empty : Option (List ℕ) → List ℕ
+phrase_or_empty None = []
+phrase_or_empty (Some phrase) = phrase
+
+-- the first line of an answer
+unfoldable pub status_line : ℕ → List ℕ → List ℕ
+status_line status phrase = codes "HTTP/1.1 " ++ (decimal status ++ (codes " " ++ (phrase ++ codes "\r\n")))
+
+-- the line that says how long the body is
+unfoldable pub length_line : ℕ → List ℕ
+length_line len = codes "Content-Length: " ++ (decimal len ++ codes "\r\n")
+
+-- the line of an answer that is sent in chunks
+unfoldable pub chunked_line : List ℕ
+chunked_line = codes "Transfer-Encoding: chunked\r\n"
+
+-- the line of an answer after which the connection closes
+unfoldable pub close_line : Bool → List ℕ
+close_line close = if close then codes "Connection: close\r\n" else []
+
+-- the line that says what the body is
+unfoldable pub type_line : List ℕ
+type_line = codes "Content-Type: application/json\r\n"
+
+-- the head of an answer, with the line that says where its body ends
+unfoldable pub head_text : ℕ → List ℕ → Bool → List ℕ
+head_text status framing close =
+    status_line status (phrase_or_empty (reason_phrase status)) ++ (type_line ++ (framing ++ (close_line close ++ codes "\r\n")))
+
+-- the body of a refusal
+unfoldable pub refusal_body : Refusal → List ℕ
+refusal_body refusal =
+    codes "{\"error\":\"" ++ (error_of refusal ++ (codes "\",\"reason\":\"" ++ (reason_of refusal ++ codes "\"}\n")))
+
+-- a head and a body, the head alone where it answers a HEAD
+abbrev pub answer_text : ℕ → List ℕ → Bool → Bool → List ℕ
+answer_text status body head_only close =
+    head_text status (length_line (length body)) close ++ (if head_only then [] else body)
+
+-- the text of an answer
+abbrev pub reply_text : Reply → Bool → Bool → List ℕ
+reply_text (Done status body) head_only close = answer_text status body.items head_only close
+reply_text (Refused refusal) head_only close = answer_text (status_of refusal) (refusal_body refusal) head_only close
+
+-- one chunk
+unfoldable pub chunk_text : List ℕ → List ℕ
+chunk_text bytes = digits 16 false (length bytes) ++ codes "\r\n" ++ bytes ++ codes "\r\n"

@@ -1,0 +1,12 @@
+-- What the crates above say of requests that are read.
+use Rattle.std.specs.Prelude.{◌≡◌, ℕ, List, Option, false}
+use Rattle.hub_http.specs.declared.requests.Requests.{Requests}
+use Rattle.hub_http.specs.Stream.{known}
+
+-- the bytes that no request took yet, where they are told
+abbrev pub to_come : {R : Type 0} → (R → Option (List ℕ)) → Requests R → Option (List ℕ)
+to_come left q = known q.held.items (left q.reader)
+
+-- no fault came that ends the requests
+abbrev pub IsOpen : {R : Type 0} → Requests R → Type 0
+IsOpen q = q.ended ≡ false
