@@ -1,0 +1,68 @@
+//! A hub of document databases, over standard input and output.
+#![tactic(auto)]
+
+mod bulk;
+mod databases;
+mod name;
+mod stream;
+#[cfg(test)]
+mod tests;
+
+use crate::stream::answer_stream;
+use hub_document::Limits;
+use hub_http::Tally;
+use hub_session::Closing;
+use std::io::BufWriter;
+use std::process::ExitCode;
+use std::{env, io};
+
+/// The bytes that are written to standard output at once.
+const OUTPUT: usize = 65_536;
+
+/// What the program does.
+enum Command {
+    /// Answers the requests on standard input on standard output.
+    Stdin,
+}
+
+/// The command that the arguments name, if they name one.
+fn command(rt: &HostRuntime) -> io::Result<Option<Command>> {
+    let mut args = env::args(rt)?;
+    let _program = args.next();
+    let first = args.next();
+    if args.next().is_some() {
+        return Ok(None);
+    }
+    match first {
+        Some(word) if word.as_str() == "stdin" => Ok(Some(Command::Stdin)),
+        _ => Ok(None),
+    }
+}
+
+/// Whether a session came to an end that its client asked for.
+fn is_success(closing: Closing) -> bool {
+    closing == Closing::Finished || closing == Closing::Requested
+}
+
+/// Answers the requests on standard input.
+fn serve_stdin(rt: &HostRuntime) -> io::Result<ExitCode> {
+    let alloc = rt.alloc();
+    let reader = Tally::new(rt.stdin());
+    let mut writer = Tally::new(BufWriter::with_capacity(alloc, OUTPUT, rt.stdout())?);
+    let closing = answer_stream(alloc, reader, &mut writer, Limits::full())?;
+    if is_success(closing) {
+        Ok(ExitCode::SUCCESS)
+    } else {
+        Ok(ExitCode::FAILURE)
+    }
+}
+
+fn main(rt: HostRuntime) -> io::Result<ExitCode> {
+    match command(&rt)? {
+        Some(Command::Stdin) => serve_stdin(&rt),
+        None => {
+            eprintln!(rt; "usage: changes_hub stdin | serve ADDRESS COUNT")?;
+            Ok(ExitCode::from(2))
+        }
+    }
+}
