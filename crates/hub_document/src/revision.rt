@@ -1,6 +1,6 @@
 ghost use Rattle.std.specs.Prelude.{◌≡◌, ◌≤◌, ◌-◌, ◌<◌, ◌^◌, ◌++◌, length, replicate, option_map, IfSome, OnOk, OnErr};
 ghost use Rattle.std.specs.List.{list_all};
-ghost use Rattle.hub_model.specs.Revision.{IsRevision, text_of, is_hash_byte as is_letter};
+ghost use Rattle.hub_model.specs.Revision.{IsRevision, text_of, is_hash_byte as is_letter, is_same as is_same_revision};
 ghost use Rattle.hub_document.specs.RevText.{number_of, is_hash as is_hash_text, with_hash, revision_of};
 
 use itoa::Buffer;
@@ -44,6 +44,13 @@ impl RevId {
         ensures { result.now ≡ self.now.hash }
     {
         &self.bytes[..self.len as usize]
+    }
+
+    // Whether both are one. It compares no byte past the hashes.
+    pub(crate) fn is_same(&self, other: &RevId) -> bool
+        ensures { result ≡ is_same_revision self.now other.now }
+    {
+        self.number == other.number && self.hash() == other.hash()
     }
 }
 
