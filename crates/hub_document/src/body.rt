@@ -1,10 +1,10 @@
-//! The members of documents.
+//! The members of documents that are the document's own.
 
 ghost use Rattle.std.specs.Prelude.{◌≡◌, ◌++◌, ◌∷◌, false, OnOk, IfOk};
 ghost use Rattle.serde_json.specs.View.{view, members_view};
 ghost use Rattle.serde_json.specs.Written.{has_float, members_have_float, compact_text, comma_if};
 ghost use Rattle.json.specs.Print.{quoted};
-ghost use Rattle.hub_document.specs.Members.{body_text};
+ghost use Rattle.hub_document.specs.BodyText.{body_text};
 
 use crate::members::is_hidden;
 use serde_json::{Map, Value};
@@ -27,7 +27,7 @@ impl Model for Body {
 }
 
 impl Body {
-    /// The text.
+    /// The text: one object, without blanks, its keys in byte order. Constant time.
     pub fn as_bytes(&self) -> &[u8]
         ensures { result.now ≡ self.now }
     {
