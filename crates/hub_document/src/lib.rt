@@ -15,6 +15,7 @@ mod revision;
 mod revisions;
 #[cfg(test)]
 mod tests;
+mod write;
 
 pub use body::Body;
 pub use change_row::ChangeRow;
