@@ -1,3 +1,4 @@
 mod PathLemmas
+mod PlaceLemmas
 mod RevisionLemmas
 mod TextLemmas

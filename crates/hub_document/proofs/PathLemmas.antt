@@ -1,5 +1,5 @@
 -- A history that was read is a path.
-use Rattle.std.proofs.Common.{◌≡◌, ℕ, ◌+◌, ◌-◌, ◌<◌, ◌^◌, List, [], ◌∷◌, Bool, true, false, Option, Some, None, eqb, ltb, codes, option_map, option_and_then, arith, refl, sym, ap, ◌∙◌, subst}
+use Rattle.std.proofs.Common.{◌≡◌, ℕ, ◌-◌, ◌<◌, ◌^◌, List, [], ◌∷◌, Bool, true, false, Option, Some, None, eqb, ltb, codes, option_map, option_and_then, arith, refl, sym, ap, subst}
 use Rattle.std.specs.Prelude.{◌&&◌}
 use Rattle.std.proofs.lemmas.Option.{option_and_then_some, cond_some}
 use Rattle.std.proofs.lemmas.Bool.Decides.{nat_tests, Decides-eqb}
@@ -7,8 +7,8 @@ use Rattle.hub_model.specs.Revision.{Revision}
 use Rattle.hub_model.specs.Path.{Falls, IsPath, IsFull, IsHistory}
 use Rattle.serde_json.specs.Data.{Data, Items, no_items, item}
 use Rattle.serde_json.specs.Find.{get, as_str, as_array, as_u64, as_number}
-use Rattle.hub_document.specs.RevText.{is_hash, with_hash}
-use Rattle.hub_document.specs.Members.{falling, starting, history_in}
+use Rattle.hub_document.specs.RevisionText.{is_hash, with_hash}
+use Rattle.hub_document.specs.Histories.{falling, starting, history_in}
 
 abbrev FallsFrom : ℕ → List Revision → Type 0
 FallsFrom n [] = n ≡ 0

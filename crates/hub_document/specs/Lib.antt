@@ -1,7 +1,11 @@
+pub mod BodyText
 pub mod Fields
+pub mod Histories
+pub mod Ids
 pub mod Inside
 pub mod Limited
-pub mod Members
 pub mod Profile
 pub mod Read
-pub mod RevText
+pub mod RevisionLaws
+pub mod RevisionText
+pub mod SpecialMembers

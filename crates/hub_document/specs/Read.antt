@@ -1,12 +1,15 @@
--- The document that a JSON value is, or the first fault in it.
-use Rattle.std.specs.Prelude.{ℕ, List, [], ◌∷◌, length, slice_get, Bool, true, false, ◌&&◌, not, nat_lt, if◌then◌else◌, Option, Some, None, option_map, option_and_then, Result, Ok, Err, ⊤}
+-- The document that a JSON value is, or the first fault in it (CouchDB API reference, documents and `_bulk_docs`; the order of the faults is own).
+use Rattle.std.specs.Prelude.{ℕ, List, length, slice_get, Bool, not, nat_lt, if◌then◌else◌, Option, Some, None, option_map, Result, Ok, Err, ⊤}
 use Rattle.hub_model.specs.Revision.{Revision}
-use Rattle.serde_json.specs.Data.{Data, object, Members}
+use Rattle.serde_json.specs.Data.{Data, Members}
 use Rattle.std.specs.Str.{is_utf8}
 use Rattle.serde_json.specs.Read.{read}
 use Rattle.serde_json.specs.Find.{as_object}
 use Rattle.serde_json.specs.Written.{members_have_float}
-use Rattle.hub_document.specs.Members.{are_good_members, body_text, id_of, rev_of, path_of, deleted_of}
+use Rattle.hub_document.specs.SpecialMembers.{are_good_members, deleted_of}
+use Rattle.hub_document.specs.BodyText.{body_text}
+use Rattle.hub_document.specs.Ids.{id_of}
+use Rattle.hub_document.specs.Histories.{rev_of, path_of}
 use Rattle.hub_document.specs.declared.doc.DocFault.{DocFault}
 use Rattle.hub_document.specs.declared.doc.DocFault.TheVariants.{NotJson, NotObject, BadNumber, BadId, BadRev, BadRevisions, BadMember, TooLong}
 use Rattle.hub_document.specs.declared.doc.Doc.{Doc}
@@ -16,6 +19,7 @@ abbrev pub or_fault : {A B : Type 0} → Option A → DocFault → (A → Result
 or_fault None e next = Err e
 or_fault (Some a) e next = next a
 
+-- a value where the test holds
 abbrev pub if_holds : Bool → Option ⊤
 if_holds b = if b then Some tt else None
 
@@ -25,23 +29,28 @@ history_of new_edits rev d = if new_edits then Some (rev, None) else option_map 
 
 -- ---- the faults in their order
 
+-- the rest, where the head and the path are known
 abbrev pub with_path : Data → Members → List ℕ → Option Revision → Option (List Revision) → Result Doc DocFault
 with_path d ms id rev path =
     or_fault (if_holds (are_good_members ms)) BadMember (λ _.
     or_fault (if_holds (not (nat_lt 512 (length id)))) TooLong (λ _.
     Ok (record { id = id; rev = rev; path = path; deleted = deleted_of d; body = body_text ms })))
 
+-- the rest, where `_rev` is known
 abbrev pub with_rev : Bool → Data → Members → List ℕ → Option Revision → Result Doc DocFault
 with_rev new_edits d ms id rev = or_fault (history_of new_edits rev d) BadRevisions (λ p. with_path d ms id p.0 p.1)
 
+-- the rest, where the id is known
 abbrev pub with_id : Bool → Data → Members → List ℕ → Result Doc DocFault
 with_id new_edits d ms id = or_fault (rev_of new_edits d) BadRev (with_rev new_edits d ms id)
 
+-- the document that an object of these members is
 abbrev pub document_of : Bool → Data → Members → Result Doc DocFault
 document_of new_edits d ms =
     or_fault (if_holds (not (members_have_float ms))) BadNumber (λ _.
     or_fault (id_of d) BadId (with_id new_edits d ms))
 
+-- the document that a value is
 abbrev pub doc_of : Bool → Data → Result Doc DocFault
 doc_of new_edits d = or_fault (as_object d) NotObject (document_of new_edits d)
 
@@ -49,5 +58,6 @@ doc_of new_edits d = or_fault (as_object d) NotObject (document_of new_edits d)
 abbrev pub json_of : List ℕ → Option Data
 json_of text = if is_utf8 text then read text else None
 
+-- the document that a text is
 abbrev pub doc_in : Bool → List ℕ → Result Doc DocFault
 doc_in new_edits text = or_fault (json_of text) NotJson (doc_of new_edits)

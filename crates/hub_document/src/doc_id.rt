@@ -1,7 +1,10 @@
 //! The ids of documents.
 
-ghost use Rattle.std.specs.Prelude.{◌≡◌, IfOk};
+ghost use Rattle.std.specs.Prelude.{◌≡◌, IfOk, option_map};
+ghost use Rattle.serde_json.specs.View.{view};
+ghost use Rattle.hub_document.specs.Ids.{is_id as is_id_text, id_of as id_in};
 
+use serde_json::Value;
 use std::alloc::{AllocError, Global};
 use std::marker::Model;
 
@@ -42,4 +45,25 @@ impl DocId {
     {
         DocId::copied(alloc, self.text.as_str())
     }
+}
+
+fn is_id(text: &str) -> bool
+    ensures { result ≡ is_id_text text.now }
+{
+    let bytes = text.as_bytes();
+    if bytes.is_empty() {
+        return false;
+    }
+    if bytes[0] != b'_' {
+        return true;
+    }
+    bytes[1..].starts_with(b"design/") && bytes.len() > 8
+}
+
+/// The text of `_id`, where it is an id of any length.
+pub(crate) fn id_of(value: &Value) -> Option<&str>
+    ensures { option_map (λ s. s.now) result ≡ id_in (view value.now) }
+{
+    let text = value.get("_id").and_then(Value::as_str)?;
+    if is_id(text) { Some(text) } else { None }
 }

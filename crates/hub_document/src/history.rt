@@ -2,13 +2,15 @@
 
 ghost use Rattle.std.specs.Prelude.{◌≡◌, IfOk, option_map};
 ghost use Rattle.serde_json.specs.View.{view, items_view};
-ghost use Rattle.hub_document.specs.Members.{rev_of as rev_in, falling, history_in, is_head as is_head_of, alone as alone_of, path_of as path_in};
+ghost use Rattle.hub_document.specs.Histories.{rev_of as rev_in, falling, history_in, is_head as is_head_of, alone as alone_of, path_of as path_in};
 
 use crate::path::Path;
 use crate::revision::RevId;
 use serde_json::Value;
 use std::alloc::{AllocError, Global};
 
+/// The revision that `_rev` names, if it names one. None is a fault: a text that is no revision, or
+/// a missing one where the writer made the edit and brings no history.
 pub(crate) fn rev_of(value: &Value, new_edits: bool) -> Option<Option<RevId>>
     ensures { result ≡ rev_in new_edits (view value.now) }
 {
@@ -23,6 +25,7 @@ pub(crate) fn rev_of(value: &Value, new_edits: bool) -> Option<Option<RevId>>
     Some(Some(rev))
 }
 
+// The revisions of these hashes, of which the first has the generation `start` and the last the first.
 fn falling_from(
     alloc: Global,
     start: u16,
@@ -53,6 +56,7 @@ fn falling_from(
     }
 }
 
+// The history that `_revisions` writes. None is a fault.
 fn history_of(alloc: Global, value: &Value) -> Result<Option<Vec<RevId>>, AllocError>
     ensures { IfOk result (λ o. option_map (λ v. v.items) o ≡ history_in (view value.now)) }
 {
@@ -68,6 +72,7 @@ fn history_of(alloc: Global, value: &Value) -> Result<Option<Vec<RevId>>, AllocE
     falling_from(alloc, start as u16, ids)
 }
 
+// Whether a revision that is named is the first of the history.
 fn is_head(rev: Option<RevId>, revisions: &[RevId]) -> bool
     ensures { result ≡ is_head_of rev revisions.now }
 {
@@ -76,10 +81,11 @@ fn is_head(rev: Option<RevId>, revisions: &[RevId]) -> bool
     };
     match revisions {
         [] => false,
-        [s, ..] => r.generation() == s.generation() && r.hash() == s.hash(),
+        [first, ..] => r.is_same(first),
     }
 }
 
+// A revision without a history is the first of its document.
 fn alone(alloc: Global, rev: Option<RevId>) -> Result<Option<Path>, AllocError>
     ensures { IfOk result (λ o. o ≡ alone_of rev) }
 {
@@ -94,6 +100,7 @@ fn alone(alloc: Global, rev: Option<RevId>) -> Result<Option<Path>, AllocError>
     Ok(Some(Path::new(revisions)))
 }
 
+/// The path of an edit that another database made. None is a fault. It costs the history's length.
 pub(crate) fn path_of(
     alloc: Global,
     rev: Option<RevId>,

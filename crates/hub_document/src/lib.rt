@@ -8,12 +8,14 @@ mod doc_id;
 mod history;
 mod limits;
 mod members;
+mod numbers;
 mod path;
 mod read;
 mod revision;
 mod revisions;
 #[cfg(test)]
 mod tests;
+mod write;
 
 pub use body::Body;
 pub use change_row::ChangeRow;
@@ -22,5 +24,5 @@ pub use doc_id::DocId;
 pub use hub_model::{Item, Mode};
 pub use limits::Limits;
 pub use path::Path;
-pub use revision::RevId;
+pub use revision::{RevId, revision_texts};
 pub use revisions::Revisions;

@@ -1,6 +1,7 @@
 //! Paths of revisions.
 
-ghost use Rattle.std.specs.Prelude.{◌≡◌, Some, slice_get};
+ghost use Rattle.std.specs.Prelude.{◌≡◌, Some, false, slice_get, IfSome, IfNone};
+ghost use Rattle.hub_model.specs.Path.{names as names_in, behind as behind_in};
 
 use crate::revision::RevId;
 use std::marker::Model;
@@ -36,7 +37,8 @@ impl Path {
 
     /// The revision itself, the newest of the path.
     pub fn head(&self) -> RevId
-        ensures { slice_get self.now 0 ≡ Some result }
+        ensures value { slice_get self.now 0 ≡ Some result }
+        ensures good { IsHistory self.now }
     {
         self.revisions[0]
     }
@@ -46,5 +48,42 @@ impl Path {
         ensures { result.now ≡ self.now }
     {
         self.revisions.as_slice()
+    }
+
+    // Where the revision stands, counted from the head. The generations fall by one, so that there
+    // is one place where it can stand.
+    fn place(&self, rev: &RevId) -> Option<u16>
+        ensures found { IfSome result (λ k. slice_get self.now k ≡ Some rev.now) }
+        ensures absent { IfNone result (names_in self.now rev.now ≡ false) }
+        ensures good { IsHistory self.now }
+    {
+        let revisions = self.revisions();
+        let newest = self.head().generation();
+        if rev.generation() > newest {
+            return None;
+        }
+        let place = newest - rev.generation();
+        let found = revisions.get(usize::from(place))?;
+        if found.is_same(rev) {
+            Some(place)
+        } else {
+            None
+        }
+    }
+
+    /// Whether the path has the revision. Constant time.
+    pub fn names(&self, rev: &RevId) -> bool
+        ensures { result ≡ names_in self.now rev.now }
+    {
+        self.place(rev).is_some()
+    }
+
+    /// The revision that stands directly behind this one in the path: its parent. None where the
+    /// path does not have it, or ends with it. Constant time.
+    pub fn behind(&self, rev: &RevId) -> Option<RevId>
+        ensures { result ≡ behind_in rev.now self.now }
+    {
+        let place = self.place(rev)?;
+        self.revisions().get(usize::from(place) + 1).copied()
     }
 }

@@ -3,21 +3,23 @@
 ghost use Rattle.std.specs.Prelude.{◌≡◌, ◌⊎◌, IfOk, IfErr, Ok, Err, Some, None, false};
 ghost use Rattle.serde_json.specs.View.{view, members_view};
 ghost use Rattle.hub_document.specs.Read.{with_path as path_gives, with_rev as rev_gives, with_id as id_gives, document_of, history_of as history_in, doc_of, doc_in, json_of};
-ghost use Rattle.hub_document.specs.Members.{deleted_of};
 ghost use Rattle.serde_json.specs.Written.{members_have_float as members_have_float_in};
 
 use crate::body::body_of;
 use crate::doc::{Doc, DocFault};
-use crate::doc_id::DocId;
+use crate::doc_id::{DocId, id_of};
 use crate::history::{path_of, rev_of};
-use crate::members::{are_good_members, id_of, is_deleted, members_have_float};
+use crate::members::{are_good_members, is_deleted};
+use crate::numbers::members_have_float;
 use crate::path::Path;
 use crate::revision::RevId;
 use serde_json::{Map, Value};
 use std::alloc::{AllocError, Global};
 
+// The head and the path of an edit.
 type History = (Option<RevId>, Option<Path>);
 
+// An edit that is made here has no path yet; one that came has its history. None is a fault.
 fn history_of(
     alloc: Global,
     new_edits: bool,
@@ -36,6 +38,7 @@ fn history_of(
     Ok(Some((Some(head), Some(path))))
 }
 
+// The rest, where the head and the path are known.
 fn with_path(
     alloc: Global,
     value: &Value,
@@ -67,6 +70,7 @@ fn with_path(
     })
 }
 
+// The rest, where `_rev` is known.
 fn with_rev(
     alloc: Global,
     new_edits: bool,
@@ -86,6 +90,7 @@ fn with_rev(
     with_path(alloc, value, members, id, head, path)
 }
 
+// The rest, where the id is known.
 fn with_id(
     alloc: Global,
     new_edits: bool,
@@ -104,6 +109,7 @@ fn with_id(
     with_rev(alloc, new_edits, value, members, id, rev)
 }
 
+// The document that an object is.
 fn document_from(
     alloc: Global,
     new_edits: bool,
@@ -123,28 +129,7 @@ fn document_from(
     with_id(alloc, new_edits, value, members, id)
 }
 
-impl Doc {
-    pub fn of_value(alloc: Global, value: &Value, new_edits: bool) -> Result<Doc, DocFault>
-        ensures ok { IfOk result (λ d. doc_of new_edits (view value.now) ≡ Ok d) }
-        ensures err { IfErr result (λ e. (e ≡ DocFault.NoMemory)
-            ⊎ (doc_of new_edits (view value.now) ≡ Err e)) }
-    {
-        let Some(members) = value.as_object() else {
-            return Err(DocFault::NotObject);
-        };
-        document_from(alloc, new_edits, value, members)
-    }
-
-    pub fn read(alloc: Global, bytes: &[u8], new_edits: bool) -> Result<Doc, DocFault>
-        ensures ok { IfOk result (λ d. doc_in new_edits bytes.now ≡ Ok d) }
-        ensures err { IfErr result (λ e. (e ≡ DocFault.NoMemory)
-            ⊎ (doc_in new_edits bytes.now ≡ Err e)) }
-    {
-        let value = parsed(alloc, bytes)?;
-        Doc::of_value(alloc, &value, new_edits)
-    }
-}
-
+// The JSON value that a text is.
 fn parsed(alloc: Global, bytes: &[u8]) -> Result<Value, DocFault>
     ensures ok { IfOk result (λ v. json_of bytes.now ≡ Some (view v)) }
     ensures err { IfErr result (λ e. (e ≡ DocFault.NoMemory)
@@ -159,5 +144,31 @@ fn parsed(alloc: Global, bytes: &[u8]) -> Result<Value, DocFault>
                 Err(DocFault::NotJson)
             }
         }
+    }
+}
+
+impl Doc {
+    /// The document that a JSON value is, or the first fault in it. With `new_edits` the edit is
+    /// made here: `_rev` names the leaf that it edits, if one, and `_revisions` is not looked at.
+    /// Without it `_rev` and `_revisions` are the edit's own. It costs the value's size.
+    pub fn of_value(alloc: Global, value: &Value, new_edits: bool) -> Result<Doc, DocFault>
+        ensures ok { IfOk result (λ d. doc_of new_edits (view value.now) ≡ Ok d) }
+        ensures err { IfErr result (λ e. (e ≡ DocFault.NoMemory)
+            ⊎ (doc_of new_edits (view value.now) ≡ Err e)) }
+    {
+        let Some(members) = value.as_object() else {
+            return Err(DocFault::NotObject);
+        };
+        document_from(alloc, new_edits, value, members)
+    }
+
+    /// The document that a JSON text is. It costs the text's length.
+    pub fn read(alloc: Global, bytes: &[u8], new_edits: bool) -> Result<Doc, DocFault>
+        ensures ok { IfOk result (λ d. doc_in new_edits bytes.now ≡ Ok d) }
+        ensures err { IfErr result (λ e. (e ≡ DocFault.NoMemory)
+            ⊎ (doc_in new_edits bytes.now ≡ Err e)) }
+    {
+        let value = parsed(alloc, bytes)?;
+        Doc::of_value(alloc, &value, new_edits)
     }
 }

@@ -1,13 +1,17 @@
-ghost use Rattle.std.specs.Prelude.{◌≡◌, ◌≤◌, ◌-◌, ◌<◌, ◌^◌, ◌++◌, length, replicate, option_map, IfSome, OnOk, OnErr};
+//! Revision ids.
+
+ghost use Rattle.std.specs.Prelude.{◌≡◌, ◌≤◌, ◌-◌, ◌<◌, ◌^◌, ◌++◌, length, replicate, option_map, IfSome, IfNone, OnOk, OnErr};
 ghost use Rattle.std.specs.List.{list_all};
-ghost use Rattle.hub_model.specs.Revision.{IsRevision, text_of, is_hash_byte as is_letter};
-ghost use Rattle.hub_document.specs.RevText.{number_of, is_hash as is_hash_text, with_hash, revision_of};
+ghost use Rattle.hub_model.specs.Revision.{IsRevision, text_of, is_hash_byte as is_letter, is_same as is_same_revision};
+ghost use Rattle.hub_document.specs.RevisionLaws.{TextsRead, ReadsAreTexts};
+ghost use Rattle.hub_document.specs.RevisionText.{number_of, is_hash as is_hash_text, with_hash, revision_of};
 
 use itoa::Buffer;
 use std::alloc::AllocError;
 use std::marker::Model;
 
-/// A revision id, `N-H`: the generation, 1 to 65,535, and a hash of 1 to 64 letters and digits.
+/// A revision id, `N-H`: the generation, 1 to 65,535, and a hash of 1 to 64 letters and digits
+/// (CouchDB API reference, document revisions). It is a plain value of 67 bytes, copied freely.
 #[derive(Clone, Copy, Debug, PartialEq, Eq)]
 pub struct RevId {
     number: u16,
@@ -33,6 +37,7 @@ impl Model for RevId {
 }
 
 impl RevId {
+    /// How many edits lead to it, itself included.
     pub fn generation(&self) -> u16
         ensures value { result ≡ self.now.generation }
         ensures good { IsRevision self.now }
@@ -40,10 +45,18 @@ impl RevId {
         self.number
     }
 
+    /// Its hash, as ASCII bytes.
     pub fn hash(&self) -> &[u8]
         ensures { result.now ≡ self.now.hash }
     {
         &self.bytes[..self.len as usize]
+    }
+
+    // Whether both are one. It compares no byte past the hashes.
+    pub(crate) fn is_same(&self, other: &RevId) -> bool
+        ensures { result ≡ is_same_revision self.now other.now }
+    {
+        self.number == other.number && self.hash() == other.hash()
     }
 }
 
@@ -100,15 +113,21 @@ fn padded(hash: &[u8]) -> [u8; 64]
 }
 
 impl RevId {
+    ghost use Rattle.hub_model.specs.Revision.{Revision};
+
+    /// The revision whose text this is; None where it is that of no revision. It costs the text's
+    /// length.
     pub fn read(text: &str) -> Option<RevId>
         ensures value { result ≡ revision_of text.now }
         ensures text { IfSome result (λ r. text_of r ≡ text.now) }
+        ensures none { IfNone result ((r : Revision) → IsRevision r → text_of r ≡ text.now → ⊥) }
     {
         let bytes = text.as_bytes();
         let (number, hash) = read_number(bytes)?;
         RevId::from_parts(number, hash)
     }
 
+    /// The revision of this generation and hash; None where the text is no hash.
     pub fn from_parts(generation: u16, hash: &[u8]) -> Option<RevId>
         requires { 1 ≤ generation }
         ensures { result ≡ with_hash generation hash.now }
@@ -123,6 +142,8 @@ impl RevId {
         })
     }
 
+    /// Writes its text behind what the vector holds. Where that needs more memory than there is, the
+    /// vector stays as it was.
     pub fn print(&self, out: &mut Vec<u8>) -> Result<(), AllocError>
         ensures ok { OnOk result (out.new.items ≡ out.old.items ++ text_of self.now) }
         ensures err { OnErr result (out.new.items ≡ out.old.items) }
@@ -136,3 +157,10 @@ impl RevId {
         out.extend_from_slice(hash)
     }
 }
+
+/// Reading and printing undo each other: the text of each revision reads as it, and what reads as a
+/// revision is its text.
+pub fn revision_texts()
+    ensures reads { TextsRead }
+    ensures prints { ReadsAreTexts }
+{}

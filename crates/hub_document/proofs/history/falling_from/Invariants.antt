@@ -1,6 +1,6 @@
 use Rattle.std.proofs.Common.{◌≡◌, ◌++◌, drop, option_map}
 use Rattle.serde_json.specs.View.{items_view}
-use Rattle.hub_document.specs.Members.{falling}
+use Rattle.hub_document.specs.Histories.{falling}
 use Rattle.hub_document.proofs.history.falling_from.Given as goal
 
 abbrev pub invariant-loop-id : goal.invariant-loop-id

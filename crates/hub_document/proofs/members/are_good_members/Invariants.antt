@@ -1,6 +1,6 @@
 use Rattle.std.proofs.Common.{◌≡◌}
 use Rattle.serde_json.specs.View.{members_view}
-use Rattle.hub_document.specs.Members.{are_good_members}
+use Rattle.hub_document.specs.SpecialMembers.{are_good_members}
 use Rattle.hub_document.proofs.members.are_good_members.Given as goal
 
 abbrev pub invariant-loop-key : goal.invariant-loop-key

@@ -1,8 +1,8 @@
-use Rattle.std.proofs.Common.{◌≡◌, ℕ, List, [], ◌∷◌, length, String, Global, eqb, ap, sym, ◌∙◌, refl, arith}
+use Rattle.std.proofs.Common.{◌≡◌, List, [], ◌∷◌, length, eqb, refl, arith}
 use Rattle.serde_json.specs.Data.{object}
 use Rattle.serde_json.specs.View.{members_view}
 use Rattle.serde_json.proofs.Views.{Entry, view-Object}
-use Rattle.hub_document.specs.Members.{is_empty_object}
+use Rattle.hub_document.specs.SpecialMembers.{is_empty_object}
 use Rattle.hub_document.proofs.members.is_empty_object.Goals as goal
 
 none_there : (es : List Entry) → eqb (length es) 0 ≡ is_empty_object (object (members_view es))

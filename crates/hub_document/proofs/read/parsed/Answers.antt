@@ -1,7 +1,6 @@
-use Rattle.std.proofs.Common.{◌≡◌, true, false, Bool, None, Some, List, ℕ, true≢false, inr, refl, sym, ap, ◌∙◌, IsUtf8}
+use Rattle.std.proofs.Common.{◌≡◌, true, false, Bool, None, List, ℕ, true≢false, inr, refl, sym, ◌∙◌, IsUtf8}
 use Rattle.std.proofs.lemmas.Str.{IsUtf8-from_is_utf8, is_utf8-from_IsUtf8}
 use Rattle.std.specs.Str.{is_utf8}
-use Rattle.serde_json.specs.Data.{Data}
 use Rattle.serde_json.specs.Read.{read}
 use Rattle.hub_document.specs.Read.{json_of}
 use Rattle.hub_document.proofs.read.parsed.Goals as goal

@@ -1,0 +1,54 @@
+-- The revision and the history that a document names by `_rev` and `_revisions` (CouchDB API reference, documents; replication protocol, upload of changed documents). Full histories and their limits are own.
+use Rattle.std.specs.Prelude.{ℕ, ◌-◌, ◌^◌, List, [], ◌∷◌, codes, Bool, true, ◌&&◌, ◌||◌, ◌==◌, nat_lt, is_some, if◌then◌else◌, Option, Some, None, option_map, option_and_then}
+use Rattle.hub_model.specs.Revision.{Revision}
+use Rattle.hub_model.specs.Path.{is_first}
+use Rattle.hub_document.specs.RevisionText.{with_hash, revision_of}
+use Rattle.serde_json.specs.Data.{Data, Items, no_items, item}
+use Rattle.serde_json.specs.Find.{get, as_str, as_number, as_array, as_u64}
+
+-- the revision that a JSON string writes
+abbrev pub rev_in : Data → Option Revision
+rev_in d = option_and_then revision_of (as_str d)
+
+-- what an absent member gives, and what one that stands there gives
+abbrev pub read_or : {A : Type 0} → Option A → (Data → Option A) → Option Data → Option A
+read_or missing read None = missing
+read_or missing read (Some d) = read d
+
+-- the revision of `_rev`; None is a fault. It may be absent where edits are new, or a history stands beside it.
+abbrev pub rev_of : Bool → Data → Option (Option Revision)
+rev_of new_edits d =
+    read_or (if new_edits || is_some (get (codes "_revisions") d) then Some None else None) (λ r. option_map Some (rev_in r)) (get (codes "_rev") d)
+
+-- the hashes of generations n, n - 1, .., 1
+abbrev pub falling : ℕ → Items → Option (List Revision)
+falling n no_items = if n == 0 then Some [] else None
+falling n (item d ds) = if n == 0 then None else option_and_then (λ r. option_map (λ rs. r ∷ rs) (falling (n - 1) ds)) (option_and_then (with_hash n) (as_str d))
+
+-- a full history from a generation within the limits
+abbrev pub starting : ℕ → Items → Option (List Revision)
+starting start ids = if nat_lt 0 start && nat_lt start (2 ^ 16) then falling start ids else None
+
+-- the history that `_revisions` writes by `start` and `ids`
+abbrev pub history_in : Data → Option (List Revision)
+history_in d =
+    option_and_then (λ start. option_and_then (starting start) (option_and_then as_array (get (codes "ids") d)))
+    (option_and_then as_u64 (option_and_then as_number (get (codes "start") d)))
+
+-- a revision that is named is the first of the history
+abbrev pub is_head : Option Revision → List Revision → Bool
+is_head None path = true
+is_head (Some r) path = is_first r path
+
+-- the history, where that holds
+abbrev pub if_head : Option Revision → List Revision → Option (List Revision)
+if_head rev path = if is_head rev path then Some path else None
+
+-- a revision that stands alone is its own history
+abbrev pub alone : Option Revision → Option (List Revision)
+alone None = None
+alone (Some r) = if r.generation == 1 then Some (r ∷ []) else None
+
+-- the history of a document that names this revision
+abbrev pub path_of : Option Revision → Data → Option (List Revision)
+path_of rev d = read_or (alone rev) (λ v. option_and_then (if_head rev) (history_in v)) (get (codes "_revisions") d)

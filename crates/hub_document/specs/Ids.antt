@@ -1,0 +1,18 @@
+-- The ids of documents (CouchDB API reference, documents and design documents; the limits are own).
+use Rattle.std.specs.Prelude.{ℕ, List, [], ◌∷◌, length, codes, Bool, true, false, ◌&&◌, ◌==◌, nat_lt, if◌then◌else◌, Option, Some, None, option_and_then}
+use Rattle.std.specs.List.{starts_with}
+use Rattle.serde_json.specs.Data.{Data}
+use Rattle.serde_json.specs.Find.{get, as_str}
+
+-- 1 byte or more; after `_` only `design/` and a name, since `_local` documents have calls of their own
+abbrev pub is_id : List ℕ → Bool
+is_id [] = false
+is_id (b ∷ rest) = if b == 95 then (starts_with (λ x y. x == y) rest (codes "design/") && nat_lt 7 (length rest)) else true
+
+-- the text, where it is an id
+abbrev pub if_id : List ℕ → Option (List ℕ)
+if_id s = if is_id s then Some s else None
+
+-- the id that `_id` gives
+abbrev pub id_of : Data → Option (List ℕ)
+id_of d = option_and_then if_id (option_and_then as_str (get (codes "_id") d))

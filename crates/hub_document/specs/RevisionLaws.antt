@@ -1,0 +1,12 @@
+-- Reading a revision and writing it undo each other (own).
+use Rattle.std.specs.Prelude.{◌≡◌, ℕ, List, Some}
+use Rattle.hub_model.specs.Revision.{Revision, IsRevision, text_of}
+use Rattle.hub_document.specs.RevisionText.{revision_of}
+
+-- the text of each revision within the limits reads as that revision
+abbrev pub TextsRead : Type 0
+TextsRead = (r : Revision) → IsRevision r → revision_of (text_of r) ≡ Some r
+
+-- what reads as a revision is its text, and the revision is within the limits
+abbrev pub ReadsAreTexts : Type 0
+ReadsAreTexts = (s : List ℕ) (r : Revision) → revision_of s ≡ Some r → (text_of r ≡ s) × IsRevision r

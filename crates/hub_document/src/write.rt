@@ -1,0 +1,78 @@
+//! Writing JSON values behind one another into one text.
+
+ghost use Rattle.std.specs.Prelude.{◌≡◌, ◌++◌, false, OnOk};
+ghost use Rattle.json.specs.Tree.{json_tokens, items_tokens, members_tokens};
+ghost use Rattle.serde_json.specs.View.{view, number_view, items_view, members_view};
+ghost use Rattle.serde_json.specs.Find.{is_float};
+ghost use Rattle.serde_json.specs.Data.{number};
+ghost use Rattle.serde_json.specs.Written.{has_float, items_have_float, members_have_float, outline, items_outline, members_outline};
+
+use json::Writer;
+use serde_json::{Map, Number, Value};
+use std::alloc::AllocError;
+
+fn write_number(value: &Number, out: &mut Writer) -> Result<(), AllocError>
+    requires { is_float (number_view value.now) ≡ false }
+    ensures ok { OnOk result (out.new.tokens
+        ≡ out.old.tokens ++ json_tokens (outline (number (number_view value.now)))) }
+    ensures before { out.new.before ≡ out.old.before }
+{
+    if let Some(whole) = value.as_u64() {
+        return out.u64(whole);
+    }
+    match value.as_i64() {
+        Some(whole) => out.i64(whole),
+        None => Ok(()),
+    }
+}
+
+/// Writes the value behind what the writer holds. It costs the value's size.
+#[cycle(write)]
+pub(crate) fn write_value(value: &Value, out: &mut Writer) -> Result<(), AllocError>
+    requires { has_float (view value.now) ≡ false }
+    ensures ok { OnOk result (out.new.tokens
+        ≡ out.old.tokens ++ json_tokens (outline (view value.now))) }
+    ensures before { out.new.before ≡ out.old.before }
+{
+    match value {
+        Value::Null => out.null(),
+        Value::Bool(b) => out.boolean(*b),
+        Value::Number(n) => write_number(n, out),
+        Value::String(s) => out.string(s.as_str()),
+        Value::Array(items) => {
+            out.begin_array()?;
+            write_items(items, out)
+        }
+        Value::Object(members) => {
+            out.begin_object()?;
+            write_members(members, out)
+        }
+    }
+}
+
+#[cycle(write)]
+fn write_items(items: &Vec<Value>, out: &mut Writer) -> Result<(), AllocError>
+    requires { items_have_float (items_view items.now.items) ≡ false }
+    ensures ok { OnOk result (out.new.tokens
+        ≡ out.old.tokens ++ items_tokens (items_outline (items_view items.now.items))) }
+    ensures before { out.new.before ≡ out.old.before }
+{
+    for item in items {
+        write_value(item, out)?;
+    }
+    out.end_array()
+}
+
+#[cycle(write)]
+fn write_members(members: &Map<String, Value>, out: &mut Writer) -> Result<(), AllocError>
+    requires { members_have_float (members_view members.now.entries) ≡ false }
+    ensures ok { OnOk result (out.new.tokens
+        ≡ out.old.tokens ++ members_tokens (members_outline (members_view members.now.entries))) }
+    ensures before { out.new.before ≡ out.old.before }
+{
+    for (key, member) in members.iter() {
+        out.key(key.as_str())?;
+        write_value(member, out)?;
+    }
+    out.end_object()
+}
