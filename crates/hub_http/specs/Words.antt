@@ -1,5 +1,5 @@
--- What the crates above say of requests that are read.
-use Rattle.std.specs.Prelude.{◌≡◌, ℕ, List, Option, false}
+-- own: what is said of requests that are read.
+use Rattle.std.specs.Prelude.{◌≡◌, ℕ, List, Option, true, false}
 use Rattle.hub_http.specs.declared.requests.Requests.{Requests}
 use Rattle.hub_http.specs.Stream.{known}
 
@@ -10,3 +10,11 @@ to_come left q = known q.held.items (left q.reader)
 -- no fault came that ends the requests
 abbrev pub IsOpen : {R : Type 0} → Requests R → Type 0
 IsOpen q = q.ended ≡ false
+
+-- a fault came that ends the requests
+abbrev pub HasEnded : {R : Type 0} → Requests R → Type 0
+HasEnded q = q.ended ≡ true
+
+-- how many reads faulted
+abbrev pub faults_of : {R : Type 0} → (R → ℕ) → Requests R → ℕ
+faults_of count q = count q.reader

@@ -1,6 +1,4 @@
-use crate::fault::HttpFault;
-use crate::requests::Requests;
-use crate::io::Tally;
+use crate::{HttpFault, Requests, Tally};
 use std::io;
 use std::io::Read;
 use std::test::Fail;
