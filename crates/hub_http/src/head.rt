@@ -13,7 +13,7 @@ use std::alloc::Global;
 
 /// What a head asks for.
 #[derive(Debug, Drop)]
-pub struct Head {
+pub(crate) struct Head {
     pub method: Vec<u8>,
     pub target: Vec<u8>,
     pub length: Option<u64>,
@@ -28,14 +28,15 @@ pub(crate) const HEAD_LIMIT: usize = 16_384;
 /// The greatest number of a head's fields.
 const FIELD_LIMIT: usize = 64;
 
-#[tactic(auto, unfolding(crate::specs::Heads::same_word))]
 /// Whether the words are the same but for the case of their letters.
+#[tactic(auto, unfolding(crate::specs::Heads::same_word))]
 pub(crate) fn same_word(a: &[u8], b: &[u8]) -> bool
     ensures { result ≡ same_word a.now b.now }
 {
     a.eq_ignore_ascii_case(b)
 }
 
+/// Whether a field is a `Transfer-Encoding`.
 fn has_coding(buf: &[u8], headers: &[HeaderSpan]) -> bool
     requires { All (IsHeaderWithin (length buf.now)) headers.now }
     ensures { result ≡ list_any (is_named (codes "transfer-encoding")) (map (header_bytes buf.now) headers.now) }

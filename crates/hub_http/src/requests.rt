@@ -143,7 +143,7 @@ pub struct Requests<R> {
 }
 
 impl<R: Input> Requests<R> {
-    ghost use Rattle.hub_http.specs.Words.{to_come, IsOpen, HasEnded, faults_of};
+    ghost use Rattle.hub_http.specs.Words.{to_come, IsOpen, HasEnded, faults_of, reader_of};
 
     /// Nothing is read yet.
     pub fn new(alloc: Global, reader: R) -> Requests<R>
@@ -157,6 +157,13 @@ impl<R: Input> Requests<R> {
             held: Vec::new(alloc),
             ended: false,
         }
+    }
+
+    /// Where the requests come from, with its counts.
+    pub fn reader(&self) -> &R
+        ensures { result.now ≡ reader_of self.now }
+    {
+        &self.reader
     }
 
     /// The next request, `None` at the end of the input. After a fault but want of memory each

@@ -16,10 +16,13 @@ pub struct Tally<T> {
 }
 
 impl<T> Tally<T> {
+    ghost use Rattle.hub_http.specs.Words.{inner_of, faults_counted, reads_counted};
+
+    /// Nothing is counted yet.
     pub fn new(inner: T) -> Tally<T>
-        ensures inner { result.inner ≡ inner }
-        ensures faults { result.faults ≡ 0 }
-        ensures reads { result.reads ≡ 0 }
+        ensures inner { inner_of result ≡ inner }
+        ensures faults { faults_counted result ≡ 0 }
+        ensures reads { reads_counted result ≡ 0 }
     {
         Tally {
             inner,
@@ -28,8 +31,9 @@ impl<T> Tally<T> {
         }
     }
 
+    /// The reader or writer itself.
     pub fn into_inner(self) -> T
-        ensures { result ≡ self.inner }
+        ensures { result ≡ inner_of self }
     {
         let Tally {
             inner,
@@ -40,6 +44,7 @@ impl<T> Tally<T> {
     }
 }
 
+/// One more, up to the last value.
 fn bump(count: u64) -> u64
     ensures { result ≡ bumped count }
 {
