@@ -11,14 +11,17 @@ use Rattle.httparse.proofs.GrammarLemmas.{request_prefix_free}
 use Rattle.hub_http.specs.declared.fault.HttpFault.{HttpFault}
 use Rattle.hub_http.specs.declared.fault.HttpFault.TheVariants.{NoMemory, BadHead, HeadTooLong, BodyTooLong, Version, Coding, Ended, IoFault}
 use Rattle.hub_http.specs.declared.head.Head.{Head}
-use Rattle.hub_http.specs.Heads.{Pair, is_digits, body_limit, length_of, length_asked, asked, is_target, is_named, values_named, asks_close, Begins, BeginsFaulty, IsHeadAt, NeverHasHead, LookFaults, length_by, pairs_of}
+use Rattle.hub_http.specs.Heads.{Pair, is_digits, body_limit, length_of, length_asked, asked, is_target, is_named, values_named, asks_close, Begins, BeginsFaulty, BeginsTooLong, IsHeadAt, NeverHasHead, LookFaults, length_by, pairs_of}
 
 -- a head past the limit is the only one
-pub too_long : (buf : List ℕ) (headers : List HeaderSpan) (r : RequestSpans) → IsRequestOf buf headers r → 16384 < r.len → NeverHasHead buf
-too_long buf headers r x far more k q b =
+never_shorter : (buf : List ℕ) (headers : List HeaderSpan) (r : RequestSpans) → IsRequestOf buf headers r → 16384 < r.len → NeverHasHead buf
+never_shorter buf headers r x far more k q b =
     let same = request_prefix_free buf more x.0 k (drop r.len buf) q x.1.reads b.reads in
     let e : length (print_request x.0) ≡ length (print_request k) = ap (λ h. length (print_request h)) same.0 in
     omega (arith, x.1.len, b.len, e)
+
+pub too_long : (buf : List ℕ) (headers : List HeaderSpan) (r : RequestSpans) → IsRequestOf buf headers r → 16384 < r.len → NeverHasHead buf × BeginsTooLong buf
+too_long buf headers r x far = (never_shorter buf headers r x far, inr (inl (x.0, drop r.len buf, x.1.reads, omega (arith, x.1.len, far))))
 
 pub too_many : (buf : List ℕ) → RequestOverflows 64 buf → NeverHasHead buf
 too_many buf o more k q b = let h = o more k q b.reads in omega (arith, h, b.fields)

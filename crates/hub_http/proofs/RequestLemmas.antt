@@ -1,20 +1,20 @@
 -- From what is held to the bytes that are told.
-use Rattle.std.proofs.Common.{◌≡◌, ℕ, ◌+◌, ◌<◌, ◌≤◌, Bool, true, false, ◌&&◌, cond, List, [], ◌∷◌, ◌++◌, length, take, drop, Option, Some, None, Result, Ok, Err, IfSome, is_some, unwrap_or, refl, sym, ap, subst, ◌∙◌, arith, nat_le, append_assoc, take-append-drop, codes, bytes_eq, ◌^◌}
+use Rattle.std.proofs.Common.{◌≡◌, ℕ, ◌+◌, ◌<◌, ◌≤◌, Bool, true, false, ◌&&◌, cond, List, [], ◌∷◌, ◌++◌, length, take, drop, Option, Some, None, Result, Ok, Err, IfSome, is_some, unwrap_or, refl, sym, ap, subst, ◌∙◌, arith, nat_le, append_assoc, append-nil, ◌⊎◌, inl, inr, take-append-drop, codes, bytes_eq, ◌^◌}
 use borrow.Author.Tests.{leb-true}
 use Rattle.std.proofs.lemmas.Grind.{common_steps}
 use Rattle.std.proofs.lemmas.Bool.Decides.{nat_tests}
-use Rattle.std.proofs.lemmas.List.{drop-drop, drop_at}
+use Rattle.std.proofs.lemmas.List.{drop-drop, drop_at, nil_from_length}
 use Rattle.std.specs.List.{list_all, list_any}
 use Rattle.std.specs.Str.Parse.{digits_value}
 use Rattle.std.specs.Io.KnownBytes.{Keeps, prepend_known}
-use Rattle.httparse.specs.Grammar.{RequestHead, print_request, ReadsRequest, HasNoRequest}
+use Rattle.httparse.specs.Grammar.{RequestHead, print_request, ReadsRequest, HasNoRequest, NeverHasRequest}
 use Rattle.httparse.proofs.GrammarLemmas.{ReadsRequest-append}
 use Rattle.hub_http.specs.declared.fault.HttpFault.{HttpFault}
-use Rattle.hub_http.specs.declared.fault.HttpFault.TheVariants.{BadHead, BodyTooLong, Version, Coding}
+use Rattle.hub_http.specs.declared.fault.HttpFault.TheVariants.{NoMemory, BadHead, HeadTooLong, BodyTooLong, Version, Coding, Ended, IoFault}
 use Rattle.hub_http.specs.declared.head.Head.{Head}
 use Rattle.hub_http.specs.declared.request.Request.{Request}
-use Rattle.hub_http.specs.Heads.{Pair, Begins, IsHeadAt, NeverHasHead, length_by, length_of, length_asked, asked, is_digits, is_target, values_named, pairs_of, body_limit}
-use Rattle.hub_http.specs.Stream.{Spells, SpelledBy, asked_by, Leaves}
+use Rattle.hub_http.specs.Heads.{Pair, Begins, BeginsFaulty, BeginsTooLong, GoesOn, IsHeadAt, NeverHasHead, length_by, length_of, length_asked, asked, is_digits, is_target, values_named, pairs_of, body_limit}
+use Rattle.hub_http.specs.Stream.{Spells, SpelledBy, asked_by, FindFaults, Leaves}
 
 -- where a text ends in its front
 splits : (p r a m : List ℕ) → p ++ r ≡ a ++ m → length p ≤ length a → (q : List ℕ) × (a ≡ p ++ q)
@@ -25,16 +25,69 @@ splits (x ∷ p) r (y ∷ a) m e l =
     let head : x ≡ y = cc in
     let rest = splits p r a m tail (omega arith) in (rest.0, cc (head, rest.1))
 
+keeps_some : (a b : Option (List ℕ)) (P : List ℕ → Type 0) → Keeps a b → IfSome b P → IfSome a P
+keeps_some None b P k p = tt
+keeps_some (Some x) None P k p = absurd k
+keeps_some (Some x) (Some y) P k p = subst P k p
+
 -- a part with no head in it, as long as a head may be
-pub never_after_part : (held : List ℕ) → 16384 ≤ length held → HasNoRequest held → NeverHasHead held
+never_after_part : (held : List ℕ) → 16384 ≤ length held → HasNoRequest held → NeverHasHead held
 never_after_part held long none more h rest b =
     let cut = splits (print_request h) rest held more (sym b.reads.1) (omega (arith, b.len)) in
     none h cut.0 (b.reads.0, cut.1)
 
-pub keeps_some : (a b : Option (List ℕ)) (P : List ℕ → Type 0) → Keeps a b → IfSome b P → IfSome a P
-keeps_some None b P k p = tt
-keeps_some (Some x) None P k p = absurd k
-keeps_some (Some x) (Some y) P k p = subst P k p
+pub goes_on_too_long : (held : List ℕ) → 16384 ≤ length held → GoesOn held → NeverHasHead held × BeginsTooLong held
+goes_on_too_long held long on = (never_after_part held long on.0, inr (inr (held, [], sym (append-nil held), long, on)))
+
+-- nothing more came
+pub goes_on_still : (old new more : List ℕ) (n : ℕ) → new ≡ old ++ more → n ≡ length more → n ≡ 0 → GoesOn old → GoesOn new
+goes_on_still old new more n e f z on =
+    let none : more ≡ [] = nil_from_length more (sym f ∙ z) in
+    subst GoesOn (sym (e ∙ ap (λ l. old ++ l) none ∙ append-nil old)) on
+
+-- what is said of a front of the bytes is said of the bytes
+never_more : (held y : List ℕ) → NeverHasHead held → NeverHasHead (held ++ y)
+never_more held y never more h rest b = never (y ++ more) h rest (subst (λ (l : List ℕ). Begins l h rest) (append_assoc held y more) b)
+
+never_request_more : (held y : List ℕ) → NeverHasRequest held → NeverHasRequest (held ++ y)
+never_request_more held y never more h rest r = never (y ++ more) h rest (subst (λ (l : List ℕ). ReadsRequest l h rest) (append_assoc held y more) r)
+
+faulty_more : (held y : List ℕ) (e : HttpFault) → BeginsFaulty held e → BeginsFaulty (held ++ y) e
+faulty_more held y e b = (
+  b.0,
+  b.1 ++ y,
+  record { reads = ReadsRequest-append held b.0 b.1 y b.2.reads; len = b.2.len; fields = b.2.fields },
+  b.3,
+)
+
+too_long_more : (held y : List ℕ) → BeginsTooLong held → BeginsTooLong (held ++ y)
+too_long_more held y b =
+    elim b [
+      | inl x ↦ inl (x.0, x.1 ++ y, ap (λ l. l ++ y) x.2 ∙ append_assoc x.0 x.1 y, x.3, x.4, x.5)
+      | inr z ↦ elim z [
+        | inl x ↦ inr (inl (x.0, x.1 ++ y, ReadsRequest-append held x.0 x.1 y x.2, x.3))
+        | inr x ↦ inr (inr (x.0, x.1 ++ y, ap (λ l. l ++ y) x.2 ∙ append_assoc x.0 x.1 y, x.3, x.4))
+      ]
+    ]
+
+faults_more : (held y : List ℕ) (e : HttpFault) → FindFaults held (Some y) e → Leaves (held ++ y) (Err e) (Some (held ++ y))
+faults_more held y NoMemory f = refl
+faults_more held y BadHead f = elim f [ inl x ↦ inl (never_request_more held y x) | inr x ↦ inr (faulty_more held y BadHead x) ]
+faults_more held y HeadTooLong f = (never_more held y f.0, too_long_more held y f.1)
+faults_more held y BodyTooLong f = faulty_more held y BodyTooLong f
+faults_more held y Version f = faulty_more held y Version f
+faults_more held y Coding f = faulty_more held y Coding f
+faults_more held y Ended f =
+    let same : held ++ y ≡ held = ap (λ l. held ++ l) f.3 ∙ append-nil held in
+    inl (subst (λ (l : List ℕ). (0 < length l) × GoesOn l × (length l < 16384)) (sym same) (f.0, f.1, f.2))
+faults_more held y IoFault f = tt
+
+-- a fault of looking for a head is one of the bytes
+pub told_fault : (a0 left : Option (List ℕ)) (held : List ℕ) (e : HttpFault) → Keeps a0 (prepend_known held left) → FindFaults held left e
+    → IfSome a0 (λ bytes. Leaves bytes (Err e) (prepend_known held left))
+told_fault a0 None held e k f = keeps_some a0 None (λ bytes. Leaves bytes (Err e) None) k tt
+told_fault a0 (Some y) held e k f =
+    keeps_some a0 (Some (held ++ y)) (λ bytes. Leaves bytes (Err e) (Some (held ++ y))) k (faults_more held y e f)
 
 pub spelled : (held1 held2 held3 y : List ℕ) (f : Head) (q : Request) (n : ℕ) (x : (h : RequestHead) × IsHeadAt held1 f h)
     → ((more : List ℕ) × (held2 ≡ held1 ++ more)) → f.len + n ≤ length held2 → n ≡ unwrap_or f.length 0

@@ -1,10 +1,10 @@
--- What the head of a request asks for.
+-- RFC 9112 (heads, Content-Length) and RFC 9110, section 7.6.1 (Connection): what the head of a request asks for.
 use Rattle.std.specs.Prelude.{◌≡◌, ℕ, ◌<◌, ◌≤◌, ◌⊎◌, Bool, true, false, not, ◌&&◌, ◌||◌, ◌==◌, List, [], ◌∷◌, ◌++◌, length, map, drop, Option, Some, None, Result, Ok, Err, if◌then◌else◌, nat_lt, nat_le, codes, bytes_eq, ⊤}
-use Rattle.std.specs.List.{list_all, list_any}
+use Rattle.std.specs.List.{list_all, list_any, slice_split}
 use Rattle.std.specs.Char.{is_ascii_digit, to_ascii_lowercase}
 use Rattle.std.specs.Str.Parse.{digits_value}
-use Rattle.httparse.specs.Grammar.{RequestHead, print_request, ReadsRequest, HasNoRequest, NeverHasRequest}
-use Rattle.httparse.specs.Spans.{name_and_value, span_bytes}
+use Rattle.httparse.specs.Grammar.{RequestHead, print_request, ReadsRequest, HasNoRequest, NeverHasRequest, MayBecomeRequest, trim_ows}
+use Rattle.httparse.specs.Spans.{name_and_value, span_bytes, RequestExceeds}
 use Rattle.hub_http.specs.declared.fault.HttpFault.{HttpFault}
 use Rattle.hub_http.specs.declared.fault.HttpFault.TheVariants.{NoMemory, BadHead, HeadTooLong, BodyTooLong, Version, Coding, Ended, IoFault}
 use Rattle.hub_http.specs.declared.head.Head.{Head}
@@ -33,9 +33,21 @@ same_word a b = bytes_eq (map to_ascii_lowercase a) (map to_ascii_lowercase b)
 abbrev pub is_named : List ℕ → Pair → Bool
 is_named name p = same_word p.0 name
 
+-- a comma
+abbrev pub comma : ℕ
+comma = 44
+
+-- the options that a Connection field lists: the parts between its commas, without the spaces and tabs around each
+abbrev pub options : List ℕ → List (List ℕ)
+options value = map trim_ows (slice_split (λ b. b == comma) value)
+
+-- `close` is one of them, in any case
+abbrev pub lists_close : List ℕ → Bool
+lists_close value = list_any (λ o. same_word o (codes "close")) (options value)
+
 -- the field asks to close the connection
 abbrev pub asks_close : Pair → Bool
-asks_close p = same_word p.0 (codes "connection") && same_word p.1 (codes "close")
+asks_close p = is_named (codes "connection") p && lists_close p.1
 
 -- the values of the fields of this name, in order
 abbrev pub values_named : List ℕ → List Pair → List (List ℕ)
@@ -106,7 +118,25 @@ pub record Begins (bytes : List ℕ) (h : RequestHead) (rest : List ℕ) : Type 
 abbrev pub HasNoHead : List ℕ → Type 0
 HasNoHead bytes = (h : RequestHead) (rest : List ℕ) → ¬ (Begins bytes h rest)
 
--- nor do they whatever follows
+-- no head ends in the bytes, and more bytes can end one
+abbrev pub GoesOn : List ℕ → Type 0
+GoesOn bytes = HasNoRequest bytes × MayBecomeRequest bytes
+
+-- a front of the bytes, as long as a head may be, is one that goes on
+abbrev pub GoesOnTooLong : List ℕ → Type 0
+GoesOnTooLong bytes =
+    (front : List ℕ) × (rest : List ℕ) × (bytes ≡ front ++ rest) × (head_limit ≤ length front) × GoesOn front
+
+-- the bytes begin with a head of too many bytes
+abbrev pub BeginsLong : List ℕ → Type 0
+BeginsLong bytes =
+    (h : RequestHead) × (rest : List ℕ) × ReadsRequest bytes h rest × (head_limit < length (print_request h))
+
+-- the bytes begin with a head past the limits
+abbrev pub BeginsTooLong : List ℕ → Type 0
+BeginsTooLong bytes = RequestExceeds field_limit bytes ⊎ (BeginsLong bytes ⊎ GoesOnTooLong bytes)
+
+-- they begin with no head within the limits, whatever follows
 abbrev pub NeverHasHead : List ℕ → Type 0
 NeverHasHead bytes = (more : List ℕ) → HasNoHead (bytes ++ more)
 
@@ -127,7 +157,7 @@ BeginsFaulty bytes e = (h : RequestHead) × (rest : List ℕ) × Begins bytes h 
 abbrev pub LookFaults : List ℕ → HttpFault → Type 0
 LookFaults buf NoMemory = ⊤
 LookFaults buf BadHead = NeverHasRequest buf ⊎ BeginsFaulty buf BadHead
-LookFaults buf HeadTooLong = NeverHasHead buf
+LookFaults buf HeadTooLong = NeverHasHead buf × BeginsTooLong buf
 LookFaults buf BodyTooLong = BeginsFaulty buf BodyTooLong
 LookFaults buf Version = BeginsFaulty buf Version
 LookFaults buf Coding = BeginsFaulty buf Coding
@@ -136,6 +166,6 @@ LookFaults buf IoFault = ⊥
 
 -- what looking for a head in buf answers
 abbrev pub Looks : List ℕ → Result (Option Head) HttpFault → Type 0
-Looks buf (Ok None) = HasNoRequest buf
+Looks buf (Ok None) = GoesOn buf
 Looks buf (Ok (Some f)) = (h : RequestHead) × IsHeadAt buf f h
 Looks buf (Err e) = LookFaults buf e

@@ -1,4 +1,4 @@
--- The requests that bytes spell.
+-- RFC 9112, sections 2, 6 and 9.3.2: the requests that a connection's bytes spell, one after the other.
 use Rattle.std.specs.Prelude.{◌≡◌, ⊤, ℕ, ◌<◌, ◌≤◌, ◌⊎◌, Bool, List, [], ◌∷◌, ◌++◌, length, take, Option, Some, None, Result, Ok, Err, is_some, unwrap_or, IfSome}
 use Rattle.httparse.specs.Grammar.{RequestHead, print_request, ReadsRequest, NeverHasRequest}
 use Rattle.hub_http.specs.declared.fault.HttpFault.{HttpFault}
@@ -6,7 +6,7 @@ use Rattle.hub_http.specs.declared.fault.HttpFault.TheVariants.{NoMemory, BadHea
 use Rattle.hub_http.specs.declared.request.Request.{Request}
 use Rattle.std.specs.Io.KnownBytes.{IsAtEnd, prepend_known}
 use Rattle.hub_http.specs.declared.head.Head.{Head}
-use Rattle.hub_http.specs.Heads.{head_limit, length_by, close_by, Begins, HasNoHead, NeverHasHead, BeginsFaulty, IsHeadAt}
+use Rattle.hub_http.specs.Heads.{head_limit, length_by, close_by, Begins, NeverHasHead, BeginsTooLong, GoesOn, BeginsFaulty, IsHeadAt}
 
 -- a request without where it lies in memory
 pub record Asked : Type 0 where
@@ -53,11 +53,11 @@ known held left = prepend_known held left
 abbrev pub FindFaults : List ℕ → Option (List ℕ) → HttpFault → Type 0
 FindFaults held left NoMemory = ⊤
 FindFaults held left BadHead = NeverHasRequest held ⊎ BeginsFaulty held BadHead
-FindFaults held left HeadTooLong = (0 < length held) × NeverHasHead held
+FindFaults held left HeadTooLong = NeverHasHead held × BeginsTooLong held
 FindFaults held left BodyTooLong = BeginsFaulty held BodyTooLong
 FindFaults held left Version = BeginsFaulty held Version
 FindFaults held left Coding = BeginsFaulty held Coding
-FindFaults held left Ended = (0 < length held) × HasNoHead held × (length held ≤ head_limit) × IsAtEnd left
+FindFaults held left Ended = (0 < length held) × GoesOn held × (length held < head_limit) × IsAtEnd left
 FindFaults held left IoFault = ⊤
 
 -- what looking for a head answers over a reader
@@ -70,11 +70,11 @@ Finds held left (Err e) = FindFaults held left e
 abbrev pub Faults : List ℕ → HttpFault → Type 0
 Faults bytes NoMemory = ⊤
 Faults bytes BadHead = (NeverHasRequest bytes) ⊎ BeginsFaulty bytes BadHead
-Faults bytes HeadTooLong = (0 < length bytes) × HasNoHead bytes
+Faults bytes HeadTooLong = NeverHasHead bytes × BeginsTooLong bytes
 Faults bytes BodyTooLong = BeginsFaulty bytes BodyTooLong
 Faults bytes Version = BeginsFaulty bytes Version
 Faults bytes Coding = BeginsFaulty bytes Coding
-Faults bytes Ended = ((0 < length bytes) × HasNoHead bytes × (length bytes ≤ head_limit)) ⊎ IsCut bytes
+Faults bytes Ended = ((0 < length bytes) × GoesOn bytes × (length bytes < head_limit)) ⊎ IsCut bytes
 Faults bytes IoFault = ⊤
 
 -- what is left after a call of `next` over these bytes

@@ -4,7 +4,7 @@ ghost use Rattle.hub_http.specs.Counts.{Rose};
 ghost use Rattle.hub_http.specs.Chunks.{Writes, text_chunks};
 ghost use Rattle.hub_http.specs.Texts.{chunk_text};
 
-use crate::io::{Output, send};
+use crate::{Output, send};
 use crate::reply::chunk_bytes;
 use std::alloc::Global;
 

@@ -1,11 +1,16 @@
 //! Requests.
 
-/// A whole request.
+/// A whole request (RFC 9112). Its fields but `Content-Length` and `Connection` are not kept.
 #[derive(Debug, Drop)]
 pub struct Request {
+    /// The method, as `GET`.
     pub method: Vec<u8>,
+    /// The target as it was sent: it begins with `/`, is UTF-8, and is not decoded.
     pub target: Vec<u8>,
+    /// The head had a `Content-Length`.
     pub has_length: bool,
+    /// The connection closes behind the answer: `close` is an option of a `Connection` field.
     pub close: bool,
+    /// The body, empty where the head had no `Content-Length`.
     pub body: Vec<u8>,
 }

@@ -1,17 +1,15 @@
 //! The requests that a reader's bytes spell.
-ghost use Rattle.std.specs.Prelude.{◌≡◌, ◌<◌, ◌≤◌, ◌+◌, ◌⊎◌, ℕ, List, [], ◌++◌, length, take, drop, IfOk, IfErr, IfSome, OnErr, IsTrue, IsFalse, MatchResult, Some, None, Err, map};
+ghost use Rattle.std.specs.Prelude.{◌≡◌, ◌<◌, ◌≤◌, ◌+◌, ◌⊎◌, ℕ, List, [], ◌++◌, length, take, drop, IfOk, IfErr, IfSome, OnOk, IsTrue, IsFalse, map};
 ghost use Rattle.std.specs.Io.KnownBytes.{Keeps, IsAtEnd, prepend_known};
 ghost use Rattle.hub_http.specs.Counts.{Rose};
 ghost use Rattle.hub_http.specs.Stream.{Asked, Finds, Leaves, Spells, SpellsAll, asked_by, known};
 
-use crate::request::Request;
 use crate::fault::HttpFault;
-use crate::head::{Head, look};
+use crate::head::{HEAD_LIMIT, Head, look};
+use crate::input::Input;
 use crate::read::read_more;
-use crate::io::Input;
+use crate::request::Request;
 use std::alloc::Global;
-
-const HEAD_LIMIT: usize = 16384;
 
 /// Reads until a whole head is there, `None` at an end before it.
 fn find_head<R: Input>(
@@ -26,17 +24,15 @@ fn find_head<R: Input>(
     ensures fault { IfErr result (λ e. e ≡ HttpFault.IoFault → Rose (R.fault_count reader.old) (R.fault_count reader.new)) }
 {
     loop {
-        if !held.is_empty() {
-            match look(alloc, held) {
-                Ok(Some(head)) => return Ok(Some(head)),
-                Ok(None) => {}
-                Err(e) => return Err(e),
-            }
-            if held.len() >= HEAD_LIMIT {
-                return Err(HttpFault::HeadTooLong);
-            }
+        match look(alloc, held) {
+            Ok(Some(head)) => return Ok(Some(head)),
+            Ok(None) => {}
+            Err(e) => return Err(e),
         }
-        match read_more(reader, held) {
+        if held.len() >= HEAD_LIMIT {
+            return Err(HttpFault::HeadTooLong);
+        }
+        match read_more(reader, held, HEAD_LIMIT - held.len()) {
             Ok(0) => {
                 if held.is_empty() {
                     return Ok(None);
@@ -60,8 +56,11 @@ fn fill<R: Input>(reader: &mut R, held: &mut Vec<u8>, wanted: usize) -> Result<b
     ensures monotone { R.fault_count reader.old ≤ R.fault_count reader.new }
     ensures fault { IfErr result (λ e. e ≡ HttpFault.IoFault → Rose (R.fault_count reader.old) (R.fault_count reader.new)) }
 {
+    if held.reserve(wanted.saturating_sub(held.len())).is_err() {
+        return Err(HttpFault::NoMemory);
+    }
     while held.len() < wanted {
-        match read_more(reader, held) {
+        match read_more(reader, held, wanted - held.len()) {
             Ok(0) => return Ok(false),
             Ok(_) => {}
             Err(e) => return Err(e),
@@ -133,7 +132,8 @@ fn read_request<R: Input>(
     }))
 }
 
-/// The requests of a reader, one after the other.
+/// The requests of a reader, one after the other, as on a persistent connection (RFC 9112,
+/// section 9.3.2: requests may come before earlier ones are answered).
 #[derive(Drop)]
 pub struct Requests<R> {
     reader: R,
@@ -143,9 +143,13 @@ pub struct Requests<R> {
 }
 
 impl<R: Input> Requests<R> {
+    ghost use Rattle.hub_http.specs.Words.{to_come, IsOpen, HasEnded, faults_of, reader_of};
+
+    /// Nothing is read yet.
     pub fn new(alloc: Global, reader: R) -> Requests<R>
-        ensures bytes { known result.held.items (R.left result.reader) ≡ R.left reader }
-        ensures ended { IsFalse result.ended }
+        ensures bytes { to_come R.left result ≡ R.left reader }
+        ensures open { IsOpen result }
+        ensures faults { faults_of R.fault_count result ≡ R.fault_count reader }
     {
         Requests {
             reader,
@@ -155,17 +159,34 @@ impl<R: Input> Requests<R> {
         }
     }
 
+    /// Where the requests come from, with its counts.
+    pub fn reader(&self) -> &R
+        ensures { result.now ≡ reader_of self.now }
+    {
+        &self.reader
+    }
+
     /// The next request, `None` at the end of the input. After a fault but want of memory each
-    /// call answers `Ended`.
+    /// call answers `Ended`, and reads nothing. After want of memory the same call reads on where
+    /// it stood.
+    ///
+    /// Cost: bytes are read in blocks of at most 4,096 and copied twice, into the held bytes and
+    /// into the request. A head that comes in k reads is parsed k times, each time from its front,
+    /// over at most 16,384 bytes; the reads of a body parse nothing. Room for a body is reserved
+    /// once, and what is read behind a request, less than a block, is moved to the front once a
+    /// request.
     pub fn next(&mut self) -> Result<Option<Request>, HttpFault>
-        ensures told { IsFalse self.old.ended → IfSome (known self.old.held.items (R.left self.old.reader))
-            (λ bytes. Leaves bytes result (known self.new.held.items (R.left self.new.reader))) }
-        ensures ended { IsTrue self.old.ended → result ≡ Err HttpFault.Ended }
-        ensures stays { MatchResult result (λ _. self.new.ended ≡ self.old.ended)
-            (λ e. (e ≡ HttpFault.NoMemory → self.new.ended ≡ self.old.ended) × ((e ≡ HttpFault.NoMemory → ⊥) → IsTrue self.new.ended)) }
-        ensures monotone { R.fault_count self.old.reader ≤ R.fault_count self.new.reader }
+        ensures told { IsOpen self.old → IfSome (to_come R.left self.old)
+            (λ bytes. Leaves bytes result (to_come R.left self.new)) }
+
+        ensures open { IsOpen self.old → OnOk result (IsOpen self.new) }
+        ensures again { IsOpen self.old → result ≡ Err HttpFault.NoMemory → IsOpen self.new }
+        ensures closed { IfErr result (λ e. ¬ (e ≡ HttpFault.NoMemory) → HasEnded self.new) }
+        ensures ended { HasEnded self.old → (result ≡ Err HttpFault.Ended) × (self.new ≡ self.old) }
+
+        ensures monotone { faults_of R.fault_count self.old ≤ faults_of R.fault_count self.new }
         ensures fault { IfErr result (λ e. e ≡ HttpFault.IoFault
-            → Rose (R.fault_count self.old.reader) (R.fault_count self.new.reader)) }
+            → Rose (faults_of R.fault_count self.old) (faults_of R.fault_count self.new)) }
     {
         if self.ended {
             return Err(HttpFault::Ended);
@@ -179,27 +200,28 @@ impl<R: Input> Requests<R> {
             }
         }
     }
-}
 
-/// Reads requests until none comes, and answers why.
-pub fn read_all<R: Input>(requests: &mut Requests<R>, out: &mut Vec<Request>) -> Option<HttpFault>
-    requires fresh { IsFalse requests.old.ended }
-    requires empty { out.old.items ≡ [] }
-    ensures told { IfSome (known requests.old.held.items (R.left requests.old.reader))
-        (λ bytes. SpellsAll bytes (map asked_by out.new.items) result) }
-{
-    for _ in 0..u64::MAX {
-        match requests.next() {
-            Ok(Some(request)) => {
-                if out.push(request).is_err() {
-                    return Some(HttpFault::NoMemory);
+    /// Reads requests until none comes, and answers why, `None` at the end of the input.
+    /// After 2^64 - 1 requests it answers `IoFault`.
+    pub fn read_all(&mut self, out: &mut Vec<Request>) -> Option<HttpFault>
+        requires open { IsOpen self.old }
+        requires empty { out.old.items ≡ [] }
+        ensures { IfSome (to_come R.left self.old)
+            (λ bytes. SpellsAll bytes (map asked_by out.new.items) result) }
+    {
+        for _ in 0..u64::MAX {
+            match self.next() {
+                Ok(Some(request)) => {
+                    if out.push(request).is_err() {
+                        return Some(HttpFault::NoMemory);
+                    }
                 }
+                Ok(None) => return None,
+                Err(e) => return Some(e),
             }
-            Ok(None) => return None,
-            Err(e) => return Some(e),
         }
+        Some(HttpFault::IoFault)
     }
-    Some(HttpFault::IoFault)
 }
 
 /// Bytes spell at most one request at their front.

@@ -2,12 +2,12 @@ use Rattle.std.proofs.Common.{◌-◌, ◌≤◌, length}
 use Rattle.std.specs.Io.KnownBytes.{Keeps, prepend_known}
 use Rattle.hub_http.proofs.requests.find_head.Given as goal
 
-abbrev pub invariant-loop-held : goal.invariant-loop-held
-invariant-loop-held g l =
+abbrev pub invariant-loop-head : goal.invariant-loop-head
+invariant-loop-head g l =
     let left = g.R.Input.left in
     let faults = g.R.Input.fault_count in
     Keeps (prepend_known l.fn.held.items (left l.fn.reader)) (prepend_known l.held.items (left l.reader))
     × (faults l.fn.reader ≤ faults l.reader)
 
-abbrev pub decreases-loop-held : goal.decreases-loop-held
-decreases-loop-held g l = 16384 - length l.held.items
+abbrev pub decreases-loop-head : goal.decreases-loop-head
+decreases-loop-head g l = 16384 - length l.held.items

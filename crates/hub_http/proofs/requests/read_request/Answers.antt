@@ -1,6 +1,6 @@
 use Rattle.std.proofs.Common.{rules, arith, ◌≡◌, ◌+◌, ◌<◌, ◌≤◌, Ok, refl}
 use Rattle.hub_http.specs.declared.request.Request.{Request}
-use Rattle.hub_http.proofs.RequestLemmas.{told_request, head_fits}
+use Rattle.hub_http.proofs.RequestLemmas.{told_request, told_fault, head_fits}
 use Rattle.hub_http.proofs.requests.read_request.Goals as goal
 
 pub overflow_add-head : goal.overflow_add-head
@@ -21,3 +21,6 @@ returns-clause-told g c =
     told_request _ _ _ c.find_head.new.held.items c.fill.new.held.items c.take_body.new.held.items c.in-Ok-Some.head request c.unwrap_or-body_len.result
     c.in-Ok-Some.ensures.kept found c.in-Ok-true.ensures.kept c.in-Ok-true.ensures.grown (c.in-Ok-true.ensures.full c.in-Ok-true.field-0-test) c.unwrap_or-body_len.ensures
     c.in-Ok.ensures.ok.0 c.in-Ok.ensures.ok.1 refl refl c.is_some.ensures refl
+
+pub returns-in-Err-clause-told : goal.returns-in-Err-clause-told
+returns-in-Err-clause-told g c = told_fault _ _ c.find_head.new.held.items c.in-Err.e c.in-Err.ensures.kept c.in-Err.ensures.found

@@ -1,7 +1,7 @@
 use Rattle.std.proofs.Common.{map, codes, drop, option_copied}
 use Rattle.httparse.specs.Spans.{header_bytes}
 use Rattle.hub_http.specs.Heads.{values_named, SoFar}
-use Rattle.hub_http.proofs.head.one_value.Given as goal
+use Rattle.hub_http.proofs.length.one_value.Given as goal
 
 abbrev pub invariant-loop-header : goal.invariant-loop-header
 invariant-loop-header l =

@@ -1,6 +1,6 @@
 use Rattle.std.proofs.Common.{rules, arith}
 use Rattle.hub_http.proofs.FrontLemmas.{front_kept, front_of, next_part}
-use Rattle.hub_http.proofs.io.write_all.Goals as goal
+use Rattle.hub_http.proofs.output.write_all.Goals as goal
 
 pub returns-in_err-n-clause-front : goal.returns-in_err-n-clause-front
 returns-in_err-n-clause-front g c =

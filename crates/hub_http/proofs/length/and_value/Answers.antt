@@ -1,6 +1,6 @@
 use Rattle.std.proofs.Common.{rules, arith, ◌≡◌, sym, ◌∙◌, true, false, bytes_eq}
 use Rattle.hub_http.proofs.LengthLemmas.{keeps_one, differs}
-use Rattle.hub_http.proofs.head.and_value.Goals as goal
+use Rattle.hub_http.proofs.length.and_value.Goals as goal
 
 pub returns-then-eq : goal.returns-then-eq
 returns-then-eq c all rest h =

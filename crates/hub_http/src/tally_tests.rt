@@ -1,4 +1,4 @@
-use crate::io::*;
+use crate::{Input, Output, Tally};
 use std::test::Fail;
 
 #[test]

@@ -1,6 +1,6 @@
 use Rattle.std.proofs.Common.{ap, ◌∙◌}
 use Rattle.hub_http.proofs.LengthLemmas.{no_value, one_length, in_some}
-use Rattle.hub_http.proofs.head.length_of.Goals as goal
+use Rattle.hub_http.proofs.length.length_of.Goals as goal
 
 pub returns-in-None : goal.returns-in-None
 returns-in-None c = no_value _ (rw c.in-None.is at c.in_ok-one_value.ensures)

@@ -8,7 +8,7 @@ use Rattle.std.proofs.lemmas.List.{take_all}
 use Rattle.std.proofs.lemmas.List.Folds.{list_all_at}
 use Rattle.std.proofs.lemmas.Int.Digits.{digits_value_more}
 use Rattle.hub_http.proofs.LengthLemmas.{not_digits, too_large, is_length, capped, all_more, some_digits}
-use Rattle.hub_http.proofs.head.length_in.Goals as goal
+use Rattle.hub_http.proofs.length.length_in.Goals as goal
 
 pub returns-then-is_empty : goal.returns-then-is_empty
 returns-then-is_empty c =

@@ -1,6 +1,6 @@
 use Rattle.std.proofs.Common.{codes, sym, ◌∙◌}
 use Rattle.hub_http.proofs.LengthLemmas.{values_skip, values_take}
-use Rattle.hub_http.proofs.head.one_value.Goals as goal
+use Rattle.hub_http.proofs.length.one_value.Goals as goal
 
 pub loop-header-preserved-then-not-same_word : goal.loop-header-preserved-then-not-same_word
 loop-header-preserved-then-not-same_word c =

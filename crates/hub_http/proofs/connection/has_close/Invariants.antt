@@ -2,7 +2,7 @@ use Rattle.std.proofs.Common.{◌≡◌, map, codes, drop}
 use Rattle.std.specs.List.{list_any}
 use Rattle.httparse.specs.Spans.{header_bytes}
 use Rattle.hub_http.specs.Heads.{asks_close}
-use Rattle.hub_http.proofs.head.has_close.Given as goal
+use Rattle.hub_http.proofs.connection.has_close.Given as goal
 
 abbrev pub invariant-loop-header : goal.invariant-loop-header
 invariant-loop-header l =

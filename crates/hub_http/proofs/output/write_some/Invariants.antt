@@ -1,7 +1,7 @@
 use Rattle.std.proofs.Common.{◌<◌, ◌≤◌}
 use Rattle.std.specs.Io.KnownBytes.{Keeps}
 use Rattle.hub_http.specs.Counts.{Rose}
-use Rattle.hub_http.proofs.io.write_some.Given as goal
+use Rattle.hub_http.proofs.output.write_some.Given as goal
 
 abbrev pub invariant-loop : goal.invariant-loop
 invariant-loop g l =

@@ -1,0 +1,82 @@
+//! The length of a body that a head names.
+ghost use Rattle.std.specs.Prelude.{◌≡◌, ℕ, List, ◌∷◌, length, map, codes, All, [], Err, MatchResult, option_copied};
+ghost use Rattle.httparse.specs.Spans.{IsHeaderWithin, header_bytes};
+ghost use Rattle.hub_http.specs.Heads.{values_named, SoFar, length_in, length_of};
+
+use crate::fault::HttpFault;
+use crate::head::same_word;
+use httparse::spans::HeaderSpan;
+
+/// The greatest length of a body, in bytes.
+const BODY_LIMIT: u64 = 8_388_608;
+
+/// The one value that was seen, after one more.
+fn and_value<'b>(seen: Option<&'b [u8]>, value: &'b [u8]) -> Result<Option<&'b [u8]>, HttpFault>
+    ensures { (all rest : List (List ℕ)) → SoFar (option_copied seen.entry) all (value.now ∷ rest)
+        → MatchResult result (λ both. SoFar (option_copied both) all rest) (λ e. length_of all ≡ Err e) }
+{
+    match seen {
+        None => Ok(Some(value)),
+        Some(first) => {
+            if value == first {
+                Ok(Some(first))
+            } else {
+                Err(HttpFault::BadHead)
+            }
+        }
+    }
+}
+
+/// The value that each field of this name has, if there is one.
+fn one_value<'b>(buf: &'b [u8], headers: &[HeaderSpan]) -> Result<Option<&'b [u8]>, HttpFault>
+    requires { All (IsHeaderWithin (length buf.now)) headers.now }
+    ensures { let values = values_named (codes "content-length") (map (header_bytes buf.now) headers.now) in
+        MatchResult result (λ seen. SoFar (option_copied seen) values []) (λ e. length_of values ≡ Err e) }
+{
+    let mut seen: Option<&'b [u8]> = None;
+    for header in headers {
+        if !same_word(header.name.of(buf), b"content-length") {
+            continue;
+        }
+        match and_value(seen, header.value.of(buf)) {
+            Ok(both) => seen = both,
+            Err(e) => return Err(e),
+        }
+    }
+    Ok(seen)
+}
+
+/// The length that the digits write.
+fn length_in(digits: &[u8]) -> Result<u64, HttpFault>
+    ensures { result ≡ length_in digits.now }
+{
+    if digits.is_empty() {
+        return Err(HttpFault::BadHead);
+    }
+    let mut n: u64 = 0;
+    for b in digits {
+        if !b.is_ascii_digit() {
+            return Err(HttpFault::BadHead);
+        }
+        n = (n * 10 + u64::from(*b - b'0')).min(BODY_LIMIT + 1);
+    }
+    if n > BODY_LIMIT {
+        Err(HttpFault::BodyTooLong)
+    } else {
+        Ok(n)
+    }
+}
+
+/// The length that the fields give.
+pub(crate) fn length_of(buf: &[u8], headers: &[HeaderSpan]) -> Result<Option<u64>, HttpFault>
+    requires { All (IsHeaderWithin (length buf.now)) headers.now }
+    ensures { result ≡ length_of (values_named (codes "content-length") (map (header_bytes buf.now) headers.now)) }
+{
+    match one_value(buf, headers)? {
+        None => Ok(None),
+        Some(value) => match length_in(value) {
+            Ok(n) => Ok(Some(n)),
+            Err(e) => Err(e),
+        },
+    }
+}

@@ -1,0 +1,96 @@
+//! Where replies go.
+ghost use Rattle.std.specs.Prelude.{◌≡◌, ◌<◌, ◌≤◌, ℕ, List, Option, is_err, length, IfOk, OnOk, OnErr, take};
+ghost use Rattle.std.specs.Io.{WritesAtMost};
+ghost use Rattle.std.specs.Io.KnownBytes.{Keeps, Appends, WriteAppends};
+ghost use Rattle.hub_http.specs.Counts.{bumped_if, write_faulted, Rose, AppendsFront, Sends};
+
+use std::io;
+use std::io::ErrorKind;
+
+/// Where replies go: a writer that counts its faults.
+pub trait Output {
+    /// The bytes that were written, where they are told.
+    ghost written: { Self → Option (List ℕ) };
+
+    /// How many calls answered an error or, asked to write something, took no byte.
+    ghost fault_count: { Self → ℕ };
+
+    /// Writes a front of the bytes, and answers how many.
+    fn write(&mut self, buf: &[u8]) -> io::Result<usize>
+        ensures bound { WritesAtMost result buf.now }
+        ensures bytes { WriteAppends (written self.old) (written self.new) result buf.now }
+        ensures faults { fault_count self.new ≡ bumped_if (write_faulted result buf.now) (fault_count self.old) };
+
+    /// Hands on what was written and not handed on yet.
+    fn flush(&mut self) -> io::Result<()>
+        ensures bytes { Keeps (written self.old) (written self.new) }
+        ensures faults { fault_count self.new ≡ bumped_if (is_err result) (fault_count self.old) };
+
+    /// How many calls faulted. The count stays at 2^64 - 1.
+    fn faults(&self) -> u64
+        ensures { result ≡ fault_count self.now };
+}
+
+/// The other side can't be written to.
+#[derive(Clone, Copy, Debug, PartialEq, Eq)]
+pub struct IoFault;
+
+/// How often a write that is interrupted is made again.
+const TRIES: u32 = 1_000_000;
+
+fn is_interrupted(error: &io::Error) -> bool {
+    error.kind() == ErrorKind::Interrupted
+}
+
+/// Writes a part of the bytes, again where a write is interrupted.
+fn write_some<W: Output>(writer: &mut W, bytes: &[u8]) -> Result<usize, IoFault>
+    requires { 0 < length bytes.now }
+    ensures bound { IfOk result (λ n. (0 < n) × (n ≤ length bytes.now)) }
+    ensures ok { IfOk result (λ n. Appends (W.written writer.old) (W.written writer.new) (take n bytes.now)) }
+    ensures err { OnErr result (Keeps (W.written writer.old) (W.written writer.new)) }
+    ensures monotone { W.fault_count writer.old ≤ W.fault_count writer.new }
+    ensures fault { OnErr result (Rose (W.fault_count writer.old) (W.fault_count writer.new)) }
+{
+    for _ in 0..TRIES {
+        match writer.write(bytes) {
+            Ok(0) => return Err(IoFault),
+            Ok(n) => return Ok(n),
+            Err(e) => {
+                if !is_interrupted(&e) {
+                    return Err(IoFault);
+                }
+            }
+        }
+    }
+    Err(IoFault)
+}
+
+/// Writes all the bytes, mostly by one write, and does not flush. After a fault a front of them
+/// was written.
+pub fn write_all<W: Output>(writer: &mut W, bytes: &[u8]) -> Result<(), IoFault>
+    ensures ok { OnOk result (Appends (W.written writer.old) (W.written writer.new) bytes.now) }
+    ensures front { AppendsFront (W.written writer.old) (W.written writer.new) bytes.now }
+    ensures monotone { W.fault_count writer.old ≤ W.fault_count writer.new }
+    ensures fault { OnErr result (Rose (W.fault_count writer.old) (W.fault_count writer.new)) }
+{
+    let mut rest = bytes;
+    while !rest.is_empty() {
+        let n = write_some(writer, rest)?;
+        rest = &rest[n..];
+    }
+    Ok(())
+}
+
+/// Writes all the bytes, mostly by one write, and flushes. After a fault a front of them was
+/// written.
+pub fn send<W: Output>(writer: &mut W, bytes: &[u8]) -> Result<(), IoFault>
+    ensures sent { Sends (is_err result) (W.written writer.old) (W.written writer.new) bytes.now }
+    ensures monotone { W.fault_count writer.old ≤ W.fault_count writer.new }
+    ensures fault { OnErr result (Rose (W.fault_count writer.old) (W.fault_count writer.new)) }
+{
+    write_all(writer, bytes)?;
+    match writer.flush() {
+        Ok(()) => Ok(()),
+        Err(_) => Err(IoFault),
+    }
+}

@@ -1,0 +1,107 @@
+//! Any reader or writer of std, with its counts.
+ghost use Rattle.std.specs.Prelude.{◌≡◌};
+ghost use Rattle.hub_http.specs.Counts.{bumped};
+
+use crate::input::Input;
+use crate::output::Output;
+use std::io;
+use std::io::{Read, Write};
+
+/// Any reader or writer of std, with its counts.
+#[derive(Drop)]
+pub struct Tally<T> {
+    inner: T,
+    faults: u64,
+    reads: u64,
+}
+
+impl<T> Tally<T> {
+    ghost use Rattle.hub_http.specs.Words.{inner_of, faults_counted, reads_counted};
+
+    /// Nothing is counted yet.
+    pub fn new(inner: T) -> Tally<T>
+        ensures inner { inner_of result ≡ inner }
+        ensures faults { faults_counted result ≡ 0 }
+        ensures reads { reads_counted result ≡ 0 }
+    {
+        Tally {
+            inner,
+            faults: 0,
+            reads: 0,
+        }
+    }
+
+    /// The reader or writer itself.
+    pub fn into_inner(self) -> T
+        ensures { result ≡ inner_of self }
+    {
+        let Tally {
+            inner,
+            faults: _,
+            reads: _,
+        } = self;
+        inner
+    }
+}
+
+/// One more, up to the last value.
+fn bump(count: u64) -> u64
+    ensures { result ≡ bumped count }
+{
+    count.saturating_add(1)
+}
+
+impl<T: Read> Input for Tally<T> {
+    ghost left = { λ t. T.remaining t.inner };
+
+    ghost fault_count = { λ t. t.faults };
+
+    ghost read_count = { λ t. t.reads };
+
+    fn read(&mut self, buf: &mut [u8]) -> io::Result<usize> {
+        self.reads = bump(self.reads);
+        let outcome = self.inner.read(buf);
+        if outcome.is_err() {
+            self.faults = bump(self.faults);
+        }
+        outcome
+    }
+
+    fn faults(&self) -> u64 {
+        self.faults
+    }
+
+    fn reads(&self) -> u64 {
+        self.reads
+    }
+}
+
+impl<T: Write> Output for Tally<T> {
+    ghost written = { λ t. T.contents t.inner };
+
+    ghost fault_count = { λ t. t.faults };
+
+    fn write(&mut self, buf: &[u8]) -> io::Result<usize> {
+        let outcome = self.inner.write(buf);
+        let faulted = match &outcome {
+            Ok(n) => *n == 0 && !buf.is_empty(),
+            Err(_) => true,
+        };
+        if faulted {
+            self.faults = bump(self.faults);
+        }
+        outcome
+    }
+
+    fn flush(&mut self) -> io::Result<()> {
+        let outcome = self.inner.flush();
+        if outcome.is_err() {
+            self.faults = bump(self.faults);
+        }
+        outcome
+    }
+
+    fn faults(&self) -> u64 {
+        self.faults
+    }
+}
