@@ -1,19 +1,26 @@
 //! Requests, routes and the texts of answers.
 #![tactic(auto)]
 
-pub mod chunk;
+mod chunk;
 pub mod fault;
-pub mod fixed;
+mod fixed;
 pub mod head;
 pub mod io;
-pub mod item;
-pub mod read;
-pub mod refusal;
-pub mod reply;
-pub mod request;
-pub mod requests;
-pub mod route;
 #[cfg(test)]
 mod io_tests;
+mod item;
+pub mod read;
+mod refusal;
+mod reply;
+pub mod request;
 #[cfg(test)]
 mod request_tests;
+pub mod requests;
+mod route;
+
+pub use chunk::{ChunkFault, ChunkWriter};
+pub use fixed::{no_memory_text, stream_head_text};
+pub use item::{feed_head, item_text};
+pub use refusal::Refusal;
+pub use reply::{Reply, reply_bytes};
+pub use route::RouteFault;
