@@ -1,30 +1,36 @@
 //! Requests, routes and the texts of answers.
 #![tactic(auto)]
 
+mod chunk;
 mod connection;
 mod fault;
+mod fixed;
 mod head;
 mod input;
+mod item;
 mod length;
 mod output;
 mod read;
+mod refusal;
+mod reply;
 mod request;
-mod requests;
-mod tally;
-pub mod chunk;
-pub mod fixed;
-pub mod item;
-pub mod refusal;
-pub mod reply;
-pub mod route;
 #[cfg(test)]
 mod request_tests;
+mod requests;
+mod route;
+mod tally;
 #[cfg(test)]
 mod tally_tests;
 
+pub use chunk::{ChunkFault, ChunkWriter};
 pub use fault::HttpFault;
+pub use fixed::{no_memory_text, stream_head_text};
 pub use input::Input;
+pub use item::{feed_head, item_text};
 pub use output::{IoFault, Output, send, write_all};
+pub use refusal::Refusal;
+pub use reply::{Reply, reply_bytes};
 pub use request::Request;
 pub use requests::{Requests, one_reading};
+pub use route::RouteFault;
 pub use tally::Tally;
