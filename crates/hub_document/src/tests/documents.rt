@@ -2,7 +2,8 @@ use crate::{Doc, Limits, RevId, Revisions};
 use std::alloc::Global;
 use std::test::Fail;
 
-const TEXT: &str = r#"{"b":[1,{"d":-2,"c":"\u00e9\n"}],"_id":"x","_rev":"2-c","_revisions":{"start":2,"ids":["c","a"]},"_deleted":true,"a":null,"_conflicts":[],"":true}"#;
+const TEXT: &str =
+    r#"{"b":[1,{"d":-2,"c":"\u00e9\n"}],"_id":"x","_rev":"2-c","_revisions":{"start":2,"ids":["c","a"]},"_deleted":true,"a":null,"_conflicts":[],"":true}"#;
 
 fn printed(alloc: Global, rev: Option<RevId>) -> Result<Vec<u8>, Fail> {
     let mut out = Vec::new(alloc);

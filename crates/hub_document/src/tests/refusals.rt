@@ -55,7 +55,10 @@ fn edits_made_here(rt: HostRuntime) -> Result<(), Fail> {
         (r#"{"_id":"a","_attachments":[]}"#, Some(BadMember)),
         (r#"{"_id":"a","_attachments":{}}"#, None),
         (r#"{"_id":"a","_conflicts":1,"_revs_info":[]}"#, None),
-        (r#"{"_id":"a","_deleted_conflicts":{},"_local_seq":"x"}"#, None),
+        (
+            r#"{"_id":"a","_deleted_conflicts":{},"_local_seq":"x"}"#,
+            None,
+        ),
     ];
     for (text, expected) in cases {
         assert_eq!(rt; fault(rt.alloc(), text, true), expected, "{text}");
@@ -72,7 +75,10 @@ fn edits_made_elsewhere(rt: HostRuntime) -> Result<(), Fail> {
         (r#"{"_id":"a","_rev":"2-a"}"#, Some(BadRevisions)),
         (r#"{"_id":"a","_revisions":null}"#, Some(BadRevisions)),
         (r#"{"_id":"a","_revisions":{"start":1,"ids":["a"]}}"#, None),
-        (r#"{"_id":"a","_revisions":{"start":1,"ids":["a"],"x":[]}}"#, None),
+        (
+            r#"{"_id":"a","_revisions":{"start":1,"ids":["a"],"x":[]}}"#,
+            None,
+        ),
         (
             r#"{"_id":"a","_rev":"2-a","_revisions":{"start":2,"ids":["a","b"]}}"#,
             None,
@@ -165,7 +171,9 @@ fn sizes(rt: HostRuntime) -> Result<(), Fail> {
     }
     for (length, expected) in [(64usize, None), (65, Some(BadRevisions))] {
         let hash = "h".repeat(alloc, length)?;
-        let text = format!(in alloc; "{{\"_id\":\"a\",\"_revisions\":{{\"start\":1,\"ids\":[\"{hash}\"]}}}}")?;
+        let text = format!(in alloc;
+            "{{\"_id\":\"a\",\"_revisions\":{{\"start\":1,\"ids\":[\"{hash}\"]}}}}"
+        )?;
         assert_eq!(rt; fault(alloc, text.as_str(), false), expected, "{length}");
     }
     Ok(())
@@ -174,7 +182,10 @@ fn sizes(rt: HostRuntime) -> Result<(), Fail> {
 #[test]
 fn texts(rt: HostRuntime) -> Result<(), Fail> {
     let alloc = rt.alloc();
-    assert_eq!(rt; Doc::read(alloc, b"{\"_id\":\"\xff\"}", true).err(), Some(NotJson));
+    assert_eq!(rt;
+        Doc::read(alloc, b"{\"_id\":\"\xff\"}", true).err(),
+        Some(NotJson)
+    );
     let cases = [
         (DocFault::NoMemory, "out of memory"),
         (NotJson, "not JSON"),

@@ -17,7 +17,11 @@ fn texts_that_are_revisions(rt: HostRuntime) -> Result<(), Fail> {
         let rev = RevId::read(text).expect(&rt, "a revision");
         assert_eq!(rt; rev.generation(), generation, "{text}");
         assert_eq!(rt; rev.hash(), hash.as_bytes(), "{text}");
-        assert_eq!(rt; RevId::from_parts(generation, hash.as_bytes()), Some(rev), "{text}");
+        assert_eq!(rt;
+            RevId::from_parts(generation, hash.as_bytes()),
+            Some(rev),
+            "{text}"
+        );
         let mut out = Vec::new(rt.alloc());
         out.push(b' ')?;
         rev.print(&mut out)?;
