@@ -1,8 +1,8 @@
 //! The ids of documents.
 
-ghost use Rattle.std.specs.Prelude.{◌≡◌, IfOk, option_map};
+ghost use Rattle.std.specs.Prelude.{◌≡◌, true, IfOk, IfSome, option_map};
 ghost use Rattle.serde_json.specs.View.{view};
-ghost use Rattle.hub_document.specs.Ids.{is_id as is_id_text, id_of as id_in};
+ghost use Rattle.hub_document.specs.Ids.{IsDocId, is_id as is_id_text, id_of as id_in};
 
 use serde_json::Value;
 use std::alloc::{AllocError, Global};
@@ -21,20 +21,26 @@ impl Model for DocId {
     ghost Value = { List ℕ };
 
     ghost view = { λ a. string_bytes a.text };
+
+    ghost use Rattle.hub_document.specs.Ids.{IsDocId};
+
+    ghost invariant = { λ a. IsDocId (string_bytes a.text) };
 }
 
 impl DocId {
     /// A copy of the text. It costs the text's length.
     pub(crate) fn copied(alloc: Global, text: &str) -> Result<DocId, AllocError>
+        requires { IsDocId text.now }
         ensures { IfOk result (λ i. i ≡ text.now) }
     {
         let text = String::from_str(alloc, text)?;
         Ok(DocId { text })
     }
 
-    /// The id's text.
+    /// The id's text. Constant time.
     pub fn as_str(&self) -> &str
-        ensures { result.now ≡ self.now }
+        ensures value { result.now ≡ self.now }
+        ensures good { IsDocId self.now }
     {
         self.text.as_str()
     }
@@ -62,7 +68,8 @@ fn is_id(text: &str) -> bool
 
 /// The text of `_id`, where it is an id of any length.
 pub(crate) fn id_of(value: &Value) -> Option<&str>
-    ensures { option_map (λ s. s.now) result ≡ id_in (view value.now) }
+    ensures value { option_map (λ s. s.now) result ≡ id_in (view value.now) }
+    ensures good { IfSome result (λ s. is_id_text s.now ≡ true) }
 {
     let text = value.get("_id").and_then(Value::as_str)?;
     if is_id(text) { Some(text) } else { None }

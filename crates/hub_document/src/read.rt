@@ -1,6 +1,7 @@
 //! Documents from JSON texts and values.
 
-ghost use Rattle.std.specs.Prelude.{◌≡◌, ◌⊎◌, IfOk, IfErr, Ok, Err, Some, None, false};
+ghost use Rattle.std.specs.Prelude.{◌≡◌, ◌⊎◌, IfOk, IfErr, Ok, Err, Some, None, true, false};
+ghost use Rattle.hub_document.specs.Ids.{is_id};
 ghost use Rattle.serde_json.specs.View.{view, members_view};
 ghost use Rattle.hub_document.specs.Read.{with_path as path_gives, with_rev as rev_gives, with_id as id_gives, document_of, history_of as history_in, doc_of, doc_in, json_of};
 ghost use Rattle.serde_json.specs.Written.{members_have_float as members_have_float_in};
@@ -47,7 +48,8 @@ fn with_path(
     rev: Option<RevId>,
     path: Option<Path>,
 ) -> Result<Doc, DocFault>
-    requires { members_have_float_in (members_view members.now.entries) ≡ false }
+    requires whole { members_have_float_in (members_view members.now.entries) ≡ false }
+    requires id { is_id id.now ≡ true }
     ensures ok { IfOk result (λ d. path_gives (view value.now) (members_view members.now.entries) id.now rev path ≡ Ok d) }
     ensures err { IfErr result (λ e. (e ≡ DocFault.NoMemory)
         ⊎ (path_gives (view value.now) (members_view members.now.entries) id.now rev path ≡ Err e)) }
@@ -79,7 +81,8 @@ fn with_rev(
     id: &str,
     rev: Option<RevId>,
 ) -> Result<Doc, DocFault>
-    requires { members_have_float_in (members_view members.now.entries) ≡ false }
+    requires whole { members_have_float_in (members_view members.now.entries) ≡ false }
+    requires id { is_id id.now ≡ true }
     ensures ok { IfOk result (λ d. rev_gives new_edits (view value.now) (members_view members.now.entries) id.now rev ≡ Ok d) }
     ensures err { IfErr result (λ e. (e ≡ DocFault.NoMemory)
         ⊎ (rev_gives new_edits (view value.now) (members_view members.now.entries) id.now rev ≡ Err e)) }
@@ -98,7 +101,8 @@ fn with_id(
     members: &Map<String, Value>,
     id: &str,
 ) -> Result<Doc, DocFault>
-    requires { members_have_float_in (members_view members.now.entries) ≡ false }
+    requires whole { members_have_float_in (members_view members.now.entries) ≡ false }
+    requires id { is_id id.now ≡ true }
     ensures ok { IfOk result (λ d. id_gives new_edits (view value.now) (members_view members.now.entries) id.now ≡ Ok d) }
     ensures err { IfErr result (λ e. (e ≡ DocFault.NoMemory)
         ⊎ (id_gives new_edits (view value.now) (members_view members.now.entries) id.now ≡ Err e)) }
