@@ -23,4 +23,4 @@ pub use fixed::{no_memory_text, stream_head_text};
 pub use item::{feed_head, item_text};
 pub use refusal::Refusal;
 pub use reply::{Reply, reply_bytes};
-pub use route::RouteFault;
+pub use route::{Route, RouteFault, Routes};
