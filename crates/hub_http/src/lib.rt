@@ -32,5 +32,5 @@ pub use refusal::Refusal;
 pub use reply::{Reply, reply_bytes};
 pub use request::Request;
 pub use requests::{Requests, one_reading};
-pub use route::RouteFault;
+pub use route::{Route, RouteFault, Routes};
 pub use tally::Tally;
