@@ -14,6 +14,6 @@ returns-clause-ok c =
       c.as_slice.ensures,
       c.in_ok-extend_from_slice.ensures.items,
       c.in_ok-put_row_head.ensures.ok,
-      c.as_str.ensures,
+      c.as_str.ensures.value,
     )
     (four_parts c.args.out.now.items _ _ _ _)
