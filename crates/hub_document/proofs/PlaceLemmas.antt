@@ -10,6 +10,7 @@ use Rattle.hub_model.specs.Revision.{Revision, is_same}
 use Rattle.hub_model.specs.Path.{Falls, IsPath, names, behind}
 use Rattle.hub_model.proofs.Tests.{same_is, same_self, or_false, or_right}
 
+-- one revision has one generation
 same_generation : (r s : Revision) → r ≡ s → r.generation ≡ s.generation
 same_generation r s e = ap (λ (z : Revision). z.generation) e
 
@@ -19,6 +20,7 @@ lower x p zero r f h = let g = same_generation x r (same_Some x r h) in omega (a
 lower x [] (suc k) r f h = absurd (cc)
 lower x (y ∷ p) (suc k) r f h = let g = lower y p k r f.1 h in omega (arith, f.0, g)
 
+-- the first of a path stands at place 0
 named_first : (x : Revision) (p : List Revision) (r : Revision) → is_same r x ≡ true → (r.generation ≤ x.generation) × (slice_get (x ∷ p) (x.generation - r.generation) ≡ Some r)
 named_first x p r t =
     let same : r ≡ x = same_is r x t in

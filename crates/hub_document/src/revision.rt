@@ -11,7 +11,7 @@ use std::alloc::AllocError;
 use std::marker::Model;
 
 /// A revision id, `N-H`: the generation, 1 to 65,535, and a hash of 1 to 64 letters and digits
-/// (CouchDB API reference, document revisions). It is a plain value of 67 bytes, copied freely.
+/// (CouchDB API reference, document revisions). It is a plain value of 68 bytes.
 #[derive(Clone, Copy, Debug, PartialEq, Eq)]
 pub struct RevId {
     number: u16,

@@ -2,8 +2,10 @@ use crate::{Doc, Limits, RevId, Revisions};
 use std::alloc::Global;
 use std::test::Fail;
 
-const TEXT: &str =
+const FULL: &str =
     r#"{"b":[1,{"d":-2,"c":"\u00e9\n"}],"_id":"x","_rev":"2-c","_revisions":{"start":2,"ids":["c","a"]},"_deleted":true,"a":null,"_conflicts":[],"":true}"#;
+
+const FULL_BODY: &str = "{\"\":true,\"a\":null,\"b\":[1,{\"c\":\"é\\n\",\"d\":-2}]}";
 
 fn printed(alloc: Global, rev: Option<RevId>) -> Result<Vec<u8>, Fail> {
     let mut out = Vec::new(alloc);
@@ -14,21 +16,41 @@ fn printed(alloc: Global, rev: Option<RevId>) -> Result<Vec<u8>, Fail> {
 }
 
 #[test]
-fn an_edit_made_elsewhere(rt: HostRuntime) -> Result<(), Fail> {
+fn contents(rt: HostRuntime) -> Result<(), Fail> {
     let alloc = rt.alloc();
-    let doc = Doc::read(alloc, TEXT.as_bytes(), false)?;
-    assert_eq!(rt; doc.id.as_str(), "x");
-    assert_eq!(rt; doc.id.copy(alloc)?.as_str(), "x");
-    assert_eq!(rt; doc.rev, RevId::read("2-c"));
-    assert!(rt; doc.deleted);
-    assert_eq!(rt;
-        doc.body.as_bytes(),
-        "{\"\":true,\"a\":null,\"b\":[1,{\"c\":\"é\\n\",\"d\":-2}]}".as_bytes()
-    );
+    let cases = [
+        (FULL, false, "x", "2-c", true, FULL_BODY),
+        (FULL, true, "x", "2-c", true, FULL_BODY),
+        (r#"{"_id":"_design/x"}"#, true, "_design/x", "", false, "{}"),
+        (
+            r#"{"_id":"a","_rev":"1-a"}"#,
+            false,
+            "a",
+            "1-a",
+            false,
+            "{}",
+        ),
+    ];
+    for (text, new_edits, id, rev, deleted, body) in cases {
+        let doc = Doc::read(alloc, text.as_bytes(), new_edits)?;
+        assert_eq!(rt; doc.id.copy(alloc)?.as_str(), id);
+        let written = printed(alloc, doc.rev)?;
+        assert_eq!(rt; written.as_slice(), rev.as_bytes());
+        assert_eq!(rt; doc.path.is_none(), new_edits);
+        assert_eq!(rt; doc.deleted, deleted);
+        assert_eq!(rt; doc.body.as_bytes(), body.as_bytes());
+    }
+    Ok(())
+}
+
+#[test]
+fn a_path(rt: HostRuntime) -> Result<(), Fail> {
+    let alloc = rt.alloc();
+    let doc = Doc::read(alloc, FULL.as_bytes(), false)?;
     let path = doc.path.expect(&rt, "a path");
-    assert_eq!(rt; Some(path.head()), RevId::read("2-c"));
+    let head = printed(alloc, Some(path.head()))?;
+    assert_eq!(rt; head.as_slice(), "2-c".as_bytes());
     assert_eq!(rt; path.revisions().len(), 2);
-    assert_eq!(rt; path.revisions().get(1).copied(), RevId::read("1-a"));
     let cases = [
         ("2-c", true, "1-a"),
         ("1-a", true, ""),
@@ -39,34 +61,16 @@ fn an_edit_made_elsewhere(rt: HostRuntime) -> Result<(), Fail> {
     for (text, named, behind) in cases {
         let rev = RevId::read(text).expect(&rt, "a revision");
         assert_eq!(rt; path.names(&rev), named, "{text}");
-        let behind_it = printed(alloc, path.behind(&rev))?;
-        assert_eq!(rt; behind_it.as_slice(), behind.as_bytes(), "{text}");
+        let written = printed(alloc, path.behind(&rev))?;
+        assert_eq!(rt; written.as_slice(), behind.as_bytes(), "{text}");
     }
     Ok(())
 }
 
 #[test]
-fn an_edit_made_here(rt: HostRuntime) -> Result<(), Fail> {
-    let alloc = rt.alloc();
-    let doc = Doc::read(alloc, TEXT.as_bytes(), true)?;
-    assert_eq!(rt; doc.rev, RevId::read("2-c"));
-    assert!(rt; doc.path.is_none());
-    let doc = Doc::read(alloc, b"{\"_id\":\"_design/x\"}", true)?;
-    assert_eq!(rt; doc.id.as_str(), "_design/x");
-    assert_eq!(rt; doc.rev, None);
-    assert!(rt; !doc.deleted);
-    assert_eq!(rt; doc.body.as_bytes(), "{}".as_bytes());
-    Ok(())
-}
-
-#[test]
-fn a_revision_alone(rt: HostRuntime) -> Result<(), Fail> {
-    let doc = Doc::read(rt.alloc(), b"{\"_id\":\"a\",\"_rev\":\"1-a\"}", false)?;
-    let path = doc.path.expect(&rt, "a path");
-    assert_eq!(rt; Some(path.head()), RevId::read("1-a"));
-    assert_eq!(rt; path.revisions().len(), 1);
+fn a_list_of_revisions(rt: HostRuntime) -> Result<(), Fail> {
     let mut list = Vec::new(rt.alloc());
-    list.push(path.head())?;
+    list.push(RevId::read("1-a").expect(&rt, "a revision"))?;
     let revisions = Revisions::new(list);
     assert_eq!(rt; revisions.as_slice().first().copied(), RevId::read("1-a"));
     Ok(())
@@ -75,14 +79,18 @@ fn a_revision_alone(rt: HostRuntime) -> Result<(), Fail> {
 #[test]
 fn limits(rt: HostRuntime) -> Result<(), Fail> {
     let limits = Limits::full();
-    assert_eq!(rt; limits.body, 8_388_608);
-    assert_eq!(rt; limits.head, 16_384);
-    assert_eq!(rt; limits.headers, 64);
-    assert_eq!(rt; limits.databases, 256);
-    assert_eq!(rt; limits.feeds, 1_024);
-    assert_eq!(rt; limits.lane, 64);
-    assert_eq!(rt; limits.hold, 64);
-    assert_eq!(rt; limits.journal, 4_294_967_295);
-    assert_eq!(rt; limits.history, 50);
+    let found = [
+        limits.body,
+        limits.head,
+        limits.headers,
+        limits.databases,
+        limits.feeds,
+        limits.lane,
+        limits.hold,
+        limits.journal,
+        limits.history,
+    ];
+    let expected = [8_388_608, 16_384, 64, 256, 1_024, 64, 64, 4_294_967_295, 50];
+    assert_eq!(rt; found, expected);
     Ok(())
 }
