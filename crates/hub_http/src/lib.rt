@@ -17,6 +17,10 @@ pub mod request;
 mod request_tests;
 pub mod requests;
 mod route;
+#[cfg(test)]
+mod route_tests;
+#[cfg(test)]
+mod text_tests;
 
 pub use chunk::{ChunkFault, ChunkWriter};
 pub use fixed::{no_memory_text, stream_head_text};
