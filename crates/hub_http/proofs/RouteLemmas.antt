@@ -1,5 +1,5 @@
 -- Where requests go.
-use Rattle.std.proofs.Common.{◌≡◌, ℕ, ◌+◌, ◌-◌, ◌≤◌, ◌⊎◌, inl, inr, Bool, true, false, cond, ltb, List, [], ◌∷◌, length, take, drop, take_all, Option, Some, None, Result, Ok, Err, MatchResult, codes, refl, sym, ap, ◌∙◌, arith, bytes_eq, ◌||◌}
+use Rattle.std.proofs.Common.{◌≡◌, ℕ, ◌+◌, ◌-◌, ◌≤◌, ◌⊎◌, inl, inr, Bool, true, false, cond, List, [], length, take, drop, take_all, Option, Some, None, Result, Ok, Err, MatchResult, codes, refl, sym, ap, ◌∙◌, arith, ◌||◌}
 use Rattle.std.specs.Prelude.{IsOk, position, ◌==◌}
 use Rattle.std.specs.List.{before_first, after_first, position_or_len}
 use Rattle.std.specs.Str.{IsUtf8}

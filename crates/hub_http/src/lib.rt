@@ -18,9 +18,13 @@ mod request;
 mod request_tests;
 mod requests;
 mod route;
+#[cfg(test)]
+mod route_tests;
 mod tally;
 #[cfg(test)]
 mod tally_tests;
+#[cfg(test)]
+mod text_tests;
 
 pub use chunk::{ChunkFault, ChunkWriter};
 pub use fault::HttpFault;

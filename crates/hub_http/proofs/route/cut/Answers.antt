@@ -1,4 +1,4 @@
-use Rattle.std.proofs.Common.{◌==◌, ◌∙◌, sym}
+use Rattle.std.proofs.Common.{◌==◌, sym}
 use Rattle.hub_http.proofs.RouteLemmas.{cut_before, cut_after, all_before, none_after}
 use Rattle.hub_http.proofs.route.cut.Goals as goal
 

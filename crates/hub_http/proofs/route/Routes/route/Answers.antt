@@ -1,7 +1,7 @@
 use Rattle.std.proofs.Common.{◌≡◌, ◌⊎◌, ◌∙◌, sym, ap, subst, Ok, Err}
 use Rattle.std.specs.Str.{IsUtf8}
 use Rattle.hub_http.specs.Stream.{asked_by}
-use Rattle.hub_http.specs.Routes.{path_of, query_of, service_of}
+use Rattle.hub_http.specs.Routes.{path_of, query_of}
 use Rattle.hub_http.specs.declared.route.RouteFault.TheVariants.{NoMemory, BadName}
 use Rattle.hub_http.proofs.RouteLemmas.{table_refuses, name_refuses, service_is, name_is}
 use Rattle.hub_http.proofs.route.Routes.route.Goals as goal

@@ -1,4 +1,4 @@
-use Rattle.std.proofs.Common.{◌≡◌, ◌∙◌, sym, ap, inr, Option, List}
+use Rattle.std.proofs.Common.{◌∙◌, sym, ap, inr}
 use Rattle.hub_http.specs.Routes.{ascii_path, asked_at}
 use Rattle.hub_http.specs.Table.{kind_at}
 use Rattle.hub_http.proofs.RouteLemmas.{answers}
