@@ -1,24 +1,24 @@
 //! Requests, routes and the texts of answers.
 #![tactic(auto)]
 
+pub mod chunk;
 mod connection;
 mod fault;
+pub mod fixed;
 mod head;
 mod input;
+pub mod item;
 mod length;
 mod output;
 mod read;
-mod request;
-mod requests;
-mod tally;
-pub mod chunk;
-pub mod fixed;
-pub mod item;
 pub mod refusal;
 pub mod reply;
-pub mod route;
+mod request;
 #[cfg(test)]
 mod request_tests;
+mod requests;
+pub mod route;
+mod tally;
 #[cfg(test)]
 mod tally_tests;
 

@@ -1,6 +1,5 @@
-use Rattle.std.proofs.Common.{rules, arith, ◌≡◌, ap, ◌∙◌, sym, map, List, [], ◌∷◌, ◌++◌}
+use Rattle.std.proofs.Common.{arith, ◌≡◌, [], ◌∷◌, ◌++◌}
 use Rattle.std.proofs.lemmas.Grind.{common_steps}
-use Rattle.hub_http.specs.Stream.{asked_by, Leads}
 use Rattle.hub_http.proofs.StreamLemmas.{leads_more, leads_end, ends_clean, ends_faulty, gave_up, gave_up_late}
 use Rattle.hub_http.proofs.requests.Requests.read_all.Goals as goal
 
