@@ -1,5 +1,5 @@
 -- What an insert does.
-use Rattle.std.proofs.Common.{◌≡◌, ℕ, List, Result, Ok, Err}
+use Rattle.std.proofs.Common.{◌≡◌, Result, Ok, Err}
 use Rattle.matchit.specs.declared.error.InsertError.{InsertError}
 use Rattle.matchit.specs.Route.{Scan}
 use Rattle.matchit.specs.Router.{InsertsRead}

@@ -1,6 +1,8 @@
 pub mod FrontLemmas
 pub mod HeadLemmas
 pub mod Inserts
+pub mod ItemLemmas
+pub mod JoinLemmas
 pub mod LengthLemmas
 pub mod ReadLemmas
 pub mod RequestLemmas

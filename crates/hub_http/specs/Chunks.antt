@@ -1,5 +1,5 @@
--- What is written for a text.
-use Rattle.std.specs.Prelude.{ℕ, List, [], ◌∷◌, ◌++◌, ⊤, codes, Result, Ok, Err, Option}
+-- What is written for a text (RFC 9112, section 7.1).
+use Rattle.std.specs.Prelude.{ℕ, List, [], ◌∷◌, Result, Ok, Err, Option}
 use Rattle.std.specs.Io.KnownBytes.{Keeps, Appends}
 use Rattle.hub_http.specs.Counts.{AppendsFront}
 use Rattle.hub_http.specs.Texts.{chunk_text}

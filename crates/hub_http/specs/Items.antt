@@ -1,33 +1,63 @@
--- The texts of a feed.
-use Rattle.std.specs.Prelude.{ℕ, List, [], ◌++◌, Bool, if◌then◌else◌, codes, decimal, string_bytes}
-use Rattle.hub_http.specs.declared.item.Mode.{Mode}
-use Rattle.hub_http.specs.declared.item.Mode.TheVariants.{Normal, Longpoll, Continuous}
-use Rattle.hub_http.specs.declared.item.Item.{Item}
-use Rattle.hub_http.specs.declared.item.Item.TheVariants.{Row, Beat, End}
+-- The texts of a feed (CouchDB API reference, _changes; own for what stands between the rows).
+use Rattle.std.specs.Prelude.{ℕ, zero, suc, List, [], ◌++◌, Bool, true, false, map, codes, decimal}
+use Rattle.std.specs.List.{join_with_byte}
+use Rattle.json.specs.Print.{quoted}
+use Rattle.hub_model.specs.Revision.{Revision, text_of}
+use Rattle.hub_model.specs.Row.{ChangeRow}
+use Rattle.hub_model.specs.declared.feeds.Mode.{Mode}
+use Rattle.hub_model.specs.declared.feeds.Mode.TheVariants.{Continuous}
+use Rattle.hub_model.specs.declared.feeds.Item.{Item}
+use Rattle.hub_model.specs.declared.feeds.Item.TheVariants.{Row, Beat, End}
 
--- a row, the first one or a later one
-unfoldable pub row_text : Mode → Bool → List ℕ → List ℕ
-row_text Normal first row = if first then row else codes ",\n" ++ row
-row_text Longpoll first row = if first then row else codes ",\n" ++ row
-row_text Continuous first row = row ++ codes "\n"
+-- a revision that a row lists
+unfoldable pub revision_text : Revision → List ℕ
+revision_text r = codes "{\"rev\":" ++ (quoted (text_of r) ++ codes "}")
+
+-- the revisions that a row lists, with commas (44) between them
+unfoldable pub revisions_text : List Revision → List ℕ
+revisions_text rs = join_with_byte 44 (map revision_text rs)
+
+-- the end of a row, with the member that marks a deleted document
+unfoldable pub row_end : Bool → List ℕ
+row_end false = codes "]}"
+row_end true = codes "],\"deleted\":true}"
+
+-- the members at the head of a row
+unfoldable pub row_head : ℕ → List ℕ → List ℕ
+row_head seq id = codes "{\"seq\":" ++ (decimal seq ++ (codes ",\"id\":" ++ quoted id))
+
+-- a row as a JSON object
+unfoldable pub row_text : ChangeRow → List ℕ
+row_text row = row_head row.seq row.id ++ (codes ",\"changes\":[" ++ (revisions_text row.changes ++ row_end row.deleted))
+
+-- what stands before a row, of which so many came before it
+unfoldable pub before_row : Mode → ℕ → List ℕ
+before_row Continuous n = []
+before_row _ zero = []
+before_row _ (suc n) = codes ",\n"
+
+-- what stands after a row
+unfoldable pub after_row : Mode → List ℕ
+after_row Continuous = codes "\n"
+after_row _ = []
+
+-- what stands before the members that end a feed
+unfoldable pub before_end : Mode → List ℕ
+before_end Continuous = codes "{"
+before_end _ = codes "\n],\n"
 
 -- the members that end a feed, and the brace that closes it
-unfoldable pub last_member : ℕ → ℕ → List ℕ
-last_member last pending = codes "\"last_seq\":" ++ (decimal last ++ (codes ",\"pending\":" ++ (decimal pending ++ codes "}\n")))
+unfoldable pub end_text : ℕ → ℕ → List ℕ
+end_text last_seq pending =
+    codes "\"last_seq\":" ++ (decimal last_seq ++ (codes ",\"pending\":" ++ (decimal pending ++ codes "}\n")))
 
-unfoldable pub end_text : Mode → ℕ → ℕ → List ℕ
-end_text Normal last pending = codes "\n],\n" ++ last_member last pending
-end_text Longpoll last pending = codes "\n],\n" ++ last_member last pending
-end_text Continuous last pending = codes "{" ++ last_member last pending
-
--- the text of an item, where `first` says that no row came before
-abbrev pub item_text : Mode → Bool → Item → List ℕ
-item_text mode first (Row row) = row_text mode first (string_bytes row)
-item_text mode first Beat = codes "\n"
-item_text mode first (End last pending) = end_text mode last pending
+-- the text of an item, before which so many rows came
+abbrev pub item_text : Mode → ℕ → Item ChangeRow → List ℕ
+item_text mode rows_before (Row row) = before_row mode rows_before ++ (row_text row ++ after_row mode)
+item_text mode rows_before Beat = codes "\n"
+item_text mode rows_before (End last_seq pending) = before_end mode ++ end_text last_seq pending
 
 -- the text at the head of a feed
 abbrev pub feed_head : Mode → List ℕ
-feed_head Normal = codes "{\"results\":[\n"
-feed_head Longpoll = codes "{\"results\":[\n"
 feed_head Continuous = []
+feed_head _ = codes "{\"results\":[\n"

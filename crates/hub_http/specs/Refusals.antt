@@ -1,39 +1,24 @@
--- Each refusal's status, error and reason.
+-- Each refusal's status, error and reason (CouchDB API reference, HTTP status codes).
 use Rattle.std.specs.Prelude.{ℕ, List, codes}
 use Rattle.hub_http.specs.declared.refusal.Refusal.{Refusal}
 use Rattle.hub_http.specs.declared.refusal.Refusal.TheVariants.{NoMemory, NotJson, NotObject, BadNumber, BadId, BadRev, BadRevisions, BadMember, TooLong, Contradicts, GenerationLimit, Conflict, BadSince, BadLimit, BadStyle, BadFeed, BadFilter, BadDocIds, BadHeartbeat, DescendingMode, BadFlag, TooManyFeeds, SequenceFull, Deleted, BadName, Exists, Absent, TooMany, BadHead, HeadTooLong, BodyTooLong, Version, Coding, LengthMissing, Missing, DocDeleted, MethodNotAllowed}
+use Rattle.hub_document.specs.declared.doc.DocFault.{DocFault}
+use Rattle.hub_document.specs.declared.doc.DocFault.TheVariants as doc
+use Rattle.hub_model.specs.declared.outcomes.Fault.{Fault}
+use Rattle.hub_model.specs.declared.outcomes.Fault.TheVariants as stored
+use Rattle.hub_http.specs.declared.route.RouteFault.{RouteFault}
+use Rattle.hub_http.specs.declared.route.RouteFault.TheVariants as route
 
 -- the status of the answer
 abbrev pub status_of : Refusal → ℕ
 status_of NoMemory = 503
-status_of NotJson = 400
-status_of NotObject = 400
-status_of BadNumber = 400
-status_of BadId = 400
-status_of BadRev = 400
-status_of BadRevisions = 400
-status_of BadMember = 400
-status_of TooLong = 400
-status_of Contradicts = 400
-status_of GenerationLimit = 400
 status_of Conflict = 409
-status_of BadSince = 400
-status_of BadLimit = 400
-status_of BadStyle = 400
-status_of BadFeed = 400
-status_of BadFilter = 400
-status_of BadDocIds = 400
-status_of BadHeartbeat = 400
-status_of DescendingMode = 400
-status_of BadFlag = 400
 status_of TooManyFeeds = 503
 status_of SequenceFull = 503
 status_of Deleted = 404
-status_of BadName = 400
 status_of Exists = 412
 status_of Absent = 404
 status_of TooMany = 503
-status_of BadHead = 400
 status_of HeadTooLong = 431
 status_of BodyTooLong = 413
 status_of Version = 505
@@ -42,30 +27,12 @@ status_of LengthMissing = 411
 status_of Missing = 404
 status_of DocDeleted = 404
 status_of MethodNotAllowed = 405
+status_of _ = 400
 
 -- the member `error` of the answer
 abbrev pub error_of : Refusal → List ℕ
 error_of NoMemory = codes "out_of_memory"
-error_of NotJson = codes "bad_request"
-error_of NotObject = codes "bad_request"
-error_of BadNumber = codes "bad_request"
-error_of BadId = codes "bad_request"
-error_of BadRev = codes "bad_request"
-error_of BadRevisions = codes "bad_request"
-error_of BadMember = codes "bad_request"
-error_of TooLong = codes "bad_request"
-error_of Contradicts = codes "bad_request"
-error_of GenerationLimit = codes "bad_request"
 error_of Conflict = codes "conflict"
-error_of BadSince = codes "bad_request"
-error_of BadLimit = codes "bad_request"
-error_of BadStyle = codes "bad_request"
-error_of BadFeed = codes "bad_request"
-error_of BadFilter = codes "bad_request"
-error_of BadDocIds = codes "bad_request"
-error_of BadHeartbeat = codes "bad_request"
-error_of DescendingMode = codes "bad_request"
-error_of BadFlag = codes "bad_request"
 error_of TooManyFeeds = codes "too_many_feeds"
 error_of SequenceFull = codes "sequence_full"
 error_of Deleted = codes "not_found"
@@ -73,7 +40,6 @@ error_of BadName = codes "illegal_database_name"
 error_of Exists = codes "file_exists"
 error_of Absent = codes "not_found"
 error_of TooMany = codes "too_many_databases"
-error_of BadHead = codes "bad_request"
 error_of HeadTooLong = codes "head_too_long"
 error_of BodyTooLong = codes "too_large"
 error_of Version = codes "http_version"
@@ -82,6 +48,7 @@ error_of LengthMissing = codes "length_required"
 error_of Missing = codes "not_found"
 error_of DocDeleted = codes "not_found"
 error_of MethodNotAllowed = codes "method_not_allowed"
+error_of _ = codes "bad_request"
 
 -- the member `reason` of the answer
 abbrev pub reason_of : Refusal → List ℕ
@@ -122,3 +89,31 @@ reason_of LengthMissing = codes "no Content-Length"
 reason_of Missing = codes "missing"
 reason_of DocDeleted = codes "deleted"
 reason_of MethodNotAllowed = codes "method not allowed"
+
+-- the refusal of a document that cannot be read
+abbrev pub of_doc_fault : DocFault → Refusal
+of_doc_fault doc.NoMemory = NoMemory
+of_doc_fault doc.NotJson = NotJson
+of_doc_fault doc.NotObject = NotObject
+of_doc_fault doc.BadNumber = BadNumber
+of_doc_fault doc.BadId = BadId
+of_doc_fault doc.BadRev = BadRev
+of_doc_fault doc.BadRevisions = BadRevisions
+of_doc_fault doc.BadMember = BadMember
+of_doc_fault doc.TooLong = TooLong
+
+-- the refusal of a document that cannot be stored
+abbrev pub of_fault : Fault → Refusal
+of_fault stored.Deleted = Deleted
+of_fault stored.Contradicts = Contradicts
+of_fault stored.Conflict = Conflict
+of_fault stored.GenerationLimit = GenerationLimit
+of_fault stored.SequenceFull = SequenceFull
+
+-- the refusal of a request that has no route
+abbrev pub of_route_fault : RouteFault → Refusal
+of_route_fault route.NoMemory = NoMemory
+of_route_fault route.Missing = Missing
+of_route_fault route.MethodNotAllowed = MethodNotAllowed
+of_route_fault route.BadName = BadName
+of_route_fault route.LengthMissing = LengthMissing

@@ -1,5 +1,5 @@
 -- The table of routes.
-use Rattle.std.specs.Prelude.{◌≡◌, ℕ, List, [], ◌∷◌, Option, Some, None, Result, Ok, Err, codes}
+use Rattle.std.specs.Prelude.{ℕ, List, [], Option, Some, None, Result, Ok, Err, codes}
 use Rattle.matchit.specs.declared.error.InsertError.{InsertError}
 use Rattle.matchit.specs.Rows.{RowsOf}
 use Rattle.matchit.specs.Order.{placed}

@@ -1,5 +1,5 @@
--- The texts of answers and chunks.
-use Rattle.std.specs.Prelude.{ℕ, List, [], ◌∷◌, ◌++◌, length, Bool, true, false, Option, Some, None, if◌then◌else◌, codes, decimal}
+-- The texts of answers and chunks (RFC 9112, sections 4, 6 and 7.1; own for the choice of fields).
+use Rattle.std.specs.Prelude.{ℕ, List, [], ◌++◌, length, Bool, false, Option, Some, None, if◌then◌else◌, codes, decimal}
 use Rattle.std.specs.Fmt.{digits}
 use Rattle.http.specs.StatusCode.{reason_phrase}
 use Rattle.hub_http.specs.declared.refusal.Refusal.{Refusal}

@@ -1,46 +1,75 @@
 //! Chunks to a writer.
-ghost use Rattle.std.specs.Prelude.{◌≡◌, ◌≤◌, IsErrOf};
+
+ghost use Rattle.std.specs.Prelude.{◌≡◌, ◌≤◌, IsErrOf, OnOk};
 ghost use Rattle.hub_http.specs.Counts.{Rose};
 ghost use Rattle.hub_http.specs.Chunks.{Writes, text_chunks};
 ghost use Rattle.hub_http.specs.Texts.{chunk_text};
 
-use crate::{Output, send};
-use crate::reply::chunk_bytes;
-use std::alloc::Global;
+use crate::{Output, write_all};
+use std::alloc::{AllocError, Global};
+use std::io::Write;
 
-/// Why a chunk was not written.
+/// Why a chunk was not written whole.
 #[derive(Clone, Copy, Debug, PartialEq, Eq)]
 pub enum ChunkFault {
+    /// No memory was found, and nothing was written.
     NoMemory,
+    /// The writer failed, after a front of the chunk.
     IoFault,
 }
 
-fn write_chunk<W: Output>(alloc: Global, writer: &mut W, text: &[u8]) -> Result<(), ChunkFault>
-    ensures bytes { Writes (chunk_text text.now) result (W.written writer.old) (W.written writer.new) }
-    ensures monotone { W.fault_count writer.old ≤ W.fault_count writer.new }
-    ensures fault { IsErrOf result ChunkFault.IoFault → Rose (W.fault_count writer.old) (W.fault_count writer.new) }
+#[tactic(auto, unfolding(crate::specs::Texts::chunk_text))]
+fn assemble(buffer: &mut Vec<u8>, text: &[u8]) -> Result<(), AllocError>
+    ensures { OnOk result (buffer.new.items ≡ chunk_text text.now) }
 {
-    let Ok(chunk) = chunk_bytes(alloc, text) else {
-        return Err(ChunkFault::NoMemory);
-    };
-    match send(writer, chunk.as_slice()) {
-        Ok(()) => Ok(()),
-        Err(_) => Err(ChunkFault::IoFault),
+    let len = text.len();
+    buffer.clear();
+    if write!(buffer, "{len:x}\r\n").is_err() {
+        return Err(AllocError);
     }
+    buffer.extend_from_slice(text)?;
+    buffer.extend_from_slice(b"\r\n")
 }
 
-/// Writes a text as one chunk, and an empty one not at all.
-pub fn write_text<W: Output>(
-    alloc: Global,
-    writer: &mut W,
-    text: &[u8],
-) -> Result<(), ChunkFault>
-    ensures bytes { Writes (text_chunks text.now) result (W.written writer.old) (W.written writer.new) }
-    ensures monotone { W.fault_count writer.old ≤ W.fault_count writer.new }
-    ensures fault { IsErrOf result ChunkFault.IoFault → Rose (W.fault_count writer.old) (W.fault_count writer.new) }
-{
-    match text {
-        [] => Ok(()),
-        [_, ..] => write_chunk(alloc, writer, text),
+/// Writes texts as chunks (RFC 9112, section 7.1), each by one call of the writer where that takes
+/// all of it.
+#[derive(Debug, Drop)]
+pub struct ChunkWriter {
+    buffer: Vec<u8>,
+}
+
+impl ChunkWriter {
+    /// A writer of chunks. It costs nothing: the first chunk allocates.
+    pub fn new(alloc: Global) -> ChunkWriter {
+        ChunkWriter {
+            buffer: Vec::new(alloc),
+        }
+    }
+
+    /// Writes a text as one chunk, and an empty one not at all. Nothing is flushed. It costs the
+    /// text's length, and memory only where the chunk is longer than each one before.
+    pub fn write<W: Output>(&mut self, writer: &mut W, text: &[u8]) -> Result<(), ChunkFault>
+        ensures bytes { Writes (text_chunks text.now) result (W.written writer.old) (W.written writer.new) }
+        ensures monotone { W.fault_count writer.old ≤ W.fault_count writer.new }
+        ensures fault { IsErrOf result ChunkFault.IoFault → Rose (W.fault_count writer.old) (W.fault_count writer.new) }
+    {
+        match text {
+            [] => Ok(()),
+            [_, ..] => self.write_chunk(writer, text),
+        }
+    }
+
+    fn write_chunk<W: Output>(&mut self, writer: &mut W, text: &[u8]) -> Result<(), ChunkFault>
+        ensures bytes { Writes (chunk_text text.now) result (W.written writer.old) (W.written writer.new) }
+        ensures monotone { W.fault_count writer.old ≤ W.fault_count writer.new }
+        ensures fault { IsErrOf result ChunkFault.IoFault → Rose (W.fault_count writer.old) (W.fault_count writer.new) }
+    {
+        if assemble(&mut self.buffer, text).is_err() {
+            return Err(ChunkFault::NoMemory);
+        }
+        match write_all(writer, self.buffer.as_slice()) {
+            Ok(()) => Ok(()),
+            Err(_) => Err(ChunkFault::IoFault),
+        }
     }
 }

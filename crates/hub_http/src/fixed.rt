@@ -1,10 +1,12 @@
 //! Texts that need no memory.
-ghost use Rattle.std.specs.Prelude.{◌≡◌, true, false};
+
+ghost use Rattle.std.specs.Prelude.{◌≡◌};
 ghost use Rattle.hub_http.specs.Texts.{head_text, chunked_line, reply_text};
 ghost use Rattle.hub_http.specs.declared.reply.Reply.TheVariants.{Refused};
-ghost use Rattle.hub_http.specs.declared.refusal.Refusal.TheVariants.{NoMemory, BadHead};
+ghost use Rattle.hub_http.specs.declared.refusal.Refusal.TheVariants.{NoMemory};
 
-/// The answer in place of one that found no memory.
+/// The answer in place of one that found no memory, its head alone with `head_only`. It costs
+/// nothing.
 pub fn no_memory_text(head_only: bool, close: bool) -> &'static str
     ensures { result.now ≡ reply_text (Refused NoMemory) head_only close }
 {
@@ -23,7 +25,7 @@ pub fn no_memory_text(head_only: bool, close: bool) -> &'static str
     }
 }
 
-/// The head of an answer that is sent in chunks.
+/// The head of a feed's answer, which is sent in chunks (RFC 9112, section 7.1). It costs nothing.
 pub fn stream_head_text(close: bool) -> &'static str
     ensures { result.now ≡ head_text 200 chunked_line close }
 {
@@ -32,11 +34,4 @@ pub fn stream_head_text(close: bool) -> &'static str
     } else {
         "HTTP/1.1 200 OK\r\nContent-Type: application/json\r\nTransfer-Encoding: chunked\r\n\r\n"
     }
-}
-
-/// The answer to a refusal after which the connection closes.
-pub fn bad_head_text() -> &'static str
-    ensures { result.now ≡ reply_text (Refused BadHead) false true }
-{
-    "HTTP/1.1 400 Bad Request\r\nContent-Type: application/json\r\nContent-Length: 44\r\nConnection: close\r\n\r\n{\"error\":\"bad_request\",\"reason\":\"bad head\"}\n"
 }

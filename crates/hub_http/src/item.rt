@@ -1,85 +1,164 @@
-//! The items of a feed and their texts.
-ghost use Rattle.std.specs.Prelude.{◌≡◌, IfOk, string_bytes};
-ghost use Rattle.hub_http.specs.Items.{row_text, end_text, item_text, feed_head, last_member};
+//! The texts of a feed's items.
 
-use std::alloc::{AllocError, Global};
+ghost use Rattle.std.specs.Prelude.{◌≡◌, ◌++◌, length, take, OnOk};
+ghost use Rattle.json.specs.Print.{quoted};
+ghost use Rattle.hub_http.specs.Items.{revision_text, revisions_text, row_end, row_head, row_text, before_row, after_row, before_end, end_text, item_text, feed_head};
 
-/// How a feed is sent.
-#[derive(Clone, Copy, Debug, PartialEq, Eq)]
-pub enum Mode {
-    Normal,
-    Longpoll,
-    Continuous,
+use hub_document::{ChangeRow, RevId};
+use hub_model::{Item, Mode};
+use itoa::Buffer;
+use json::Writer;
+use std::alloc::AllocError;
+use std::mem;
+
+// The writer of JSON owns its bytes while it writes; nothing is copied.
+fn put_quoted(out: &mut Vec<u8>, text: &str) -> Result<(), AllocError>
+    ensures ok { OnOk result (out.new.items ≡ out.old.items ++ quoted text.now) }
+    ensures front { take (length out.old.items) out.new.items ≡ out.old.items }
+{
+    let alloc = *out.allocator();
+    let mut writer = Writer::new(mem::replace(out, Vec::new(alloc)));
+    let done = writer.string(text);
+    *out = writer.into_inner();
+    done
 }
 
-/// What a feed sends.
-#[derive(Debug, Drop)]
-pub enum Item {
-    /// A row by its text.
-    Row(String),
-    /// A sign of life.
-    Beat,
-    /// The end of the feed: its last sequence, and how many rows are left.
-    End { last: u64, pending: u64 },
+fn put_revision(out: &mut Vec<u8>, rev: &RevId) -> Result<(), AllocError>
+    ensures ok { OnOk result (out.new.items ≡ out.old.items ++ revision_text rev.now) }
+    ensures front { take (length out.old.items) out.new.items ≡ out.old.items }
+{
+    let mut number = Buffer::new();
+    out.extend_from_slice(b"{\"rev\":\"")?;
+    out.extend_from_slice(number.format(rev.generation()).as_bytes())?;
+    out.extend_from_slice(b"-")?;
+    out.extend_from_slice(rev.hash())?;
+    out.extend_from_slice(b"\"}")?;
+    Ok(())
 }
 
-#[tactic(auto, unfolding(crate::specs::Items::row_text))]
-fn row_text(alloc: Global, mode: Mode, first: bool, row: &str) -> Result<String, AllocError>
-    ensures { IfOk result (λ s. string_bytes s ≡ row_text mode first row.now) }
+fn put_revisions(out: &mut Vec<u8>, revs: &[RevId]) -> Result<(), AllocError>
+    ensures ok { OnOk result (out.new.items ≡ out.old.items ++ revisions_text revs.now) }
+    ensures front { take (length out.old.items) out.new.items ≡ out.old.items }
+{
+    let Some((first, rest)) = revs.split_first() else {
+        return Ok(());
+    };
+    put_revision(out, first)?;
+    for rev in rest {
+        out.extend_from_slice(b",")?;
+        put_revision(out, rev)?;
+    }
+    Ok(())
+}
+
+#[tactic(auto, unfolding(crate::specs::Items::row_head))]
+fn put_row_head(out: &mut Vec<u8>, seq: u64, id: &str) -> Result<(), AllocError>
+    ensures ok { OnOk result (out.new.items ≡ out.old.items ++ row_head seq id.now) }
+    ensures front { take (length out.old.items) out.new.items ≡ out.old.items }
+{
+    let mut number = Buffer::new();
+    out.extend_from_slice(b"{\"seq\":")?;
+    out.extend_from_slice(number.format(seq).as_bytes())?;
+    out.extend_from_slice(b",\"id\":")?;
+    put_quoted(out, id)?;
+    Ok(())
+}
+
+#[tactic(auto, unfolding(crate::specs::Items::row_end))]
+fn row_end(deleted: bool) -> &'static str
+    ensures { result.now ≡ row_end deleted }
+{
+    if deleted { "],\"deleted\":true}" } else { "]}" }
+}
+
+fn put_row(out: &mut Vec<u8>, row: &ChangeRow) -> Result<(), AllocError>
+    ensures ok { OnOk result (out.new.items ≡ out.old.items ++ row_text row.now) }
+    ensures front { take (length out.old.items) out.new.items ≡ out.old.items }
+{
+    put_row_head(out, row.seq, row.id.as_str())?;
+    out.extend_from_slice(b",\"changes\":[")?;
+    put_revisions(out, row.changes.as_slice())?;
+    out.extend_from_slice(row_end(row.deleted).as_bytes())?;
+    Ok(())
+}
+
+#[tactic(auto, unfolding(crate::specs::Items::before_row))]
+fn before_row(mode: Mode, rows_before: u64) -> &'static str
+    ensures { result.now ≡ before_row mode rows_before }
 {
     match mode {
-        Mode::Continuous => format!(in alloc; "{row}\n"),
-        Mode::Normal | Mode::Longpoll => {
-            if first {
-                format!(in alloc; "{row}")
-            } else {
-                format!(in alloc; ",\n{row}")
-            }
+        Mode::Continuous => "",
+        _ => { if rows_before == 0 { "" } else { ",\n" } }
+    }
+}
+
+#[tactic(auto, unfolding(crate::specs::Items::after_row))]
+fn after_row(mode: Mode) -> &'static str
+    ensures { result.now ≡ after_row mode }
+{
+    match mode {
+        Mode::Continuous => "\n",
+        _ => "",
+    }
+}
+
+#[tactic(auto, unfolding(crate::specs::Items::before_end))]
+fn before_end(mode: Mode) -> &'static str
+    ensures { result.now ≡ before_end mode }
+{
+    match mode {
+        Mode::Continuous => "{",
+        _ => "\n],\n",
+    }
+}
+
+fn put_end(out: &mut Vec<u8>, last_seq: u64, pending: u64) -> Result<(), AllocError>
+    ensures ok { OnOk result (out.new.items ≡ out.old.items ++ end_text last_seq pending) }
+    ensures front { take (length out.old.items) out.new.items ≡ out.old.items }
+{
+    let mut number = Buffer::new();
+    out.extend_from_slice(b"\"last_seq\":")?;
+    out.extend_from_slice(number.format(last_seq).as_bytes())?;
+    out.extend_from_slice(b",\"pending\":")?;
+    out.extend_from_slice(number.format(pending).as_bytes())?;
+    out.extend_from_slice(b"}\n")?;
+    Ok(())
+}
+
+/// Appends the text of an item, before which the feed wrote so many rows. After an error what was
+/// held still stands in front, and a part of the text may stand behind it. It costs the text's
+/// length.
+pub fn item_text(
+    out: &mut Vec<u8>,
+    mode: Mode,
+    rows_before: u64,
+    item: &Item<ChangeRow>,
+) -> Result<(), AllocError>
+    ensures ok { OnOk result (out.new.items ≡ out.old.items ++ item_text mode rows_before item.now) }
+    ensures front { take (length out.old.items) out.new.items ≡ out.old.items }
+{
+    match item {
+        Item::Row(row) => {
+            out.extend_from_slice(before_row(mode, rows_before).as_bytes())?;
+            put_row(out, row)?;
+            out.extend_from_slice(after_row(mode).as_bytes())?;
+            Ok(())
+        }
+        Item::Beat => out.extend_from_slice(b"\n"),
+        Item::End { last_seq, pending } => {
+            out.extend_from_slice(before_end(mode).as_bytes())?;
+            put_end(out, *last_seq, *pending)?;
+            Ok(())
         }
     }
 }
 
-#[tactic(auto, unfolding(crate::specs::Items::last_member))]
-fn last_member(alloc: Global, last: u64, pending: u64) -> Result<String, AllocError>
-    ensures { IfOk result (λ s. string_bytes s ≡ last_member last pending) }
-{
-    format!(in alloc; "\"last_seq\":{last},\"pending\":{pending}}}\n")
-}
-
-#[tactic(auto, unfolding(crate::specs::Items::end_text))]
-fn end_text(alloc: Global, mode: Mode, last: u64, pending: u64) -> Result<String, AllocError>
-    ensures { IfOk result (λ s. string_bytes s ≡ end_text mode last pending) }
-{
-    let member = last_member(alloc, last, pending)?;
-    match mode {
-        Mode::Continuous => format!(in alloc; "{{{member}"),
-        Mode::Normal | Mode::Longpoll => format!(in alloc; "\n],\n{member}"),
-    }
-}
-
-/// The text of an item, where `first` says that no row came before.
-#[tactic(auto, unfolding(crate::specs::Items::row_text, crate::specs::Items::end_text))]
-pub fn item_text(
-    alloc: Global,
-    mode: Mode,
-    first: bool,
-    item: &Item,
-) -> Result<String, AllocError>
-    ensures { IfOk result (λ s. string_bytes s ≡ item_text mode first item.now) }
-{
-    match item {
-        Item::Row(row) => row_text(alloc, mode, first, row.as_str()),
-        Item::Beat => format!(in alloc; "\n"),
-        Item::End { last, pending } => end_text(alloc, mode, *last, *pending),
-    }
-}
-
-/// The text at the head of a feed.
+/// The text at the head of a feed, before its first item. It costs nothing.
 pub fn feed_head(mode: Mode) -> &'static str
     ensures { result.now ≡ feed_head mode }
 {
     match mode {
-        Mode::Normal | Mode::Longpoll => "{\"results\":[\n",
         Mode::Continuous => "",
+        _ => "{\"results\":[\n",
     }
 }

@@ -1,30 +1,36 @@
 //! Requests, routes and the texts of answers.
 #![tactic(auto)]
 
-pub mod chunk;
+mod chunk;
 mod connection;
 mod fault;
-pub mod fixed;
+mod fixed;
 mod head;
 mod input;
-pub mod item;
+mod item;
 mod length;
 mod output;
 mod read;
-pub mod refusal;
-pub mod reply;
+mod refusal;
+mod reply;
 mod request;
 #[cfg(test)]
 mod request_tests;
 mod requests;
-pub mod route;
+mod route;
 mod tally;
 #[cfg(test)]
 mod tally_tests;
 
+pub use chunk::{ChunkFault, ChunkWriter};
 pub use fault::HttpFault;
+pub use fixed::{no_memory_text, stream_head_text};
 pub use input::Input;
+pub use item::{feed_head, item_text};
 pub use output::{IoFault, Output, send, write_all};
+pub use refusal::Refusal;
+pub use reply::{Reply, reply_bytes};
 pub use request::Request;
 pub use requests::{Requests, one_reading};
+pub use route::RouteFault;
 pub use tally::Tally;

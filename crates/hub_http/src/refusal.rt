@@ -2,84 +2,104 @@
 ghost use Rattle.std.specs.Prelude.{◌≡◌};
 ghost use Rattle.hub_http.specs.Refusals.{status_of, error_of, reason_of};
 
+use crate::route::RouteFault;
 use http::StatusCode;
+use hub_document::DocFault;
+use hub_model::Fault;
 
-/// Why a request was refused.
+/// Why a request was refused (CouchDB API reference, HTTP status codes).
 #[derive(Clone, Copy, Debug, PartialEq, Eq)]
 pub enum Refusal {
+    /// No memory was found.
     NoMemory,
+    /// The text is not JSON.
     NotJson,
+    /// The value is no object.
     NotObject,
+    /// A number is no whole number from -2^63 to 2^64 - 1.
     BadNumber,
+    /// A document's id is absent or no id.
     BadId,
+    /// A revision is absent or no revision.
     BadRev,
+    /// `_revisions` is no full history, or `_rev` is not its first revision.
     BadRevisions,
+    /// A member that begins with `_` is unknown or has no fitting value.
     BadMember,
+    /// The id is longer than 512 bytes.
     TooLong,
+    /// The history gives a known revision another parent.
     Contradicts,
+    /// The named leaf has the last generation.
     GenerationLimit,
+    /// No leaf is named or chosen, or the made revision is there already.
     Conflict,
+    /// `since` is neither a sequence nor `now`.
     BadSince,
+    /// `limit` is no number.
     BadLimit,
+    /// `style` is unknown.
     BadStyle,
+    /// `feed` is unknown.
     BadFeed,
+    /// `filter` is unknown.
     BadFilter,
+    /// `doc_ids` is no list of texts.
     BadDocIds,
+    /// `heartbeat` or `timeout` is no number.
     BadHeartbeat,
+    /// `descending` is asked of a feed that does not end at once.
     DescendingMode,
+    /// `descending` or `include_docs` is no truth value.
     BadFlag,
+    /// The database has as many feeds as it may have.
     TooManyFeeds,
+    /// The journal is at its limit.
     SequenceFull,
+    /// The database was deleted.
     Deleted,
+    /// The name is no name of a database.
     BadName,
+    /// The database is there already.
     Exists,
+    /// There is no such database.
     Absent,
+    /// There are as many databases as there may be.
     TooMany,
+    /// The request's head is malformed.
     BadHead,
+    /// The head is longer than 16,384 bytes or has more than 64 fields.
     HeadTooLong,
+    /// The body is longer than 8 MiB.
     BodyTooLong,
+    /// The version is not HTTP/1.1.
     Version,
+    /// The body has a transfer coding.
     Coding,
+    /// A request with a body has no `Content-Length`.
     LengthMissing,
+    /// Nothing has this path, or no such document is there.
     Missing,
+    /// The document was deleted.
     DocDeleted,
+    /// The path does not take this method.
     MethodNotAllowed,
 }
 
 impl Refusal {
+    /// The status of the answer.
     pub fn status(self) -> StatusCode
         ensures { result ≡ status_of self }
     {
         match self {
             Refusal::NoMemory => StatusCode::SERVICE_UNAVAILABLE,
-            Refusal::NotJson => StatusCode::BAD_REQUEST,
-            Refusal::NotObject => StatusCode::BAD_REQUEST,
-            Refusal::BadNumber => StatusCode::BAD_REQUEST,
-            Refusal::BadId => StatusCode::BAD_REQUEST,
-            Refusal::BadRev => StatusCode::BAD_REQUEST,
-            Refusal::BadRevisions => StatusCode::BAD_REQUEST,
-            Refusal::BadMember => StatusCode::BAD_REQUEST,
-            Refusal::TooLong => StatusCode::BAD_REQUEST,
-            Refusal::Contradicts => StatusCode::BAD_REQUEST,
-            Refusal::GenerationLimit => StatusCode::BAD_REQUEST,
             Refusal::Conflict => StatusCode::CONFLICT,
-            Refusal::BadSince => StatusCode::BAD_REQUEST,
-            Refusal::BadLimit => StatusCode::BAD_REQUEST,
-            Refusal::BadStyle => StatusCode::BAD_REQUEST,
-            Refusal::BadFeed => StatusCode::BAD_REQUEST,
-            Refusal::BadFilter => StatusCode::BAD_REQUEST,
-            Refusal::BadDocIds => StatusCode::BAD_REQUEST,
-            Refusal::BadHeartbeat => StatusCode::BAD_REQUEST,
-            Refusal::DescendingMode => StatusCode::BAD_REQUEST,
-            Refusal::BadFlag => StatusCode::BAD_REQUEST,
             Refusal::TooManyFeeds => StatusCode::SERVICE_UNAVAILABLE,
             Refusal::SequenceFull => StatusCode::SERVICE_UNAVAILABLE,
             Refusal::Deleted => StatusCode::NOT_FOUND,
-            Refusal::BadName => StatusCode::BAD_REQUEST,
             Refusal::Exists => StatusCode::PRECONDITION_FAILED,
             Refusal::Absent => StatusCode::NOT_FOUND,
             Refusal::TooMany => StatusCode::SERVICE_UNAVAILABLE,
-            Refusal::BadHead => StatusCode::BAD_REQUEST,
             Refusal::HeadTooLong => StatusCode::REQUEST_HEADER_FIELDS_TOO_LARGE,
             Refusal::BodyTooLong => StatusCode::PAYLOAD_TOO_LARGE,
             Refusal::Version => StatusCode::HTTP_VERSION_NOT_SUPPORTED,
@@ -88,34 +108,17 @@ impl Refusal {
             Refusal::Missing => StatusCode::NOT_FOUND,
             Refusal::DocDeleted => StatusCode::NOT_FOUND,
             Refusal::MethodNotAllowed => StatusCode::METHOD_NOT_ALLOWED,
+            _ => StatusCode::BAD_REQUEST,
         }
     }
 
+    /// The member `error` of the answer.
     pub fn error(self) -> &'static str
         ensures { result.now ≡ error_of self }
     {
         match self {
             Refusal::NoMemory => "out_of_memory",
-            Refusal::NotJson => "bad_request",
-            Refusal::NotObject => "bad_request",
-            Refusal::BadNumber => "bad_request",
-            Refusal::BadId => "bad_request",
-            Refusal::BadRev => "bad_request",
-            Refusal::BadRevisions => "bad_request",
-            Refusal::BadMember => "bad_request",
-            Refusal::TooLong => "bad_request",
-            Refusal::Contradicts => "bad_request",
-            Refusal::GenerationLimit => "bad_request",
             Refusal::Conflict => "conflict",
-            Refusal::BadSince => "bad_request",
-            Refusal::BadLimit => "bad_request",
-            Refusal::BadStyle => "bad_request",
-            Refusal::BadFeed => "bad_request",
-            Refusal::BadFilter => "bad_request",
-            Refusal::BadDocIds => "bad_request",
-            Refusal::BadHeartbeat => "bad_request",
-            Refusal::DescendingMode => "bad_request",
-            Refusal::BadFlag => "bad_request",
             Refusal::TooManyFeeds => "too_many_feeds",
             Refusal::SequenceFull => "sequence_full",
             Refusal::Deleted => "not_found",
@@ -123,7 +126,6 @@ impl Refusal {
             Refusal::Exists => "file_exists",
             Refusal::Absent => "not_found",
             Refusal::TooMany => "too_many_databases",
-            Refusal::BadHead => "bad_request",
             Refusal::HeadTooLong => "head_too_long",
             Refusal::BodyTooLong => "too_large",
             Refusal::Version => "http_version",
@@ -132,9 +134,11 @@ impl Refusal {
             Refusal::Missing => "not_found",
             Refusal::DocDeleted => "not_found",
             Refusal::MethodNotAllowed => "method_not_allowed",
+            _ => "bad_request",
         }
     }
 
+    /// The member `reason` of the answer.
     pub fn reason(self) -> &'static str
         ensures { result.now ≡ reason_of self }
     {
@@ -176,6 +180,61 @@ impl Refusal {
             Refusal::Missing => "missing",
             Refusal::DocDeleted => "deleted",
             Refusal::MethodNotAllowed => "method not allowed",
+        }
+    }
+}
+
+impl From<DocFault> for Refusal {
+    ghost use Rattle.std.specs.Prelude.{◌≡◌};
+    ghost use Rattle.hub_http.specs.Refusals.{of_doc_fault};
+
+    ghost from_gives = { λ f r. r ≡ of_doc_fault f };
+
+    fn from(fault: DocFault) -> Refusal {
+        match fault {
+            DocFault::NoMemory => Refusal::NoMemory,
+            DocFault::NotJson => Refusal::NotJson,
+            DocFault::NotObject => Refusal::NotObject,
+            DocFault::BadNumber => Refusal::BadNumber,
+            DocFault::BadId => Refusal::BadId,
+            DocFault::BadRev => Refusal::BadRev,
+            DocFault::BadRevisions => Refusal::BadRevisions,
+            DocFault::BadMember => Refusal::BadMember,
+            DocFault::TooLong => Refusal::TooLong,
+        }
+    }
+}
+
+impl From<Fault> for Refusal {
+    ghost use Rattle.std.specs.Prelude.{◌≡◌};
+    ghost use Rattle.hub_http.specs.Refusals.{of_fault};
+
+    ghost from_gives = { λ f r. r ≡ of_fault f };
+
+    fn from(fault: Fault) -> Refusal {
+        match fault {
+            Fault::Deleted => Refusal::Deleted,
+            Fault::Contradicts => Refusal::Contradicts,
+            Fault::Conflict => Refusal::Conflict,
+            Fault::GenerationLimit => Refusal::GenerationLimit,
+            Fault::SequenceFull => Refusal::SequenceFull,
+        }
+    }
+}
+
+impl From<RouteFault> for Refusal {
+    ghost use Rattle.std.specs.Prelude.{◌≡◌};
+    ghost use Rattle.hub_http.specs.Refusals.{of_route_fault};
+
+    ghost from_gives = { λ f r. r ≡ of_route_fault f };
+
+    fn from(fault: RouteFault) -> Refusal {
+        match fault {
+            RouteFault::NoMemory => Refusal::NoMemory,
+            RouteFault::Missing => Refusal::Missing,
+            RouteFault::MethodNotAllowed => Refusal::MethodNotAllowed,
+            RouteFault::BadName => Refusal::BadName,
+            RouteFault::LengthMissing => Refusal::LengthMissing,
         }
     }
 }

@@ -1,53 +1,30 @@
 //! Answers and their bytes.
-ghost use Rattle.std.specs.Prelude.{◌≡◌, ◌++◌, ◌∷◌, [], IfOk, length, string_bytes};
+
+ghost use Rattle.std.specs.Prelude.{◌≡◌, ◌++◌, IfOk, OnOk};
 ghost use Rattle.http.specs.StatusCode.{reason_phrase};
-ghost use Rattle.hub_http.specs.Texts.{phrase_or_empty, close_line, type_line, chunked_line, length_line, status_line, head_text, refusal_body, answer_text, reply_text, chunk_text};
+ghost use Rattle.hub_http.specs.Texts.{phrase_or_empty, close_line, length_line, status_line, head_text, refusal_body, answer_text, reply_text};
 
 use crate::refusal::Refusal;
 use http::StatusCode;
+use itoa::Buffer;
 use std::alloc::{AllocError, Global};
 
 /// A whole answer.
 #[derive(Debug, Drop)]
 pub enum Reply {
-    Done { status: StatusCode, body: Vec<u8> },
+    /// A status, and a body: JSON text and a line feed.
+    Done {
+        /// The status of the answer.
+        status: StatusCode,
+        /// Its body.
+        body: Vec<u8>,
+    },
+    /// A refusal, with the body that `refusal_body` of `specs/Texts.antt` says.
     Refused(Refusal),
 }
 
-#[tactic(auto, unfolding(crate::specs::Texts::close_line))]
-fn close_line(close: bool) -> &'static str
-    ensures { result.now ≡ close_line close }
-{
-    if close { "Connection: close\r\n" } else { "" }
-}
-
-#[tactic(auto, unfolding(crate::specs::Texts::type_line))]
-fn type_line() -> &'static str
-    ensures { result.now ≡ type_line }
-{
-    "Content-Type: application/json\r\n"
-}
-
-#[tactic(auto, unfolding(crate::specs::Texts::chunked_line))]
-fn chunked_line() -> &'static str
-    ensures { result.now ≡ chunked_line }
-{
-    "Transfer-Encoding: chunked\r\n"
-}
-
-#[tactic(auto, unfolding(crate::specs::Texts::length_line))]
-fn length_line(alloc: Global, len: usize) -> Result<String, AllocError>
-    ensures { IfOk result (λ s. string_bytes s ≡ length_line len) }
-{
-    format!(in alloc; "Content-Length: {len}\r\n")
-}
-
-#[tactic(auto, unfolding(crate::specs::Texts::status_line))]
-fn status_line(alloc: Global, status: u16, phrase: &str) -> Result<String, AllocError>
-    ensures { IfOk result (λ s. string_bytes s ≡ status_line status phrase.now) }
-{
-    format!(in alloc; "HTTP/1.1 {status} {phrase}\r\n")
-}
+/// More than the longest head of an answer has.
+const HEAD_ROOM: usize = 192;
 
 fn phrase(status: StatusCode) -> &'static str
     ensures { result.now ≡ phrase_or_empty (reason_phrase status) }
@@ -58,28 +35,65 @@ fn phrase(status: StatusCode) -> &'static str
     }
 }
 
-#[tactic(auto, unfolding(crate::specs::Texts::head_text))]
-fn head_text(
-    alloc: Global,
-    status: StatusCode,
-    framing: &str,
-    close: bool,
-) -> Result<String, AllocError>
-    ensures { IfOk result (λ s. string_bytes s ≡ head_text status framing.now close) }
+#[tactic(auto, unfolding(crate::specs::Texts::close_line))]
+fn close_line(close: bool) -> &'static str
+    ensures { result.now ≡ close_line close }
 {
-    let first = status_line(alloc, status.as_u16(), phrase(status))?;
-    let kind = type_line();
-    let last = close_line(close);
-    format!(in alloc; "{first}{kind}{framing}{last}\r\n")
+    if close { "Connection: close\r\n" } else { "" }
+}
+
+#[tactic(auto, unfolding(crate::specs::Texts::status_line))]
+fn put_status_line(out: &mut Vec<u8>, status: StatusCode) -> Result<(), AllocError>
+    ensures { OnOk result (out.new.items
+        ≡ out.old.items ++ status_line status (phrase_or_empty (reason_phrase status))) }
+{
+    let mut number = Buffer::new();
+    out.extend_from_slice(b"HTTP/1.1 ")?;
+    out.extend_from_slice(number.format(status.as_u16()).as_bytes())?;
+    out.extend_from_slice(b" ")?;
+    out.extend_from_slice(phrase(status).as_bytes())?;
+    out.extend_from_slice(b"\r\n")?;
+    Ok(())
+}
+
+#[tactic(auto, unfolding(crate::specs::Texts::length_line))]
+fn put_length_line(out: &mut Vec<u8>, len: usize) -> Result<(), AllocError>
+    ensures { OnOk result (out.new.items ≡ out.old.items ++ length_line len) }
+{
+    let mut number = Buffer::new();
+    out.extend_from_slice(b"Content-Length: ")?;
+    out.extend_from_slice(number.format(len).as_bytes())?;
+    out.extend_from_slice(b"\r\n")?;
+    Ok(())
+}
+
+fn put_head(
+    out: &mut Vec<u8>,
+    status: StatusCode,
+    len: usize,
+    close: bool,
+) -> Result<(), AllocError>
+    ensures { OnOk result (out.new.items ≡ out.old.items ++ head_text status (length_line len) close) }
+{
+    put_status_line(out, status)?;
+    out.extend_from_slice(b"Content-Type: application/json\r\n")?;
+    put_length_line(out, len)?;
+    out.extend_from_slice(close_line(close).as_bytes())?;
+    out.extend_from_slice(b"\r\n")?;
+    Ok(())
 }
 
 #[tactic(auto, unfolding(crate::specs::Texts::refusal_body))]
-fn refusal_body(alloc: Global, refusal: Refusal) -> Result<String, AllocError>
-    ensures { IfOk result (λ s. string_bytes s ≡ refusal_body refusal) }
+fn refusal_body(alloc: Global, refusal: Refusal) -> Result<Vec<u8>, AllocError>
+    ensures { IfOk result (λ v. v.items ≡ refusal_body refusal) }
 {
-    let error = refusal.error();
-    let reason = refusal.reason();
-    format!(in alloc; "{{\"error\":\"{error}\",\"reason\":\"{reason}\"}}\n")
+    let mut body = Vec::with_capacity(alloc, HEAD_ROOM)?;
+    body.extend_from_slice(b"{\"error\":\"")?;
+    body.extend_from_slice(refusal.error().as_bytes())?;
+    body.extend_from_slice(b"\",\"reason\":\"")?;
+    body.extend_from_slice(refusal.reason().as_bytes())?;
+    body.extend_from_slice(b"\"}\n")?;
+    Ok(body)
 }
 
 fn with_body(
@@ -91,16 +105,17 @@ fn with_body(
 ) -> Result<Vec<u8>, AllocError>
     ensures { IfOk result (λ v. v.items ≡ answer_text status body.now head_only close) }
 {
-    let length = length_line(alloc, body.len())?;
-    let head = head_text(alloc, status, length.as_str(), close)?;
-    let mut bytes = head.into_bytes();
+    let mut bytes = Vec::with_capacity(alloc, HEAD_ROOM + body.len())?;
+    put_head(&mut bytes, status, body.len(), close)?;
     if !head_only {
         bytes.extend_from_slice(body)?;
     }
     Ok(bytes)
 }
 
-/// The bytes of an answer, those of its head alone where it answers a HEAD.
+/// The bytes of an answer (RFC 9112, section 6). With `head_only`, which answers a HEAD, the body
+/// is left out and its length still told. It costs the answer's length, in one allocation, and one
+/// more for a refusal.
 pub fn reply_bytes(
     alloc: Global,
     reply: &Reply,
@@ -113,26 +128,7 @@ pub fn reply_bytes(
         Reply::Done { status, body } => with_body(alloc, *status, body, head_only, close),
         Reply::Refused(refusal) => {
             let body = refusal_body(alloc, *refusal)?;
-            with_body(alloc, refusal.status(), body.as_bytes(), head_only, close)
+            with_body(alloc, refusal.status(), body.as_slice(), head_only, close)
         }
     }
-}
-
-/// The bytes of the head of an answer that is sent in chunks.
-pub fn feed_reply(alloc: Global, close: bool) -> Result<Vec<u8>, AllocError>
-    ensures { IfOk result (λ v. v.items ≡ head_text 200 chunked_line close) }
-{
-    Ok(head_text(alloc, StatusCode::OK, chunked_line(), close)?.into_bytes())
-}
-
-/// One chunk.
-#[tactic(auto, unfolding(crate::specs::Texts::chunk_text))]
-pub fn chunk_bytes(alloc: Global, bytes: &[u8]) -> Result<Vec<u8>, AllocError>
-    ensures { IfOk result (λ v. v.items ≡ chunk_text bytes.now) }
-{
-    let len = bytes.len();
-    let mut chunk = format!(in alloc; "{len:x}\r\n")?.into_bytes();
-    chunk.extend_from_slice(bytes)?;
-    chunk.extend_from_slice(b"\r\n")?;
-    Ok(chunk)
 }

@@ -21,6 +21,21 @@ pub enum Kind {
     Local,
 }
 
+/// Why a request has no route.
+#[derive(Clone, Copy, Debug, PartialEq, Eq)]
+pub enum RouteFault {
+    /// No memory was found.
+    NoMemory,
+    /// Nothing that is served has this path.
+    Missing,
+    /// The path does not take this method.
+    MethodNotAllowed,
+    /// The database's name is not UTF-8 once its escapes are read.
+    BadName,
+    /// A request with a body has no `Content-Length`.
+    LengthMissing,
+}
+
 fn add(router: &mut Router<Kind>, route: &str, kind: Kind) -> Result<(), InsertError>
     ensures { OnOk result (router.new ≡ with_route route.now kind router.old) }
 {

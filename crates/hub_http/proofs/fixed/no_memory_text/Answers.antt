@@ -1,4 +1,4 @@
-use Rattle.std.proofs.Common.{rules, refl}
+use Rattle.std.proofs.Common.{refl}
 use Rattle.std.specs.Fmt.{digits}
 use Rattle.hub_http.specs.Texts.{head_text, status_line, length_line, close_line, type_line, refusal_body}
 use Rattle.hub_http.proofs.fixed.no_memory_text.Goals as goal

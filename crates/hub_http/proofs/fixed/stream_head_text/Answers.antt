@@ -1,4 +1,4 @@
-use Rattle.std.proofs.Common.{rules, refl}
+use Rattle.std.proofs.Common.{refl}
 use Rattle.std.specs.Fmt.{digits}
 use Rattle.hub_http.specs.Texts.{head_text, status_line, chunked_line, close_line, type_line}
 use Rattle.hub_http.proofs.fixed.stream_head_text.Goals as goal

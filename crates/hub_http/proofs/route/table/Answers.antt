@@ -1,6 +1,5 @@
-use Rattle.std.proofs.Common.{rules, ◌≡◌, ap, ◌∙◌, codes, refl}
-use Rattle.hub_http.specs.declared.route.Kind.TheVariants.{Welcome, AllDbs, DbUpdates, Database, BulkDocs, Changes, RevsDiff, FullCommit, Document, Design, Local}
-use Rattle.hub_http.specs.Table.{Routes, with_route, table}
+use Rattle.std.proofs.Common.{refl}
+use Rattle.hub_http.specs.Table.{table}
 use Rattle.hub_http.proofs.route.table.Goals as goal
 
 pub returns : goal.returns

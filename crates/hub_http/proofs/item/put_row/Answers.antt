@@ -1,0 +1,19 @@
+use Rattle.hub_http.specs.Items.{row_text}
+use Rattle.hub_http.proofs.JoinLemmas.{four_parts}
+use Rattle.hub_http.proofs.item.put_row.Goals as goal
+
+pub returns-clause-ok : goal.returns-clause-ok
+unfolding row_text
+returns-clause-ok c =
+    rw (
+      ← c.row.view_is,
+      c.in_ok-extend_from_slice-2.ensures.items,
+      c.as_bytes.ensures.value,
+      c.row_end.ensures,
+      c.in_ok-put_revisions.ensures.ok,
+      c.as_slice.ensures,
+      c.in_ok-extend_from_slice.ensures.items,
+      c.in_ok-put_row_head.ensures.ok,
+      c.as_str.ensures,
+    )
+    (four_parts c.args.out.now.items _ _ _ _)
