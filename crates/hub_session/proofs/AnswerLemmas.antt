@@ -6,10 +6,7 @@ use Rattle.hub_http.proofs.SendLemmas.{front_of_more, sends_after}
 use Rattle.hub_http.specs.declared.reply.Reply.{Reply}
 use Rattle.hub_http.specs.Texts.{head_text, chunked_line}
 use Rattle.hub_http.specs.Stream.{Asked}
-use Rattle.hub_model.specs.Row.{ChangeRow}
 use Rattle.hub_model.specs.declared.feeds.Mode.{Mode}
-use Rattle.hub_model.specs.declared.feeds.Item.{Item}
-use Rattle.hub_session.specs.declared.service.Answer.{Answer}
 use Rattle.hub_session.specs.declared.service.Answer.TheVariants.{Whole, Stream}
 use Rattle.hub_session.specs.declared.closing.StreamEnd.{StreamEnd}
 use Rattle.hub_session.specs.declared.closing.StreamEnd.TheVariants as stream

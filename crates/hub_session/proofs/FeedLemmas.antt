@@ -3,7 +3,7 @@ use Rattle.std.proofs.Common.{◌≡◌, ℕ, ◌+◌, List, [], ◌∷◌, ◌+
 use Rattle.std.specs.Io.KnownBytes.{Appends}
 use Rattle.std.proofs.KnownBytes.{Appends-trans, Appends-nil}
 use Rattle.hub_http.specs.Counts.{AppendsFront, Sends}
-use Rattle.hub_http.proofs.SendLemmas.{front_after, front_of_more, sends_after}
+use Rattle.hub_http.proofs.SendLemmas.{front_of_more, sends_after}
 use Rattle.hub_http.specs.declared.chunk.ChunkFault.{ChunkFault}
 use Rattle.hub_http.specs.declared.chunk.ChunkFault.TheVariants as chunk
 use Rattle.hub_http.specs.Chunks.{text_chunks, Writes}
@@ -11,10 +11,10 @@ use Rattle.hub_model.specs.Row.{ChangeRow}
 use Rattle.hub_model.specs.declared.feeds.Mode.{Mode}
 use Rattle.hub_model.specs.declared.feeds.Item.{Item}
 use Rattle.hub_model.specs.declared.feeds.Item.TheVariants.{Row, Beat, End}
-use Rattle.hub_http.specs.Items.{feed_head, item_text}
+use Rattle.hub_http.specs.Items.{feed_head}
 use Rattle.hub_session.specs.declared.closing.StreamEnd.{StreamEnd}
 use Rattle.hub_session.specs.declared.closing.StreamEnd.TheVariants.{Complete, Broken}
-use Rattle.hub_session.specs.Feeds.{Gives, Streams, sent_text, rows_after, is_end, items_text, feed_text, is_broken, last_chunk}
+use Rattle.hub_session.specs.Feeds.{Gives, Streams, sent_text, rows_after, is_end, items_text, feed_text, is_broken}
 
 -- no End came yet: how the stream goes on is how it goes from its start
 pub record Went {S : Type 0} (gives : Gives S) (mode : Mode) (s : S) (sent : ℕ) (now : S) (rows : ℕ) (old new : Option (List ℕ)) : Type 0 where

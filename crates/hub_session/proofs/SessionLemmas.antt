@@ -8,11 +8,8 @@ use Rattle.hub_http.specs.Counts.{AppendsFront, Sends, last_count}
 use Rattle.hub_http.proofs.SendLemmas.{sends_after}
 use Rattle.hub_http.specs.declared.request.Request.{Request}
 use Rattle.hub_http.specs.declared.fault.HttpFault.{HttpFault}
-use Rattle.hub_http.specs.Stream.{Asked, asked_by, Spells, Leaves}
+use Rattle.hub_http.specs.Stream.{asked_by, Spells, Leaves}
 use Rattle.hub_http.proofs.StreamLemmas.{ends_faulty}
-use Rattle.hub_model.specs.Row.{ChangeRow}
-use Rattle.hub_model.specs.declared.feeds.Item.{Item}
-use Rattle.hub_session.specs.declared.service.Answer.{Answer}
 use Rattle.hub_session.specs.declared.closing.Closing.{Closing}
 use Rattle.hub_session.specs.declared.closing.Closing.TheVariants.{Finished, Fault, Broken, Exhausted}
 use Rattle.hub_session.specs.Feeds.{Gives}

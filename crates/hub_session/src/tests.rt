@@ -172,8 +172,9 @@ fn a_session(rt: HostRuntime) -> Result<(), Fail> {
     let missing =
         "HTTP/1.1 404 Not Found\r\nContent-Type: application/json\r\nContent-Length: 41\r\n\r\n";
     let (closing, output) = served(alloc, input, two_rows(alloc));
-    let expected =
-        format!(in alloc; "{CREATED}{FEED_HEAD}{NORMAL}{FEED_HEAD}{missing}{FEED_HEAD}{LONGPOLL}{FEED_HEAD}{CONTINUOUS}{CREATED}")?;
+    let expected = format!(in alloc;
+        "{CREATED}{FEED_HEAD}{NORMAL}{FEED_HEAD}{missing}{FEED_HEAD}{LONGPOLL}{FEED_HEAD}{CONTINUOUS}{CREATED}"
+    )?;
     assert_eq!(rt; output.as_slice(), expected.as_bytes());
     assert_eq!(rt; closing, Closing::Finished);
     Ok(())
@@ -280,7 +281,11 @@ fn flushes(rt: HostRuntime) {
     let cases: [(&[u8], usize, &[usize]); 3] = [
         (b"GET /normal HTTP/1.1\r\n\r\n", 6, &[255]),
         (b"GET /longpoll HTTP/1.1\r\n\r\n", 6, &[97, 103, 153, 194]),
-        (b"GET /continuous HTTP/1.1\r\n\r\n", 6, &[79, 130, 196, 202, 240]),
+        (
+            b"GET /continuous HTTP/1.1\r\n\r\n",
+            6,
+            &[79, 130, 196, 202, 240],
+        ),
     ];
     for (input, writes, flushed) in cases {
         let mut requests = Requests::new(alloc, Tally::new(input));
