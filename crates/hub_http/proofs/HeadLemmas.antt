@@ -1,9 +1,9 @@
 -- What the parser's answers say of the heads within the limits.
-use Rattle.std.proofs.Common.{◌≡◌, ℕ, ◌+◌, ◌<◌, ◌≤◌, ◌⊎◌, inl, inr, Bool, true, false, ◌&&◌, cond, List, [], ◌∷◌, ◌++◌, length, map, take, drop, Option, Some, None, Result, Ok, Err, refl, sym, ap, ◌∙◌, arith, nat_le, bytes_eq, codes}
+use Rattle.std.proofs.Common.{◌≡◌, ℕ, ◌<◌, ◌≤◌, ◌⊎◌, inl, inr, Bool, true, false, ◌&&◌, cond, List, [], ◌∷◌, length, map, take, drop, Option, Some, Result, Ok, Err, sym, ap, ◌∙◌, arith, nat_le, bytes_eq, codes}
 use Rattle.std.specs.List.{list_all, list_any}
 use Rattle.std.specs.Str.Parse.{digits_value}
 use Rattle.std.proofs.lemmas.Grind.{common_steps}
-use Rattle.httparse.specs.Grammar.{RequestHead, print_request, ReadsRequest, HasNoRequest, NeverHasRequest}
+use Rattle.httparse.specs.Grammar.{RequestHead, print_request}
 use Rattle.httparse.specs.Spans.{header_bytes, span_bytes, name_and_value, IsRequestOf, RequestOverflows}
 use Rattle.httparse.specs.declared.spans.HeaderSpan.{HeaderSpan}
 use Rattle.httparse.specs.declared.spans.RequestSpans.{RequestSpans}
@@ -11,7 +11,7 @@ use Rattle.httparse.proofs.GrammarLemmas.{request_prefix_free}
 use Rattle.hub_http.specs.declared.fault.HttpFault.{HttpFault}
 use Rattle.hub_http.specs.declared.fault.HttpFault.TheVariants.{NoMemory, BadHead, HeadTooLong, BodyTooLong, Version, Coding, Ended, IoFault}
 use Rattle.hub_http.specs.declared.head.Head.{Head}
-use Rattle.hub_http.specs.Heads.{Pair, is_digits, body_limit, length_of, length_asked, asked, is_target, is_named, values_named, asks_close, Begins, BeginsFaulty, BeginsTooLong, IsHeadAt, NeverHasHead, LookFaults, length_by, pairs_of}
+use Rattle.hub_http.specs.Heads.{Pair, is_digits, body_limit, length_of, asked, is_target, values_named, asks_close, Begins, BeginsFaulty, BeginsTooLong, IsHeadAt, NeverHasHead, LookFaults, length_by}
 
 -- a head past the limit is the only one
 never_shorter : (buf : List ℕ) (headers : List HeaderSpan) (r : RequestSpans) → IsRequestOf buf headers r → 16384 < r.len → NeverHasHead buf

@@ -1,10 +1,9 @@
 -- From what is held to the bytes that are told.
-use Rattle.std.proofs.Common.{◌≡◌, ℕ, ◌+◌, ◌<◌, ◌≤◌, Bool, true, false, ◌&&◌, cond, List, [], ◌∷◌, ◌++◌, length, take, drop, Option, Some, None, Result, Ok, Err, IfSome, is_some, unwrap_or, refl, sym, ap, subst, ◌∙◌, arith, nat_le, append_assoc, append-nil, ◌⊎◌, inl, inr, take-append-drop, codes, bytes_eq, ◌^◌}
+use Rattle.std.proofs.Common.{◌≡◌, ℕ, ◌+◌, ◌<◌, ◌≤◌, Bool, true, false, ◌&&◌, cond, List, [], ◌∷◌, ◌++◌, length, take, drop, Option, Some, None, Result, Ok, Err, IfSome, is_some, unwrap_or, refl, sym, ap, subst, ◌∙◌, arith, nat_le, append_assoc, append-nil, inl, inr, take-append-drop, codes, bytes_eq, ◌^◌}
 use borrow.Author.Tests.{leb-true}
 use Rattle.std.proofs.lemmas.Grind.{common_steps}
-use Rattle.std.proofs.lemmas.Bool.Decides.{nat_tests}
 use Rattle.std.proofs.lemmas.List.{drop-drop, drop_at, nil_from_length}
-use Rattle.std.specs.List.{list_all, list_any}
+use Rattle.std.specs.List.{list_all}
 use Rattle.std.specs.Str.Parse.{digits_value}
 use Rattle.std.specs.Io.KnownBytes.{Keeps, prepend_known}
 use Rattle.httparse.specs.Grammar.{RequestHead, print_request, ReadsRequest, HasNoRequest, NeverHasRequest}
@@ -13,8 +12,8 @@ use Rattle.hub_http.specs.declared.fault.HttpFault.{HttpFault}
 use Rattle.hub_http.specs.declared.fault.HttpFault.TheVariants.{NoMemory, BadHead, HeadTooLong, BodyTooLong, Version, Coding, Ended, IoFault}
 use Rattle.hub_http.specs.declared.head.Head.{Head}
 use Rattle.hub_http.specs.declared.request.Request.{Request}
-use Rattle.hub_http.specs.Heads.{Pair, Begins, BeginsFaulty, BeginsTooLong, GoesOn, IsHeadAt, NeverHasHead, length_by, length_of, length_asked, asked, is_digits, is_target, values_named, pairs_of, body_limit}
-use Rattle.hub_http.specs.Stream.{Spells, SpelledBy, asked_by, FindFaults, Leaves}
+use Rattle.hub_http.specs.Heads.{Pair, Begins, BeginsFaulty, BeginsTooLong, GoesOn, IsHeadAt, NeverHasHead, length_of, asked, is_digits, is_target, values_named, pairs_of, body_limit}
+use Rattle.hub_http.specs.Stream.{Spells, asked_by, FindFaults, Leaves}
 
 -- where a text ends in its front
 splits : (p r a m : List ℕ) → p ++ r ≡ a ++ m → length p ≤ length a → (q : List ℕ) × (a ≡ p ++ q)

@@ -1,10 +1,10 @@
 -- From one request to all of them.
-use Rattle.std.proofs.Common.{◌≡◌, ℕ, List, [], ◌∷◌, ◌++◌, map, Option, Some, None, Result, Ok, Err, IfSome, refl, sym, ap, subst, ◌∙◌, append_assoc, append-nil}
+use Rattle.std.proofs.Common.{◌≡◌, ℕ, List, [], ◌∷◌, ◌++◌, map, Option, Some, None, Ok, Err, IfSome, sym, ap, subst, ◌∙◌, append_assoc, append-nil}
 use Rattle.std.proofs.lemmas.List.{map-append}
 use Rattle.hub_http.specs.declared.fault.HttpFault.{HttpFault}
 use Rattle.hub_http.specs.declared.fault.HttpFault.TheVariants.{NoMemory, BadHead, HeadTooLong, BodyTooLong, Version, Coding, Ended, IoFault}
 use Rattle.hub_http.specs.declared.request.Request.{Request}
-use Rattle.hub_http.specs.Stream.{Asked, Spells, asked_by, Leaves, EndsIn, SpellsAll, Leads}
+use Rattle.hub_http.specs.Stream.{Asked, asked_by, Leaves, EndsIn, SpellsAll, Leads}
 
 pub leads_more : (a b c : Option (List ℕ)) (before : List Request) (q : Request) → Leads a b (map asked_by before) → IfSome b (λ bytes. Leaves bytes (Ok (Some q)) c)
     → Leads a c (map asked_by (before ++ q ∷ []))

@@ -1,12 +1,11 @@
 -- Bytes spell at most one request.
-use Rattle.std.proofs.Common.{◌≡◌, ℕ, ◌+◌, List, [], ◌∷◌, ◌++◌, length, take, drop, Option, Some, None, Result, Ok, Err, unwrap_or, is_some, refl, sym, ap, ◌∙◌, arith}
+use Rattle.std.proofs.Common.{◌≡◌, ℕ, List, ◌++◌, length, take, drop, Option, Result, Ok, unwrap_or, is_some, refl, sym, ap, ◌∙◌}
 use lib.Seq.{take-append_seam}
 use Rattle.std.proofs.lemmas.List.{drop_at}
-use Rattle.httparse.specs.Grammar.{RequestHead}
 use Rattle.httparse.proofs.GrammarLemmas.{request_unique}
 use Rattle.hub_http.specs.declared.fault.HttpFault.{HttpFault}
 use Rattle.hub_http.specs.Heads.{length_by, close_by}
-use Rattle.hub_http.specs.Stream.{Asked, Spells, SpelledBy}
+use Rattle.hub_http.specs.Stream.{Asked, Spells}
 
 same_front : (a b r q : List ℕ) → a ++ r ≡ b ++ q → length a ≡ length b → (a ≡ b) × (r ≡ q)
 same_front a b r q e l = (

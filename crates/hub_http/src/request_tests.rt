@@ -103,7 +103,10 @@ fn pipelined(rt: HostRuntime) -> Result<(), Fail> {
     }
     assert!(rt; matches!(requests.next(), Err(HttpFault::Version)));
     assert!(rt; matches!(requests.next(), Err(HttpFault::Ended)));
-    assert_eq!(rt; outcome(rt.alloc(), text.as_slice()), (2, Some(HttpFault::Version)));
+    assert_eq!(rt;
+        outcome(rt.alloc(), text.as_slice()),
+        (2, Some(HttpFault::Version))
+    );
     Ok(())
 }
 
@@ -112,10 +115,17 @@ fn cut_at_each_byte(rt: HostRuntime) {
     assert_eq!(rt; outcome(rt.alloc(), BODY), (1, None));
     assert_eq!(rt; outcome(rt.alloc(), &BODY[..0]), (0, None));
     for n in 1..BODY.len() {
-        assert_eq!(rt; outcome(rt.alloc(), &BODY[..n]), (0, Some(HttpFault::Ended)), "cut at {n}");
+        assert_eq!(rt;
+            outcome(rt.alloc(), &BODY[..n]),
+            (0, Some(HttpFault::Ended)),
+            "cut at {n}"
+        );
     }
     assert_eq!(rt; outcome(rt.alloc(), b"\r\n"), (0, Some(HttpFault::Ended)));
-    assert_eq!(rt; outcome(rt.alloc(), b"\r\nGET / HTTP/1.1\r\n\r\n"), (1, None));
+    assert_eq!(rt;
+        outcome(rt.alloc(), b"\r\nGET / HTTP/1.1\r\n\r\n"),
+        (1, None)
+    );
 }
 
 #[test]
@@ -123,29 +133,66 @@ fn faults_of_heads(rt: HostRuntime) {
     let cases: [(&[u8], HttpFault); 15] = [
         (b"GET / HTTP/1.0\r\n\r\n", HttpFault::Version),
         (b"GET / HTTP/2.0\r\n\r\n", HttpFault::BadHead),
-        (b"GET / HTTP/1.0\r\nTransfer-Encoding: chunked\r\n\r\n", HttpFault::Version),
-        (b"GET / HTTP/1.1\r\nTransfer-Encoding: chunked\r\n\r\n", HttpFault::Coding),
-        (b"GET * HTTP/1.1\r\ntransfer-encoding: x\r\n\r\n", HttpFault::Coding),
+        (
+            b"GET / HTTP/1.0\r\nTransfer-Encoding: chunked\r\n\r\n",
+            HttpFault::Version,
+        ),
+        (
+            b"GET / HTTP/1.1\r\nTransfer-Encoding: chunked\r\n\r\n",
+            HttpFault::Coding,
+        ),
+        (
+            b"GET * HTTP/1.1\r\ntransfer-encoding: x\r\n\r\n",
+            HttpFault::Coding,
+        ),
         (b"OPTIONS * HTTP/1.1\r\n\r\n", HttpFault::BadHead),
         (b"GET / HTTP/1.1\r\nHost h\r\n\r\n", HttpFault::BadHead),
-        (b"GET / HTTP/1.1\r\nContent-Length: +1\r\n\r\na", HttpFault::BadHead),
-        (b"GET / HTTP/1.1\r\nContent-Length:\r\n\r\n", HttpFault::BadHead),
-        (b"GET / HTTP/1.1\r\nContent-Length: 5, 5\r\n\r\nabcde", HttpFault::BadHead),
-        (b"GET / HTTP/1.1\r\nContent-Length: 5\r\nContent-Length: 6\r\n\r\nabcdef", HttpFault::BadHead),
-        (b"GET / HTTP/1.1\r\nContent-Length: 5\r\nContent-Length: 05\r\n\r\nabcde", HttpFault::BadHead),
-        (b"GET * HTTP/1.1\r\nContent-Length: 8388609\r\n\r\n", HttpFault::BadHead),
-        (b"GET / HTTP/1.1\r\nContent-Length: 8388609\r\n\r\n", HttpFault::BodyTooLong),
-        (b"GET / HTTP/1.1\r\nContent-Length: 99999999999999999999999\r\n\r\n", HttpFault::BodyTooLong),
+        (
+            b"GET / HTTP/1.1\r\nContent-Length: +1\r\n\r\na",
+            HttpFault::BadHead,
+        ),
+        (
+            b"GET / HTTP/1.1\r\nContent-Length:\r\n\r\n",
+            HttpFault::BadHead,
+        ),
+        (
+            b"GET / HTTP/1.1\r\nContent-Length: 5, 5\r\n\r\nabcde",
+            HttpFault::BadHead,
+        ),
+        (
+            b"GET / HTTP/1.1\r\nContent-Length: 5\r\nContent-Length: 6\r\n\r\nabcdef",
+            HttpFault::BadHead,
+        ),
+        (
+            b"GET / HTTP/1.1\r\nContent-Length: 5\r\nContent-Length: 05\r\n\r\nabcde",
+            HttpFault::BadHead,
+        ),
+        (
+            b"GET * HTTP/1.1\r\nContent-Length: 8388609\r\n\r\n",
+            HttpFault::BadHead,
+        ),
+        (
+            b"GET / HTTP/1.1\r\nContent-Length: 8388609\r\n\r\n",
+            HttpFault::BodyTooLong,
+        ),
+        (
+            b"GET / HTTP/1.1\r\nContent-Length: 99999999999999999999999\r\n\r\n",
+            HttpFault::BodyTooLong,
+        ),
     ];
     for (text, fault) in cases {
-        assert_eq!(rt; outcome(rt.alloc(), text), (0, Some(fault)), "{}", text.escape_ascii());
+        assert_eq!(rt;
+            outcome(rt.alloc(), text),
+            (0, Some(fault)),
+            "{}",
+            text.escape_ascii()
+        );
     }
 }
 
 #[test]
 fn lengths(rt: HostRuntime) -> Result<(), Fail> {
-    let twice =
-        b"GET / HTTP/1.1\r\nContent-Length: 5\r\ncontent-length: 5\r\n\r\nabcdeGET /";
+    let twice = b"GET / HTTP/1.1\r\nContent-Length: 5\r\ncontent-length: 5\r\n\r\nabcdeGET /";
     assert_eq!(rt; outcome(rt.alloc(), twice), (1, Some(HttpFault::Ended)));
     let zeros = b"GET / HTTP/1.1\r\nContent-Length: 000000000000000000000002\r\n\r\nab";
     assert_eq!(rt; outcome(rt.alloc(), zeros), (1, None));
@@ -172,7 +219,11 @@ fn limits_of_heads(rt: HostRuntime) -> Result<(), Fail> {
     for (fields, len, end) in cases {
         let text = head_of(rt.alloc(), fields, len)?;
         let count = if end.is_none() { 1 } else { 0 };
-        assert_eq!(rt; outcome(rt.alloc(), text.as_slice()), (count, end), "{fields}, {len}");
+        assert_eq!(rt;
+            outcome(rt.alloc(), text.as_slice()),
+            (count, end),
+            "{fields}, {len}"
+        );
     }
     Ok(())
 }
@@ -181,15 +232,32 @@ fn limits_of_heads(rt: HostRuntime) -> Result<(), Fail> {
 fn options_of_connection(rt: HostRuntime) {
     let cases: [(&[u8], bool); 7] = [
         (b"GET / HTTP/1.1\r\n\r\n", false),
-        (b"GET / HTTP/1.1\r\nConnection: keep-alive, Close\r\n\r\n", true),
-        (b"GET / HTTP/1.1\r\nConnection: keep-alive ,\tclose\t ,x\r\n\r\n", true),
+        (
+            b"GET / HTTP/1.1\r\nConnection: keep-alive, Close\r\n\r\n",
+            true,
+        ),
+        (
+            b"GET / HTTP/1.1\r\nConnection: keep-alive ,\tclose\t ,x\r\n\r\n",
+            true,
+        ),
         (b"GET / HTTP/1.1\r\nconnection: closed\r\n\r\n", false),
-        (b"GET / HTTP/1.1\r\nconnection: keep-alive close\r\n\r\n", false),
-        (b"GET / HTTP/1.1\r\nConnection: x\r\nConnection: CLOSE\r\n\r\n", true),
+        (
+            b"GET / HTTP/1.1\r\nconnection: keep-alive close\r\n\r\n",
+            false,
+        ),
+        (
+            b"GET / HTTP/1.1\r\nConnection: x\r\nConnection: CLOSE\r\n\r\n",
+            true,
+        ),
         (b"GET / HTTP/1.1\r\nX-Connection: close\r\n\r\n", false),
     ];
     for (text, close) in cases {
-        assert_eq!(rt; closes(rt.alloc(), text), Some(close), "{}", text.escape_ascii());
+        assert_eq!(rt;
+            closes(rt.alloc(), text),
+            Some(close),
+            "{}",
+            text.escape_ascii()
+        );
     }
 }
 
@@ -197,9 +265,15 @@ fn options_of_connection(rt: HostRuntime) {
 fn a_failing_reader(rt: HostRuntime) {
     for reads in 0..BODY.len() {
         let mut requests = Requests::new(rt.alloc(), Tally::new(Failing { text: BODY, reads }));
-        assert!(rt; matches!(requests.next(), Err(HttpFault::IoFault)), "after {reads}");
+        assert!(rt;
+            matches!(requests.next(), Err(HttpFault::IoFault)),
+            "after {reads}"
+        );
         assert_eq!(rt; Input::faults(requests.reader()), 1);
-        assert!(rt; matches!(requests.next(), Err(HttpFault::Ended)), "after {reads}");
+        assert!(rt;
+            matches!(requests.next(), Err(HttpFault::Ended)),
+            "after {reads}"
+        );
         assert_eq!(rt; requests.reader().reads(), reads as u64 + 1);
     }
 }

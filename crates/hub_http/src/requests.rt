@@ -1,5 +1,5 @@
 //! The requests that a reader's bytes spell.
-ghost use Rattle.std.specs.Prelude.{◌≡◌, ◌<◌, ◌≤◌, ◌+◌, ◌⊎◌, ℕ, List, [], ◌++◌, length, take, drop, IfOk, IfErr, IfSome, OnOk, IsTrue, IsFalse, map};
+ghost use Rattle.std.specs.Prelude.{◌≡◌, ◌<◌, ◌≤◌, ◌+◌, ◌⊎◌, ℕ, List, [], ◌++◌, length, take, drop, IfOk, IfErr, IfSome, IsNone, OnOk, IsTrue, IsFalse, map};
 ghost use Rattle.std.specs.Io.KnownBytes.{Keeps, IsAtEnd, prepend_known};
 ghost use Rattle.hub_http.specs.Counts.{Rose};
 ghost use Rattle.hub_http.specs.Stream.{Asked, Finds, Leaves, Spells, SpellsAll, asked_by, known};
@@ -206,8 +206,10 @@ impl<R: Input> Requests<R> {
     pub fn read_all(&mut self, out: &mut Vec<Request>) -> Option<HttpFault>
         requires open { IsOpen self.old }
         requires empty { out.old.items ≡ [] }
-        ensures { IfSome (to_come R.left self.old)
+        ensures told { IfSome (to_come R.left self.old)
             (λ bytes. SpellsAll bytes (map asked_by out.new.items) result) }
+        ensures open { IsNone result → IsOpen self.new }
+        ensures closed { IfSome result (λ e. ¬ (e ≡ HttpFault.NoMemory) → HasEnded self.new) }
     {
         for _ in 0..u64::MAX {
             match self.next() {
@@ -220,6 +222,7 @@ impl<R: Input> Requests<R> {
                 Err(e) => return Some(e),
             }
         }
+        self.ended = true;
         Some(HttpFault::IoFault)
     }
 }

@@ -1,4 +1,4 @@
-use crate::io::Tally;
+use crate::tally::Tally;
 use crate::{
     ChunkWriter, Refusal, Reply, feed_head, item_text, no_memory_text, reply_bytes,
     stream_head_text,

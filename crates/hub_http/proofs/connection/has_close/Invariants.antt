@@ -1,4 +1,4 @@
-use Rattle.std.proofs.Common.{◌≡◌, map, codes, drop}
+use Rattle.std.proofs.Common.{◌≡◌, map, drop}
 use Rattle.std.specs.List.{list_any}
 use Rattle.httparse.specs.Spans.{header_bytes}
 use Rattle.hub_http.specs.Heads.{asks_close}

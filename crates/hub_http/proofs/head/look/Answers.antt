@@ -1,4 +1,4 @@
-use Rattle.std.proofs.Common.{rules, arith, sym, ◌∙◌, ◌≤◌}
+use Rattle.std.proofs.Common.{arith, sym, ◌∙◌, ◌≤◌}
 use Rattle.hub_http.proofs.HeadLemmas.{too_long, begins_faulty, asked_faults, look_faults}
 use Rattle.hub_http.proofs.head.look.Goals as goal
 

@@ -1,4 +1,4 @@
-use Rattle.std.proofs.Common.{rules, arith, ◌≡◌, sym, ◌∙◌, true, false, bytes_eq}
+use Rattle.std.proofs.Common.{sym, ◌∙◌}
 use Rattle.hub_http.proofs.LengthLemmas.{keeps_one, differs}
 use Rattle.hub_http.proofs.length.and_value.Goals as goal
 

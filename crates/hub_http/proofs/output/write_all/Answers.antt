@@ -1,4 +1,4 @@
-use Rattle.std.proofs.Common.{rules, arith}
+use Rattle.std.proofs.Common.{arith}
 use Rattle.hub_http.proofs.FrontLemmas.{front_kept, front_of, next_part}
 use Rattle.hub_http.proofs.output.write_all.Goals as goal
 

@@ -1,6 +1,5 @@
-use Rattle.std.proofs.Common.{◌≡◌, ◌≤◌, ◌<◌, ◌+◌, length}
+use Rattle.std.proofs.Common.{◌≡◌, ◌≤◌, ◌<◌}
 use Rattle.std.specs.Io.KnownBytes.{Keeps}
-use Rattle.std.proofs.Common.{vec_len, vec_capacity}
 use Rattle.hub_http.specs.Counts.{Rose}
 use Rattle.hub_http.proofs.read.read_more.Given as goal
 

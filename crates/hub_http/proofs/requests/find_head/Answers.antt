@@ -1,7 +1,6 @@
-use Rattle.std.proofs.Common.{rules, arith, length, ◌<◌, ◌≤◌}
+use Rattle.std.proofs.Common.{arith, length, ◌≤◌}
 use Rattle.std.proofs.lemmas.Grind.{common_steps}
-use Rattle.std.proofs.lemmas.Bool.Decides.{nat_tests}
-use Rattle.hub_http.proofs.RequestLemmas.{goes_on_too_long, goes_on_still}
+use Rattle.hub_http.proofs.RequestLemmas.{goes_on_too_long}
 use Rattle.hub_http.proofs.requests.find_head.Goals as goal
 
 pub returns-then-len-ge-HEAD_LIMIT-clause-found : goal.returns-then-len-ge-HEAD_LIMIT-clause-found

@@ -1,4 +1,4 @@
-use Rattle.std.proofs.Common.{rules, arith, ◌≡◌, ◌+◌, ◌<◌, ◌≤◌, Ok, refl}
+use Rattle.std.proofs.Common.{arith, refl}
 use Rattle.hub_http.specs.declared.request.Request.{Request}
 use Rattle.hub_http.proofs.RequestLemmas.{told_request, told_fault, head_fits}
 use Rattle.hub_http.proofs.requests.read_request.Goals as goal

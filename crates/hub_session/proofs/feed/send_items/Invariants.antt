@@ -1,0 +1,11 @@
+use Rattle.std.proofs.Common.{◌≤◌}
+use Rattle.hub_session.proofs.FeedLemmas.{Went}
+use Rattle.hub_session.proofs.feed.send_items.Given as goal
+
+abbrev pub invariant-loop : goal.invariant-loop
+invariant-loop g l =
+    let written = g.W.Output.written in
+    let faults = g.W.Output.fault_count in
+    Went g.S.Service.item_gives l.mode l.fn.service l.counter l.service l.rows (written l.fn.writer) (written l.writer)
+    × (faults l.fn.writer ≤ faults l.writer)
+    × (l.rows ≤ l.counter)

@@ -1,0 +1,16 @@
+use Rattle.std.proofs.Common.{◌≤◌, IfSome}
+use Rattle.hub_http.specs.Words.{to_come, IsOpen}
+use Rattle.hub_session.proofs.SessionLemmas.{Served}
+use Rattle.hub_session.proofs.session.serve.Given as goal
+
+abbrev pub invariant-loop : goal.invariant-loop
+invariant-loop g l =
+    let written = g.W.Output.written in
+    let left = g.R.Input.left in
+    record {
+      served : IfSome (to_come left l.fn.requests) (λ bytes.
+          Served g.S.Service.answer_gives g.S.Service.item_gives bytes l.fn.service l.counter (to_come left l.requests) l.service (written l.fn.writer) (written l.writer));
+      is_open : IsOpen l.requests;
+      writes : g.W.Output.fault_count l.fn.writer ≤ g.W.Output.fault_count l.writer;
+      reads : g.R.Input.fault_count l.fn.requests.reader ≤ g.R.Input.fault_count l.requests.reader;
+    }

@@ -1,0 +1,84 @@
+-- RFC 9112, section 7.1 (chunks); own for the feed: what a stream sends for a feed's items, and how it goes.
+use Rattle.std.specs.Prelude.{◌≡◌, ◌≤◌, ⊤, ℕ, ◌+◌, List, [], ◌∷◌, ◌++◌, Bool, true, false, Option, Some, None, codes}
+use Rattle.hub_model.specs.Row.{ChangeRow}
+use Rattle.hub_model.specs.declared.feeds.Mode.{Mode}
+use Rattle.hub_model.specs.declared.feeds.Item.{Item}
+use Rattle.hub_model.specs.declared.feeds.Item.TheVariants.{Row, Beat, End}
+use Rattle.hub_http.specs.Counts.{last_count}
+use Rattle.hub_http.specs.Chunks.{text_chunks}
+use Rattle.hub_http.specs.Items.{item_text, feed_head}
+use Rattle.hub_session.specs.declared.closing.StreamEnd.{StreamEnd}
+use Rattle.hub_session.specs.declared.closing.StreamEnd.TheVariants.{Complete, Stopped, NoMemory, Broken, Exhausted}
+
+-- from a state a service may go on with this item, or stop, and leave that state
+abbrev pub Gives : Type 0 → Type 1
+Gives S = S → Option (Item ChangeRow) → S → Type 0
+
+-- the last chunk of a stream
+abbrev pub last_chunk : List ℕ
+last_chunk = codes "0\r\n\r\n"
+
+-- what stands behind the chunk of an item: the last chunk behind an End
+abbrev pub behind_item : Item ChangeRow → List ℕ
+behind_item (Row row) = []
+behind_item Beat = []
+behind_item (End last_seq pending) = last_chunk
+
+-- what is sent for an item, before which so many rows came
+abbrev pub sent_text : Mode → ℕ → Item ChangeRow → List ℕ
+sent_text mode rows item = text_chunks (item_text mode rows item) ++ behind_item item
+
+-- how many rows came before the next item
+abbrev pub rows_after : ℕ → Item ChangeRow → ℕ
+rows_after rows (Row row) = rows + 1
+rows_after rows Beat = rows
+rows_after rows (End last_seq pending) = rows
+
+-- what is sent for these items, before which so many rows came
+abbrev pub items_text : Mode → ℕ → List (Item ChangeRow) → List ℕ
+items_text mode rows [] = []
+items_text mode rows (item ∷ items) = sent_text mode rows item ++ items_text mode (rows_after rows item) items
+
+-- what is sent for a stream of these items, behind the head of its answer
+abbrev pub feed_text : Mode → List (Item ChangeRow) → List ℕ
+feed_text mode items = text_chunks (feed_head mode) ++ items_text mode 0 items
+
+-- the item ends its feed
+abbrev pub is_end : Item ChangeRow → Bool
+is_end (Row row) = false
+is_end Beat = false
+is_end (End last_seq pending) = true
+
+-- from s, a stream that sent so many items may end so before its End, and leave t
+abbrev pub StopsSo : {S : Type 0} → Gives S → ℕ → S → StreamEnd → S → Type 0
+StopsSo gives sent s Complete t = ⊥
+StopsSo gives sent s Stopped t = gives s None t
+StopsSo gives sent s NoMemory t = (lost : Item ChangeRow) × gives s (Some lost) t
+StopsSo gives sent s Broken t = t ≡ s
+StopsSo gives sent s Exhausted t = (t ≡ s) × (last_count ≤ sent)
+
+-- a stream whose End came ends so
+abbrev pub EndsSo : StreamEnd → Type 0
+EndsSo Complete = ⊤
+EndsSo Stopped = ⊥
+EndsSo NoMemory = ⊥
+EndsSo Broken = ⊤
+EndsSo Exhausted = ⊥
+
+-- from s, behind so many items, the service may give these, none behind an End, and leave t, and the stream then ends so
+abbrev pub Streams : {S : Type 0} → Gives S → ℕ → S → List (Item ChangeRow) → StreamEnd → S → Type 0
+Streams gives sent s [] end t = StopsSo gives sent s end t
+Streams gives sent s (Row row ∷ items) end t =
+    (mid : _) × gives s (Some (Row row)) mid × Streams gives (sent + 1) mid items end t
+Streams gives sent s (Beat ∷ items) end t =
+    (mid : _) × gives s (Some Beat) mid × Streams gives (sent + 1) mid items end t
+Streams gives sent s (End last_seq pending ∷ items) end t =
+    gives s (Some (End last_seq pending)) t × (items ≡ []) × EndsSo end
+
+-- writing to the other side failed
+abbrev pub is_broken : StreamEnd → Bool
+is_broken Complete = false
+is_broken Stopped = false
+is_broken NoMemory = false
+is_broken Broken = true
+is_broken Exhausted = false

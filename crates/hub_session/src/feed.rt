@@ -1,0 +1,199 @@
+//! Streams to a writer.
+ghost use Rattle.std.specs.Prelude.{◌≡◌, ◌<◌, ◌≤◌, ◌+◌, ◌^◌, List, is_err, OnErr, IsErrOf};
+ghost use Rattle.hub_model.specs.Row.{ChangeRow as Row};
+ghost use Rattle.hub_model.specs.declared.feeds.Item.{Item as FeedItem};
+ghost use Rattle.hub_http.specs.Counts.{Rose, Sends};
+ghost use Rattle.hub_http.specs.Items.{item_text, feed_head};
+ghost use Rattle.hub_http.specs.Chunks.{Writes, text_chunks};
+ghost use Rattle.hub_session.specs.Feeds.{feed_text, items_text, sent_text, behind_item, rows_after, Streams, is_broken, last_chunk, is_end};
+
+use crate::closing::StreamEnd;
+use crate::service::Service;
+use hub_document::ChangeRow;
+use hub_http::{ChunkFault, ChunkWriter, IoFault, Output, item_text, send, write_all};
+use hub_model::{Item, Mode};
+use std::alloc::Global;
+
+/// The chunk at the head of a stream. It needs no memory.
+fn head_chunk(mode: Mode) -> &'static str
+    ensures { result.now ≡ text_chunks (feed_head mode) }
+{
+    match mode {
+        Mode::Normal => "d\r\n{\"results\":[\n\r\n",
+        Mode::Longpoll => "d\r\n{\"results\":[\n\r\n",
+        Mode::Continuous => "",
+    }
+}
+
+fn last_chunk() -> &'static str
+    ensures { result.now ≡ last_chunk }
+{
+    "0\r\n\r\n"
+}
+
+/// Whether the subscriber may wait between the items, so that each has to be flushed.
+fn waits(mode: Mode) -> bool {
+    mode != Mode::Normal
+}
+
+fn is_end(item: &Item<ChangeRow>) -> bool
+    ensures { result ≡ is_end item.now }
+{
+    matches!(item, Item::End { .. })
+}
+
+/// How many rows came before the next item.
+fn rows_after(rows: u64, item: &Item<ChangeRow>) -> u64
+    requires { rows + 1 < 2 ^ 64 }
+    ensures rows { result ≡ rows_after rows item.now }
+    ensures bound { result ≤ rows + 1 }
+{
+    match item {
+        Item::Row(_) => rows + 1,
+        Item::Beat | Item::End { .. } => rows,
+    }
+}
+
+/// Writes the head of a stream, and flushes it where the subscriber waits.
+fn send_head<W: Output>(writer: &mut W, mode: Mode) -> Result<(), IoFault>
+    ensures sent { Sends (is_err result) (W.written writer.old) (W.written writer.new) (text_chunks (feed_head mode)) }
+    ensures monotone { W.fault_count writer.old ≤ W.fault_count writer.new }
+    ensures fault { OnErr result (Rose (W.fault_count writer.old) (W.fault_count writer.new)) }
+{
+    if waits(mode) {
+        send(writer, head_chunk(mode).as_bytes())
+    } else {
+        write_all(writer, head_chunk(mode).as_bytes())
+    }
+}
+
+/// Behind an End writes the last chunk and flushes; behind another item flushes where the
+/// subscriber waits.
+fn finish_item<W: Output>(writer: &mut W, mode: Mode, item: &Item<ChangeRow>) -> Result<(), IoFault>
+    ensures sent { Sends (is_err result) (W.written writer.old) (W.written writer.new) (behind_item item.now) }
+    ensures monotone { W.fault_count writer.old ≤ W.fault_count writer.new }
+    ensures fault { OnErr result (Rose (W.fault_count writer.old) (W.fault_count writer.new)) }
+{
+    match item {
+        Item::End { .. } => send(writer, last_chunk().as_bytes()),
+        Item::Row(_) | Item::Beat => {
+            if waits(mode) {
+                send(writer, b"")
+            } else {
+                Ok(())
+            }
+        }
+    }
+}
+
+/// What a stream writes items with: its buffers are used again for each item.
+#[derive(Drop)]
+struct ItemWriter {
+    text: Vec<u8>,
+    chunks: ChunkWriter,
+}
+
+impl ItemWriter {
+    fn new(alloc: Global) -> ItemWriter {
+        ItemWriter {
+            text: Vec::new(alloc),
+            chunks: ChunkWriter::new(alloc),
+        }
+    }
+
+    /// Writes the chunk of an item.
+    fn write<W: Output>(
+        &mut self,
+        writer: &mut W,
+        mode: Mode,
+        rows: u64,
+        item: &Item<ChangeRow>,
+    ) -> Result<(), ChunkFault>
+        ensures bytes { Writes (text_chunks (item_text mode rows item.now)) result (W.written writer.old) (W.written writer.new) }
+        ensures monotone { W.fault_count writer.old ≤ W.fault_count writer.new }
+        ensures fault { IsErrOf result ChunkFault.IoFault → Rose (W.fault_count writer.old) (W.fault_count writer.new) }
+    {
+        self.text.clear();
+        if item_text(&mut self.text, mode, rows, item).is_err() {
+            return Err(ChunkFault::NoMemory);
+        }
+        self.chunks.write(writer, self.text.as_slice())
+    }
+
+    /// Sends an item, and behind an End the last chunk.
+    fn send<W: Output>(
+        &mut self,
+        writer: &mut W,
+        mode: Mode,
+        rows: u64,
+        item: &Item<ChangeRow>,
+    ) -> Result<(), ChunkFault>
+        ensures bytes { Writes (sent_text mode rows item.now) result (W.written writer.old) (W.written writer.new) }
+        ensures monotone { W.fault_count writer.old ≤ W.fault_count writer.new }
+        ensures fault { IsErrOf result ChunkFault.IoFault → Rose (W.fault_count writer.old) (W.fault_count writer.new) }
+    {
+        match self.write(writer, mode, rows, item) {
+            Ok(()) => {}
+            Err(e) => return Err(e),
+        }
+        match finish_item(writer, mode, item) {
+            Ok(()) => Ok(()),
+            Err(_) => Err(ChunkFault::IoFault),
+        }
+    }
+}
+
+/// Sends the items of the stream that the service answered last.
+fn send_items<W: Output, S: Service>(
+    alloc: Global,
+    writer: &mut W,
+    service: &mut S,
+    mode: Mode,
+) -> StreamEnd
+    ensures fed { (items : List (FeedItem Row)) × Streams S.item_gives 0 service.old items result service.new
+        × Sends (is_broken result) (W.written writer.old) (W.written writer.new) (items_text mode 0 items) }
+    ensures monotone { W.fault_count writer.old ≤ W.fault_count writer.new }
+    ensures fault { result ≡ StreamEnd.Broken → Rose (W.fault_count writer.old) (W.fault_count writer.new) }
+{
+    let mut items = ItemWriter::new(alloc);
+    let mut rows = 0;
+    for _ in 0..u64::MAX {
+        let Some(item) = service.item() else {
+            return StreamEnd::Stopped;
+        };
+        match items.send(writer, mode, rows, &item) {
+            Ok(()) => {}
+            Err(ChunkFault::NoMemory) => return StreamEnd::NoMemory,
+            Err(ChunkFault::IoFault) => return StreamEnd::Broken,
+        }
+        if is_end(&item) {
+            return StreamEnd::Complete;
+        }
+        rows = rows_after(rows, &item);
+    }
+    StreamEnd::Exhausted
+}
+
+/// Sends the stream that the service answered last, behind the head of its answer: a chunk for
+/// each nonempty text, and behind the End the last chunk (RFC 9112, section 7.1).
+///
+/// The end of a stream is flushed. In a longpoll or continuous feed the head and each item are
+/// flushed too, since the subscriber waits for them. What a stream wrote that stopped without its
+/// End may not be flushed. An item costs the length of its text, one write, and memory only where
+/// its text is longer than each one before.
+pub fn stream_feed<W: Output, S: Service>(
+    alloc: Global,
+    writer: &mut W,
+    service: &mut S,
+    mode: Mode,
+) -> StreamEnd
+    ensures fed { (items : List (FeedItem Row)) × Streams S.item_gives 0 service.old items result service.new
+        × Sends (is_broken result) (W.written writer.old) (W.written writer.new) (feed_text mode items) }
+    ensures monotone { W.fault_count writer.old ≤ W.fault_count writer.new }
+    ensures fault { result ≡ StreamEnd.Broken → Rose (W.fault_count writer.old) (W.fault_count writer.new) }
+{
+    match send_head(writer, mode) {
+        Ok(()) => send_items(alloc, writer, service, mode),
+        Err(_) => StreamEnd::Broken,
+    }
+}

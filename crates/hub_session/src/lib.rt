@@ -1,0 +1,15 @@
+//! Sessions: the requests that bytes spell, answered by a service, one after the other.
+#![tactic(auto)]
+
+mod closing;
+mod feed;
+mod reply;
+mod service;
+mod session;
+#[cfg(test)]
+mod tests;
+
+pub use closing::{Closing, StreamEnd};
+pub use feed::stream_feed;
+pub use service::{Answer, Service};
+pub use session::{serve, serve_one};

@@ -1,0 +1,51 @@
+//! Whole answers to a writer.
+ghost use Rattle.std.specs.Prelude.{◌≡◌, ◌≤◌, Bool, is_err, OnErr};
+ghost use Rattle.hub_http.specs.Counts.{Rose, Sends};
+ghost use Rattle.hub_session.specs.Replies.{fault_text, whole_text};
+
+use hub_http::{HttpFault, IoFault, Output, Reply, no_memory_text, reply_bytes, send};
+use std::alloc::Global;
+
+/// The reply to a fault of reading a request, empty where it has none. It needs no memory.
+pub(crate) fn fault_text(fault: HttpFault) -> &'static str
+    ensures { result.now ≡ fault_text fault }
+{
+    match fault {
+        HttpFault::NoMemory => no_memory_text(false, true),
+        HttpFault::BadHead => {
+            "HTTP/1.1 400 Bad Request\r\nContent-Type: application/json\r\nContent-Length: 44\r\nConnection: close\r\n\r\n{\"error\":\"bad_request\",\"reason\":\"bad head\"}\n"
+        }
+        HttpFault::HeadTooLong => {
+            "HTTP/1.1 431 Request Header Fields Too Large\r\nContent-Type: application/json\r\nContent-Length: 51\r\nConnection: close\r\n\r\n{\"error\":\"head_too_long\",\"reason\":\"head too long\"}\n"
+        }
+        HttpFault::BodyTooLong => {
+            "HTTP/1.1 413 Payload Too Large\r\nContent-Type: application/json\r\nContent-Length: 47\r\nConnection: close\r\n\r\n{\"error\":\"too_large\",\"reason\":\"body too long\"}\n"
+        }
+        HttpFault::Version => {
+            "HTTP/1.1 505 HTTP Version Not Supported\r\nContent-Type: application/json\r\nContent-Length: 50\r\nConnection: close\r\n\r\n{\"error\":\"http_version\",\"reason\":\"HTTP/1.1 only\"}\n"
+        }
+        HttpFault::Coding => {
+            "HTTP/1.1 501 Not Implemented\r\nContent-Type: application/json\r\nContent-Length: 58\r\nConnection: close\r\n\r\n{\"error\":\"not_implemented\",\"reason\":\"no transfer coding\"}\n"
+        }
+        HttpFault::Ended | HttpFault::IoFault => "",
+    }
+}
+
+/// Writes a whole answer and flushes it, or the fixed text where its own found no memory. One
+/// write, mostly, of the answer's length.
+pub(crate) fn send_reply<W: Output>(
+    alloc: Global,
+    writer: &mut W,
+    reply: &Reply,
+    head_only: bool,
+    close: bool,
+) -> Result<(), IoFault>
+    ensures sent { (found : Bool) × Sends (is_err result) (W.written writer.old) (W.written writer.new) (whole_text reply.now found head_only close) }
+    ensures monotone { W.fault_count writer.old ≤ W.fault_count writer.new }
+    ensures fault { OnErr result (Rose (W.fault_count writer.old) (W.fault_count writer.new)) }
+{
+    match reply_bytes(alloc, reply, head_only, close) {
+        Ok(bytes) => send(writer, bytes.as_slice()),
+        Err(_) => send(writer, no_memory_text(head_only, close).as_bytes()),
+    }
+}

@@ -1,0 +1,129 @@
+//! Sessions over a reader and a writer.
+ghost use Rattle.std.specs.Prelude.{◌≡◌, ◌≤◌, ◌⊎◌, IfSome, Some};
+ghost use Rattle.hub_http.specs.Counts.{Rose, Sends};
+ghost use Rattle.hub_http.specs.declared.fault.HttpFault.{HttpFault};
+ghost use Rattle.hub_http.specs.Stream.{asked_by};
+ghost use Rattle.hub_http.specs.Words.{to_come, IsOpen, faults_of};
+ghost use Rattle.hub_session.specs.Sessions.{Exchange, exchange_text, Answers, IsAnswered, IsClosed, IsSession, breaks, after_answer, after_stream, is_head};
+
+use crate::closing::{Closing, StreamEnd};
+use crate::feed::stream_feed;
+use crate::reply::{fault_text, send_reply};
+use crate::service::{Answer, Service};
+use hub_http::{HttpFault, Input, Output, Request, Requests, send, stream_head_text, write_all};
+use hub_model::Mode;
+use std::alloc::Global;
+
+fn after_answer(close: bool) -> Option<Closing>
+    ensures { result ≡ after_answer close }
+{
+    if close {
+        Some(Closing::Requested)
+    } else {
+        None
+    }
+}
+
+fn after_stream(close: bool, end: StreamEnd) -> Option<Closing>
+    ensures { result ≡ after_stream close end }
+{
+    match end {
+        StreamEnd::Complete => after_answer(close),
+        StreamEnd::Stopped | StreamEnd::NoMemory => Some(Closing::Cut),
+        StreamEnd::Broken => Some(Closing::Broken),
+        StreamEnd::Exhausted => Some(Closing::Exhausted),
+    }
+}
+
+fn is_head(request: &Request) -> bool
+    ensures { result ≡ is_head (asked_by request.now) }
+{
+    request.method.as_slice() == b"HEAD".as_slice()
+}
+
+/// Answers a request, and says why the session closes behind it, if it does.
+fn answer_one<W: Output, S: Service>(
+    alloc: Global,
+    writer: &mut W,
+    service: &mut S,
+    request: &Request,
+) -> Option<Closing>
+    ensures told { (x : Exchange) × (x.asked ≡ asked_by request.now) × Answers S.answer_gives S.item_gives service.old x result service.new
+        × Sends (breaks result) (W.written writer.old) (W.written writer.new) (exchange_text x) }
+    ensures monotone { W.fault_count writer.old ≤ W.fault_count writer.new }
+    ensures fault { result ≡ Some Closing.Broken → Rose (W.fault_count writer.old) (W.fault_count writer.new) }
+{
+    let head_only = is_head(request);
+    let close = request.close;
+    match service.answer(request) {
+        Answer::Whole(reply) => match send_reply(alloc, writer, &reply, head_only, close) {
+            Ok(()) => after_answer(close),
+            Err(_) => Some(Closing::Broken),
+        },
+        Answer::Stream(mode) => {
+            if head_only {
+                return match send(writer, stream_head_text(close).as_bytes()) {
+                    Ok(()) => after_answer(close),
+                    Err(_) => Some(Closing::Broken),
+                };
+            }
+            match write_all(writer, stream_head_text(close).as_bytes()) {
+                Ok(()) => after_stream(close, stream_feed(alloc, writer, service, mode)),
+                Err(_) => Some(Closing::Broken),
+            }
+        }
+    }
+}
+
+/// Serves the next request, and says why the session closes, if it does. A fault of reading a
+/// request is answered where it has a reply, and closes the session.
+pub fn serve_one<R: Input, W: Output, S: Service>(
+    alloc: Global,
+    requests: &mut Requests<R>,
+    writer: &mut W,
+    service: &mut S,
+) -> Option<Closing>
+    requires { IsOpen requests.old }
+    ensures told { IfSome (to_come R.left requests.old) (λ bytes.
+        IsAnswered S.answer_gives S.item_gives bytes service.old result (to_come R.left requests.new) service.new (W.written writer.old) (W.written writer.new)
+        ⊎ IsClosed bytes service.old result service.new (W.written writer.old) (W.written writer.new)) }
+    ensures stays { result ≡ None → IsOpen requests.new }
+    ensures monotone { W.fault_count writer.old ≤ W.fault_count writer.new }
+    ensures reads { faults_of R.fault_count requests.old ≤ faults_of R.fault_count requests.new }
+    ensures broken { result ≡ Some Closing.Broken → Rose (W.fault_count writer.old) (W.fault_count writer.new) }
+    ensures fault { result ≡ Some (Closing.Fault HttpFault.IoFault)
+        → Rose (faults_of R.fault_count requests.old) (faults_of R.fault_count requests.new) }
+{
+    match requests.next() {
+        Ok(Some(request)) => answer_one(alloc, writer, service, &request),
+        Ok(None) => Some(Closing::Finished),
+        Err(fault) => match send(writer, fault_text(fault).as_bytes()) {
+            Ok(()) => Some(Closing::Fault(fault)),
+            Err(_) => Some(Closing::Broken),
+        },
+    }
+}
+
+/// Serves the requests up to the first closing, and says why it closed. Requests behind the one
+/// that closes the session are not answered, though they may have been read.
+pub fn serve<R: Input, W: Output, S: Service>(
+    alloc: Global,
+    requests: &mut Requests<R>,
+    writer: &mut W,
+    service: &mut S,
+) -> Closing
+    requires { IsOpen requests.old }
+    ensures session { IfSome (to_come R.left requests.old) (λ bytes.
+        IsSession S.answer_gives S.item_gives bytes service.old result service.new (W.written writer.old) (W.written writer.new)) }
+    ensures monotone { W.fault_count writer.old ≤ W.fault_count writer.new }
+    ensures broken { result ≡ Closing.Broken → Rose (W.fault_count writer.old) (W.fault_count writer.new) }
+    ensures fault { result ≡ Closing.Fault HttpFault.IoFault
+        → Rose (faults_of R.fault_count requests.old) (faults_of R.fault_count requests.new) }
+{
+    for _ in 0..u64::MAX {
+        if let Some(closing) = serve_one(alloc, requests, writer, service) {
+            return closing;
+        }
+    }
+    Closing::Exhausted
+}

@@ -1,0 +1,299 @@
+use crate::{Answer, Closing, Service, serve};
+use http::StatusCode;
+use hub_document::{ChangeRow, Doc, RevId, Revisions};
+use hub_http::{HttpFault, Output, Refusal, Reply, Request, Requests, Tally};
+use hub_model::{Item, Mode};
+use std::alloc::Global;
+use std::io;
+use std::io::{ErrorKind, Read, Write};
+use std::test::Fail;
+
+/// Serves a feed of two rows, of a and of b, whose winner is deleted.
+#[derive(Drop)]
+struct Rows {
+    alloc: Global,
+    mode: Mode,
+    next: u64,
+    /// The stream stops in place of its End.
+    stops: bool,
+}
+
+fn two_rows(alloc: Global) -> Rows {
+    Rows {
+        alloc,
+        mode: Mode::Normal,
+        next: 0,
+        stops: false,
+    }
+}
+
+fn row(alloc: Global, seq: u64, doc: &str, rev: &str, deleted: bool) -> Option<Item<ChangeRow>> {
+    let doc = Doc::read(alloc, doc.as_bytes(), true).ok()?;
+    let mut revs = Vec::new(alloc);
+    revs.push(RevId::read(rev)?).ok()?;
+    Some(Item::Row(ChangeRow {
+        seq,
+        id: doc.id,
+        changes: Revisions::new(revs),
+        deleted,
+        seen: 2,
+    }))
+}
+
+impl Rows {
+    fn open(&mut self, mode: Mode) -> Answer {
+        self.mode = mode;
+        self.next = 0;
+        Answer::Stream(mode)
+    }
+}
+
+impl Service for Rows {
+    ghost answer_gives = { λ _ _ _ _. Unit {0} };
+
+    ghost item_gives = { λ _ _ _. Unit {0} };
+
+    fn answer(&mut self, request: &Request) -> Answer {
+        match request.target.as_slice() {
+            b"/normal" => self.open(Mode::Normal),
+            b"/longpoll" => self.open(Mode::Longpoll),
+            b"/continuous" => self.open(Mode::Continuous),
+            b"/d" => match Vec::from_slice(self.alloc, b"{\"ok\":true}\n") {
+                Ok(body) => Answer::Whole(Reply::Done {
+                    status: StatusCode::CREATED,
+                    body,
+                }),
+                Err(_) => Answer::Whole(Reply::Refused(Refusal::NoMemory)),
+            },
+            _ => Answer::Whole(Reply::Refused(Refusal::Missing)),
+        }
+    }
+
+    fn item(&mut self) -> Option<Item<ChangeRow>> {
+        let number = self.next;
+        self.next = number.saturating_add(1);
+        match (number, self.mode) {
+            (0, Mode::Longpoll) => Some(Item::Beat),
+            (1, Mode::Longpoll) | (0, _) => row(self.alloc, 1, "{\"_id\":\"a\"}", "1-a", false),
+            (1, _) => row(self.alloc, 2, "{\"_id\":\"b\"}", "2-b", true),
+            (2, Mode::Continuous) => Some(Item::Beat),
+            _ => {
+                if self.stops {
+                    return None;
+                }
+                Some(Item::End {
+                    last_seq: 2,
+                    pending: 0,
+                })
+            }
+        }
+    }
+}
+
+/// Gives one byte a read.
+#[derive(Drop)]
+struct Slow<'a>(&'a [u8]);
+
+impl Read for Slow<'_> {
+    fn read(&mut self, buf: &mut [u8]) -> io::Result<usize> {
+        if buf.is_empty() {
+            return Ok(0);
+        }
+        self.0.read(&mut buf[..1])
+    }
+}
+
+/// Takes so many bytes, and then answers errors. It notes where it was flushed.
+#[derive(Drop)]
+struct Taker {
+    held: Vec<u8>,
+    room: usize,
+    flushed: Vec<usize>,
+    writes: usize,
+}
+
+impl Taker {
+    fn new(alloc: Global, room: usize) -> Taker {
+        Taker {
+            held: Vec::new(alloc),
+            room,
+            flushed: Vec::new(alloc),
+            writes: 0,
+        }
+    }
+}
+
+impl Write for Taker {
+    fn write(&mut self, buf: &[u8]) -> io::Result<usize> {
+        let n = buf.len().min(self.room);
+        if n == 0 {
+            return Err(io::Error::from(ErrorKind::BrokenPipe));
+        }
+        self.held.extend_from_slice(&buf[..n])?;
+        self.room -= n;
+        self.writes = self.writes.saturating_add(1);
+        Ok(n)
+    }
+
+    fn flush(&mut self) -> io::Result<()> {
+        self.flushed.push(self.held.len())?;
+        Ok(())
+    }
+}
+
+/// Why a session over these bytes closed, and what was written.
+fn served(alloc: Global, input: &[u8], mut service: Rows) -> (Closing, Vec<u8>) {
+    let mut requests = Requests::new(alloc, Tally::new(Slow(input)));
+    let mut writer = Tally::new(Vec::new(alloc));
+    let closing = serve(alloc, &mut requests, &mut writer, &mut service);
+    (closing, writer.into_inner())
+}
+
+const CREATED: &str =
+    "HTTP/1.1 201 Created\r\nContent-Type: application/json\r\nContent-Length: 12\r\n\r\n{\"ok\":true}\n";
+
+const FEED_HEAD: &str =
+    "HTTP/1.1 200 OK\r\nContent-Type: application/json\r\nTransfer-Encoding: chunked\r\n\r\n";
+
+const NORMAL: &str =
+    "d\r\n{\"results\":[\n\r\n2c\r\n{\"seq\":1,\"id\":\"a\",\"changes\":[{\"rev\":\"1-a\"}]}\r\n3d\r\n,\n{\"seq\":2,\"id\":\"b\",\"changes\":[{\"rev\":\"2-b\"}],\"deleted\":true}\r\n1e\r\n\n],\n\"last_seq\":2,\"pending\":0}\n\r\n0\r\n\r\n";
+
+const LONGPOLL: &str =
+    "d\r\n{\"results\":[\n\r\n1\r\n\n\r\n2c\r\n{\"seq\":1,\"id\":\"a\",\"changes\":[{\"rev\":\"1-a\"}]}\r\n1e\r\n\n],\n\"last_seq\":2,\"pending\":0}\n\r\n0\r\n\r\n";
+
+const CONTINUOUS: &str =
+    "2d\r\n{\"seq\":1,\"id\":\"a\",\"changes\":[{\"rev\":\"1-a\"}]}\n\r\n3c\r\n{\"seq\":2,\"id\":\"b\",\"changes\":[{\"rev\":\"2-b\"}],\"deleted\":true}\n\r\n1\r\n\n\r\n1b\r\n{\"last_seq\":2,\"pending\":0}\n\r\n0\r\n\r\n";
+
+#[test]
+fn a_session(rt: HostRuntime) -> Result<(), Fail> {
+    let alloc = rt.alloc();
+    let input =
+        b"PUT /d HTTP/1.1\r\nHost: h\r\ncontent-length: 2\r\n\r\n{}GET /normal HTTP/1.1\r\n\r\nHEAD /normal HTTP/1.1\r\n\r\nHEAD /x HTTP/1.1\r\n\r\nGET /longpoll HTTP/1.1\r\n\r\nGET /continuous HTTP/1.1\r\n\r\nPUT /d HTTP/1.1\r\n\r\n";
+    let missing =
+        "HTTP/1.1 404 Not Found\r\nContent-Type: application/json\r\nContent-Length: 41\r\n\r\n";
+    let (closing, output) = served(alloc, input, two_rows(alloc));
+    let expected = format!(in alloc;
+        "{CREATED}{FEED_HEAD}{NORMAL}{FEED_HEAD}{missing}{FEED_HEAD}{LONGPOLL}{FEED_HEAD}{CONTINUOUS}{CREATED}"
+    )?;
+    assert_eq!(rt; output.as_slice(), expected.as_bytes());
+    assert_eq!(rt; closing, Closing::Finished);
+    Ok(())
+}
+
+#[test]
+fn a_closed_session(rt: HostRuntime) -> Result<(), Fail> {
+    let alloc = rt.alloc();
+    let last =
+        "HTTP/1.1 201 Created\r\nContent-Type: application/json\r\nContent-Length: 12\r\nConnection: close\r\n\r\n{\"ok\":true}\n";
+    let (closing, output) = served(
+        alloc,
+        b"PUT /d HTTP/1.1\r\n\r\nPUT /d HTTP/1.1\r\nConnection: CLOSE\r\n\r\nPUT /d HTTP/1.1\r\n\r\n",
+        two_rows(alloc),
+    );
+    let expected = format!(in alloc; "{CREATED}{last}")?;
+    assert_eq!(rt; output.as_slice(), expected.as_bytes());
+    assert_eq!(rt; closing, Closing::Requested);
+
+    let (closing, output) = served(
+        alloc,
+        b"HEAD /normal HTTP/1.1\r\nConnection: close\r\n\r\nPUT /d HTTP/1.1\r\n\r\n",
+        two_rows(alloc),
+    );
+    let head =
+        "HTTP/1.1 200 OK\r\nContent-Type: application/json\r\nTransfer-Encoding: chunked\r\nConnection: close\r\n\r\n";
+    assert_eq!(rt; output.as_slice(), head.as_bytes());
+    assert_eq!(rt; closing, Closing::Requested);
+    Ok(())
+}
+
+#[test]
+fn a_stopped_stream(rt: HostRuntime) -> Result<(), Fail> {
+    let alloc = rt.alloc();
+    let mut service = two_rows(alloc);
+    service.stops = true;
+    let (closing, output) = served(
+        alloc,
+        b"GET /normal HTTP/1.1\r\n\r\nPUT /d HTTP/1.1\r\n\r\n",
+        service,
+    );
+    let all = format!(in alloc; "{FEED_HEAD}{NORMAL}")?;
+    let end = "1e\r\n\n],\n\"last_seq\":2,\"pending\":0}\n\r\n0\r\n\r\n";
+    assert_eq!(rt; output.as_slice(), &all.as_bytes()[..all.len() - end.len()]);
+    assert_eq!(rt; closing, Closing::Cut);
+    Ok(())
+}
+
+#[test]
+fn faults(rt: HostRuntime) {
+    let cases: [(&[u8], HttpFault, &str); 5] = [
+        (
+            b"GET / HTTP/1.1\r\nHost h\r\n\r\n",
+            HttpFault::BadHead,
+            "HTTP/1.1 400 Bad Request\r\nContent-Type: application/json\r\nContent-Length: 44\r\nConnection: close\r\n\r\n{\"error\":\"bad_request\",\"reason\":\"bad head\"}\n",
+        ),
+        (
+            b"GET / HTTP/1.1\r\nContent-Length: 8388609\r\n\r\n",
+            HttpFault::BodyTooLong,
+            "HTTP/1.1 413 Payload Too Large\r\nContent-Type: application/json\r\nContent-Length: 47\r\nConnection: close\r\n\r\n{\"error\":\"too_large\",\"reason\":\"body too long\"}\n",
+        ),
+        (
+            b"GET / HTTP/1.0\r\n\r\nPUT /d HTTP/1.1\r\n\r\n",
+            HttpFault::Version,
+            "HTTP/1.1 505 HTTP Version Not Supported\r\nContent-Type: application/json\r\nContent-Length: 50\r\nConnection: close\r\n\r\n{\"error\":\"http_version\",\"reason\":\"HTTP/1.1 only\"}\n",
+        ),
+        (
+            b"GET / HTTP/1.1\r\nTransfer-Encoding: chunked\r\n\r\n",
+            HttpFault::Coding,
+            "HTTP/1.1 501 Not Implemented\r\nContent-Type: application/json\r\nContent-Length: 58\r\nConnection: close\r\n\r\n{\"error\":\"not_implemented\",\"reason\":\"no transfer coding\"}\n",
+        ),
+        (b"GET / HTTP/1.1\r\n", HttpFault::Ended, ""),
+    ];
+    for (input, fault, text) in cases {
+        let (closing, output) = served(rt.alloc(), input, two_rows(rt.alloc()));
+        assert_eq!(rt; output.as_slice(), text.as_bytes());
+        assert_eq!(rt; closing, Closing::Fault(fault));
+    }
+}
+
+#[test]
+fn a_writer_that_breaks(rt: HostRuntime) -> Result<(), Fail> {
+    let alloc = rt.alloc();
+    let input =
+        b"PUT /d HTTP/1.1\r\n\r\nGET /normal HTTP/1.1\r\n\r\nGET /longpoll HTTP/1.1\r\n\r\nGET / HTTP/1.0\r\n\r\n";
+    let (_, whole) = served(alloc, input, two_rows(alloc));
+    for room in 0..whole.len() {
+        let mut requests = Requests::new(alloc, Tally::new(input.as_slice()));
+        let mut writer = Tally::new(Taker::new(alloc, room));
+        let mut service = two_rows(alloc);
+        let closing = serve(alloc, &mut requests, &mut writer, &mut service);
+        assert_eq!(rt; closing, Closing::Broken);
+        assert_eq!(rt; Output::faults(&writer), 1);
+        let taker = writer.into_inner();
+        assert_eq!(rt; taker.held.as_slice(), &whole[..room]);
+    }
+    Ok(())
+}
+
+#[test]
+fn flushes(rt: HostRuntime) {
+    let alloc = rt.alloc();
+    // The head has 79 bytes, and a chunk of n bytes has n, its digits and 4.
+    let cases: [(&[u8], usize, &[usize]); 3] = [
+        (b"GET /normal HTTP/1.1\r\n\r\n", 6, &[255]),
+        (b"GET /longpoll HTTP/1.1\r\n\r\n", 6, &[97, 103, 153, 194]),
+        (
+            b"GET /continuous HTTP/1.1\r\n\r\n",
+            6,
+            &[79, 130, 196, 202, 240],
+        ),
+    ];
+    for (input, writes, flushed) in cases {
+        let mut requests = Requests::new(alloc, Tally::new(input));
+        let mut writer = Tally::new(Taker::new(alloc, 1000));
+        let mut service = two_rows(alloc);
+        let closing = serve(alloc, &mut requests, &mut writer, &mut service);
+        assert_eq!(rt; closing, Closing::Finished);
+        let taker = writer.into_inner();
+        assert_eq!(rt; (taker.writes, taker.flushed.as_slice()), (writes, flushed));
+    }
+}
