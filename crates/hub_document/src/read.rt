@@ -1,6 +1,6 @@
 //! Documents from JSON texts and values.
 
-ghost use Rattle.std.specs.Prelude.{◌≡◌, ◌⊎◌, IfOk, IfErr, Ok, Err, Some, None, true, false};
+ghost use Rattle.std.specs.Prelude.{is_some, not, IfSome, ◌≡◌, ◌⊎◌, IfOk, IfErr, Ok, Err, Some, None, true, false};
 ghost use Rattle.hub_document.specs.Ids.{is_id};
 ghost use Rattle.serde_json.specs.View.{view, members_view};
 ghost use Rattle.hub_document.specs.Read.{with_path as path_gives, with_rev as rev_gives, with_id as id_gives, document_of, history_of as history_in, doc_of, doc_in, json_of};
@@ -27,7 +27,8 @@ fn history_of(
     rev: Option<RevId>,
     value: &Value,
 ) -> Result<Option<History>, AllocError>
-    ensures { IfOk result (λ o. o ≡ history_in new_edits rev (view value.now)) }
+    ensures value { IfOk result (λ o. o ≡ history_in new_edits rev (view value.now)) }
+    ensures some { IfOk result (λ o. IfSome o (λ h. is_some h.1 ≡ not new_edits)) }
 {
     if new_edits {
         return Ok(Some((rev, None)));
@@ -53,6 +54,7 @@ fn with_path(
     ensures ok { IfOk result (λ d. path_gives (view value.now) (members_view members.now.entries) id.now rev path ≡ Ok d) }
     ensures err { IfErr result (λ e. (e ≡ DocFault.NoMemory)
         ⊎ (path_gives (view value.now) (members_view members.now.entries) id.now rev path ≡ Err e)) }
+    ensures history { IfOk result (λ d. d.path ≡ path) }
 {
     if !are_good_members(members) {
         return Err(DocFault::BadMember);
@@ -86,6 +88,7 @@ fn with_rev(
     ensures ok { IfOk result (λ d. rev_gives new_edits (view value.now) (members_view members.now.entries) id.now rev ≡ Ok d) }
     ensures err { IfErr result (λ e. (e ≡ DocFault.NoMemory)
         ⊎ (rev_gives new_edits (view value.now) (members_view members.now.entries) id.now rev ≡ Err e)) }
+    ensures history { IfOk result (λ d. is_some d.path ≡ not new_edits) }
 {
     let Some((head, path)) = history_of(alloc, new_edits, rev, value)? else {
         return Err(DocFault::BadRevisions);
@@ -106,6 +109,7 @@ fn with_id(
     ensures ok { IfOk result (λ d. id_gives new_edits (view value.now) (members_view members.now.entries) id.now ≡ Ok d) }
     ensures err { IfErr result (λ e. (e ≡ DocFault.NoMemory)
         ⊎ (id_gives new_edits (view value.now) (members_view members.now.entries) id.now ≡ Err e)) }
+    ensures history { IfOk result (λ d. is_some d.path ≡ not new_edits) }
 {
     let Some(rev) = rev_of(value, new_edits) else {
         return Err(DocFault::BadRev);
@@ -123,6 +127,7 @@ fn document_from(
     ensures ok { IfOk result (λ d. document_of new_edits (view value.now) (members_view members.now.entries) ≡ Ok d) }
     ensures err { IfErr result (λ e. (e ≡ DocFault.NoMemory)
         ⊎ (document_of new_edits (view value.now) (members_view members.now.entries) ≡ Err e)) }
+    ensures history { IfOk result (λ d. is_some d.path ≡ not new_edits) }
 {
     if members_have_float(members) {
         return Err(DocFault::BadNumber);
@@ -159,6 +164,7 @@ impl Doc {
         ensures ok { IfOk result (λ d. doc_of new_edits (view value.now) ≡ Ok d) }
         ensures err { IfErr result (λ e. (e ≡ DocFault.NoMemory)
             ⊎ (doc_of new_edits (view value.now) ≡ Err e)) }
+        ensures history { IfOk result (λ d. is_some d.path ≡ not new_edits) }
     {
         let Some(members) = value.as_object() else {
             return Err(DocFault::NotObject);
@@ -171,6 +177,7 @@ impl Doc {
         ensures ok { IfOk result (λ d. doc_in new_edits bytes.now ≡ Ok d) }
         ensures err { IfErr result (λ e. (e ≡ DocFault.NoMemory)
             ⊎ (doc_in new_edits bytes.now ≡ Err e)) }
+        ensures history { IfOk result (λ d. is_some d.path ≡ not new_edits) }
     {
         let value = parsed(alloc, bytes)?;
         Doc::of_value(alloc, &value, new_edits)

@@ -11,8 +11,8 @@ use json::Writer;
 use std::alloc::AllocError;
 use std::mem;
 
-// The writer of JSON owns its bytes while it writes. Nothing that is held is copied.
-fn put_quoted(out: &mut Vec<u8>, text: &str) -> Result<(), AllocError>
+/// Appends the JSON string of a text. It costs the text's length, and copies nothing else.
+pub fn put_quoted(out: &mut Vec<u8>, text: &str) -> Result<(), AllocError>
     ensures ok { OnOk result (out.new.items ≡ out.old.items ++ quoted text.now) }
     ensures front { take (length out.old.items) out.new.items ≡ out.old.items }
 {
