@@ -24,5 +24,6 @@ pub use doc_id::DocId;
 pub use hub_model::{Item, Mode};
 pub use limits::Limits;
 pub use path::Path;
+pub use read::read_value;
 pub use revision::{RevId, revision_texts};
 pub use revisions::Revisions;

@@ -138,8 +138,8 @@ fn document_from(
     with_id(alloc, new_edits, value, members, id)
 }
 
-// The JSON value that a text is.
-fn parsed(alloc: Global, bytes: &[u8]) -> Result<Value, DocFault>
+/// The JSON value that a text is. It costs the text's length.
+pub fn read_value(alloc: Global, bytes: &[u8]) -> Result<Value, DocFault>
     ensures ok { IfOk result (λ v. json_of bytes.now ≡ Some (view v)) }
     ensures err { IfErr result (λ e. (e ≡ DocFault.NoMemory)
         ⊎ ((e ≡ DocFault.NotJson) × (json_of bytes.now ≡ None))) }
@@ -179,7 +179,7 @@ impl Doc {
             ⊎ (doc_in new_edits bytes.now ≡ Err e)) }
         ensures history { IfOk result (λ d. is_some d.path ≡ not new_edits) }
     {
-        let value = parsed(alloc, bytes)?;
+        let value = read_value(alloc, bytes)?;
         Doc::of_value(alloc, &value, new_edits)
     }
 }
