@@ -53,6 +53,14 @@ fn stored(rev: &str) -> Option<Outcome<RevId>> {
     Some(Outcome::Stored(rev))
 }
 
+fn known() -> Option<Outcome<RevId>> {
+    Some(Outcome::Known)
+}
+
+fn refused(fault: Fault) -> Option<Outcome<RevId>> {
+    Some(Outcome::Refused(fault))
+}
+
 const A: &str = "{\"_id\":\"a\",\"_rev\":\"1-a\"}";
 const B: &str = "{\"_id\":\"b\",\"_rev\":\"1-b\"}";
 const NEWER: &str = "{\"_id\":\"a\",\"_revisions\":{\"start\":2,\"ids\":[\"c\",\"a\"]}}";
@@ -70,8 +78,7 @@ fn rows_follow_the_latest_edits(rt: HostRuntime) -> Result<(), Fail> {
     assert!(rt; shows(&state, 0, 2, "b", "1-b"));
     assert!(rt; shows(&state, 1, 3, "a", "2-c"));
     assert!(rt; !shows(&state, 2, 1, "a", "1-a"));
-    let known = Some(Outcome::Known);
-    assert!(rt; writes(&mut state, docs(alloc, &[A, B]), &[known, known]));
+    assert!(rt; writes(&mut state, docs(alloc, &[A, B]), &[known(), known()]));
     assert_eq!(rt; state.update_seq(), 3);
     Ok(())
 }
@@ -80,13 +87,12 @@ fn rows_follow_the_latest_edits(rt: HostRuntime) -> Result<(), Fail> {
 fn refused_documents_stop_no_others(rt: HostRuntime) -> Result<(), Fail> {
     let alloc = rt.alloc();
     let mut state = DbState::new(alloc, Limits::full());
-    let refused = Some(Outcome::Refused(Fault::Contradicts));
     assert!(rt; writes(&mut state, docs(alloc, &[TREE]), &[stored("2-y")]));
     assert!(rt;
         writes(
             &mut state,
             docs(alloc, &[A, OTHER, NEWER]),
-            &[stored("1-a"), refused, stored("2-c")]
+            &[stored("1-a"), refused(Fault::Contradicts), stored("2-c")]
         ));
     assert_eq!(rt; state.update_seq(), 3);
     Ok(())
@@ -98,10 +104,8 @@ fn a_full_journal_takes_no_more(rt: HostRuntime) -> Result<(), Fail> {
     let mut limits = Limits::full();
     limits.journal = 1;
     let mut state = DbState::new(alloc, limits);
-    let refused = Some(Outcome::Refused(Fault::SequenceFull));
-    let known = Some(Outcome::Known);
-    assert!(rt; writes(&mut state, docs(alloc, &[A, B]), &[stored("1-a"), refused]));
-    assert!(rt; writes(&mut state, docs(alloc, &[NEWER, A]), &[refused, known]));
+    assert!(rt; writes(&mut state, docs(alloc, &[A, B]), &[stored("1-a"), refused(Fault::SequenceFull)]));
+    assert!(rt; writes(&mut state, docs(alloc, &[NEWER, A]), &[refused(Fault::SequenceFull), known()]));
     assert_eq!(rt; state.update_seq(), 1);
     Ok(())
 }
