@@ -1,5 +1,5 @@
 -- One more edit of a document, that is there or new: the journal has it at its end, and the documents stay in order.
-use Rattle.std.proofs.Common.{◌≡◌, ◌≢◌, ℕ, ◌+◌, ◌<◌, ◌≤◌, List, [], ◌∷◌, ◌++◌, length, Bool, true, false, ap, refl, sym, ◌∙◌, subst, arith, inl, inr, ◌⊎◌, ⊎_elim, not, ◌||◌}
+use Rattle.std.proofs.Common.{◌≡◌, ◌≢◌, ℕ, ◌+◌, ◌<◌, ◌≤◌, List, [], ◌∷◌, ◌++◌, length, true, false, ap, refl, sym, ◌∙◌, subst, arith, inl, inr, ◌⊎◌, ⊎_elim, not, ◌||◌}
 use Rattle.std.specs.Prelude.{Option, Some, None, slice_get, get_or, drop, map, nat_eq, if◌then◌else◌}
 use Rattle.std.specs.Str.{bytes_eq}
 use Rattle.std.proofs.lemmas.Bool.{eq-eqb}

@@ -1,6 +1,6 @@
 -- Places of lists, and what a list with one more at its end, or one changed, has at them.
-use Rattle.std.proofs.Common.{◌≡◌, ◌≢◌, ℕ, zero, suc, ◌+◌, ◌<◌, ◌≤◌, List, [], ◌∷◌, ◌++◌, length, Bool, true, false, ap, refl, sym, ◌∙◌, arith, inl, inr, ◌||◌}
-use Rattle.std.specs.Prelude.{Some, None, slice_get, slice_set, map, filter, nat_eq, if◌then◌else◌, Option}
+use Rattle.std.proofs.Common.{◌≡◌, ◌≢◌, ℕ, zero, suc, ◌<◌, ◌≤◌, List, [], ◌∷◌, ◌++◌, length, Bool, true, false, ap, refl, ◌∙◌, arith, inl, inr, ◌||◌}
+use Rattle.std.specs.Prelude.{Some, slice_get, slice_set, map, filter, nat_eq, if◌then◌else◌}
 use Rattle.std.specs.List.{list_any}
 use Rattle.std.specs.Str.{bytes_eq}
 use Rattle.std.proofs.lemmas.Bool.{cases_Bool, eqb-true}

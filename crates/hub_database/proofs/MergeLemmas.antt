@@ -1,17 +1,17 @@
 -- What a look at a document's tree says of storing an edit in the journal.
 use Rattle.std.proofs.Common.{◌≡◌, ℕ, List, [], ◌∷◌, ◌++◌, length, Bool, true, false, ap, refl, sym, subst, ◌∙◌, ◌&&◌, not, inl, inr}
-use Rattle.std.specs.Prelude.{Option, Some, None, map, nat_le, slice_get, unwrap_or, if◌then◌else◌}
+use Rattle.std.specs.Prelude.{Option, map, nat_le, slice_get, unwrap_or, if◌then◌else◌}
 use Rattle.std.specs.List.{list_any, list_all}
 use Rattle.std.proofs.lemmas.Bool.{cases_Bool}
 use Rattle.std.proofs.lemmas.List.Folds.{list_all-map}
 use Rattle.hub_model.specs.Revision.{Revision}
-use Rattle.hub_model.specs.Path.{IsFirst, names, agrees, is_history}
-use Rattle.hub_model.specs.Journal.{Edit, IsKnown, IsAcceptable, IsLegal, edits_of, head_of, is_known, is_head_known, is_acceptable}
+use Rattle.hub_model.specs.Path.{names, agrees, is_history}
+use Rattle.hub_model.specs.Journal.{Edit, IsKnown, IsAcceptable, IsLegal, edits_of, is_known, is_head_known, is_acceptable}
 use Rattle.hub_model.specs.Outcome.{Stores, StoresAll, refuses, merges, merges_all}
 use Rattle.hub_model.specs.declared.outcomes.Fault.TheVariants.{Contradicts, SequenceFull}
 use Rattle.hub_model.specs.declared.outcomes.Outcome.{Outcome}
 use Rattle.hub_model.specs.declared.outcomes.Outcome.TheVariants.{Stored, Known, Refused}
-use Rattle.hub_model.proofs.Tests.{head_known_is, is_known_from, acceptable_is, is_acceptable_from}
+use Rattle.hub_model.proofs.Tests.{head_known_is, is_known_from, acceptable_is}
 use Rattle.hub_revtree.specs.Tree.{HasKnownHead, IsRevTree, nameless}
 use Rattle.hub_database.specs.Filed.{named, Settles, grown}
 use Rattle.hub_database.proofs.ListLemmas.{any_map}

@@ -1,5 +1,5 @@
 -- The rows of the documents, one entry more at a time.
-use Rattle.std.proofs.Common.{◌≡◌, ◌≢◌, ℕ, zero, suc, ◌+◌, ◌<◌, List, [], ◌∷◌, ◌++◌, length, Bool, true, false, ap, refl, sym, ◌∙◌, subst, not, arith, append_assoc}
+use Rattle.std.proofs.Common.{◌≡◌, ◌≢◌, ℕ, zero, suc, ◌+◌, ◌<◌, List, [], ◌∷◌, ◌++◌, length, Bool, true, false, ap, refl, sym, ◌∙◌, not, arith, append_assoc}
 use Rattle.std.specs.Prelude.{get_or, Option, Some, None, slice_get, drop, map, take, nat_eq, if◌then◌else◌, option_map}
 use Rattle.std.specs.List.{list_any}
 use Rattle.std.proofs.lemmas.List.{length-map}
@@ -8,13 +8,13 @@ use Rattle.std.proofs.lemmas.Bool.{eq-eqb}
 use Rattle.hub_model.specs.Revision.{Revision}
 use Rattle.hub_model.specs.Journal.{Edit, edits_of}
 use Rattle.hub_model.specs.Leaves.{Leaf, is_behind_head, with_leaf, leaves_among, comes_before, placed, best_first, leaves_of, revisions_of}
-use Rattle.hub_model.specs.Current.{Current, current_from, is_edited}
+use Rattle.hub_model.specs.Current.{current_from, is_edited}
 use Rattle.hub_model.specs.Row.{ChangeRow, row_of, is_deleted}
 use Rattle.hub_model.specs.declared.feeds.Style.TheVariants.{MainOnly}
 use Rattle.hub_revtree.specs.Tree.{IsRevTree}
 use Rattle.hub_database.specs.declared.entry.Entry.{Entry}
-use Rattle.hub_database.specs.declared.store.Document.{Document}
-use Rattle.hub_database.specs.Filed.{Filed, named, edit_at, edit_in, journal_of, IsFiled}
+use Rattle.hub_database.specs.declared.document.Document.{Document}
+use Rattle.hub_database.specs.Filed.{named, edit_at, edit_in, journal_of, IsFiled}
 use Rattle.hub_database.specs.Store.{filed, files}
 use Rattle.hub_database.proofs.ListLemmas.{any_map, number_apart}
 use Rattle.hub_database.proofs.StoreLemmas.{get_at}

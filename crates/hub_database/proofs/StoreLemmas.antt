@@ -1,10 +1,10 @@
 -- What storing one edit does to the documents and the journal of a store.
-use Rattle.std.proofs.Common.{◌≡◌, ◌≢◌, ℕ, zero, suc, ◌+◌, ◌<◌, ◌≤◌, List, [], ◌∷◌, ◌++◌, length, Bool, true, false, ap, refl, sym, ◌∙◌, subst, arith, inl, inr}
+use Rattle.std.proofs.Common.{◌≡◌, ◌≢◌, ℕ, zero, suc, ◌+◌, ◌<◌, ◌≤◌, List, [], ◌∷◌, ◌++◌, length, Bool, ap, refl, sym, ◌∙◌, subst, arith, inl, inr}
 use Rattle.std.specs.Prelude.{IfOk, OnErr, Result, Ok, Err, get_or, Option, Some, None, slice_get, slice_set, map, option_map, nat_le, if◌then◌else◌}
 use Rattle.std.specs.Str.{bytes_eq}
 use Rattle.std.proofs.lemmas.Bool.{leb-false}
-use Rattle.std.proofs.lemmas.Option.{same_Some, none-some, slice_get-map, slice_get_past, slice_get_within, get_or_from_slice_get}
-use Rattle.std.proofs.lemmas.List.{length-map, length_push, map-set}
+use Rattle.std.proofs.lemmas.Option.{same_Some, slice_get-map, slice_get_past, slice_get_within, get_or_from_slice_get}
+use Rattle.std.proofs.lemmas.List.{length-map, length_push}
 use Rattle.std.proofs.Math.Seq.{map-set_same}
 use Rattle.std.proofs.Math.ListN.{length-set}
 use Rattle.hub_model.specs.Revision.{Revision}
@@ -14,7 +14,7 @@ use Rattle.hub_model.specs.declared.outcomes.Outcome.{Outcome}
 use Rattle.hub_model.specs.declared.outcomes.Outcome.TheVariants.{Stored, Known, Refused}
 use Rattle.hub_revtree.specs.Tree.{IsRevTree, nameless}
 use Rattle.hub_database.specs.declared.entry.Entry.{Entry}
-use Rattle.hub_database.specs.declared.store.Document.{Document}
+use Rattle.hub_database.specs.declared.document.Document.{Document}
 use Rattle.hub_database.specs.Filed.{Filed, named, edit_at, journal_of, IsFiled, Settles, grown, after, numbered}
 use Rattle.hub_database.specs.Store.{filed, files, IsStore, IsSameStore, edits_of_store}
 use Rattle.hub_database.specs.declared.store.Store.{Store}
@@ -45,8 +45,7 @@ module _ (limit : ℕ) (numbers : List ℕ → Option ℕ) (documents : List Fil
       → Leaves limit documents entries (named id (nameless path deleted body)) (Stored r) numbers' documents' (entries ++ record { document = k; revision = length edits } ∷ [])
   stores r s numbers' documents' at other this rest fewer =
       let ok = acceptable_in (journal_of documents entries) id edits (kept_of limit numbers documents entries st id k edits was) one path deleted body st.legal s.1 in
-      let room : length entries < limit = leb-false limit (length entries) s.2 in
-      (
+      let room : length entries < limit = leb-false limit (length entries) s.2 in (
         filed_more limit numbers documents entries st id k edits was (nameless path deleted body) ok room numbers' documents' at other this rest fewer,
         answers (Stored r) s ∙ ap (λ J. record { outcome = Stored r; journal = J }) (sym (journal_is limit numbers documents entries st id k edits was (nameless path deleted body) ok room numbers' documents' at other this rest fewer)),
       )
@@ -136,14 +135,14 @@ extended_so limit numbers documents entries st id k there d at tree path deleted
 extended_so limit numbers documents entries st id k there d at tree path deleted body (Err x) d' entries' s f e w = let l = unchanged limit numbers documents entries st id k there d at d' entries' w.0 w.1 in (l.0, tt, l.1)
 
 -- the same as `inserted`
-pub inserted_so : (limit : ℕ) (old new : Store) → IsStore limit old → (id : List ℕ) → get_by_text old.numbers id ≡ None → (path : List Revision) (deleted : Bool) (body : List ℕ) (result : Result (Outcome Revision) AllocError)
-    → IfOk result (Settles (nat_le limit (length old.journal.items)) [] (nameless path deleted body))
+pub inserted_so : (old new : Store) → IsStore old → (id : List ℕ) → get_by_text old.numbers id ≡ None → (path : List Revision) (deleted : Bool) (body : List ℕ) (result : Result (Outcome Revision) AllocError)
+    → IfOk result (Settles (nat_le old.limits.journal (length old.journal.items)) [] (nameless path deleted body))
     → IfOk result (λ o. files new.documents.items ≡ grown o (files old.documents.items) (record { id = id; latest = length old.journal.items + 1; edits = nameless path deleted body ∷ [] }))
     → IfOk result (λ o. new.journal.items ≡ grown o old.journal.items (record { document = length old.documents.items; revision = 0 }))
-    → IfOk result (λ o. (q : List ℕ) → get_by_text new.numbers q ≡ numbered o (get_by_text old.numbers) id (length old.documents.items) q) → OnErr result (IsSameStore old new)
-    → IsStore limit new × IfOk result (λ o. merges limit (edits_of_store old) (named id (nameless path deleted body)) ≡ record { outcome = o; journal = edits_of_store new }) × OnErr result (edits_of_store new ≡ edits_of_store old)
-inserted_so limit old new st id absent path deleted body (Ok o) s f e n w =
-    let l = inserted limit (get_by_text old.numbers) old.documents.items old.journal.items st id absent path deleted body o (get_by_text new.numbers) new.documents.items new.journal.items s f e n in (l.0, l.1, tt)
-inserted_so limit old new st id absent path deleted body (Err x) s f e n w =
+    → IfOk result (λ o. (q : List ℕ) → get_by_text new.numbers q ≡ numbered o (get_by_text old.numbers) id (length old.documents.items) q) → OnErr result (IsSameStore old new) → new.limits ≡ old.limits
+    → IsStore new × IfOk result (λ o. merges old.limits.journal (edits_of_store old) (named id (nameless path deleted body)) ≡ record { outcome = o; journal = edits_of_store new }) × OnErr result (edits_of_store new ≡ edits_of_store old)
+inserted_so old new st id absent path deleted body (Ok o) s f e n w stay =
+    let l = inserted old.limits.journal (get_by_text old.numbers) old.documents.items old.journal.items st id absent path deleted body o (get_by_text new.numbers) new.documents.items new.journal.items s f e n in (rw stay l.0, l.1, tt)
+inserted_so old new st id absent path deleted body (Err x) s f e n w stay =
     let same : get_by_text new.numbers ≡ get_by_text old.numbers = λ i q. w.numbers q i in
-    (rw (same, w.documents, w.journal) st, tt, rw (w.documents, w.journal) refl)
+    (rw (stay, same, w.documents, w.journal) st, tt, rw (w.documents, w.journal) refl)

@@ -3,8 +3,8 @@ use Rattle.std.specs.Prelude.{◌≡◌, ◌≤◌, ℕ, List, length, Bool}
 use Rattle.hub_model.specs.Journal.{Edit, IsAcceptable}
 use Rattle.hub_model.specs.declared.outcomes.Outcome.TheVariants.{Stored, Known, Refused}
 use Rattle.hub_database.specs.Filed.{Settles}
-use Rattle.hub_database.specs.declared.store.Looked.{Looked}
-use Rattle.hub_database.specs.declared.store.Looked.TheVariants as looked
+use Rattle.hub_database.specs.declared.document.Looked.{Looked}
+use Rattle.hub_database.specs.declared.document.Looked.TheVariants as looked
 
 -- what is known of the edit e after a look at a tree with these edits and this room
 abbrev pub LooksAs : Bool → List Edit → Edit → ℕ → Looked → Type 0

@@ -2,7 +2,7 @@
 use Rattle.std.specs.Prelude.{◌≡◌, ℕ, List, map}
 use Rattle.std.specs.BTreeMap.{get_by_text}
 use Rattle.hub_model.specs.Journal.{Edit}
-use Rattle.hub_database.specs.declared.store.Document.{Document}
+use Rattle.hub_database.specs.declared.document.Document.{Document}
 use Rattle.hub_database.specs.declared.store.Store.{Store}
 use Rattle.hub_database.specs.Filed.{Filed, IsFiled, journal_of}
 
@@ -19,8 +19,8 @@ abbrev pub edits_of_store : Store → List Edit
 edits_of_store store = journal_of (files store.documents.items) store.journal.items
 
 -- what holds of every store
-abbrev pub IsStore : ℕ → Store → Type 0
-IsStore limit store = IsFiled limit (get_by_text store.numbers) (files store.documents.items) store.journal.items
+abbrev pub IsStore : Store → Type 0
+IsStore store = IsFiled store.limits.journal (get_by_text store.numbers) (files store.documents.items) store.journal.items
 
 -- the same documents, numbers and journal
 pub record IsSameStore (old new : Store) : Type 0 where

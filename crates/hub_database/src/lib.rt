@@ -3,6 +3,7 @@
 
 mod batch;
 mod database;
+mod document;
 mod entry;
 mod store;
 #[cfg(test)]

@@ -28,7 +28,9 @@ fn shows(state: &DbState, at: usize, seq: u64, id: &str, rev: &str) -> bool {
     let Some(row) = rows.get(at) else {
         return false;
     };
-    row.seq == seq && row.id.as_str() == id && row.changes.as_slice().first().copied() == RevId::read(rev)
+    row.seq == seq
+        && row.id.as_str() == id
+        && row.changes.as_slice().first().copied() == RevId::read(rev)
 }
 
 fn writes(state: &mut DbState, docs: Vec<Doc>, wanted: &[Option<Outcome<RevId>>]) -> bool {
@@ -62,16 +64,26 @@ fn refused(fault: Fault) -> Option<Outcome<RevId>> {
 }
 
 const A: &str = "{\"_id\":\"a\",\"_rev\":\"1-a\"}";
+
 const B: &str = "{\"_id\":\"b\",\"_rev\":\"1-b\"}";
+
 const NEWER: &str = "{\"_id\":\"a\",\"_revisions\":{\"start\":2,\"ids\":[\"c\",\"a\"]}}";
+
 const TREE: &str = "{\"_id\":\"b\",\"_revisions\":{\"start\":2,\"ids\":[\"y\",\"x\"]}}";
+
 const OTHER: &str = "{\"_id\":\"b\",\"_revisions\":{\"start\":3,\"ids\":[\"w\",\"y\",\"q\"]}}";
 
 #[test]
 fn rows_follow_the_latest_edits(rt: HostRuntime) -> Result<(), Fail> {
     let alloc = rt.alloc();
     let mut state = DbState::new(alloc, Limits::full());
-    assert!(rt; writes(&mut state, docs(alloc, &[A, B]), &[stored("1-a"), stored("1-b")]));
+    assert!(rt;
+        writes(
+            &mut state,
+            docs(alloc, &[A, B]),
+            &[stored("1-a"), stored("1-b")]
+        )
+    );
     assert!(rt; shows(&state, 0, 1, "a", "1-a"));
     assert!(rt; shows(&state, 1, 2, "b", "1-b"));
     assert!(rt; writes(&mut state, docs(alloc, &[NEWER]), &[stored("2-c")]));
@@ -93,7 +105,8 @@ fn refused_documents_stop_no_others(rt: HostRuntime) -> Result<(), Fail> {
             &mut state,
             docs(alloc, &[A, OTHER, NEWER]),
             &[stored("1-a"), refused(Fault::Contradicts), stored("2-c")]
-        ));
+        )
+    );
     assert_eq!(rt; state.update_seq(), 3);
     Ok(())
 }
@@ -104,8 +117,20 @@ fn a_full_journal_takes_no_more(rt: HostRuntime) -> Result<(), Fail> {
     let mut limits = Limits::full();
     limits.journal = 1;
     let mut state = DbState::new(alloc, limits);
-    assert!(rt; writes(&mut state, docs(alloc, &[A, B]), &[stored("1-a"), refused(Fault::SequenceFull)]));
-    assert!(rt; writes(&mut state, docs(alloc, &[NEWER, A]), &[refused(Fault::SequenceFull), known()]));
+    assert!(rt;
+        writes(
+            &mut state,
+            docs(alloc, &[A, B]),
+            &[stored("1-a"), refused(Fault::SequenceFull)]
+        )
+    );
+    assert!(rt;
+        writes(
+            &mut state,
+            docs(alloc, &[NEWER, A]),
+            &[refused(Fault::SequenceFull), known()]
+        )
+    );
     assert_eq!(rt; state.update_seq(), 1);
     Ok(())
 }

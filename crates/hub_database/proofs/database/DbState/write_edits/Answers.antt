@@ -16,7 +16,7 @@ loop-doc-preserved c =
     let left : length c.loop-doc.doc-iterator.rest.items ≡ suc (length c.next.new.self.rest.items) = ap length step.0 in
     record {
       state = c.in-Ok.ensures.state;
-      limits = i.limits;
+      limits = c.in-Ok.ensures.limits ∙ i.limits;
       all = rw (c.push_reserved.ensures.items) (ap (merges_all c.args.self.now.limits.journal c.args.self.now.journal) (map-append edit_of c.loop-doc.yielded (c.in-Some.doc ∷ [])) ∙ all);
       docs = append_assoc c.loop-doc.yielded (c.in-Some.doc ∷ []) c.next.new.self.rest.items ∙ (ap (λ ds. c.loop-doc.yielded ++ ds) (sym step.0) ∙ i.docs);
       replies = omega (arith, longer, length_push c.loop-doc.yielded c.in-Some.doc, i.replies);

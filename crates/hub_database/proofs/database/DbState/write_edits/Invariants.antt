@@ -7,8 +7,8 @@ use Rattle.hub_database.proofs.database.DbState.write_edits.Given as goal
 
 abbrev pub invariant-loop-doc : goal.invariant-loop-doc
 invariant-loop-doc l = record {
-  state : IsStore l.self-inside.limits.journal l.self-inside.store;
-  limits : l.self-inside.limits ≡ l.fn.self.limits;
+  state : IsStore l.self-inside.store;
+  limits : l.self-inside.store.limits ≡ l.fn.self.limits;
   all : merges_all l.fn.self.limits.journal l.fn.self.journal (edits_in l.yielded) ≡ record { outcomes = l.list.items; journal = edits_of_store l.self-inside.store };
   docs : l.yielded ++ l.doc-iterator.rest.items ≡ l.fn.docs.items;
   replies : length l.list.items ≡ length l.yielded;

@@ -1,8 +1,8 @@
-use Rattle.std.proofs.Common.{refl, sym, ◌∙◌, subst}
+use Rattle.std.proofs.Common.{refl, subst}
 use Rattle.hub_model.specs.Journal.{IsAcceptable}
 use Rattle.hub_model.proofs.Tests.{is_acceptable_from}
 use Rattle.hub_database.proofs.MergeLemmas.{head_known, head_new, not_acceptable}
-use Rattle.hub_database.proofs.store.look.Goals as goal
+use Rattle.hub_database.proofs.document.look.Goals as goal
 
 pub returns-in-Ok-None-clause-looked : goal.returns-in-Ok-None-clause-looked
 returns-in-Ok-None-clause-looked c = head_known _ _ ((rw c.in-Ok-None.field-0-is at c.in-Ok-None.ensures.known).0 refl)
