@@ -52,8 +52,8 @@ impl RevId {
         &self.bytes[..self.len as usize]
     }
 
-    // Whether both are one. It compares no byte past the hashes.
-    pub(crate) fn is_same(&self, other: &RevId) -> bool
+    /// Whether both are one. It compares no byte past the hashes.
+    pub fn is_same(&self, other: &RevId) -> bool
         ensures { result ≡ is_same_revision self.now other.now }
     {
         self.number == other.number && self.hash() == other.hash()

@@ -1,0 +1,183 @@
+-- One more edit of a document, that is there or new: the journal has it at its end, and the documents stay in order.
+use Rattle.std.proofs.Common.{◌≡◌, ◌≢◌, ℕ, ◌+◌, ◌<◌, ◌≤◌, List, [], ◌∷◌, ◌++◌, length, true, false, ap, refl, sym, ◌∙◌, subst, arith, inl, inr, ◌⊎◌, ⊎_elim, not, ◌||◌}
+use Rattle.std.specs.Prelude.{Option, Some, None, slice_get, get_or, drop, map, nat_eq, if◌then◌else◌}
+use Rattle.std.specs.Str.{bytes_eq}
+use Rattle.std.proofs.lemmas.Bool.{eq-eqb}
+use Rattle.std.proofs.lemmas.List.{get_or_append_left, get_or_push, map-append, append-nil, drop-append-le, length_push, length-map}
+use Rattle.std.proofs.lemmas.List.Elements.{filter-append}
+use Rattle.std.proofs.lemmas.List.Folds.{list_any-append}
+use Rattle.std.proofs.Math.ListN.{drop_of_length-le}
+use Rattle.std.proofs.lemmas.Option.{same_Some, none-some, slice_get_within}
+use Rattle.hub_model.specs.Journal.{Edit, IsAcceptable, IsLegal, edits_of}
+use Rattle.hub_model.specs.Current.{is_edited}
+use Rattle.hub_model.proofs.Legal.{legal_more}
+use Rattle.hub_model.proofs.Lists.{same_number, same_text}
+use Rattle.hub_model.proofs.Tests.{or_right}
+use Rattle.hub_database.specs.declared.entry.Entry.{Entry}
+use Rattle.hub_database.specs.Filed.{Filed, named, no_edit, edit_in, edit_at, journal_of, IsFiled}
+use Rattle.hub_database.proofs.ListLemmas.{get_push, get_push_other, maps_agree, text_same, text_apart, number_apart, or_none}
+
+-- the document is there with these edits, or not at all
+abbrev pub Was : (List ℕ → Option ℕ) → List Filed → List ℕ → ℕ → List Edit → Type 0
+Was numbers documents id k edits = ((numbers id ≡ Some k) × ((d : Filed) × (slice_get documents k ≡ Some d) × (d.edits ≡ edits))) ⊎ ((numbers id ≡ None) × (slice_get documents k ≡ None) × (edits ≡ []))
+
+module _ (limit : ℕ) (numbers : List ℕ → Option ℕ) (documents : List Filed) (entries : List Entry) (st : IsFiled limit numbers documents entries) (id : List ℕ) (k : ℕ) (edits : List Edit) (was : Was numbers documents id k edits) where
+  -- the document at k has the id and the edits
+  at_k : (d : Filed) → slice_get documents k ≡ Some d → (d.id ≡ id) × (d.edits ≡ edits)
+  at_k d g = ⊎_elim
+      (λ w. let f = st.found id k w.0 in (ap (λ (z : Filed). z.id) (same_Some d f.0 (sym g ∙ f.1)) ∙ f.2, ap (λ (z : Filed). z.edits) (same_Some d w.1.0 (sym g ∙ w.1.1)) ∙ w.1.2))
+      (λ w. absurd (none-some d (sym w.1 ∙ g))) was
+
+  apart : (j : ℕ) (d : Filed) → slice_get documents j ≡ Some d → j ≢ k → d.id ≢ id
+  apart j d g n e =
+      let own : numbers id ≡ Some j = sym (ap numbers e) ∙ st.own j d g in
+      ⊎_elim (λ w. n (same_Some j k (sym own ∙ w.0))) (λ w. none-some j (sym w.0 ∙ own)) was
+
+  pub kept_of : edits_of (journal_of documents entries) id ≡ map (named id) edits
+  kept_of = ⊎_elim
+      (λ w. let a = at_k w.1.0 w.1.1 in let k : edits_of (journal_of documents entries) w.1.0.id ≡ map (named w.1.0.id) w.1.0.edits = st.kept k w.1.0 w.1.1 in
+      subst (λ es. edits_of (journal_of documents entries) id ≡ map (named id) es) a.1 (subst (λ i. edits_of (journal_of documents entries) i ≡ map (named i) w.1.0.edits) a.0 k))
+      (λ w. st.others id w.0 ∙ sym (ap (map (named id)) w.2)) was
+
+  module _ (e : Edit) (ok : IsAcceptable (journal_of documents entries) (named id e)) (room : length entries < limit)
+      (numbers' : List ℕ → Option ℕ) (documents' : List Filed)
+      (at : slice_get documents' k ≡ Some (record { id = id; latest = length entries + 1; edits = edits ++ e ∷ [] }))
+      (other : (j : ℕ) → j ≢ k → slice_get documents' j ≡ slice_get documents j)
+      (this : numbers' id ≡ Some k) (rest : (q : List ℕ) → q ≢ id → numbers' q ≡ numbers q) (fewer : length documents' ≤ length entries + 1) where
+    abbrev changed : Filed
+    changed = record { id = id; latest = length entries + 1; edits = edits ++ e ∷ [] }
+
+    abbrev entry : Entry
+    entry = record { document = k; revision = length edits }
+
+    old_entry : (i : ℕ) (y : Entry) → slice_get entries i ≡ Some y → edit_at documents' y ≡ edit_at documents y
+    old_entry i y g = from (same_number y.document k) (st.within i y g)
+      where
+        from : (y.document ≡ k) ⊎ (y.document ≢ k) → ((d : Filed) × (slice_get documents y.document ≡ Some d) × (y.revision < length d.edits)) → edit_at documents' y ≡ edit_at documents y
+        from (inr n) w = ap (λ o. edit_in o y.revision) (other y.document n)
+        from (inl q) (d, there, low) =
+            let a = at_k d (subst (λ j. slice_get documents j ≡ Some d) q there) in
+            let now : slice_get documents' y.document ≡ Some changed = subst (λ j. slice_get documents' j ≡ Some changed) (sym q) at in
+            let within : y.revision < length edits = subst (λ es. y.revision < length es) a.1 low in
+            ap (λ o. edit_in o y.revision) now ∙ (ap (named id) (get_or_append_left edits (e ∷ []) no_edit y.revision within)
+            ∙ sym (ap (λ o. edit_in o y.revision) there ∙ (ap (λ i. named i (get_or d.edits y.revision no_edit)) a.0 ∙ ap (λ es. named id (get_or es y.revision no_edit)) a.1)))
+
+    -- the journal has one more edit at its end
+    pub journal_is : journal_of documents' (entries ++ entry ∷ []) ≡ journal_of documents entries ++ named id e ∷ []
+    journal_is =
+        map-append (edit_at documents') entries (entry ∷ []) ∙ (ap (λ es. es ++ edit_at documents' entry ∷ []) (maps_agree (edit_at documents') (edit_at documents) entries old_entry)
+        ∙ ap (λ f. journal_of documents entries ++ f ∷ []) (ap (λ o. edit_in o (length edits)) at ∙ ap (named id) (get_or_push edits e no_edit (length edits) refl)))
+
+    edits_more : (q : List ℕ) → edits_of (journal_of documents' (entries ++ entry ∷ [])) q ≡ edits_of (journal_of documents entries) q ++ (if bytes_eq id q then (named id e ∷ []) else [])
+    edits_more q = ap (λ es. edits_of es q) journal_is ∙ filter-append (λ (f : Edit). bytes_eq f.id q) (journal_of documents entries) (named id e ∷ [])
+
+    edits_same : (q : List ℕ) → id ≢ q → edits_of (journal_of documents' (entries ++ entry ∷ [])) q ≡ edits_of (journal_of documents entries) q
+    edits_same q n = edits_more q ∙ (ap (λ b. edits_of (journal_of documents entries) q ++ (if b then (named id e ∷ []) else [])) (text_apart id q n) ∙ append-nil (edits_of (journal_of documents entries) q))
+
+    edits_here : edits_of (journal_of documents' (entries ++ entry ∷ [])) id ≡ map (named id) (edits ++ e ∷ [])
+    edits_here = edits_more id ∙ (ap (λ b. edits_of (journal_of documents entries) id ++ (if b then (named id e ∷ []) else [])) (text_same id id refl)
+        ∙ (ap (λ es. es ++ named id e ∷ []) kept_of ∙ sym (map-append (named id) edits (e ∷ []))))
+
+    found' : (q : List ℕ) (j : ℕ) → numbers' q ≡ Some j → (d : Filed) × (slice_get documents' j ≡ Some d) × (d.id ≡ q)
+    found' q j h = from (same_text q id)
+      where
+        here : j ≡ k → (q ≡ id) → (d : Filed) × (slice_get documents' j ≡ Some d) × (d.id ≡ q)
+        here s t = (changed, subst (λ i. slice_get documents' i ≡ Some changed) (sym s) at, sym t)
+
+        there : q ≢ id → ((d : Filed) × (slice_get documents j ≡ Some d) × (d.id ≡ q)) → (j ≡ k) ⊎ (j ≢ k) → (d : Filed) × (slice_get documents' j ≡ Some d) × (d.id ≡ q)
+        there n f (inl s) = absurd (n (sym f.2 ∙ (at_k f.0 (subst (λ i. slice_get documents i ≡ Some f.0) s f.1)).0))
+        there n f (inr s) = (f.0, other j s ∙ f.1, f.2)
+
+        from : (q ≡ id) ⊎ (q ≢ id) → (d : Filed) × (slice_get documents' j ≡ Some d) × (d.id ≡ q)
+        from (inl t) = here (same_Some j k (sym h ∙ (ap numbers' t ∙ this))) t
+        from (inr n) = there n (st.found q j (sym (rest q n) ∙ h)) (same_number j k)
+
+    own' : (j : ℕ) (d : Filed) → slice_get documents' j ≡ Some d → numbers' d.id ≡ Some j
+    own' j d g = from (same_number j k)
+      where
+        from : (j ≡ k) ⊎ (j ≢ k) → numbers' d.id ≡ Some j
+        from (inl s) = let same : changed ≡ d = same_Some changed d (sym at ∙ subst (λ i. slice_get documents' i ≡ Some d) s g) in sym (ap numbers' (ap (λ (z : Filed). z.id) same)) ∙ (this ∙ ap Some (sym s))
+        from (inr n) = let before : slice_get documents j ≡ Some d = sym (other j n) ∙ g in rest d.id (apart j d before n) ∙ st.own j d before
+
+    kept' : (j : ℕ) (d : Filed) → slice_get documents' j ≡ Some d → edits_of (journal_of documents' (entries ++ entry ∷ [])) d.id ≡ map (named d.id) d.edits
+    kept' j d g = from (same_number j k)
+      where
+        from : (j ≡ k) ⊎ (j ≢ k) → edits_of (journal_of documents' (entries ++ entry ∷ [])) d.id ≡ map (named d.id) d.edits
+        from (inl s) = subst (λ (z : Filed). edits_of (journal_of documents' (entries ++ entry ∷ [])) z.id ≡ map (named z.id) z.edits) (same_Some changed d (sym at ∙ subst (λ i. slice_get documents' i ≡ Some d) s g)) edits_here
+        from (inr n) = let before : slice_get documents j ≡ Some d = sym (other j n) ∙ g in edits_same d.id (λ t. apart j d before n (sym t)) ∙ st.kept j d before
+
+    others' : (q : List ℕ) → numbers' q ≡ None → edits_of (journal_of documents' (entries ++ entry ∷ [])) q ≡ []
+    others' q h = from (same_text id q)
+      where
+        from : (id ≡ q) ⊎ (id ≢ q) → edits_of (journal_of documents' (entries ++ entry ∷ [])) q ≡ []
+        from (inl t) = absurd (none-some k (sym h ∙ (sym (ap numbers' t) ∙ this)))
+        from (inr n) = edits_same q n ∙ st.others q (sym (rest q (λ t. n (sym t))) ∙ h)
+
+    within' : (i : ℕ) (y : Entry) → slice_get (entries ++ entry ∷ []) i ≡ Some y → (d : Filed) × (slice_get documents' y.document ≡ Some d) × (y.revision < length d.edits)
+    within' i y g = from (same_number i (length entries))
+      where
+        longer : length (edits ++ e ∷ []) ≡ length edits + 1
+        longer = length_push edits e
+
+        newest : entry ≡ y → (d : Filed) × (slice_get documents' y.document ≡ Some d) × (y.revision < length d.edits)
+        newest s = subst (λ (z : Entry). (d : Filed) × (slice_get documents' z.document ≡ Some d) × (z.revision < length d.edits)) s (changed, at, omega (arith, longer))
+
+        older : ((d : Filed) × (slice_get documents y.document ≡ Some d) × (y.revision < length d.edits)) → (y.document ≡ k) ⊎ (y.document ≢ k) → (d : Filed) × (slice_get documents' y.document ≡ Some d) × (y.revision < length d.edits)
+        older (d, there, low) (inl q) =
+            let a = at_k d (subst (λ j. slice_get documents j ≡ Some d) q there) in
+            let within : y.revision < length edits = subst (λ es. y.revision < length es) a.1 low in
+            (changed, subst (λ j. slice_get documents' j ≡ Some changed) (sym q) at, omega (arith, longer, within))
+        older (d, there, low) (inr n) = (d, other y.document n ∙ there, low)
+
+        from : (i ≡ length entries) ⊎ (i ≢ length entries) → (d : Filed) × (slice_get documents' y.document ≡ Some d) × (y.revision < length d.edits)
+        from (inl s) = newest (same_Some entry y (sym (get_push entries entry) ∙ subst (λ n. slice_get (entries ++ entry ∷ []) n ≡ Some y) s g))
+        from (inr n) = older (st.within i y (sym (get_push_other entries entry i n) ∙ g)) (same_number y.document k)
+
+    latest' : (i : ℕ) (y : Entry) (d : Filed) → slice_get (entries ++ entry ∷ []) i ≡ Some y → slice_get documents' y.document ≡ Some d → is_edited d.id (drop (i + 1) (journal_of documents' (entries ++ entry ∷ []))) ≡ not (nat_eq d.latest (i + 1))
+    latest' i y d g h = ap (λ es. is_edited d.id (drop (i + 1) es)) journal_is ∙ from (same_number i (length entries))
+      where
+        many : length (journal_of documents entries) ≡ length entries
+        many = length-map entries (edit_at documents)
+
+        is_changed : y.document ≡ k → changed ≡ d
+        is_changed s = same_Some changed d (sym at ∙ subst (λ j. slice_get documents' j ≡ Some d) s h)
+
+        past : i ≡ length entries → drop (i + 1) (journal_of documents entries ++ named id e ∷ []) ≡ []
+        past s = drop_of_length-le (journal_of documents entries ++ named id e ∷ []) (let l : length (journal_of documents entries ++ named id e ∷ []) ≡ length (journal_of documents entries) + 1 = length_push (journal_of documents entries) (named id e) in omega (arith, l, many))
+
+        newest : i ≡ length entries → entry ≡ y → is_edited d.id (drop (i + 1) (journal_of documents entries ++ named id e ∷ [])) ≡ not (nat_eq d.latest (i + 1))
+        newest s t =
+            let last : d.latest ≡ i + 1 = sym (ap (λ (z : Filed). z.latest) (is_changed (sym (ap (λ (z : Entry). z.document) t)))) ∙ ap (λ n. n + 1) (sym s) in
+            ap (is_edited d.id) (past s) ∙ sym (ap not (eq-eqb d.latest (i + 1) last))
+
+        split : i < length entries → is_edited d.id (drop (i + 1) (journal_of documents entries ++ named id e ∷ [])) ≡ (is_edited d.id (drop (i + 1) (journal_of documents entries)) || (bytes_eq d.id id || false))
+        split low = ap (is_edited d.id) (drop-append-le (i + 1) (journal_of documents entries) (named id e ∷ []) (omega (arith, many))) ∙ list_any-append (λ (f : Edit). bytes_eq d.id f.id) (drop (i + 1) (journal_of documents entries)) (named id e ∷ [])
+
+        older : i < length entries → slice_get entries i ≡ Some y → (y.document ≡ k) ⊎ (y.document ≢ k) → is_edited d.id (drop (i + 1) (journal_of documents entries ++ named id e ∷ [])) ≡ not (nat_eq d.latest (i + 1))
+        older low there (inl q) =
+            let same = is_changed q in
+            let named_so : bytes_eq d.id id ≡ true = text_same d.id id (sym (ap (λ (z : Filed). z.id) same)) in
+            let later : nat_eq d.latest (i + 1) ≡ false = number_apart d.latest (i + 1) (λ t. let l : length entries + 1 ≡ d.latest = ap (λ (z : Filed). z.latest) same in omega (arith, t, l, low)) in
+            split low ∙ (or_right (is_edited d.id (drop (i + 1) (journal_of documents entries))) (bytes_eq d.id id || false) (ap (λ b. b || false) named_so) ∙ sym (ap not later))
+        older low there (inr n) =
+            let before : slice_get documents y.document ≡ Some d = sym (other y.document n) ∙ h in
+            let not_so : bytes_eq d.id id ≡ false = text_apart d.id id (apart y.document d before n) in
+            split low ∙ (ap (λ b. is_edited d.id (drop (i + 1) (journal_of documents entries)) || (b || false)) not_so ∙ (or_none (is_edited d.id (drop (i + 1) (journal_of documents entries))) ∙ st.latest i y d there before))
+
+        from : (i ≡ length entries) ⊎ (i ≢ length entries) → is_edited d.id (drop (i + 1) (journal_of documents entries ++ named id e ∷ [])) ≡ not (nat_eq d.latest (i + 1))
+        from (inl s) = newest s (same_Some entry y (sym (get_push entries entry) ∙ subst (λ n. slice_get (entries ++ entry ∷ []) n ≡ Some y) s g))
+        from (inr n) = let there : slice_get entries i ≡ Some y = sym (get_push_other entries entry i n) ∙ g in older (slice_get_within entries i y there) there (same_number y.document k)
+
+    -- what holds of the documents goes on to hold
+    pub filed_more : IsFiled limit numbers' documents' (entries ++ entry ∷ [])
+    filed_more = record {
+      found = found';
+      own = own';
+      kept = kept';
+      others = others';
+      within = within';
+      latest = latest';
+      legal = subst IsLegal (sym journal_is) (legal_more (journal_of documents entries) (named id e) st.legal ok);
+      count = omega (arith, room, length_push entries entry);
+      fewer = omega (arith, fewer, length_push entries entry);
+    }

@@ -1,0 +1,5 @@
+pub mod ListLemmas
+pub mod MergeLemmas
+pub mod FiledLemmas
+pub mod StoreLemmas
+pub mod RowLemmas

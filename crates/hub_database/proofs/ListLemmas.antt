@@ -1,0 +1,60 @@
+-- Places of lists, and what a list with one more at its end, or one changed, has at them.
+use Rattle.std.proofs.Common.{◌≡◌, ◌≢◌, ℕ, zero, suc, ◌<◌, ◌≤◌, List, [], ◌∷◌, ◌++◌, length, Bool, true, false, ap, refl, ◌∙◌, arith, inl, inr, ◌||◌}
+use Rattle.std.specs.Prelude.{Some, slice_get, slice_set, map, filter, nat_eq, if◌then◌else◌}
+use Rattle.std.specs.List.{list_any}
+use Rattle.std.specs.Str.{bytes_eq}
+use Rattle.std.proofs.lemmas.Bool.{cases_Bool, eqb-true}
+use Rattle.std.proofs.lemmas.Slice.Eq.{bytes_eq-Decides}
+
+module _ {A : Type 0} where
+  pub get_push : (xs : List A) (v : A) → slice_get (xs ++ v ∷ []) (length xs) ≡ Some v
+  get_push [] v = refl
+  get_push (x ∷ xs) v = get_push xs v
+
+  pub get_push_other : (xs : List A) (v : A) (j : ℕ) → j ≢ length xs → slice_get (xs ++ v ∷ []) j ≡ slice_get xs j
+  get_push_other [] v zero n = absurd (n refl)
+  get_push_other [] v (suc j) n = refl
+  get_push_other (x ∷ xs) v zero n = refl
+  get_push_other (x ∷ xs) v (suc j) n = get_push_other xs v j (λ e. n (ap suc e))
+
+  pub get_set : (xs : List A) (k : ℕ) (v : A) → k < length xs → slice_get (slice_set xs k v) k ≡ Some v
+  get_set [] k v h = absurd (omega arith)
+  get_set (x ∷ xs) zero v h = refl
+  get_set (x ∷ xs) (suc k) v h = get_set xs k v (omega arith)
+
+  pub get_set_other : (xs : List A) (k : ℕ) (v : A) (j : ℕ) → j ≢ k → slice_get (slice_set xs k v) j ≡ slice_get xs j
+  get_set_other [] k v j n = refl
+  get_set_other (x ∷ xs) zero v zero n = absurd (n refl)
+  get_set_other (x ∷ xs) zero v (suc j) n = refl
+  get_set_other (x ∷ xs) (suc k) v zero n = refl
+  get_set_other (x ∷ xs) (suc k) v (suc j) n = get_set_other xs k v j (λ e. n (ap suc e))
+
+  pub count_filter : (P : A → Bool) (xs : List A) → length (filter P xs) ≤ length xs
+  count_filter P [] = omega arith
+  count_filter P (x ∷ xs) = from (P x) (count_filter P xs)
+    where
+      from : (b : Bool) → length (filter P xs) ≤ length xs → length (if b then (x ∷ filter P xs) else filter P xs) ≤ length (x ∷ xs)
+      from true h = omega (arith, h)
+      from false h = omega (arith, h)
+
+-- two functions that agree at each place
+pub maps_agree : {A B : Type 0} (f g : A → B) (xs : List A) → ((i : ℕ) (x : A) → slice_get xs i ≡ Some x → f x ≡ g x) → map f xs ≡ map g xs
+maps_agree f g [] h = refl
+maps_agree f g (x ∷ xs) h = ap (λ y. y ∷ map f xs) (h zero x refl) ∙ ap (λ ys. g x ∷ ys) (maps_agree f g xs (λ i y e. h (suc i) y e))
+
+pub any_map : {A B : Type 0} (P : B → Bool) (f : A → B) (xs : List A) → list_any P (map f xs) ≡ list_any (λ x. P (f x)) xs
+any_map P f [] = refl
+any_map P f (x ∷ xs) = ap (λ b. P (f x) || b) (any_map P f xs)
+
+pub text_same : (a b : List ℕ) → a ≡ b → bytes_eq a b ≡ true
+text_same a b e = (bytes_eq-Decides a b).1 e
+
+pub text_apart : (a b : List ℕ) → a ≢ b → bytes_eq a b ≡ false
+text_apart a b n = elim (cases_Bool (bytes_eq a b)) [ inl t ↦ absurd (n ((bytes_eq-Decides a b).0 t)) | inr t ↦ t ]
+
+pub number_apart : (m n : ℕ) → m ≢ n → nat_eq m n ≡ false
+number_apart m n h = elim (cases_Bool (nat_eq m n)) [ inl t ↦ absurd (h (eqb-true m n t)) | inr t ↦ t ]
+
+pub or_none : (b : Bool) → (b || (false || false)) ≡ b
+or_none true = refl
+or_none false = refl

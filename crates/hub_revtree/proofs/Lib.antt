@@ -1,0 +1,3 @@
+pub mod BranchLemmas
+pub mod LeafLemmas
+pub mod TreeLemmas

@@ -1,0 +1,23 @@
+-- The tree of one document, seen as the journal of its edits (CouchDB API reference, document revisions and conflicts).
+use Rattle.std.specs.Prelude.{◌≡◌, ℕ, List, [], Bool}
+use Rattle.hub_model.specs.Revision.{Revision}
+use Rattle.hub_model.specs.Path.{IsFirst}
+use Rattle.hub_model.specs.Journal.{Edit, IsKnown, IsLegal, edits_of}
+
+-- the edits of the document, its id left out, in the order in which they were taken; and how many more revisions it has memory for
+pub record Tree : Type 0 where
+  pub edits : List Edit
+  pub room : ℕ
+
+-- what holds of the edits of each tree: they are a legal journal, and all of the document whose id is left out
+pub record IsRevTree (edits : List Edit) : Type 0 where
+  pub legal : IsLegal edits
+  pub one : edits_of edits [] ≡ edits
+
+-- an edit whose document's id is left out
+abbrev pub nameless : List Revision → Bool → List ℕ → Edit
+nameless path deleted body = record { id = []; path = path; deleted = deleted; body = body }
+
+-- the first revision of the path is known
+abbrev pub HasKnownHead : List Edit → List Revision → Type 0
+HasKnownHead edits path = (r : Revision) × IsFirst path r × IsKnown edits [] r

@@ -1,0 +1,15 @@
+-- The first of some leaves (CouchDB API reference, document revisions and conflicts).
+use Rattle.std.specs.Prelude.{List, [], ◌∷◌, Option, Some, None, if◌then◌else◌}
+use Rattle.std.specs.Ordering.{is_gt}
+use Rattle.hub_model.specs.Leaves.{Leaf, leaf_cmp}
+use Rattle.hub_revtree.specs.declared.leaf.Winner.{Winner}
+
+-- the revision and the mark of the first of the leaves
+abbrev pub winner_of : List Leaf → Option Winner
+winner_of [] = None
+winner_of (leaf ∷ others) = Some (record { rev = leaf.rev; deleted = leaf.edit.deleted })
+
+-- the better of a leaf and the best of the others, if there are any
+abbrev pub better_of : Winner → Option Winner → Winner
+better_of leaf None = leaf
+better_of leaf (Some best) = if is_gt (leaf_cmp leaf.deleted leaf.rev best.deleted best.rev) then leaf else best

@@ -1,0 +1,65 @@
+//! The order of leaves.
+
+ghost use Rattle.std.specs.Prelude.{◌≡◌};
+ghost use Rattle.hub_model.specs.Revision.{revision_cmp};
+ghost use Rattle.hub_model.specs.Leaves.{leaf_cmp, leaves_among, best_first};
+ghost use Rattle.hub_revtree.specs.Branch.{edits_in};
+ghost use Rattle.hub_revtree.specs.Winner.{winner_of, better_of};
+
+use crate::branch::{Branch, is_behind};
+use hub_document::RevId;
+use std::cmp::Ordering;
+
+/// A document's winner.
+#[derive(Clone, Copy, Debug, PartialEq, Eq)]
+pub struct Winner {
+    /// Its revision.
+    pub rev: RevId,
+    /// Whether it is deleted.
+    pub deleted: bool,
+}
+
+fn revision_order(rev: &RevId, other: &RevId) -> Ordering
+    ensures { result ≡ revision_cmp rev.now other.now }
+{
+    rev.generation()
+        .cmp(&other.generation())
+        .then_with(|| rev.hash().cmp(other.hash()))
+}
+
+// A leaf that is not deleted is above a deleted one, then the greater revision is above.
+fn leaf_order(leaf: &Winner, other: &Winner) -> Ordering
+    ensures { result ≡ leaf_cmp leaf.now.deleted leaf.now.rev other.now.deleted other.now.rev }
+{
+    match (leaf.deleted, other.deleted) {
+        (true, false) => Ordering::Less,
+        (false, true) => Ordering::Greater,
+        _ => revision_order(&leaf.rev, &other.rev),
+    }
+}
+
+// The better of a leaf and the best so far.
+fn better(leaf: Winner, best: Option<Winner>) -> Winner
+    ensures { result ≡ better_of leaf best }
+{
+    match best {
+        Some(best) if !leaf_order(&leaf, &best).is_gt() => best,
+        _ => leaf,
+    }
+}
+
+/// The best of the branches' heads that stand behind no head. Each head is looked for in each
+/// branch.
+pub(crate) fn best_leaf(branches: &[Branch]) -> Option<Winner>
+    ensures { result ≡ winner_of (best_first (leaves_among (edits_in branches.now) (edits_in branches.now))) }
+{
+    let mut best = None;
+    for branch in branches.iter().rev() {
+        let rev = branch.path.head();
+        if !is_behind(branches, &rev) {
+            let deleted = branch.deleted;
+            best = Some(better(Winner { rev, deleted }, best));
+        }
+    }
+    best
+}

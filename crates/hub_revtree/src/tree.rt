@@ -1,0 +1,169 @@
+//! The tree of a document's revisions.
+
+ghost use Rattle.std.specs.Prelude.{Bool, ◌≡◌, ◌≤◌, ◌++◌, ◌∷◌, ◌↔◌, [], length, slice_get, IsTrue, IsSome, IsNone, IfSome, IfNone, IfOk, OnErr, option_map, None};
+ghost use Rattle.hub_model.specs.Journal.{IsKnown, IsAcceptable};
+ghost use Rattle.hub_model.specs.Leaves.{IsMarked, IsWinner, leaves_of, revisions_of};
+ghost use Rattle.hub_revtree.specs.Tree.{HasKnownHead, IsRevTree, nameless};
+ghost use Rattle.hub_revtree.specs.Winner.{winner_of};
+
+use crate::branch::{Branch, agrees_with_all, head_mark, is_named};
+use crate::fault::{MergeFault, Merged};
+use crate::leaf::{Winner, best_leaf};
+use hub_document::{Body, Path, RevId};
+use std::alloc::Global;
+use std::marker::Model;
+
+/// The stored edits of one document, in the order in which they came. The document's id stands
+/// elsewhere.
+#[derive(Debug, Drop)]
+pub struct RevTree {
+    branches: Vec<Branch>,
+}
+
+impl Model for RevTree {
+    ghost use Rattle.std.specs.Prelude.{◌*◌, ◌-◌, vec_len, vec_capacity};
+    ghost use Rattle.hub_model.specs.Journal.{IsLegal};
+    ghost use Rattle.hub_revtree.specs.Tree.{Tree};
+
+    ghost Value = { Tree };
+
+    ghost use Rattle.hub_revtree.specs.Branch.{edits_in};
+
+    ghost view = { λ a. record { edits = edits_in a.branches.items; room = 65535 * (vec_capacity a.branches - vec_len a.branches) } };
+
+    ghost invariant = { λ a. IsLegal (edits_in a.branches.items) };
+}
+
+/// An edit that a tree can take, and has memory for.
+#[derive(Debug, Drop)]
+pub struct Ready {
+    branch: Branch,
+}
+
+impl Model for Ready {
+    ghost use Rattle.hub_model.specs.Journal.{Edit};
+
+    ghost Value = { Edit };
+
+    ghost use Rattle.hub_revtree.specs.Branch.{edit_of};
+
+    ghost view = { λ a. edit_of a.branch };
+}
+
+impl RevTree {
+    /// A tree with no edit.
+    pub fn new(alloc: Global) -> RevTree
+        ensures { result.edits ≡ [] }
+    {
+        RevTree {
+            branches: Vec::new(alloc),
+        }
+    }
+
+    /// How many edits there are.
+    pub fn len(&self) -> usize
+        ensures { result ≡ length self.now.edits }
+    {
+        self.branches.len()
+    }
+
+    /// Whether there is no edit.
+    pub fn is_empty(&self) -> bool
+        ensures { IsTrue result ↔ (self.now.edits ≡ []) }
+    {
+        self.branches.is_empty()
+    }
+
+    /// Whether a path names the revision. One look an edit.
+    pub fn knows(&self, rev: &RevId) -> bool
+        ensures { IsTrue result ↔ IsKnown self.now.edits [] rev.now }
+    {
+        is_named(self.branches.as_slice(), rev)
+    }
+
+    /// Whether the edit that the revision heads deletes the document. One look an edit.
+    pub fn deleted(&self, rev: &RevId) -> Option<bool>
+        ensures mark { IfSome result (IsMarked self.now.edits [] rev.now) }
+        ensures none { IfNone result ((mark : Bool) → ¬ IsMarked self.now.edits [] rev.now mark) }
+    {
+        head_mark(self.branches.as_slice(), rev)
+    }
+
+    /// The best leaf, with its mark. Each head is looked for in each edit's path.
+    pub fn best(&self) -> Option<Winner>
+        ensures best { result ≡ winner_of (leaves_of self.now.edits []) }
+        ensures tree { IsRevTree self.now.edits }
+    {
+        best_leaf(self.branches.as_slice())
+    }
+
+    /// The revision of the best leaf; None of a tree with no edit. It costs what `best` does.
+    pub fn winner(&self) -> Option<RevId>
+        ensures winner { IfSome result (IsWinner self.now.edits []) }
+        ensures none { IsNone result ↔ (self.now.edits ≡ []) }
+        ensures first { result ≡ slice_get (revisions_of (leaves_of self.now.edits [])) 0 }
+    {
+        let winner = self.best()?;
+        Some(winner.rev)
+    }
+
+    /// Looks what becomes of an edit: `None` where its revision is known, else the edit, with
+    /// memory for it. It costs the path's length times the number of edits.
+    pub fn look_merge(
+        &mut self,
+        path: Path,
+        deleted: bool,
+        body: Body,
+    ) -> Result<Option<Ready>, MergeFault>
+        ensures edits { self.new.edits ≡ self.old.edits }
+        ensures tree { IsRevTree self.new.edits }
+        ensures known { IfOk result (λ looked. IsNone looked ↔ HasKnownHead self.old.edits path) }
+        ensures ready { IfOk result (λ looked. IfSome looked (λ ready. ready ≡ nameless path deleted body)) }
+        ensures acceptable { IfOk result (λ looked. IfSome looked (IsAcceptable self.old.edits)) }
+        ensures room { IfOk result (λ looked. IfSome looked (λ ready. length ready.path ≤ self.new.room)) }
+        ensures contradicts { result ≡ Err MergeFault.Contradicts → (¬ HasKnownHead self.old.edits path) × (¬ IsAcceptable self.old.edits (nameless path deleted body)) }
+    {
+        let head = path.head();
+        let _revisions_at_most = head.generation();
+        if is_named(self.branches.as_slice(), &head) {
+            return Ok(None);
+        }
+        if !agrees_with_all(self.branches.as_slice(), &path) {
+            return Err(MergeFault::Contradicts);
+        }
+        self.branches.try_reserve(1)?;
+        let branch = Branch {
+            path,
+            deleted,
+            body,
+        };
+        Ok(Some(Ready { branch }))
+    }
+
+    /// Takes an edit that `look_merge` made ready. It takes no memory, and constant time.
+    pub fn adopt(&mut self, ready: Ready)
+        requires acceptable { IsAcceptable self.old.edits ready }
+        requires room { length ready.path ≤ self.old.room }
+        ensures { self.new.edits ≡ self.old.edits ++ ready ∷ [] }
+    {
+        self.branches.push_reserved(ready.branch);
+    }
+
+    /// Takes an edit, where its revision is new and its path contradicts no stored one. It costs
+    /// what `look_merge` does.
+    pub fn merge(&mut self, path: Path, deleted: bool, body: Body) -> Result<Merged, MergeFault>
+        ensures added { result ≡ Ok Merged.Added → IsAcceptable self.old.edits (nameless path deleted body)
+            × (self.new.edits ≡ self.old.edits ++ nameless path deleted body ∷ []) }
+        ensures known { result ≡ Ok Merged.Known → HasKnownHead self.old.edits path × (self.new.edits ≡ self.old.edits) }
+        ensures err { OnErr result (self.new.edits ≡ self.old.edits) }
+        ensures contradicts { result ≡ Err MergeFault.Contradicts → (¬ HasKnownHead self.old.edits path) × (¬ IsAcceptable self.old.edits (nameless path deleted body)) }
+    {
+        match self.look_merge(path, deleted, body)? {
+            Some(ready) => {
+                self.adopt(ready);
+                Ok(Merged::Added)
+            }
+            None => Ok(Merged::Known),
+        }
+    }
+}
