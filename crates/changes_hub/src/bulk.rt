@@ -1,28 +1,23 @@
 //! Batches of documents (CouchDB API reference, `POST /{db}/_bulk_docs`).
 
+ghost use Rattle.std.specs.Prelude.{◌≡◌, ◌++◌, OnOk, take, string_bytes, length, ◌⊎◌, Ok, Err, IfOk, IfErr, option_map, Some};
+ghost use Rattle.serde_json.specs.View.{view, items_view};
+ghost use Rattle.serde_json.specs.Written.{comma_if};
+ghost use Rattle.json.specs.Print.{quoted};
+ghost use Rattle.changes_hub.specs.Bulk.{docs_in, readings, read_docs, faults_of, refused_by, refusals_of, refused_row, refused_list, id_text, id_in, reason_members};
+
 use hub_document::{Doc, DocFault, RevId};
-use hub_http::{Refusal, refused_row};
+use hub_http::{Refusal, put_quoted};
 use hub_model::Outcome;
 use serde_json::Value;
 use std::alloc::{AllocError, Global};
 
-/// The JSON value that a body is. It costs the body's length.
-pub fn parsed(alloc: Global, body: &[u8]) -> Result<Value, Refusal> {
-    match Value::from_slice(alloc, body) {
-        Ok(value) => Ok(value),
-        Err(error) => {
-            if error.is_memory() {
-                Err(Refusal::NoMemory)
-            } else {
-                Err(Refusal::NotJson)
-            }
-        }
-    }
-}
-
 /// The documents that a request brings, each as it came. They have to come with the revisions of
 /// another database: `new_edits` has to be false.
-pub fn elements_of(request: &Value) -> Result<&Vec<Value>, Refusal> {
+pub fn elements_of(request: &Value) -> Result<&Vec<Value>, Refusal>
+    ensures ok { IfOk result (λ v. docs_in (view request.now) ≡ Ok (items_view v.now.items)) }
+    ensures err { IfErr result (λ e. docs_in (view request.now) ≡ Err e) }
+{
     let Some(elements) = request.get("docs").and_then(Value::as_array) else {
         return Err(Refusal::NotObject);
     };
@@ -46,7 +41,10 @@ pub struct Readings {
 }
 
 /// Reads each element by itself. It costs the elements' length.
-pub fn read_elements(alloc: Global, elements: &[Value]) -> Result<Readings, AllocError> {
+pub fn read_elements(alloc: Global, elements: &[Value]) -> Result<Readings, AllocError>
+    ensures docs { IfOk result (λ r. r.docs.items ≡ read_docs (readings (items_view elements.now))) }
+    ensures faults { IfOk result (λ r. r.faults.items ≡ faults_of (readings (items_view elements.now))) }
+{
     let mut docs = Vec::with_capacity(alloc, elements.len())?;
     let mut faults = Vec::with_capacity(alloc, elements.len())?;
     for element in elements {
@@ -62,38 +60,132 @@ pub fn read_elements(alloc: Global, elements: &[Value]) -> Result<Readings, Allo
     Ok(Readings { docs, faults })
 }
 
-/// Why an element was refused, if it was: by its own fault, or else by the outcome of storing it.
-fn refusal_of(fault: Option<DocFault>, outcome: Option<&Outcome<RevId>>) -> Option<Refusal> {
-    if let Some(fault) = fault {
-        return Some(Refusal::from(fault));
-    }
+/// Why storing refused a document, if it did.
+fn refused_by(outcome: &Outcome<RevId>) -> Option<Refusal>
+    ensures { result ≡ refused_by outcome.now }
+{
     match outcome {
-        Some(Outcome::Refused(fault)) => Some(Refusal::from(*fault)),
-        Some(Outcome::Stored(_)) | Some(Outcome::Known) | None => None,
+        Outcome::Stored(_) => None,
+        Outcome::Known => None,
+        Outcome::Refused(fault) => Some(Refusal::from(*fault)),
     }
 }
 
-/// The list of the elements that were refused, as the answer to a batch has it.
+/// Why each element was refused, if it was.
+pub fn refusals(
+    alloc: Global,
+    faults: &[Option<DocFault>],
+    outcomes: &[Outcome<RevId>],
+) -> Result<Vec<Option<Refusal>>, AllocError>
+    ensures { IfOk result (λ rs. rs.items ≡ refusals_of faults.now outcomes.now) }
+{
+    let mut list = Vec::with_capacity(alloc, faults.len())?;
+    let mut left = outcomes;
+    for fault in faults {
+        match fault {
+            Some(fault) => list.push(Some(Refusal::from(*fault)))?,
+            None => match left {
+                [first, rest @ ..] => {
+                    list.push(refused_by(first))?;
+                    left = rest;
+                }
+                [] => list.push(None)?,
+            },
+        }
+    }
+    Ok(list)
+}
+
+/// Appends the id that an element names, `null` where it is no text.
+fn put_id(out: &mut Vec<u8>, element: &Value) -> Result<(), AllocError>
+    ensures { OnOk result (out.new.items ≡ out.old.items ++ id_text (id_in (view element.now))) }
+{
+    match element.get("_id").and_then(Value::as_str) {
+        Some(id) => put_quoted(out, id),
+        None => Ok(out.extend_from_slice(b"null")?),
+    }
+}
+
+/// The members that say why an element was refused, and the brace that closes them.
+#[tactic(auto, unfolding(crate::specs::Bulk::reason_members))]
+fn reason_members(alloc: Global, refusal: Refusal) -> Result<String, AllocError>
+    ensures { IfOk result (λ s. string_bytes s ≡ reason_members refusal) }
+{
+    let error = refusal.error();
+    let reason = refusal.reason();
+    format!(in alloc; ",\"error\":\"{error}\",\"reason\":\"{reason}\"}}")
+}
+
+/// Appends an element that was refused.
+#[tactic(auto, unfolding(crate::specs::Bulk::refused_row))]
+fn put_refused(
+    alloc: Global,
+    out: &mut Vec<u8>,
+    element: &Value,
+    refusal: Refusal,
+) -> Result<(), AllocError>
+    ensures { OnOk result (out.new.items ≡ out.old.items ++ refused_row (id_in (view element.now)) refusal) }
+{
+    let members = reason_members(alloc, refusal)?;
+    out.extend_from_slice(b"{\"id\":")?;
+    put_id(out, element)?;
+    Ok(out.extend_from_slice(members.as_bytes())?)
+}
+
+/// Appends an element of the list of those that were refused, behind a comma where it is a later one.
+fn put_element(
+    alloc: Global,
+    out: &mut Vec<u8>,
+    later: bool,
+    element: &Value,
+    refusal: Refusal,
+) -> Result<(), AllocError>
+    ensures { OnOk result (out.new.items ≡ out.old.items ++ (comma_if later ++ refused_row (id_in (view element.now)) refusal)) }
+{
+    if later {
+        out.push(b',')?;
+    }
+    put_refused(alloc, out, element, refusal)
+}
+
+/// The elements that were refused, as the answer to a batch lists them.
+#[tactic(auto, using(crate::proofs::ListLemmas::listed_all))]
 pub fn refused_list(
+    alloc: Global,
+    elements: &[Value],
+    refusals: &[Option<Refusal>],
+) -> Result<Vec<u8>, AllocError>
+    ensures { IfOk result (λ t. t.items ≡ refused_list (items_view elements.now) refusals.now) }
+{
+    let mut text = Vec::new(alloc);
+    text.push(b'[')?;
+    let mut later = false;
+    let mut left = refusals;
+    for element in elements {
+        let [first, rest @ ..] = left else {
+            continue;
+        };
+        left = rest;
+        let Some(refusal) = first else {
+            continue;
+        };
+        put_element(alloc, &mut text, later, element, *refusal)?;
+        later = true;
+    }
+    text.extend_from_slice(b"]\n")?;
+    Ok(text)
+}
+
+/// The answer to a batch: the elements that were refused, by their own faults or by the outcomes of
+/// storing the others.
+pub fn batch_body(
     alloc: Global,
     elements: &[Value],
     faults: &[Option<DocFault>],
     outcomes: &[Outcome<RevId>],
-) -> Result<Vec<u8>, AllocError> {
-    let mut text = Vec::new(alloc);
-    text.push(b'[')?;
-    let mut first = true;
-    let mut stored = outcomes.iter();
-    for (element, fault) in elements.iter().zip(faults.iter()) {
-        let outcome = if fault.is_some() { None } else { stored.next() };
-        if let Some(refusal) = refusal_of(*fault, outcome) {
-            if !first {
-                text.push(b',')?;
-            }
-            refused_row(&mut text, element.get("_id").and_then(Value::as_str), refusal)?;
-            first = false;
-        }
-    }
-    text.extend_from_slice(b"]\n")?;
-    Ok(text)
+) -> Result<Vec<u8>, AllocError>
+    ensures { IfOk result (λ t. t.items ≡ refused_list (items_view elements.now) (refusals_of faults.now outcomes.now)) }
+{
+    let refusals = refusals(alloc, faults, outcomes)?;
+    refused_list(alloc, elements, refusals.as_slice())
 }

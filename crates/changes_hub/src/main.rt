@@ -25,17 +25,19 @@ enum Command {
     Stdin,
 }
 
-/// The command that the arguments name, if they name one.
-fn command(rt: &HostRuntime) -> io::Result<Option<Command>> {
-    let mut args = env::args(rt)?;
-    let _program = args.next();
-    let first = args.next();
-    if args.next().is_some() {
-        return Ok(None);
-    }
-    match first {
-        Some(word) if word.as_str() == "stdin" => Ok(Some(Command::Stdin)),
-        _ => Ok(None),
+impl Command {
+    /// The command that the arguments name, if they name one.
+    fn read(rt: &HostRuntime) -> io::Result<Option<Command>> {
+        let mut args = env::args(rt)?;
+        let _program = args.next();
+        let first = args.next();
+        if args.next().is_some() {
+            return Ok(None);
+        }
+        match first {
+            Some(word) if word.as_str() == "stdin" => Ok(Some(Command::Stdin)),
+            _ => Ok(None),
+        }
     }
 }
 
@@ -58,7 +60,7 @@ fn serve_stdin(rt: &HostRuntime) -> io::Result<ExitCode> {
 }
 
 fn main(rt: HostRuntime) -> io::Result<ExitCode> {
-    match command(&rt)? {
+    match Command::read(&rt)? {
         Some(Command::Stdin) => serve_stdin(&rt),
         None => {
             eprintln!(rt; "usage: changes_hub stdin | serve ADDRESS COUNT")?;

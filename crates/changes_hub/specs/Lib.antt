@@ -1,0 +1,4 @@
+pub mod Names
+pub mod Bulk
+pub mod Hub
+pub mod Views
