@@ -1,3 +1,5 @@
 pub mod ListLemmas
 pub mod NameLemmas
 pub mod StoreLemmas
+pub mod FeedLemmas
+pub mod SessionLemmas

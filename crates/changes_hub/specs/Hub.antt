@@ -193,8 +193,8 @@ abbrev pub IsRefused : Refusal → Step → Hub → Hub → Type 0
 IsRefused refusal step h k = (k ≡ h) × ((refusal ≡ NoMemory) ⊎ (step ≡ refuses h refusal))
 
 -- from the hub h the request may be answered so, and leave the hub k
-abbrev pub Answers : Hub → Asked → Answer → Hub → Type 0
-Answers h asked answer k =
+abbrev pub HubAnswers : Hub → Asked → Answer → Hub → Type 0
+HubAnswers h asked answer k =
     (route : Result Route RouteFault) × GoesTo asked route
     × (IsStep answer (goes h asked.body route) k
     ⊎ (Says answer (Refusing NoMemory) × MayLeave h asked.body route k))
@@ -210,5 +210,5 @@ goes_on None = (None, None)
 goes_on (Some feed) = (Some (next_item feed.last_seq feed.rows).0, (next_item feed.last_seq feed.rows).1)
 
 -- from the hub h a feed goes on with this item, or stops, and leaves the hub k
-abbrev pub Gives : Hub → Option (Item ChangeRow) → Hub → Type 0
-Gives h item k = (item ≡ (goes_on h.feed).0) × (k ≡ record h { feed = (goes_on h.feed).1 })
+abbrev pub HubGives : Hub → Option (Item ChangeRow) → Hub → Type 0
+HubGives h item k = (item ≡ (goes_on h.feed).0) × (k ≡ record h { feed = (goes_on h.feed).1 })

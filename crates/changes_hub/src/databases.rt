@@ -7,13 +7,14 @@ ghost use Rattle.std.specs.Str.{bytes_eq};
 ghost use Rattle.hub_database.specs.Edits.{edits_in};
 ghost use Rattle.hub_model.specs.Outcome.{merges_all};
 ghost use Rattle.hub_http.specs.declared.refusal.Refusal.TheVariants.{NoMemory as no_memory};
-ghost use Rattle.changes_hub.specs.Hub.{Answers, Gives, Says, Step, Database as Named, has_name, refuses, at_name, creates, stores, opens, Body, with_database, StandsAt, HasFront, HasBatchFront, Leaves, stores_docs, IsStep, IsRefused, MayLeave, goes, edits_among};
+ghost use Rattle.changes_hub.specs.Hub.{HubAnswers, HubGives, Says, Step, Database as Named, has_name, refuses, at_name, creates, stores, opens, Body, with_database, StandsAt, HasFront, HasBatchFront, Leaves, stores_docs, IsStep, IsRefused, MayLeave, goes, edits_among};
 ghost use Rattle.hub_session.specs.declared.service.Answer.{Answer};
 ghost use Rattle.hub_http.specs.Stream.{asked_by};
 ghost use Rattle.hub_http.specs.Routes.{GoesTo};
 ghost use Rattle.hub_http.specs.declared.route.Route.{Route};
 ghost use Rattle.hub_http.specs.declared.route.RouteFault.{RouteFault};
 ghost use Rattle.changes_hub.specs.Bulk.{docs_in};
+ghost use Rattle.changes_hub.specs.Laws.{CompleteFeedIsWhole};
 ghost use Rattle.serde_json.specs.View.{view};
 ghost use Rattle.serde_json.specs.Data.{Items};
 
@@ -305,9 +306,9 @@ impl Databases {
 }
 
 impl Service for Databases {
-    ghost answer_gives = { Answers };
+    ghost answer_gives = { HubAnswers };
 
-    ghost item_gives = { Gives };
+    ghost item_gives = { HubGives };
 
     fn answer(&mut self, request: &Request) -> Answer {
         match self.answered(request) {
@@ -330,3 +331,9 @@ impl Service for Databases {
         }
     }
 }
+
+/// A feed that came to its end showed each current row of its database's journal once, rising, as it
+/// stood when the feed began, and then the journal's length and what lies above it.
+pub fn complete_feeds()
+    ensures { CompleteFeedIsWhole }
+{}
