@@ -123,6 +123,7 @@ impl RevTree {
         ensures room { IfOk result (λ looked. IfSome looked (λ ready. length ready.path ≤ self.new.room)) }
         ensures contradicts { result ≡ Err MergeFault.Contradicts → (¬ HasKnownHead self.old.edits path) × (¬ IsAcceptable self.old.edits (nameless path deleted body)) }
     {
+        // A path has no more revisions than its head's generation, so that one place has room for it.
         let head = path.head();
         let _revisions_at_most = head.generation();
         if is_named(self.branches.as_slice(), &head) {
