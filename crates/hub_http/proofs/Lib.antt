@@ -6,6 +6,7 @@ pub mod JoinLemmas
 pub mod LengthLemmas
 pub mod ReadLemmas
 pub mod RequestLemmas
+pub mod RouteLemmas
 pub mod SendLemmas
 pub mod StreamLemmas
 pub mod UniqueLemmas

@@ -7,3 +7,4 @@ pub mod Texts
 pub mod Chunks
 pub mod Items
 pub mod Table
+pub mod Routes

@@ -11,7 +11,7 @@ use json::Writer;
 use std::alloc::AllocError;
 use std::mem;
 
-// The writer of JSON owns its bytes while it writes; nothing is copied.
+// The writer of JSON owns its bytes while it writes. Nothing that is held is copied.
 fn put_quoted(out: &mut Vec<u8>, text: &str) -> Result<(), AllocError>
     ensures ok { OnOk result (out.new.items ≡ out.old.items ++ quoted text.now) }
     ensures front { take (length out.old.items) out.new.items ≡ out.old.items }
@@ -127,7 +127,7 @@ fn put_end(out: &mut Vec<u8>, last_seq: u64, pending: u64) -> Result<(), AllocEr
 
 /// Appends the text of an item, before which the feed wrote so many rows. After an error what was
 /// held still stands in front, and a part of the text may stand behind it. It costs the text's
-/// length.
+/// length, and as much again as is held, up to 16 KiB: hand it a short buffer, and use that again.
 pub fn item_text(
     out: &mut Vec<u8>,
     mode: Mode,

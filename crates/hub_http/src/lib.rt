@@ -18,9 +18,13 @@ mod request;
 mod request_tests;
 mod requests;
 mod route;
+#[cfg(test)]
+mod route_tests;
 mod tally;
 #[cfg(test)]
 mod tally_tests;
+#[cfg(test)]
+mod text_tests;
 
 pub use chunk::{ChunkFault, ChunkWriter};
 pub use fault::HttpFault;
@@ -32,5 +36,5 @@ pub use refusal::Refusal;
 pub use reply::{Reply, reply_bytes};
 pub use request::Request;
 pub use requests::{Requests, one_reading};
-pub use route::RouteFault;
+pub use route::{Route, RouteFault, Routes};
 pub use tally::Tally;

@@ -23,8 +23,8 @@ pub enum Reply {
     Refused(Refusal),
 }
 
-/// More than the longest head of an answer has.
-const HEAD_ROOM: usize = 192;
+// No head of an answer and no body of a refusal is longer.
+const ROOM: usize = 192;
 
 fn phrase(status: StatusCode) -> &'static str
     ensures { result.now ≡ phrase_or_empty (reason_phrase status) }
@@ -87,7 +87,7 @@ fn put_head(
 fn refusal_body(alloc: Global, refusal: Refusal) -> Result<Vec<u8>, AllocError>
     ensures { IfOk result (λ v. v.items ≡ refusal_body refusal) }
 {
-    let mut body = Vec::with_capacity(alloc, HEAD_ROOM)?;
+    let mut body = Vec::with_capacity(alloc, ROOM)?;
     body.extend_from_slice(b"{\"error\":\"")?;
     body.extend_from_slice(refusal.error().as_bytes())?;
     body.extend_from_slice(b"\",\"reason\":\"")?;
@@ -105,7 +105,7 @@ fn with_body(
 ) -> Result<Vec<u8>, AllocError>
     ensures { IfOk result (λ v. v.items ≡ answer_text status body.now head_only close) }
 {
-    let mut bytes = Vec::with_capacity(alloc, HEAD_ROOM + body.len())?;
+    let mut bytes = Vec::with_capacity(alloc, ROOM + body.len())?;
     put_head(&mut bytes, status, body.len(), close)?;
     if !head_only {
         bytes.extend_from_slice(body)?;
@@ -113,9 +113,9 @@ fn with_body(
     Ok(bytes)
 }
 
-/// The bytes of an answer (RFC 9112, section 6). With `head_only`, which answers a HEAD, the body
-/// is left out and its length still told. It costs the answer's length, in one allocation, and one
-/// more for a refusal.
+/// The bytes of an answer (RFC 9112, sections 4 and 6). With `head_only`, which answers a HEAD, the
+/// body is left out and its length still told. It costs the answer's length, in one allocation, and
+/// one more for a refusal.
 pub fn reply_bytes(
     alloc: Global,
     reply: &Reply,

@@ -1,24 +1,78 @@
-//! The table of routes.
-ghost use Rattle.std.specs.Prelude.{◌≡◌, IfOk, OnOk, Some, None, codes};
-ghost use Rattle.hub_http.specs.Table.{Routes, with_route, table, kind_at};
+//! Where requests go (CouchDB API reference, the paths of databases).
 
+ghost use Rattle.std.specs.Prelude.{◌≡◌, ◌==◌, ◌≤◌, drop, position, Some, None, IfOk, IfErr, OnOk, MatchResult, Ok, Err, ◌⊎◌, bytes_eq, codes, string_bytes};
+ghost use Rattle.std.specs.List.{before_first, after_first};
+ghost use Rattle.std.specs.Str.{IsUtf8};
+ghost use Rattle.percent_encoding.specs.Percent.{percent_decode};
+ghost use Rattle.hub_http.specs.Table.{with_route, table, kind_at};
+ghost use Rattle.hub_http.specs.Stream.{asked_by};
+ghost use Rattle.hub_http.specs.Routes.{ascii_path, asked_of, asked_at, GoesTo};
+
+use crate::request::Request;
 use matchit::{InsertError, Router};
-use std::alloc::Global;
+use percent_encoding::{AsciiSet, DecodeError, percent_decode, percent_encode};
+use std::alloc::{AllocError, Global};
 
 /// What a path names.
 #[derive(Clone, Copy, Debug, PartialEq, Eq)]
 pub enum Kind {
+    /// The hub.
     Welcome,
+    /// The list of databases.
     AllDbs,
+    /// The feed of updates of databases.
     DbUpdates,
+    /// A database.
     Database,
+    /// Where documents are stored.
     BulkDocs,
+    /// The feed of changes.
     Changes,
+    /// Where missing revisions are asked for.
     RevsDiff,
+    /// Where a commit is asked for.
     FullCommit,
+    /// A document.
     Document,
+    /// A design document.
     Design,
+    /// A local document.
     Local,
+}
+
+/// What is served today.
+#[derive(Clone, Copy, Debug, PartialEq, Eq)]
+pub enum Service {
+    /// Making a database.
+    PutDatabase,
+    /// Storing documents.
+    BulkDocs,
+    /// A feed of changes.
+    Changes,
+}
+
+/// Where a request goes. The name of the database is the part of the path with its escapes read,
+/// and is still to be looked up.
+#[derive(Debug, Drop)]
+pub enum Route {
+    /// `PUT /{db}`
+    PutDatabase {
+        /// The name of the database.
+        db: String,
+    },
+    /// `POST /{db}/_bulk_docs`
+    BulkDocs {
+        /// The name of the database.
+        db: String,
+    },
+    /// `GET /{db}/_changes`
+    Changes {
+        /// The name of the database.
+        db: String,
+        /// What stands behind the first `?` of the target, as it was sent; empty where there is
+        /// none.
+        query: Vec<u8>,
+    },
 }
 
 /// Why a request has no route.
@@ -30,7 +84,7 @@ pub enum RouteFault {
     Missing,
     /// The path does not take this method.
     MethodNotAllowed,
-    /// The database's name is not UTF-8 once its escapes are read.
+    /// The name of the database is not UTF-8 once its escapes are read.
     BadName,
     /// A request with a body has no `Content-Length`.
     LengthMissing,
@@ -42,8 +96,9 @@ fn add(router: &mut Router<Kind>, route: &str, kind: Kind) -> Result<(), InsertE
     router.insert(route, kind)
 }
 
-/// The routes.
-pub fn table(alloc: Global) -> Result<Router<Kind>, InsertError>
+// The paths of databases are matched here too where they are not served, so that no part of one
+// is taken for a name.
+fn table(alloc: Global) -> Result<Router<Kind>, InsertError>
     ensures { IfOk result (λ r. r ≡ table) }
 {
     let mut router = Router::new(alloc);
@@ -62,19 +117,161 @@ pub fn table(alloc: Global) -> Result<Router<Kind>, InsertError>
     Ok(router)
 }
 
-/// What a path names.
-pub fn kind_of(router: &Router<Kind>, path: &str) -> Option<Kind>
-    requires { router.now ≡ table }
-    ensures { result ≡ kind_at path.now }
+fn index_of(bytes: &[u8], at: u8) -> Option<usize>
+    ensures { result ≡ position (λ b. b == at) bytes.now }
 {
-    match router.at(path) {
-        Ok(found) => Some(*found.value),
-        Err(_) => None,
+    bytes.iter().position(|b| *b == at)
+}
+
+// What stands before the first such byte, and what stands behind it.
+fn cut(bytes: &[u8], at: u8) -> (&[u8], &[u8])
+    ensures before { result.0.now ≡ before_first (λ b. b == at) bytes.now }
+    ensures after { result.1.now ≡ after_first (λ b. b == at) bytes.now }
+{
+    match index_of(bytes, at) {
+        Some(i) => (&bytes[..i], &bytes[i + 1..]),
+        None => (bytes, &[]),
     }
 }
 
-/// The table computes.
-pub fn rows()
+fn first_part(path: &[u8]) -> &[u8]
+    ensures { result.now ≡ before_first (λ b. b == 47) (drop 1 path.now) }
+{
+    match path {
+        [] => path,
+        [_, rest @ ..] => cut(rest, b'/').0,
+    }
+}
+
+fn decoded(alloc: Global, bytes: &[u8]) -> Result<String, RouteFault>
+    ensures value { IfOk result (λ s. string_bytes s ≡ percent_decode bytes.now) }
+    ensures text { OnOk result (IsUtf8 (percent_decode bytes.now)) }
+    ensures none { IfErr result (λ e. (e ≡ RouteFault.NoMemory) ⊎ ((e ≡ RouteFault.BadName) × ¬ IsUtf8 (percent_decode bytes.now))) }
+{
+    let text = match percent_decode(bytes).decode_utf8(alloc) {
+        Ok(text) => text,
+        Err(DecodeError::Utf8(_)) => return Err(RouteFault::BadName),
+        Err(DecodeError::OutOfMemory) => return Err(RouteFault::NoMemory),
+    };
+    match text.into_owned(alloc) {
+        Ok(name) => Ok(name),
+        Err(_) => Err(RouteFault::NoMemory),
+    }
+}
+
+fn is(method: &[u8], word: &str) -> bool
+    ensures { result ≡ bytes_eq method.now word.now }
+{
+    method == word.as_bytes()
+}
+
+#[tactic(auto, unfolding(crate::specs::Routes::asked_of))]
+fn asked_of(kind: Kind, method: &[u8]) -> Result<Service, RouteFault>
+    ensures { result ≡ asked_of kind method.now }
+{
+    match kind {
+        Kind::Database => {
+            if is(method, "PUT") {
+                Ok(Service::PutDatabase)
+            } else if is(method, "GET") || is(method, "HEAD") || is(method, "DELETE") {
+                Err(RouteFault::Missing)
+            } else {
+                Err(RouteFault::MethodNotAllowed)
+            }
+        }
+        Kind::BulkDocs => {
+            if is(method, "POST") {
+                Ok(Service::BulkDocs)
+            } else {
+                Err(RouteFault::MethodNotAllowed)
+            }
+        }
+        Kind::Changes => {
+            if is(method, "GET") {
+                Ok(Service::Changes)
+            } else if is(method, "POST") {
+                Err(RouteFault::Missing)
+            } else {
+                Err(RouteFault::MethodNotAllowed)
+            }
+        }
+        _ => Err(RouteFault::Missing),
+    }
+}
+
+/// The table of routes. One serves every session.
+#[derive(Drop)]
+pub struct Routes {
+    router: Router<Kind>,
+    ghost built: { router ≡ table },
+}
+
+impl Routes {
+    /// Builds the table. It costs some thousand steps and allocations: build one, and keep it.
+    pub fn new(alloc: Global) -> Result<Routes, AllocError> {
+        match table(alloc) {
+            Ok(router) => Ok(Routes { router }),
+            // No two of the routes conflict, so there was no memory.
+            Err(_) => Err(AllocError),
+        }
+    }
+
+    fn kind_at(&self, path: &str) -> Option<Kind>
+        ensures { result ≡ kind_at path.now }
+    {
+        match self.router.at(path) {
+            Ok(found) => Some(*found.value),
+            Err(_) => None,
+        }
+    }
+
+    fn service_at(&self, alloc: Global, path: &[u8], method: &[u8]) -> Result<Service, RouteFault>
+        ensures { MatchResult result (λ s. asked_at (kind_at (ascii_path path.now)) method.now ≡ Ok s)
+            (λ e. (e ≡ RouteFault.NoMemory) ⊎ (asked_at (kind_at (ascii_path path.now)) method.now ≡ Err e)) }
+    {
+        let Ok(text) = percent_encode(path, AsciiSet::EMPTY).into_cow(alloc) else {
+            return Err(RouteFault::NoMemory);
+        };
+        match self.kind_at(text.as_str()) {
+            Some(kind) => asked_of(kind, method),
+            None => Err(RouteFault::Missing),
+        }
+    }
+
+    /// Where a request goes. The first of these refuses it: no such path, a method that the path
+    /// does not take, a name that is no text, a length that is missing. It costs the target's
+    /// length, and copies the name and the query.
+    pub fn route(&self, alloc: Global, request: &Request) -> Result<Route, RouteFault>
+        ensures { GoesTo (asked_by request.now) result }
+    {
+        let (path, query) = cut(request.target.as_slice(), b'?');
+        let service = match self.service_at(alloc, path, request.method.as_slice()) {
+            Ok(service) => service,
+            Err(e) => return Err(e),
+        };
+        let db = match decoded(alloc, first_part(path)) {
+            Ok(db) => db,
+            Err(e) => return Err(e),
+        };
+        match service {
+            Service::PutDatabase => Ok(Route::PutDatabase { db }),
+            Service::BulkDocs => {
+                if request.has_length {
+                    Ok(Route::BulkDocs { db })
+                } else {
+                    Err(RouteFault::LengthMissing)
+                }
+            }
+            Service::Changes => match Vec::from_slice(alloc, query) {
+                Ok(query) => Ok(Route::Changes { db, query }),
+                Err(_) => Err(RouteFault::NoMemory),
+            },
+        }
+    }
+}
+
+/// What the table says of some paths.
+pub fn sample_paths()
     ensures welcome { kind_at (codes "/") ≡ Some Kind.Welcome }
     ensures all_dbs { kind_at (codes "/_all_dbs") ≡ Some Kind.AllDbs }
     ensures db_updates { kind_at (codes "/_db_updates") ≡ Some Kind.DbUpdates }

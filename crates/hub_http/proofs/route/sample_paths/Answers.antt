@@ -1,7 +1,7 @@
 use Rattle.std.proofs.Common.{refl}
 use Rattle.matchit.proofs.OnLiterals.{matchit_on_literals}
 use Rattle.hub_http.specs.Table.{table, with_route}
-use Rattle.hub_http.proofs.route.rows.Goals as goal
+use Rattle.hub_http.proofs.route.sample_paths.Goals as goal
 
 pub returns : goal.returns
 unfolding matchit_on_literals table with_route
