@@ -2,7 +2,8 @@
 ghost use Rattle.std.specs.Prelude.{◌≡◌, ◌<◌, ◌≤◌, ◌+◌, ◌⊎◌, ℕ, List, [], ◌++◌, length, take, drop, IfOk, IfErr, IfSome, IsNone, OnOk, IsTrue, IsFalse, map};
 ghost use Rattle.std.specs.Io.KnownBytes.{Keeps, IsAtEnd, prepend_known};
 ghost use Rattle.hub_http.specs.Counts.{Rose};
-ghost use Rattle.hub_http.specs.Stream.{Asked, Finds, Leaves, Spells, SpellsAll, asked_by, known};
+ghost use Rattle.hub_http.specs.Stream.{Asked, Leaves, Spells, SpellsAll, asked_by, known};
+ghost use Rattle.hub_http.specs.Looking.{Finds};
 
 use crate::fault::HttpFault;
 use crate::head::{HEAD_LIMIT, Head, look};
