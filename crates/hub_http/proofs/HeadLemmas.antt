@@ -11,7 +11,8 @@ use Rattle.httparse.proofs.GrammarLemmas.{request_prefix_free}
 use Rattle.hub_http.specs.declared.fault.HttpFault.{HttpFault}
 use Rattle.hub_http.specs.declared.fault.HttpFault.TheVariants.{NoMemory, BadHead, HeadTooLong, BodyTooLong, Version, Coding, Ended, IoFault}
 use Rattle.hub_http.specs.declared.head.Head.{Head}
-use Rattle.hub_http.specs.Heads.{Pair, is_digits, body_limit, length_of, asked, is_target, values_named, asks_close, Begins, BeginsFaulty, BeginsTooLong, IsHeadAt, NeverHasHead, LookFaults, length_by}
+use Rattle.hub_http.specs.Heads.{Pair, is_digits, body_limit, length_of, asked, is_target, values_named, asks_close, Begins, BeginsFaulty, BeginsTooLong, NeverHasHead, length_by}
+use Rattle.hub_http.specs.Looking.{IsHeadAt, LookFaults}
 
 -- a head past the limit is the only one
 never_shorter : (buf : List ℕ) (headers : List HeaderSpan) (r : RequestSpans) → IsRequestOf buf headers r → 16384 < r.len → NeverHasHead buf

@@ -11,7 +11,8 @@ use Rattle.httparse.specs.Spans.{header_bytes}
 use Rattle.httparse.specs.declared.spans.HeaderSpan.{HeaderSpan}
 use Rattle.hub_http.specs.declared.fault.HttpFault.{HttpFault}
 use Rattle.hub_http.specs.declared.fault.HttpFault.TheVariants.{BadHead, BodyTooLong}
-use Rattle.hub_http.specs.Heads.{is_named, values_named, is_digits, body_limit, length_of, length_in, SoFar}
+use Rattle.hub_http.specs.Heads.{is_named, values_named, is_digits, body_limit, length_of}
+use Rattle.hub_http.specs.Looking.{length_in, SoFar}
 
 all_snoc : (p : List ℕ → Bool) (xs : List (List ℕ)) (w : List ℕ) → list_all p xs ≡ true → p w ≡ true → list_all p (xs ++ w ∷ []) ≡ true
 all_snoc p xs w a b = list_all-append p xs (w ∷ []) ∙ and_from _ _ a (and_from _ _ b refl)

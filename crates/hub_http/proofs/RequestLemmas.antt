@@ -12,8 +12,9 @@ use Rattle.hub_http.specs.declared.fault.HttpFault.{HttpFault}
 use Rattle.hub_http.specs.declared.fault.HttpFault.TheVariants.{NoMemory, BadHead, HeadTooLong, BodyTooLong, Version, Coding, Ended, IoFault}
 use Rattle.hub_http.specs.declared.head.Head.{Head}
 use Rattle.hub_http.specs.declared.request.Request.{Request}
-use Rattle.hub_http.specs.Heads.{Pair, Begins, BeginsFaulty, BeginsTooLong, GoesOn, IsHeadAt, NeverHasHead, length_of, asked, is_digits, is_target, values_named, pairs_of, body_limit}
-use Rattle.hub_http.specs.Stream.{Spells, asked_by, FindFaults, Leaves}
+use Rattle.hub_http.specs.Heads.{Pair, Begins, BeginsFaulty, BeginsTooLong, GoesOn, NeverHasHead, length_of, asked, is_digits, is_target, values_named, pairs_of, body_limit}
+use Rattle.hub_http.specs.Stream.{Spells, asked_by, Leaves}
+use Rattle.hub_http.specs.Looking.{IsHeadAt, FindFaults}
 
 -- where a text ends in its front
 splits : (p r a m : List ℕ) → p ++ r ≡ a ++ m → length p ≤ length a → (q : List ℕ) × (a ≡ p ++ q)

@@ -4,7 +4,14 @@ use Rattle.std.proofs.lemmas.List.{map-append}
 use Rattle.hub_http.specs.declared.fault.HttpFault.{HttpFault}
 use Rattle.hub_http.specs.declared.fault.HttpFault.TheVariants.{NoMemory, BadHead, HeadTooLong, BodyTooLong, Version, Coding, Ended, IoFault}
 use Rattle.hub_http.specs.declared.request.Request.{Request}
-use Rattle.hub_http.specs.Stream.{Asked, asked_by, Leaves, EndsIn, SpellsAll, Leads}
+use Rattle.hub_http.specs.Stream.{Asked, asked_by, Leaves, EndsIn, SpellsAll}
+
+-- the bytes spell these requests and then what the rest spells
+abbrev pub Leads : Option (List ℕ) → Option (List ℕ) → List Asked → Type 0
+Leads None rest before = Unit {0}
+Leads (Some bytes) None before = ⊥
+Leads (Some bytes) (Some rest) before =
+    (more : List Asked) (end : Option HttpFault) → SpellsAll rest more end → SpellsAll bytes (before ++ more) end
 
 pub leads_more : (a b c : Option (List ℕ)) (before : List Request) (q : Request) → Leads a b (map asked_by before) → IfSome b (λ bytes. Leaves bytes (Ok (Some q)) c)
     → Leads a c (map asked_by (before ++ q ∷ []))

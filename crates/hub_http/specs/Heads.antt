@@ -1,13 +1,12 @@
 -- RFC 9112 (heads, Content-Length) and RFC 9110, section 7.6.1 (Connection): what the head of a request asks for.
-use Rattle.std.specs.Prelude.{◌≡◌, ℕ, ◌<◌, ◌≤◌, ◌⊎◌, Bool, true, false, ◌&&◌, ◌==◌, List, [], ◌∷◌, ◌++◌, length, map, drop, Option, Some, None, Result, Ok, Err, if◌then◌else◌, nat_lt, nat_le, codes, bytes_eq, ⊤}
+use Rattle.std.specs.Prelude.{◌≡◌, ℕ, ◌<◌, ◌≤◌, ◌⊎◌, Bool, true, false, ◌&&◌, ◌==◌, List, [], ◌∷◌, ◌++◌, length, map, Option, Some, None, Result, Ok, Err, if◌then◌else◌, nat_lt, nat_le, codes, bytes_eq}
 use Rattle.std.specs.List.{list_all, list_any, slice_split}
 use Rattle.std.specs.Char.{is_ascii_digit, to_ascii_lowercase}
 use Rattle.std.specs.Str.Parse.{digits_value}
 use Rattle.httparse.specs.Grammar.{RequestHead, print_request, ReadsRequest, HasNoRequest, NeverHasRequest, MayBecomeRequest, trim_ows}
 use Rattle.httparse.specs.Spans.{name_and_value, RequestExceeds}
 use Rattle.hub_http.specs.declared.fault.HttpFault.{HttpFault}
-use Rattle.hub_http.specs.declared.fault.HttpFault.TheVariants.{NoMemory, BadHead, HeadTooLong, BodyTooLong, Version, Coding, Ended, IoFault}
-use Rattle.hub_http.specs.declared.head.Head.{Head}
+use Rattle.hub_http.specs.declared.fault.HttpFault.TheVariants.{BadHead, BodyTooLong, Version, Coding}
 
 -- a head of at most so many bytes
 abbrev pub head_limit : ℕ
@@ -58,7 +57,7 @@ values_named name (p ∷ ps) = if is_named name p then p.1 ∷ values_named name
 abbrev pub is_digits : List ℕ → Bool
 is_digits v = nat_lt 0 (length v) && list_all is_ascii_digit v
 
--- the length that the values give: each is the same text, of digits
+-- the length that the values of Content-Length give: they are one text, of digits, and the number is within the limit
 unfoldable pub length_of : List (List ℕ) → Result (Option ℕ) HttpFault
 length_of [] = Ok None
 length_of (v ∷ vs) =
@@ -66,28 +65,20 @@ length_of (v ∷ vs) =
     then (if nat_le (digits_value 10 v) body_limit then Ok (Some (digits_value 10 v)) else Err BodyTooLong)
     else Err BadHead
 
--- the values seen so far, the first of them if there is one, of all of which these are left
-abbrev pub SoFar : Option (List ℕ) → List (List ℕ) → List (List ℕ) → Type 0
-SoFar None all rest = all ≡ rest
-SoFar (Some v) all rest =
-    (vs : List (List ℕ)) × (all ≡ v ∷ (vs ++ rest)) × (list_all (λ w. bytes_eq w v) vs ≡ true)
-
--- the length that one value gives
-unfoldable pub length_in : List ℕ → Result ℕ HttpFault
-length_in v =
-    if is_digits v
-    then (if nat_le (digits_value 10 v) body_limit then Ok (digits_value 10 v) else Err BodyTooLong)
-    else Err BadHead
+-- a slash
+abbrev pub slash : ℕ
+slash = 47
 
 -- the target begins with a slash
 abbrev pub is_target : List ℕ → Bool
 is_target [] = false
-is_target (b ∷ bs) = b == 47
+is_target (b ∷ bs) = b == slash
 
--- what a head asks for, or its first fault
+-- the length of the body that the fields ask for, where the target is one
 abbrev pub length_asked : Bool → List Pair → Result (Option ℕ) HttpFault
 length_asked target pairs = if target then length_of (values_named (codes "content-length") pairs) else Err BadHead
 
+-- the length that a head asks for, or the first of its faults: the version, a transfer coding, its target or length
 unfoldable pub asked : ℕ → List ℕ → List Pair → Result (Option ℕ) HttpFault
 asked minor target pairs =
     if minor == 1
@@ -140,32 +131,6 @@ BeginsTooLong bytes = RequestExceeds field_limit bytes ⊎ (BeginsLong bytes ⊎
 abbrev pub NeverHasHead : List ℕ → Type 0
 NeverHasHead bytes = (more : List ℕ) → HasNoHead (bytes ++ more)
 
--- the first f.len bytes of buf are the head h, and f has what it asks for
-pub record IsHeadAt (buf : List ℕ) (f : Head) (h : RequestHead) : Type 0 where
-  pub begins : Begins buf h (drop f.len buf)
-  pub len : f.len ≡ length (print_request h)
-  pub method : f.method.items ≡ h.method
-  pub target : f.target.items ≡ h.target
-  pub length : length_by h ≡ Ok f.length
-  pub close : f.close ≡ close_by h
-
 -- the bytes begin with a head that has this fault
 abbrev pub BeginsFaulty : List ℕ → HttpFault → Type 0
 BeginsFaulty bytes e = (h : RequestHead) × (rest : List ℕ) × Begins bytes h rest × (length_by h ≡ Err e)
-
--- what a fault says of the bytes in which a head was looked for
-abbrev pub LookFaults : List ℕ → HttpFault → Type 0
-LookFaults buf NoMemory = ⊤
-LookFaults buf BadHead = NeverHasRequest buf ⊎ BeginsFaulty buf BadHead
-LookFaults buf HeadTooLong = NeverHasHead buf × BeginsTooLong buf
-LookFaults buf BodyTooLong = BeginsFaulty buf BodyTooLong
-LookFaults buf Version = BeginsFaulty buf Version
-LookFaults buf Coding = BeginsFaulty buf Coding
-LookFaults buf Ended = ⊥
-LookFaults buf IoFault = ⊥
-
--- what looking for a head in buf answers
-abbrev pub Looks : List ℕ → Result (Option Head) HttpFault → Type 0
-Looks buf (Ok None) = GoesOn buf
-Looks buf (Ok (Some f)) = (h : RequestHead) × IsHeadAt buf f h
-Looks buf (Err e) = LookFaults buf e

@@ -1,5 +1,6 @@
 pub mod Counts
 pub mod Heads
+pub mod Looking
 pub mod Stream
 pub mod Words
 pub mod Refusals

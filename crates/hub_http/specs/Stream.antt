@@ -1,12 +1,11 @@
 -- RFC 9112, sections 2, 6 and 9.3.2: the requests that a connection's bytes spell, one after the other.
-use Rattle.std.specs.Prelude.{◌≡◌, ⊤, ℕ, ◌<◌, ◌≤◌, ◌⊎◌, Bool, List, [], ◌∷◌, ◌++◌, length, take, Option, Some, None, Result, Ok, Err, is_some, unwrap_or, IfSome}
+use Rattle.std.specs.Prelude.{◌≡◌, ⊤, ℕ, ◌<◌, ◌≤◌, ◌⊎◌, Bool, List, [], ◌∷◌, ◌++◌, length, Option, Some, None, Result, Ok, Err, is_some, unwrap_or}
 use Rattle.httparse.specs.Grammar.{RequestHead, NeverHasRequest}
 use Rattle.hub_http.specs.declared.fault.HttpFault.{HttpFault}
 use Rattle.hub_http.specs.declared.fault.HttpFault.TheVariants.{NoMemory, BadHead, HeadTooLong, BodyTooLong, Version, Coding, Ended, IoFault}
 use Rattle.hub_http.specs.declared.request.Request.{Request}
-use Rattle.std.specs.Io.KnownBytes.{IsAtEnd, prepend_known}
-use Rattle.hub_http.specs.declared.head.Head.{Head}
-use Rattle.hub_http.specs.Heads.{head_limit, length_by, close_by, Begins, NeverHasHead, BeginsTooLong, GoesOn, BeginsFaulty, IsHeadAt}
+use Rattle.std.specs.Io.KnownBytes.{prepend_known}
+use Rattle.hub_http.specs.Heads.{head_limit, length_by, close_by, Begins, NeverHasHead, BeginsTooLong, GoesOn, BeginsFaulty}
 
 -- a request without where it lies in memory
 pub record Asked : Type 0 where
@@ -16,6 +15,7 @@ pub record Asked : Type 0 where
   pub close : Bool
   pub body : List ℕ
 
+-- what a request asks
 abbrev pub asked_by : Request → Asked
 asked_by q = record {
   method = q.method.items;
@@ -49,23 +49,6 @@ IsCut bytes =
 abbrev pub known : List ℕ → Option (List ℕ) → Option (List ℕ)
 known held left = prepend_known held left
 
--- what a fault of looking for a head says of the bytes that are held and those that are left
-abbrev pub FindFaults : List ℕ → Option (List ℕ) → HttpFault → Type 0
-FindFaults held left NoMemory = ⊤
-FindFaults held left BadHead = NeverHasRequest held ⊎ BeginsFaulty held BadHead
-FindFaults held left HeadTooLong = NeverHasHead held × BeginsTooLong held
-FindFaults held left BodyTooLong = BeginsFaulty held BodyTooLong
-FindFaults held left Version = BeginsFaulty held Version
-FindFaults held left Coding = BeginsFaulty held Coding
-FindFaults held left Ended = (0 < length held) × GoesOn held × (length held < head_limit) × IsAtEnd left
-FindFaults held left IoFault = ⊤
-
--- what looking for a head answers over a reader
-abbrev pub Finds : List ℕ → Option (List ℕ) → Result (Option Head) HttpFault → Type 0
-Finds held left (Ok (Some f)) = (h : RequestHead) × IsHeadAt held f h
-Finds held left (Ok None) = (held ≡ []) × IsAtEnd left
-Finds held left (Err e) = FindFaults held left e
-
 -- the bytes spell no request, and may be refused so
 abbrev pub Faults : List ℕ → HttpFault → Type 0
 Faults bytes NoMemory = ⊤
@@ -94,10 +77,3 @@ EndsIn bytes (Some e) = Faults bytes e
 abbrev pub SpellsAll : List ℕ → List Asked → Option HttpFault → Type 0
 SpellsAll bytes [] end = EndsIn bytes end
 SpellsAll bytes (a ∷ more) end = (rest : List ℕ) × Spells bytes a rest × SpellsAll rest more end
-
--- the bytes spell these requests and then what the rest spells
-abbrev pub Leads : Option (List ℕ) → Option (List ℕ) → List Asked → Type 0
-Leads None rest before = ⊤
-Leads (Some bytes) None before = ⊥
-Leads (Some bytes) (Some rest) before =
-    (more : List Asked) (end : Option HttpFault) → SpellsAll rest more end → SpellsAll bytes (before ++ more) end

@@ -2,7 +2,8 @@
 ghost use Rattle.std.specs.Prelude.{◌≡◌, length, map, codes, All};
 ghost use Rattle.std.specs.List.{list_any};
 ghost use Rattle.httparse.specs.Spans.{IsHeaderWithin, header_bytes};
-ghost use Rattle.hub_http.specs.Heads.{same_word, is_named, asked, Looks};
+ghost use Rattle.hub_http.specs.Heads.{same_word, is_named, asked};
+ghost use Rattle.hub_http.specs.Looking.{Looks};
 
 use crate::connection::has_close;
 use crate::fault::HttpFault;

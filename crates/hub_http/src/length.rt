@@ -1,7 +1,8 @@
 //! The length of a body that a head names.
 ghost use Rattle.std.specs.Prelude.{◌≡◌, ℕ, List, ◌∷◌, length, map, codes, All, [], Err, MatchResult, option_copied};
 ghost use Rattle.httparse.specs.Spans.{IsHeaderWithin, header_bytes};
-ghost use Rattle.hub_http.specs.Heads.{values_named, SoFar, length_in, length_of};
+ghost use Rattle.hub_http.specs.Heads.{values_named, length_of};
+ghost use Rattle.hub_http.specs.Looking.{SoFar, length_in};
 
 use crate::fault::HttpFault;
 use crate::head::same_word;

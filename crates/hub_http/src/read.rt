@@ -8,7 +8,7 @@ use crate::input::Input;
 use std::io::ErrorKind;
 
 /// The most bytes of one read.
-const BLOCK: usize = 4096;
+pub(crate) const BLOCK: usize = 4096;
 
 /// How often a read that is interrupted is made again.
 const TRIES: u32 = 1_000_000;

@@ -277,3 +277,23 @@ fn a_failing_reader(rt: HostRuntime) {
         assert_eq!(rt; requests.reader().reads(), reads as u64 + 1);
     }
 }
+
+#[test]
+fn long_bodies(rt: HostRuntime) -> Result<(), Fail> {
+    for len in [4095usize, 4096, 4097, 10_000] {
+        let mut text = Vec::new(rt.alloc());
+        text.extend_from_slice(b"PUT / HTTP/1.1\r\nContent-Length: ")?;
+        text.extend_from_slice(format!(in rt.alloc(); "{len}\r\n\r\n")?.as_bytes())?;
+        let mut body = Vec::new(rt.alloc());
+        for i in 0..len {
+            body.push((i % 251) as u8)?;
+        }
+        text.extend_from_slice(body.as_slice())?;
+        text.extend_from_slice(BODY)?;
+        let (requests, end) = read_all(rt.alloc(), text.as_slice());
+        assert_eq!(rt; (requests.len(), end), (2, None), "{len}");
+        assert_eq!(rt; requests[0].body.as_slice(), body.as_slice());
+        assert_eq!(rt; requests[1].body.as_slice(), b"abc".as_slice());
+    }
+    Ok(())
+}

@@ -2,14 +2,16 @@
 ghost use Rattle.std.specs.Prelude.{◌≡◌, ◌<◌, ◌≤◌, ◌+◌, ◌⊎◌, ℕ, List, [], ◌++◌, length, take, drop, IfOk, IfErr, IfSome, IsNone, OnOk, IsTrue, IsFalse, map};
 ghost use Rattle.std.specs.Io.KnownBytes.{Keeps, IsAtEnd, prepend_known};
 ghost use Rattle.hub_http.specs.Counts.{Rose};
-ghost use Rattle.hub_http.specs.Stream.{Asked, Finds, Leaves, Spells, SpellsAll, asked_by, known};
+ghost use Rattle.hub_http.specs.Stream.{Asked, Leaves, Spells, SpellsAll, asked_by, known};
+ghost use Rattle.hub_http.specs.Looking.{Finds};
 
 use crate::fault::HttpFault;
 use crate::head::{HEAD_LIMIT, Head, look};
 use crate::input::Input;
-use crate::read::read_more;
+use crate::read::{BLOCK, read_more};
 use crate::request::Request;
 use std::alloc::Global;
+use std::mem;
 
 /// Reads until a whole head is there, `None` at an end before it.
 fn find_head<R: Input>(
@@ -69,7 +71,31 @@ fn fill<R: Input>(reader: &mut R, held: &mut Vec<u8>, wanted: usize) -> Result<b
     Ok(true)
 }
 
+/// Makes the held bytes the body, and holds on to those behind it. An error changes nothing.
+/// It moves the body once and copies what stands behind it.
+fn split_body(
+    alloc: Global,
+    held: &mut Vec<u8>,
+    len: usize,
+    body: usize,
+) -> Result<Vec<u8>, HttpFault>
+    requires { len + body ≤ length held.old.items }
+    ensures ok { IfOk result (λ v. (v.items ≡ take body (drop len held.old.items)) × (held.new.items ≡ drop (len + body) held.old.items)) }
+    ensures err { IfErr result (λ e. (e ≡ HttpFault.NoMemory) × (held.new.items ≡ held.old.items)) }
+{
+    let end = len + body;
+    let Ok(rest) = Vec::from_slice(alloc, &held[end..]) else {
+        return Err(HttpFault::NoMemory);
+    };
+    let mut bytes = mem::replace(held, rest);
+    bytes.copy_within(len..end, 0);
+    bytes.truncate(body);
+    Ok(bytes)
+}
+
 /// Takes the body from behind a head, and both away from what is held. An error changes nothing.
+/// A short body is copied, and a long one keeps the memory that it was read into, so that no more
+/// than a block's stays behind.
 fn take_body(
     alloc: Global,
     held: &mut Vec<u8>,
@@ -80,6 +106,9 @@ fn take_body(
     ensures ok { IfOk result (λ v. (v.items ≡ take body (drop len held.old.items)) × (held.new.items ≡ drop (len + body) held.old.items)) }
     ensures err { IfErr result (λ e. (e ≡ HttpFault.NoMemory) × (held.new.items ≡ held.old.items)) }
 {
+    if body > BLOCK {
+        return split_body(alloc, held, len, body);
+    }
     let end = len + body;
     let Ok(bytes) = Vec::from_slice(alloc, &held[len..end]) else {
         return Err(HttpFault::NoMemory);
@@ -170,8 +199,8 @@ impl<R: Input> Requests<R> {
     /// call answers `Ended`, and reads nothing. After want of memory the same call reads on where
     /// it stood.
     ///
-    /// Cost: bytes are read in blocks of at most 4,096 and copied twice, into the held bytes and
-    /// into the request. A head that comes in k reads is parsed k times, each time from its front,
+    /// Cost: bytes are read in blocks of at most 4,096 and copied into the held bytes and from
+    /// there into the request; a body of more than 4,096 bytes is moved once and not copied again. A head that comes in k reads is parsed k times, each time from its front,
     /// over at most 16,384 bytes; the reads of a body parse nothing. Room for a body is reserved
     /// once, and what is read behind a request, less than a block, is moved to the front once a
     /// request.

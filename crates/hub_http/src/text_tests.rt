@@ -1,6 +1,5 @@
-use crate::tally::Tally;
 use crate::{
-    ChunkWriter, Refusal, Reply, feed_head, item_text, no_memory_text, reply_bytes,
+    ChunkWriter, Refusal, Reply, Tally, feed_head, item_text, no_memory_text, reply_bytes,
     stream_head_text,
 };
 use http::StatusCode;

@@ -1,5 +1,6 @@
 use Rattle.std.proofs.Common.{map, IsFalse}
-use Rattle.hub_http.specs.Stream.{known, Leads, asked_by}
+use Rattle.hub_http.specs.Stream.{known, asked_by}
+use Rattle.hub_http.proofs.StreamLemmas.{Leads}
 use Rattle.hub_http.proofs.requests.Requests.read_all.Given as goal
 
 abbrev pub invariant-loop : goal.invariant-loop

@@ -1,0 +1,66 @@
+-- own: what the steps that read a request answer.
+use Rattle.std.specs.Prelude.{◌≡◌, ℕ, ◌<◌, ◌≤◌, ◌⊎◌, true, List, [], ◌∷◌, ◌++◌, length, drop, Option, Some, None, Result, Ok, Err, if◌then◌else◌, nat_le, bytes_eq, ⊤}
+use Rattle.std.specs.List.{list_all}
+use Rattle.std.specs.Str.Parse.{digits_value}
+use Rattle.std.specs.Io.KnownBytes.{IsAtEnd}
+use Rattle.httparse.specs.Grammar.{RequestHead, print_request, NeverHasRequest}
+use Rattle.hub_http.specs.declared.fault.HttpFault.{HttpFault}
+use Rattle.hub_http.specs.declared.fault.HttpFault.TheVariants.{NoMemory, BadHead, HeadTooLong, BodyTooLong, Version, Coding, Ended, IoFault}
+use Rattle.hub_http.specs.declared.head.Head.{Head}
+use Rattle.hub_http.specs.Heads.{head_limit, body_limit, is_digits, length_by, close_by, Begins, BeginsFaulty, BeginsTooLong, GoesOn, NeverHasHead}
+
+-- the values seen so far, the first of them if there is one, of all of which these are left
+abbrev pub SoFar : Option (List ℕ) → List (List ℕ) → List (List ℕ) → Type 0
+SoFar None all rest = all ≡ rest
+SoFar (Some v) all rest =
+    (vs : List (List ℕ)) × (all ≡ v ∷ (vs ++ rest)) × (list_all (λ w. bytes_eq w v) vs ≡ true)
+
+-- the length that one value gives
+unfoldable pub length_in : List ℕ → Result ℕ HttpFault
+length_in v =
+    if is_digits v
+    then (if nat_le (digits_value 10 v) body_limit then Ok (digits_value 10 v) else Err BodyTooLong)
+    else Err BadHead
+
+-- the first f.len bytes of buf are the head h, and f has what it asks for
+pub record IsHeadAt (buf : List ℕ) (f : Head) (h : RequestHead) : Type 0 where
+  pub begins : Begins buf h (drop f.len buf)
+  pub len : f.len ≡ length (print_request h)
+  pub method : f.method.items ≡ h.method
+  pub target : f.target.items ≡ h.target
+  pub length : length_by h ≡ Ok f.length
+  pub close : f.close ≡ close_by h
+
+-- what a fault says of the bytes in which a head was looked for
+abbrev pub LookFaults : List ℕ → HttpFault → Type 0
+LookFaults buf NoMemory = ⊤
+LookFaults buf BadHead = NeverHasRequest buf ⊎ BeginsFaulty buf BadHead
+LookFaults buf HeadTooLong = NeverHasHead buf × BeginsTooLong buf
+LookFaults buf BodyTooLong = BeginsFaulty buf BodyTooLong
+LookFaults buf Version = BeginsFaulty buf Version
+LookFaults buf Coding = BeginsFaulty buf Coding
+LookFaults buf Ended = ⊥
+LookFaults buf IoFault = ⊥
+
+-- what looking for a head in buf answers
+abbrev pub Looks : List ℕ → Result (Option Head) HttpFault → Type 0
+Looks buf (Ok None) = GoesOn buf
+Looks buf (Ok (Some f)) = (h : RequestHead) × IsHeadAt buf f h
+Looks buf (Err e) = LookFaults buf e
+
+-- what a fault of looking for a head says of the bytes that are held and those that are left
+abbrev pub FindFaults : List ℕ → Option (List ℕ) → HttpFault → Type 0
+FindFaults held left NoMemory = ⊤
+FindFaults held left BadHead = NeverHasRequest held ⊎ BeginsFaulty held BadHead
+FindFaults held left HeadTooLong = NeverHasHead held × BeginsTooLong held
+FindFaults held left BodyTooLong = BeginsFaulty held BodyTooLong
+FindFaults held left Version = BeginsFaulty held Version
+FindFaults held left Coding = BeginsFaulty held Coding
+FindFaults held left Ended = (0 < length held) × GoesOn held × (length held < head_limit) × IsAtEnd left
+FindFaults held left IoFault = ⊤
+
+-- what looking for a head answers over a reader
+abbrev pub Finds : List ℕ → Option (List ℕ) → Result (Option Head) HttpFault → Type 0
+Finds held left (Ok (Some f)) = (h : RequestHead) × IsHeadAt held f h
+Finds held left (Ok None) = (held ≡ []) × IsAtEnd left
+Finds held left (Err e) = FindFaults held left e
