@@ -20,11 +20,11 @@ ghost use Rattle.serde_json.specs.Data.{Items};
 
 use crate::bulk::{batch_body, elements_of, read_elements};
 use crate::name::is_name;
+use http::StatusCode;
 use hub_database::{DbState, Replies};
 use hub_document::{ChangeRow, Doc, Item, Limits, Mode, read_value};
 use hub_http::{Refusal, Reply, Request, Route, Routes};
 use hub_session::{Answer, Service};
-use http::StatusCode;
 use serde_json::Value;
 use std::alloc::{AllocError, Global};
 use std::marker::Model;

@@ -10,7 +10,7 @@ mod tests;
 
 use crate::stream::answer_stream;
 use hub_document::Limits;
-use hub_http::Tally;
+use hub_http::{Output, Tally};
 use hub_session::Closing;
 use std::io::BufWriter;
 use std::process::ExitCode;
@@ -52,6 +52,8 @@ fn serve_stdin(rt: &HostRuntime) -> io::Result<ExitCode> {
     let reader = Tally::new(rt.stdin());
     let mut writer = Tally::new(BufWriter::with_capacity(alloc, OUTPUT, rt.stdout())?);
     let closing = answer_stream(alloc, reader, &mut writer, Limits::full())?;
+    // A stream that was cut short is not flushed by its session.
+    Output::flush(&mut writer)?;
     if is_success(closing) {
         Ok(ExitCode::SUCCESS)
     } else {

@@ -39,8 +39,6 @@ pub fn is_name(text: &str) -> bool
 {
     match text.as_bytes() {
         [] => false,
-        [first, later @ ..] => {
-            is_first(*first) && later.len() < LONGEST && are_later(later)
-        }
+        [first, later @ ..] => { is_first(*first) && later.len() < LONGEST && are_later(later) }
     }
 }

@@ -8,11 +8,7 @@ use std::alloc::{AllocError, Global};
 use std::test::Fail;
 
 /// What the hub writes for these bytes, and why it closes.
-fn answered(
-    alloc: Global,
-    input: &[u8],
-    limits: Limits,
-) -> Result<(Vec<u8>, Closing), AllocError> {
+fn answered(alloc: Global, input: &[u8], limits: Limits) -> Result<(Vec<u8>, Closing), AllocError> {
     let mut writer = Tally::new(Vec::new(alloc));
     let closing = answer_stream(alloc, Tally::new(input), &mut writer, limits)?;
     Ok((writer.into_inner(), closing))
@@ -27,7 +23,9 @@ fn request(alloc: Global, line: &str, body: &str) -> Result<String, AllocError> 
 /// A whole answer.
 fn whole(alloc: Global, status: &str, body: &str) -> Result<String, AllocError> {
     let len = body.len() as u64 + 1;
-    format!(in alloc; "HTTP/1.1 {status}\r\nContent-Type: application/json\r\nContent-Length: {len}\r\n\r\n{body}\n")
+    format!(in alloc;
+        "HTTP/1.1 {status}\r\nContent-Type: application/json\r\nContent-Length: {len}\r\n\r\n{body}\n"
+    )
 }
 
 /// A refusal.
@@ -52,7 +50,9 @@ fn an_empty_database(rt: HostRuntime) -> Result<(), Fail> {
         b"PUT /d HTTP/1.1\r\n\r\nGET /d/_changes HTTP/1.1\r\n\r\n",
         Limits::full(),
     )?;
-    let expected = format!(in rt.alloc(); "{MADE}{FEED}d\r\n{{\"results\":[\n\r\n1e\r\n\n],\n\"last_seq\":0,\"pending\":0}}\n\r\n0\r\n\r\n")?;
+    let expected = format!(in rt.alloc();
+        "{MADE}{FEED}d\r\n{{\"results\":[\n\r\n1e\r\n\n],\n\"last_seq\":0,\"pending\":0}}\n\r\n0\r\n\r\n"
+    )?;
     assert_eq!(rt; output.as_slice(), expected.as_bytes());
     assert!(rt; closing == Closing::Finished);
     Ok(())
@@ -72,11 +72,15 @@ fn an_edit_again(rt: HostRuntime) -> Result<(), Fail> {
         "POST /d/_bulk_docs",
         "{\"docs\":[{\"_id\":\"a\",\"_revisions\":{\"start\":2,\"ids\":[\"c\",\"a\"]}}],\"new_edits\":false}",
     )?;
-    let input = format!(in alloc; "PUT /d HTTP/1.1\r\n\r\n{first}{first}{later}GET /d/_changes HTTP/1.1\r\n\r\n")?;
+    let input = format!(in alloc;
+        "PUT /d HTTP/1.1\r\n\r\n{first}{first}{later}GET /d/_changes HTTP/1.1\r\n\r\n"
+    )?;
     let (output, _) = answered(alloc, input.as_bytes(), Limits::full())?;
     let rows =
         "2c\r\n{\"seq\":2,\"id\":\"b\",\"changes\":[{\"rev\":\"1-b\"}]}\r\n2e\r\n,\n{\"seq\":3,\"id\":\"a\",\"changes\":[{\"rev\":\"2-c\"}]}\r\n";
-    let expected = format!(in alloc; "{MADE}{STORED}{STORED}{STORED}{FEED}d\r\n{{\"results\":[\n\r\n{rows}1e\r\n\n],\n\"last_seq\":3,\"pending\":0}}\n\r\n0\r\n\r\n")?;
+    let expected = format!(in alloc;
+        "{MADE}{STORED}{STORED}{STORED}{FEED}d\r\n{{\"results\":[\n\r\n{rows}1e\r\n\n],\n\"last_seq\":3,\"pending\":0}}\n\r\n0\r\n\r\n"
+    )?;
     assert_eq!(rt; output.as_slice(), expected.as_bytes());
     Ok(())
 }
@@ -90,11 +94,15 @@ fn deleted_winners(rt: HostRuntime) -> Result<(), Fail> {
         "POST /d/_bulk_docs",
         "{\"docs\":[{\"_id\":\"x\",\"_deleted\":true,\"_revisions\":{\"start\":2,\"ids\":[\"b\",\"q\"]}},{\"_id\":\"x\",\"_revisions\":{\"start\":2,\"ids\":[\"a\",\"q\"]}},{\"_id\":\"x\",\"_rev\":\"1-z\"},{\"_id\":\"y\",\"_rev\":\"1-y\",\"_deleted\":true}],\"new_edits\":false}",
     )?;
-    let input = format!(in alloc; "PUT /d HTTP/1.1\r\n\r\n{batch}GET /d/_changes HTTP/1.1\r\n\r\n")?;
+    let input = format!(in alloc;
+        "PUT /d HTTP/1.1\r\n\r\n{batch}GET /d/_changes HTTP/1.1\r\n\r\n"
+    )?;
     let (output, _) = answered(alloc, input.as_bytes(), Limits::full())?;
     let rows =
         "2c\r\n{\"seq\":3,\"id\":\"x\",\"changes\":[{\"rev\":\"2-a\"}]}\r\n3d\r\n,\n{\"seq\":4,\"id\":\"y\",\"changes\":[{\"rev\":\"1-y\"}],\"deleted\":true}\r\n";
-    let expected = format!(in alloc; "{MADE}{STORED}{FEED}d\r\n{{\"results\":[\n\r\n{rows}1e\r\n\n],\n\"last_seq\":4,\"pending\":0}}\n\r\n0\r\n\r\n")?;
+    let expected = format!(in alloc;
+        "{MADE}{STORED}{FEED}d\r\n{{\"results\":[\n\r\n{rows}1e\r\n\n],\n\"last_seq\":4,\"pending\":0}}\n\r\n0\r\n\r\n"
+    )?;
     assert_eq!(rt; output.as_slice(), expected.as_bytes());
     Ok(())
 }
@@ -113,7 +121,9 @@ fn refused_documents(rt: HostRuntime) -> Result<(), Fail> {
         "POST /d/_bulk_docs",
         "{\"docs\":[{\"_id\":\"n\",\"_rev\":\"1-a\",\"v\":1.5},{\"_id\":\"m\",\"_rev\":\"1-a\",\"_attachments\":{\"f\":{}}},{\"_id\":\"r\",\"_rev\":\"0-a\"},{\"_id\":\"g\",\"_rev\":\"65536-a\"},{\"_id\":\"k\",\"_rev\":\"1-k\"},{\"_id\":\"b\",\"_revisions\":{\"start\":3,\"ids\":[\"w\",\"y\",\"q\"]}},{\"_rev\":\"1-a\"},7,{\"_id\":\"h\",\"_rev\":\"2-h\"}],\"new_edits\":false}",
     )?;
-    let input = format!(in alloc; "PUT /d HTTP/1.1\r\n\r\n{before}{batch}GET /d/_changes HTTP/1.1\r\n\r\n")?;
+    let input = format!(in alloc;
+        "PUT /d HTTP/1.1\r\n\r\n{before}{batch}GET /d/_changes HTTP/1.1\r\n\r\n"
+    )?;
     let (output, _) = answered(alloc, input.as_bytes(), Limits::full())?;
     let list = whole(
         alloc,
@@ -122,7 +132,9 @@ fn refused_documents(rt: HostRuntime) -> Result<(), Fail> {
     )?;
     let rows =
         "2c\r\n{\"seq\":1,\"id\":\"b\",\"changes\":[{\"rev\":\"2-y\"}]}\r\n2e\r\n,\n{\"seq\":2,\"id\":\"k\",\"changes\":[{\"rev\":\"1-k\"}]}\r\n";
-    let expected = format!(in alloc; "{MADE}{STORED}{list}{FEED}d\r\n{{\"results\":[\n\r\n{rows}1e\r\n\n],\n\"last_seq\":2,\"pending\":0}}\n\r\n0\r\n\r\n")?;
+    let expected = format!(in alloc;
+        "{MADE}{STORED}{list}{FEED}d\r\n{{\"results\":[\n\r\n{rows}1e\r\n\n],\n\"last_seq\":2,\"pending\":0}}\n\r\n0\r\n\r\n"
+    )?;
     assert_eq!(rt; output.as_slice(), expected.as_bytes());
     Ok(())
 }
@@ -132,26 +144,122 @@ fn refused_documents(rt: HostRuntime) -> Result<(), Fail> {
 fn refusals(rt: HostRuntime) -> Result<(), Fail> {
     let alloc = rt.alloc();
     let table = [
-        ("PUT /d", "", "412 Precondition Failed", "file_exists", "The database could not be created, the file already exists."),
-        ("PUT /D", "", "400 Bad Request", "illegal_database_name", "bad name"),
-        ("PUT /1", "", "400 Bad Request", "illegal_database_name", "bad name"),
-        ("PUT /%ff", "", "400 Bad Request", "illegal_database_name", "bad name"),
+        (
+            "PUT /d",
+            "",
+            "412 Precondition Failed",
+            "file_exists",
+            "The database could not be created, the file already exists.",
+        ),
+        (
+            "PUT /D",
+            "",
+            "400 Bad Request",
+            "illegal_database_name",
+            "bad name",
+        ),
+        (
+            "PUT /1",
+            "",
+            "400 Bad Request",
+            "illegal_database_name",
+            "bad name",
+        ),
+        (
+            "PUT /%ff",
+            "",
+            "400 Bad Request",
+            "illegal_database_name",
+            "bad name",
+        ),
         ("PUT /_all_dbs", "", "404 Not Found", "not_found", "missing"),
-        ("POST /d", "", "405 Method Not Allowed", "method_not_allowed", "method not allowed"),
+        (
+            "POST /d",
+            "",
+            "405 Method Not Allowed",
+            "method_not_allowed",
+            "method not allowed",
+        ),
         ("GET /d", "", "404 Not Found", "not_found", "missing"),
         ("GET /d/a", "", "404 Not Found", "not_found", "missing"),
         ("GET /", "", "404 Not Found", "not_found", "missing"),
-        ("GET /e/_changes", "", "404 Not Found", "not_found", "Database does not exist."),
-        ("GET /E/_changes", "", "400 Bad Request", "illegal_database_name", "bad name"),
-        ("PUT /d/_changes", "", "405 Method Not Allowed", "method_not_allowed", "method not allowed"),
-        ("GET /d/_changes?since=1", "", "400 Bad Request", "bad_request", "bad flag"),
-        ("POST /e/_bulk_docs", "{", "404 Not Found", "not_found", "Database does not exist."),
-        ("POST /d/_bulk_docs", "{", "400 Bad Request", "bad_request", "not JSON"),
-        ("POST /d/_bulk_docs", "[]", "400 Bad Request", "bad_request", "not an object"),
-        ("POST /d/_bulk_docs", "{\"docs\":{}}", "400 Bad Request", "bad_request", "not an object"),
-        ("POST /d/_bulk_docs", "{\"docs\":[],\"new_edits\":0}", "400 Bad Request", "bad_request", "not an object"),
-        ("POST /d/_bulk_docs", "{\"docs\":[]}", "400 Bad Request", "bad_request", "bad member"),
-        ("POST /d/_bulk_docs", "{\"docs\":[],\"new_edits\":true}", "400 Bad Request", "bad_request", "bad member"),
+        (
+            "GET /e/_changes",
+            "",
+            "404 Not Found",
+            "not_found",
+            "Database does not exist.",
+        ),
+        (
+            "GET /E/_changes",
+            "",
+            "400 Bad Request",
+            "illegal_database_name",
+            "bad name",
+        ),
+        (
+            "PUT /d/_changes",
+            "",
+            "405 Method Not Allowed",
+            "method_not_allowed",
+            "method not allowed",
+        ),
+        (
+            "GET /d/_changes?since=1",
+            "",
+            "400 Bad Request",
+            "bad_request",
+            "bad flag",
+        ),
+        (
+            "POST /e/_bulk_docs",
+            "{",
+            "404 Not Found",
+            "not_found",
+            "Database does not exist.",
+        ),
+        (
+            "POST /d/_bulk_docs",
+            "{",
+            "400 Bad Request",
+            "bad_request",
+            "not JSON",
+        ),
+        (
+            "POST /d/_bulk_docs",
+            "[]",
+            "400 Bad Request",
+            "bad_request",
+            "not an object",
+        ),
+        (
+            "POST /d/_bulk_docs",
+            "{\"docs\":{}}",
+            "400 Bad Request",
+            "bad_request",
+            "not an object",
+        ),
+        (
+            "POST /d/_bulk_docs",
+            "{\"docs\":[],\"new_edits\":0}",
+            "400 Bad Request",
+            "bad_request",
+            "not an object",
+        ),
+        (
+            "POST /d/_bulk_docs",
+            "{\"docs\":[]}",
+            "400 Bad Request",
+            "bad_request",
+            "bad member",
+        ),
+        (
+            "POST /d/_bulk_docs",
+            "{\"docs\":[],\"new_edits\":true}",
+            "400 Bad Request",
+            "bad_request",
+            "bad member",
+        ),
     ];
     for (line, body, status, error, reason) in table {
         let refusal = refused(alloc, status, error, reason)?;
@@ -165,16 +273,21 @@ fn refusals(rt: HostRuntime) -> Result<(), Fail> {
     Ok(())
 }
 
-/// A batch without a length, and one whose elements nest too deep for the whole.
+/// A batch without a length.
 #[test]
-fn bodies(rt: HostRuntime) -> Result<(), Fail> {
+fn no_length(rt: HostRuntime) -> Result<(), Fail> {
     let alloc = rt.alloc();
     let (output, _) = answered(
         alloc,
         b"PUT /d HTTP/1.1\r\n\r\nPOST /d/_bulk_docs HTTP/1.1\r\n\r\n",
         Limits::full(),
     )?;
-    let refusal = refused(alloc, "411 Length Required", "length_required", "no Content-Length")?;
+    let refusal = refused(
+        alloc,
+        "411 Length Required",
+        "length_required",
+        "no Content-Length",
+    )?;
     let expected = format!(in alloc; "{MADE}{refusal}")?;
     assert_eq!(rt; output.as_slice(), expected.as_bytes());
     Ok(())
@@ -189,7 +302,12 @@ fn names(rt: HostRuntime) -> Result<(), Fail> {
         b"PUT /a%2Fb HTTP/1.1\r\n\r\nPUT /a%2fb/ HTTP/1.1\r\n\r\nPUT /a/b HTTP/1.1\r\n\r\nHEAD /a%2Fb HTTP/1.1\r\n\r\n",
         Limits::full(),
     )?;
-    let exists = refused(alloc, "412 Precondition Failed", "file_exists", "The database could not be created, the file already exists.")?;
+    let exists = refused(
+        alloc,
+        "412 Precondition Failed",
+        "file_exists",
+        "The database could not be created, the file already exists.",
+    )?;
     let missing = refused(alloc, "404 Not Found", "not_found", "missing")?;
     let head =
         "HTTP/1.1 404 Not Found\r\nContent-Type: application/json\r\nContent-Length: 41\r\n\r\n";
@@ -211,5 +329,100 @@ fn closing(rt: HostRuntime) -> Result<(), Fail> {
         "HTTP/1.1 201 Created\r\nContent-Type: application/json\r\nContent-Length: 12\r\nConnection: close\r\n\r\n{\"ok\":true}\n";
     assert_eq!(rt; output.as_slice(), expected.as_bytes());
     assert!(rt; closing == Closing::Requested);
+    Ok(())
+}
+
+/// With one database allowed a second is refused, and with one edit allowed a second document.
+#[test]
+fn limits(rt: HostRuntime) -> Result<(), Fail> {
+    let alloc = rt.alloc();
+    let limits = Limits {
+        body: 8_388_608,
+        head: 16_384,
+        headers: 64,
+        databases: 1,
+        feeds: 1_024,
+        lane: 64,
+        hold: 64,
+        journal: 1,
+        history: 50,
+    };
+    let batch = request(
+        alloc,
+        "POST /d/_bulk_docs",
+        "{\"docs\":[{\"_id\":\"a\",\"_rev\":\"1-a\"},{\"_id\":\"b\",\"_rev\":\"1-b\"}],\"new_edits\":false}",
+    )?;
+    let input = format!(in alloc;
+        "PUT /d HTTP/1.1\r\n\r\nPUT /e HTTP/1.1\r\n\r\n{batch}GET /d/_changes HTTP/1.1\r\n\r\n"
+    )?;
+    let (output, _) = answered(alloc, input.as_bytes(), limits)?;
+    let many = refused(
+        alloc,
+        "503 Service Unavailable",
+        "too_many_databases",
+        "too many databases",
+    )?;
+    let list = whole(
+        alloc,
+        "201 Created",
+        "[{\"id\":\"b\",\"error\":\"sequence_full\",\"reason\":\"sequence full\"}]",
+    )?;
+    let rows = "2c\r\n{\"seq\":1,\"id\":\"a\",\"changes\":[{\"rev\":\"1-a\"}]}\r\n";
+    let expected = format!(in alloc;
+        "{MADE}{many}{list}{FEED}d\r\n{{\"results\":[\n\r\n{rows}1e\r\n\n],\n\"last_seq\":1,\"pending\":0}}\n\r\n0\r\n\r\n"
+    )?;
+    assert_eq!(rt; output.as_slice(), expected.as_bytes());
+    Ok(())
+}
+
+/// A head's fault is answered, and closes; an end in the middle of a request has no reply.
+#[test]
+fn head_faults(rt: HostRuntime) -> Result<(), Fail> {
+    let alloc = rt.alloc();
+    let table = [
+        (
+            "GET / HTTP/1.0\r\n\r\n",
+            "505 HTTP Version Not Supported",
+            "http_version",
+            "HTTP/1.1 only",
+        ),
+        (
+            "GET / HTTP/1.1\r\nTransfer-Encoding: chunked\r\n\r\n",
+            "501 Not Implemented",
+            "not_implemented",
+            "no transfer coding",
+        ),
+        (
+            "GET / HTTP/1.1\r\nContent-Length: 8388609\r\n\r\n",
+            "413 Payload Too Large",
+            "too_large",
+            "body too long",
+        ),
+        (
+            "GET / HTTP/1.1\r\nContent-Length: +1\r\n\r\n",
+            "400 Bad Request",
+            "bad_request",
+            "bad head",
+        ),
+        (
+            "GET * HTTP/1.1\r\n\r\n",
+            "400 Bad Request",
+            "bad_request",
+            "bad head",
+        ),
+    ];
+    for (head, status, error, reason) in table {
+        let input = format!(in alloc; "{head}PUT /d HTTP/1.1\r\n\r\n")?;
+        let (output, closing) = answered(alloc, input.as_bytes(), Limits::full())?;
+        let body = format!(in alloc; "{{\"error\":\"{error}\",\"reason\":\"{reason}\"}}\n")?;
+        let len = body.len();
+        let expected = format!(in alloc;
+            "HTTP/1.1 {status}\r\nContent-Type: application/json\r\nContent-Length: {len}\r\nConnection: close\r\n\r\n{body}"
+        )?;
+        assert_eq!(rt; output.as_slice(), expected.as_bytes(), "{head}");
+        assert!(rt; matches!(closing, Closing::Fault(_)));
+    }
+    let (nothing, _) = answered(alloc, b"PUT /d HTTP/1.1\r\n", Limits::full())?;
+    assert!(rt; nothing.is_empty());
     Ok(())
 }
