@@ -26,7 +26,7 @@ row_end true = codes "],\"deleted\":true}"
 unfoldable pub row_head : ℕ → List ℕ → List ℕ
 row_head seq id = codes "{\"seq\":" ++ (decimal seq ++ (codes ",\"id\":" ++ quoted id))
 
--- a row as a JSON object
+-- a row as a JSON object; its document is not written
 unfoldable pub row_text : ChangeRow → List ℕ
 row_text row = row_head row.seq row.id ++ (codes ",\"changes\":[" ++ (revisions_text row.changes ++ row_end row.deleted))
 

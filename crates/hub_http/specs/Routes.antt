@@ -45,6 +45,7 @@ asked_of kind.Changes method =
     else (if is (codes "POST") method then Err Missing else Err MethodNotAllowed)
 asked_of _ method = Err Missing
 
+-- the same of a path, where the table has it
 abbrev pub asked_at : Option Kind → List ℕ → Result Service RouteFault
 asked_at None method = Err Missing
 asked_at (Some kind) method = asked_of kind method

@@ -1,4 +1,4 @@
--- The table of routes.
+-- The table of routes (CouchDB API reference, the paths of the server, databases and documents).
 use Rattle.std.specs.Prelude.{ℕ, List, [], Option, Some, None, Result, Ok, Err, codes}
 use Rattle.matchit.specs.declared.error.InsertError.{InsertError}
 use Rattle.matchit.specs.Rows.{RowsOf}
@@ -9,9 +9,11 @@ use Rattle.matchit.specs.Seek.{first}
 use Rattle.hub_http.specs.declared.route.Kind.{Kind}
 use Rattle.hub_http.specs.declared.route.Kind.TheVariants.{Welcome, AllDbs, DbUpdates, Database, BulkDocs, Changes, RevsDiff, FullCommit, Document, Design, Local}
 
+-- routes with what each names
 abbrev pub Routes : Type 0
 Routes = RowsOf (RouteOf Kind)
 
+-- the rows with a route that reads well
 abbrev pub with_scan : Result Scan InsertError → Kind → Routes → Routes
 with_scan (Ok s) kind rows = placed (s.pattern, route_from s kind) rows
 with_scan (Err e) kind rows = rows

@@ -9,7 +9,7 @@ ghost use Rattle.hub_http.specs.Stream.{asked_by};
 ghost use Rattle.hub_http.specs.Routes.{ascii_path, asked_of, asked_at, GoesTo};
 
 use crate::request::Request;
-use matchit::{InsertError, Router};
+use matchit::Router;
 use percent_encoding::{AsciiSet, DecodeError, percent_decode, percent_encode};
 use std::alloc::{AllocError, Global};
 
@@ -90,15 +90,19 @@ pub enum RouteFault {
     LengthMissing,
 }
 
-fn add(router: &mut Router<Kind>, route: &str, kind: Kind) -> Result<(), InsertError>
+// Each route reads well, and no two of them conflict, so that memory alone may lack.
+fn add(router: &mut Router<Kind>, route: &str, kind: Kind) -> Result<(), AllocError>
     ensures { OnOk result (router.new ≡ with_route route.now kind router.old) }
 {
-    router.insert(route, kind)
+    match router.insert(route, kind) {
+        Ok(()) => Ok(()),
+        Err(_) => Err(AllocError),
+    }
 }
 
 // The paths of databases are matched here too where they are not served, so that no part of one
 // is taken for a name.
-fn table(alloc: Global) -> Result<Router<Kind>, InsertError>
+fn table(alloc: Global) -> Result<Router<Kind>, AllocError>
     ensures { IfOk result (λ r. r ≡ table) }
 {
     let mut router = Router::new(alloc);
@@ -207,13 +211,10 @@ pub struct Routes {
 }
 
 impl Routes {
-    /// Builds the table. It costs some thousand steps and allocations: build one, and keep it.
+    /// Builds the table. It allocates a few dozen times: build one, and keep it.
     pub fn new(alloc: Global) -> Result<Routes, AllocError> {
-        match table(alloc) {
-            Ok(router) => Ok(Routes { router }),
-            // No two of the routes conflict, so there was no memory.
-            Err(_) => Err(AllocError),
-        }
+        let router = table(alloc)?;
+        Ok(Routes { router })
     }
 
     fn kind_at(&self, path: &str) -> Option<Kind>
