@@ -22,7 +22,7 @@ use Rattle.hub_session.specs.declared.service.Answer.TheVariants.{Whole}
 use Rattle.changes_hub.specs.Bulk.{docs_in}
 use Rattle.changes_hub.specs.Hub.{Hub, Database, Feed, Step, Refusing, StandsAt, HasFront, HasBatchFront, Leaves, MayLeave, IsStep, IsRefused, Says, has_name, stored_at, with_journal, at_name, stores, stores_value, stores_docs, edits_among, goes}
 use Rattle.changes_hub.specs.Views.{database_of, AreLimited}
-use Rattle.changes_hub.specs.declared.databases.Database as own
+use Rattle.changes_hub.specs.declared.database.Database as own
 use Rattle.changes_hub.proofs.NameLemmas.{journal_at, shown_at, found_at}
 
 -- a hub of these databases of the program

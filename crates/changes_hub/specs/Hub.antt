@@ -68,6 +68,7 @@ refuses h refusal = record { said = Refusing refusal; hub = h }
 
 -- ---- making a database
 
+-- the body of an answer that says no more than that it was done
 abbrev pub ok_body : List ℕ
 ok_body = codes "{\"ok\":true}\n"
 
@@ -75,6 +76,7 @@ ok_body = codes "{\"ok\":true}\n"
 abbrev pub with_database : Hub → List ℕ → Hub
 with_database h name = record h { databases = h.databases ++ record { name = name; journal = [] } ∷ [] }
 
+-- a bad name is refused first, then one that is there, then one too many
 abbrev pub creates : Hub → List ℕ → Step
 creates h name =
     if is_name name
@@ -85,10 +87,12 @@ creates h name =
 
 -- ---- a database that is asked for by its name
 
+-- what comes next, where the database was found
 abbrev pub found : Hub → Option Database → (Database → Step) → Step
 found h None next = refuses h Absent
 found h (Some d) next = next d
 
+-- what comes next, at the database of this name: a bad name is refused first, then one that is not there
 abbrev pub at_name : Hub → List ℕ → (Database → Step) → Step
 at_name h name next = if is_name name then found h (find (has_name name) h.databases) next else refuses h BadName
 
@@ -119,14 +123,17 @@ batch_stored h name docs stored = record {
   hub = stored_at h name stored.journal;
 }
 
+-- a batch of these documents, or the refusal of the whole
 abbrev pub stores_docs : Hub → List ℕ → Database → Result Items Refusal → Step
 stores_docs h name d (Err refusal) = refuses h refusal
 stores_docs h name d (Ok docs) = batch_stored h name docs (merges_all h.limits.journal d.journal (edits_among docs))
 
+-- a body that is this JSON value, or none
 abbrev pub stores_value : Hub → List ℕ → Database → Option Data → Step
 stores_value h name d None = refuses h NotJson
 stores_value h name d (Some value) = stores_docs h name d (docs_in value)
 
+-- storing the batch that the body is in the database of the name
 abbrev pub stores : Hub → List ℕ → List ℕ → Step
 stores h name body = at_name h name (λ d. stores_value h name d (json_of body))
 
@@ -136,10 +143,12 @@ stores h name body = at_name h name (λ d. stores_value h name d (json_of body))
 abbrev pub feed_of : List Edit → Feed
 feed_of journal = record { rows = map (row_of journal MainOnly false) (current journal); last_seq = length journal }
 
+-- a feed of the database; for now a query is refused
 abbrev pub begins_feed : Hub → Database → List ℕ → Step
 begins_feed h d [] = record { said = Feeding; hub = record h { feed = Some (feed_of d.journal) } }
 begins_feed h d (b ∷ query) = refuses h BadFlag
 
+-- beginning a feed of the database of the name
 abbrev pub opens : Hub → List ℕ → List ℕ → Step
 opens h name query = at_name h name (λ d. begins_feed h d query)
 

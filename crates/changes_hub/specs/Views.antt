@@ -2,8 +2,8 @@
 use Rattle.std.specs.Prelude.{◌≡◌, List, map, string_bytes, Option, option_map, All}
 use Rattle.std.specs.Vec.Iter.{into_iter_items}
 use Rattle.hub_document.specs.declared.limits.Limits.{Limits}
-use Rattle.changes_hub.specs.declared.databases.Database.{Database}
-use Rattle.changes_hub.specs.declared.databases.Feed.{Feed}
+use Rattle.changes_hub.specs.declared.database.Database.{Database}
+use Rattle.changes_hub.specs.declared.database.Feed.{Feed}
 use Rattle.changes_hub.specs.Hub as hub
 
 -- a database of the hub

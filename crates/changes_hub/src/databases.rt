@@ -19,6 +19,7 @@ ghost use Rattle.serde_json.specs.View.{view};
 ghost use Rattle.serde_json.specs.Data.{Items};
 
 use crate::bulk::{batch_body, elements_of, read_elements};
+use crate::database::{Database, Feed};
 use crate::name::is_name;
 use http::StatusCode;
 use hub_database::{DbState, Replies};
@@ -28,61 +29,6 @@ use hub_session::{Answer, Service};
 use serde_json::Value;
 use std::alloc::{AllocError, Global};
 use std::marker::Model;
-use std::vec::IntoIter;
-
-/// A database and its name.
-#[derive(Drop)]
-struct Database {
-    name: String,
-    state: DbState,
-}
-
-impl Database {
-    ghost use Rattle.changes_hub.specs.Hub.{feed_of};
-    ghost use Rattle.changes_hub.specs.Views.{feed_in};
-
-    /// Stores documents one after the other. An error says that one of them found no memory: those
-    /// before it stand.
-    fn store(&mut self, docs: Vec<Doc>) -> Result<Replies, AllocError>
-        ensures ok { IfOk result (λ replies. merges_all self.old.state.limits.journal self.old.state.journal (edits_in docs.items)
-            ≡ record { outcomes = replies; journal = self.new.state.journal }) }
-        ensures err { OnErr result ((count : ℕ)
-            × (self.new.state.journal ≡ (merges_all self.old.state.limits.journal self.old.state.journal (take count (edits_in docs.items))).journal)) }
-        ensures name { self.new.name ≡ self.old.name }
-        ensures limits { self.new.state.limits ≡ self.old.state.limits }
-    {
-        match self.state.write_edits(docs, false) {
-            Ok(batch) => {
-                if batch.stopped {
-                    Err(AllocError)
-                } else {
-                    Ok(batch.replies)
-                }
-            }
-            Err(_) => Err(AllocError),
-        }
-    }
-
-    /// A feed of what the database holds.
-    fn feed(&self) -> Result<Feed, AllocError>
-        ensures { IfOk result (λ f. feed_in f ≡ feed_of self.now.state.journal) }
-    {
-        let rows = self.state.rows()?;
-        Ok(Feed {
-            rows: rows.into_iter(),
-            last_seq: self.state.update_seq(),
-        })
-    }
-}
-
-/// A feed that is being sent.
-#[derive(Drop)]
-struct Feed {
-    /// The rows that were not handed yet.
-    rows: IntoIter<ChangeRow>,
-    /// The sequence at the end.
-    last_seq: u64,
-}
 
 /// The databases of a hub. It answers one request at a time.
 #[derive(Drop)]
@@ -130,6 +76,14 @@ fn is_taken(list: &[Database], name: &str) -> bool
     place_of(list, name).is_some()
 }
 
+/// An answer with this status and body.
+fn done(alloc: Global, status: StatusCode, body: &[u8]) -> Result<Answer, AllocError>
+    ensures { IfOk result (λ a. Says a (Body status body.now)) }
+{
+    let body = Vec::from_slice(alloc, body)?;
+    Ok(Answer::Whole(Reply::Done { status, body }))
+}
+
 impl Databases {
     /// A hub without databases.
     pub fn new(alloc: Global, limits: Limits) -> Result<Databases, AllocError>
@@ -144,17 +98,7 @@ impl Databases {
             feed: None,
         })
     }
-}
 
-/// A body that was made without fail.
-fn done(alloc: Global, status: StatusCode, body: &[u8]) -> Result<Answer, AllocError>
-    ensures { IfOk result (λ a. Says a (Body status body.now)) }
-{
-    let body = Vec::from_slice(alloc, body)?;
-    Ok(Answer::Whole(Reply::Done { status, body }))
-}
-
-impl Databases {
     /// Where the database of this name stands, or why there is none.
     fn find(&self, name: &str) -> Result<usize, Refusal>
         ensures ok { IfOk result (λ at. (d : Named) × StandsAt self.now name.now at d
@@ -210,10 +154,8 @@ impl Databases {
             Err(_) => Err(Refusal::NoMemory),
         }
     }
-}
 
-impl Databases {
-    /// Begins a feed of the rows that are there.
+    /// Begins a feed of the rows that are there, which are made at once.
     fn open_feed(&mut self, name: &str, query: &[u8]) -> Result<Answer, Refusal>
         ensures ok { IfOk result (λ a. IsStep a (opens self.old name.now query.now) self.new) }
         ensures err { IfErr result (λ e. IsRefused e (opens self.old name.now query.now) self.old self.new) }
@@ -230,9 +172,7 @@ impl Databases {
             Err(_) => Err(Refusal::NoMemory),
         }
     }
-}
 
-impl Databases {
     /// Stores documents in the database at this place. An error says that one of them found no
     /// memory: those before it stand.
     fn store_at(&mut self, at: usize, docs: Vec<Doc>) -> Result<Replies, AllocError>
@@ -275,7 +215,7 @@ impl Databases {
         }
     }
 
-    /// Stores a batch of documents.
+    /// Stores a batch of documents. It costs the body's length, and what `DbState::write_edits` does.
     fn store(&mut self, name: &str, body: &[u8]) -> Result<Answer, Refusal>
         ensures ok { IfOk result (λ a. IsStep a (stores self.old name.now body.now) self.new) }
         ensures err { IfErr result (λ e. IsRefused e (stores self.old name.now body.now) self.old self.new

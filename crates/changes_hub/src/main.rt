@@ -2,6 +2,7 @@
 #![tactic(auto)]
 
 mod bulk;
+mod database;
 mod databases;
 mod name;
 mod stream;

@@ -200,7 +200,8 @@ impl<R: Input> Requests<R> {
     /// it stood.
     ///
     /// Cost: bytes are read in blocks of at most 4,096 and copied into the held bytes and from
-    /// there into the request; a body of more than 4,096 bytes is moved once and not copied again. A head that comes in k reads is parsed k times, each time from its front,
+    /// there into the request; a body of more than 4,096 bytes is moved once and not copied again.
+    /// A head that comes in k reads is parsed k times, each time from its front,
     /// over at most 16,384 bytes; the reads of a body parse nothing. Room for a body is reserved
     /// once, and what is read behind a request, less than a block, is moved to the front once a
     /// request.

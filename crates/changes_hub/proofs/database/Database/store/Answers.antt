@@ -3,7 +3,7 @@ use Rattle.std.proofs.lemmas.List.{take-map}
 use Rattle.hub_model.specs.Journal.{Edit}
 use Rattle.hub_model.specs.Outcome.{StoresAll, merges_all}
 use Rattle.hub_database.specs.Edits.{edit_of}
-use Rattle.changes_hub.proofs.databases.Database.store.Goals as goal
+use Rattle.changes_hub.proofs.database.Database.store.Goals as goal
 
 pub returns-then-batch-clause-err : goal.returns-then-batch-clause-err
 returns-then-batch-clause-err c = (
