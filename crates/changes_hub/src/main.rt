@@ -1,6 +1,8 @@
 //! A hub of document databases, over standard input and output.
 #![tactic(auto)]
 
+ghost use Rattle.std.specs.Prelude.{◌≡◌, ◌↔◌, ◌⊎◌, IsTrue};
+
 mod bulk;
 mod database;
 mod databases;
@@ -43,7 +45,9 @@ impl Command {
 }
 
 /// Whether a session came to an end that its client asked for.
-fn is_success(closing: Closing) -> bool {
+fn is_success(closing: Closing) -> bool
+    ensures { IsTrue result ↔ ((closing ≡ Closing.Finished) ⊎ (closing ≡ Closing.Requested)) }
+{
     closing == Closing::Finished || closing == Closing::Requested
 }
 
