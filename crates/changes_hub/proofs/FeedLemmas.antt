@@ -1,5 +1,5 @@
 -- A feed that came to its end showed what was left of it.
-use Rattle.std.proofs.Common.{◌≡◌, ℕ, zero, suc, ◌+◌, ◌<◌, ◌≤◌, List, [], ◌∷◌, ◌++◌, length, map, Bool, true, false, Option, Some, None, refl, sym, subst, ap, ◌∙◌, arith}
+use Rattle.std.proofs.Common.{◌≡◌, ℕ, ◌+◌, ◌≤◌, List, [], ◌∷◌, ◌++◌, length, map, false, Some, refl, sym, ap, ◌∙◌, arith}
 use Rattle.std.specs.Prelude.{count_by, nat_lt, Contains}
 use Rattle.hub_model.specs.Journal.{Edit}
 use Rattle.hub_model.specs.Current.{Current, current, pending}
@@ -11,7 +11,7 @@ use Rattle.hub_model.proofs.Lists.{contains_here, contains_there}
 use Rattle.hub_model.proofs.Rows.{current_within}
 use Rattle.hub_session.specs.declared.closing.StreamEnd.TheVariants.{Complete}
 use Rattle.hub_session.specs.Feeds.{Streams}
-use Rattle.changes_hub.specs.Hub.{Hub, Feed, HubGives, goes_on, feed_of}
+use Rattle.changes_hub.specs.Hub.{Hub, HubGives, goes_on, feed_of}
 use Rattle.changes_hub.specs.Laws.{CompleteFeedIsWhole}
 
 -- the rows that are left, and the end

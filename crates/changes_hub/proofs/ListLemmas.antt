@@ -1,5 +1,5 @@
 -- Lists whose members have commas (44) between them.
-use Rattle.std.proofs.Common.{◌≡◌, ℕ, ◌<◌, length, Option, arith, List, [], ◌∷◌, ◌++◌, Bool, true, false, sym, ap, ◌∙◌, refl, append-nil}
+use Rattle.std.proofs.Common.{◌≡◌, ℕ, ◌<◌, length, Option, arith, List, [], ◌∷◌, ◌++◌, Bool, true, false, ap, refl, append-nil}
 use Rattle.std.specs.List.{join_with_byte}
 use Rattle.serde_json.specs.Written.{comma_if}
 use Rattle.serde_json.specs.Data.{Items, no_items, item}

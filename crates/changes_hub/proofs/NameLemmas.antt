@@ -1,5 +1,5 @@
 -- The first of a list that passes a test: its place, and a change of it.
-use Rattle.std.proofs.Common.{◌≡◌, ℕ, zero, suc, get_or, length, eqb, eqb-true, ◌+◌, List, [], ◌∷◌, Bool, true, false, Option, Some, None, cond, set, arith, refl, sym, ap, ◌∙◌, subst, ◌⊎◌, inl, inr, map, slice_get}
+use Rattle.std.proofs.Common.{◌≡◌, ℕ, zero, suc, get_or, length, eqb, eqb-true, ◌+◌, List, [], ◌∷◌, Bool, true, false, Some, None, cond, set, arith, refl, sym, ap, ◌∙◌, subst, ◌⊎◌, inl, inr, map, slice_get}
 use Rattle.std.specs.Prelude.{find, is_some}
 use Rattle.std.specs.List.{position_from, list_any}
 use Rattle.std.proofs.lemmas.Bool.{cases_Bool}

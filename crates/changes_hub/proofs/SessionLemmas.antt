@@ -1,5 +1,5 @@
 -- A session over the bytes of a reader.
-use Rattle.std.proofs.Common.{◌≡◌, List, ℕ, Option, Some, None, sym, subst}
+use Rattle.std.proofs.Common.{◌≡◌, List, ℕ, Option, Some, None, subst}
 use Rattle.std.specs.Prelude.{IfSome}
 
 -- what holds of the bytes that were to come holds of those of the reader

@@ -1,5 +1,5 @@
 -- The hub after a change of the database at a place.
-use Rattle.std.proofs.Common.{◌≡◌, ℕ, ◌<◌, List, length, take, All, Option, Some, map, set, slice_get, get_or, sym, subst, ap, ◌∙◌, refl, arith, string_bytes, ◌⊎◌, inl, inr}
+use Rattle.std.proofs.Common.{◌≡◌, ℕ, ◌<◌, List, length, take, Option, Some, map, set, slice_get, get_or, sym, subst, ap, ◌∙◌, refl, arith, string_bytes, ◌⊎◌, inl, inr}
 use Rattle.std.proofs.lemmas.List.{map-set, length-map, take_all}
 use Rattle.std.proofs.lemmas.Option.{same_Some}
 use Rattle.std.proofs.lemmas.List.Elements.{All-get_or}

@@ -1,17 +1,17 @@
 -- A hub's databases, and what it answers to a request (CouchDB API reference: PUT /{db}, POST /{db}/_bulk_docs, GET /{db}/_changes; own for the order of refusals).
-use Rattle.std.specs.Prelude.{◌≡◌, ◌⊎◌, ◌≤◌, ◌<◌, ℕ, List, [], ◌∷◌, ◌++◌, length, map, take, find, slice_get, Bool, true, false, Option, Some, None, Result, Ok, Err, if◌then◌else◌, nat_le, codes, string_bytes}
+use Rattle.std.specs.Prelude.{◌≡◌, ◌⊎◌, ℕ, List, [], ◌∷◌, ◌++◌, length, map, take, find, slice_get, Bool, false, Option, Some, None, Result, Ok, Err, if◌then◌else◌, nat_le, codes, string_bytes}
 use Rattle.std.specs.List.{list_any, position_from}
 use Rattle.std.specs.Str.{bytes_eq}
 use Rattle.hub_model.specs.Revision.{Revision}
 use Rattle.hub_model.specs.Journal.{Edit}
 use Rattle.hub_model.specs.declared.outcomes.Outcome.{Outcome}
-use Rattle.hub_model.specs.Current.{Current, current, pending}
+use Rattle.hub_model.specs.Current.{current}
 use Rattle.hub_model.specs.Row.{ChangeRow, row_of}
 use Rattle.hub_model.specs.Outcome.{StoresAll, merges_all}
 use Rattle.hub_model.specs.declared.feeds.Style.TheVariants.{MainOnly}
 use Rattle.hub_model.specs.declared.feeds.Mode.TheVariants.{Normal}
 use Rattle.hub_model.specs.declared.feeds.Item.{Item}
-use Rattle.hub_model.specs.declared.feeds.Item.TheVariants.{Row, Beat, End}
+use Rattle.hub_model.specs.declared.feeds.Item.TheVariants.{Row, End}
 use Rattle.hub_document.specs.declared.limits.Limits.{Limits}
 use Rattle.hub_document.specs.Read.{json_of}
 use Rattle.hub_database.specs.Edits.{edits_in}
@@ -22,7 +22,6 @@ use Rattle.hub_http.specs.Refusals.{of_route_fault}
 use Rattle.hub_http.specs.declared.route.Route.{Route}
 use Rattle.hub_http.specs.declared.route.Route.TheVariants.{PutDatabase, BulkDocs, Changes}
 use Rattle.hub_http.specs.declared.route.RouteFault.{RouteFault}
-use Rattle.hub_http.specs.declared.reply.Reply.{Reply}
 use Rattle.hub_http.specs.declared.reply.Reply.TheVariants.{Done, Refused}
 use Rattle.hub_http.specs.declared.refusal.Refusal.{Refusal}
 use Rattle.hub_http.specs.declared.refusal.Refusal.TheVariants.{NoMemory, NotJson, BadName, Exists, TooMany, Absent, BadFlag}

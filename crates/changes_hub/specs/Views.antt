@@ -1,5 +1,5 @@
 -- What the program's own types show (own).
-use Rattle.std.specs.Prelude.{◌≡◌, List, map, string_bytes, Option, option_map, All}
+use Rattle.std.specs.Prelude.{◌≡◌, List, string_bytes, All}
 use Rattle.std.specs.Vec.Iter.{into_iter_items}
 use Rattle.hub_document.specs.declared.limits.Limits.{Limits}
 use Rattle.changes_hub.specs.declared.database.Database.{Database}

@@ -1,6 +1,6 @@
-use Rattle.std.proofs.Common.{[], None, subst}
+use Rattle.std.proofs.Common.{subst}
 use Rattle.hub_session.specs.Sessions.{IsSession}
-use Rattle.changes_hub.specs.Hub.{Hub, HubAnswers, HubGives}
+use Rattle.changes_hub.specs.Hub.{HubAnswers, HubGives}
 use Rattle.changes_hub.proofs.SessionLemmas.{told_of}
 use Rattle.changes_hub.proofs.stream.answer_stream.Goals as goal
 

@@ -1,4 +1,4 @@
-use Rattle.std.proofs.Common.{◌≡◌, ℕ, List, [], Some, slice_get, rules, refl, sym, ap, ◌∙◌}
+use Rattle.std.proofs.Common.{◌≡◌, [], Some, slice_get, refl, sym, ap, ◌∙◌}
 use Rattle.changes_hub.specs.Hub.{Hub, Database, begins_feed, feed_of, opens}
 use Rattle.changes_hub.specs.Views.{database_of, feed_in}
 use Rattle.changes_hub.proofs.NameLemmas.{shown_at, nothing}

@@ -1,7 +1,6 @@
-use Rattle.std.proofs.Common.{◌≡◌, refl, sym, subst, ap, ◌∙◌, inr, List}
+use Rattle.std.proofs.Common.{◌≡◌, refl, subst, ap, ◌∙◌, inr}
 use Rattle.serde_json.specs.View.{items_view}
 use Rattle.serde_json.specs.Data.{Items}
-use Rattle.hub_document.specs.declared.doc.Doc.{Doc}
 use Rattle.hub_database.specs.Edits.{edits_in}
 use Rattle.changes_hub.specs.Hub.{HasFront, edits_among}
 use Rattle.changes_hub.proofs.StoreLemmas.{front_of_whole}
