@@ -1,4 +1,4 @@
-use crate::{Answer, Closing, Service, serve};
+use crate::{Answer, Closing, Service, StreamEnd, serve, serve_one, stream_feed};
 use http::StatusCode;
 use hub_document::{ChangeRow, Doc, RevId, Revisions};
 use hub_http::{HttpFault, Output, Refusal, Reply, Request, Requests, Tally};
@@ -296,4 +296,22 @@ fn flushes(rt: HostRuntime) {
         let taker = writer.into_inner();
         assert_eq!(rt; (taker.writes, taker.flushed.as_slice()), (writes, flushed));
     }
+}
+
+/// One step answers one request alone, and a stream is sent without the head of its answer.
+#[test]
+fn one_step(rt: HostRuntime) {
+    let alloc = rt.alloc();
+    let mut service = two_rows(alloc);
+    let input = b"PUT /d HTTP/1.1\r\n\r\nPUT /d HTTP/1.1\r\n\r\n";
+    let mut requests = Requests::new(alloc, Tally::new(input.as_slice()));
+    let mut writer = Tally::new(Vec::new(alloc));
+    let closing = serve_one(alloc, &mut requests, &mut writer, &mut service);
+    assert_eq!(rt; closing, None);
+    assert_eq!(rt; writer.into_inner().as_slice(), CREATED.as_bytes());
+
+    let mut writer = Tally::new(Vec::new(alloc));
+    let end = stream_feed(alloc, &mut writer, &mut service, Mode::Normal);
+    assert_eq!(rt; end, StreamEnd::Complete);
+    assert_eq!(rt; writer.into_inner().as_slice(), NORMAL.as_bytes());
 }
