@@ -12,7 +12,7 @@ use Rattle.hub_model.specs.declared.outcomes.Fault.TheVariants.{Contradicts, Seq
 use Rattle.hub_model.specs.declared.outcomes.Outcome.{Outcome}
 use Rattle.hub_model.specs.declared.outcomes.Outcome.TheVariants.{Stored, Known, Refused}
 use Rattle.hub_model.specs.Outcome.{Stores, adds, merges, Takes, TakesAll, stores_all, merges_all}
-use Rattle.hub_model.specs.Draft.{Draft, generation_of, made, edit_of, extended, makes_on, makes}
+use Rattle.hub_model.specs.Draft.{Draft, parent_of, generation_of, made, edit_of, extended, makes_on, makes}
 use Rattle.hub_model.proofs.Lists.{contains_here, contains_there}
 use Rattle.hub_model.proofs.Legal.{legal_more, legal_sound}
 use Rattle.hub_model.proofs.Tests.{names_is, acceptable_is, is_acceptable_from, head_known_is, head_new_is, is_known_from, same_self, or_left}
@@ -111,24 +111,24 @@ history_on m r (x ∷ p) h i g =
     let f = h.full in
     record { falls = (omega arith, h.falls); full = (m ∷ f.0, f.1, ap (λ (z : List Revision). m ∷ z) f.2, f.3) }
 
-generation_first : (p : List Revision) (r : Revision) → IsFirst p r → generation_of p ≡ r.generation
+generation_first : (p : List Revision) (r : Revision) → IsFirst p r → generation_of (parent_of p) ≡ r.generation
 generation_first [] r i = absurd i
 generation_first (x ∷ p) r i = ap (λ (z : Revision). z.generation) i
 
 -- a draft's edit is acceptable where its revision is new
-made_acceptable : (J : List Edit) (d : Draft) (path : List Revision) → IsLegal J → IsExtended J d.id path → ¬ IsKnown J d.id (made d path) → IsAcceptable J (edit_of d path)
+made_acceptable : (J : List Edit) (d : Draft) (path : List Revision) → IsLegal J → IsExtended J d.id path → ¬ IsKnown J d.id (made d (parent_of path)) → IsAcceptable J (edit_of d path)
 made_acceptable J d path legal x new = record {
   history = history x;
   new = λ r i k. new (subst (λ z. IsKnown J d.id z) (sym i) k);
-  agrees = tree_with J (edit_of d path) (made d path) legal new path (steps x) refl;
+  agrees = tree_with J (edit_of d path) (made d (parent_of path)) legal new path (steps x) refl;
 }
   where
-    history : IsExtended J d.id path → IsHistory (made d path ∷ path)
-    history (inl e) = subst (λ (z : List Revision). IsHistory (made d z ∷ z)) (sym e) (record { falls = omega arith; full = ([], made d [], refl, refl) })
+    history : IsExtended J d.id path → IsHistory (made d (parent_of path) ∷ path)
+    history (inl e) = subst (λ (z : List Revision). IsHistory (made d (parent_of z) ∷ z)) (sym e) (record { falls = omega arith; full = ([], made d None, refl, refl) })
     history (inr (r, k, e)) =
         let w = line_of_walk J d.id legal r k in
         let first : IsFirst path r = subst (λ z. IsFirst z r) (sym e) w.0 in
-        history_on (made d path) r path (walk_history J d.id (legal_histories J legal) path r first k (subst (λ z. IsWalk J d.id z) (sym e) w.1)) first (ap (λ (n : ℕ). n + 1) (generation_first path r first))
+        history_on (made d (parent_of path)) r path (walk_history J d.id (legal_histories J legal) path r first k (subst (λ z. IsWalk J d.id z) (sym e) w.1)) first (ap (λ (n : ℕ). n + 1) (generation_first path r first))
 
     steps : IsExtended J d.id path → (s r : Revision) → IsNext path s r → IsBehind J d.id r s
     steps (inl e) s r n = absurd (subst (λ z. IsNext z s r) e n)
@@ -143,8 +143,8 @@ makes_legal limit J d h = from (extended J d.id (leaves_of J d.id) d.rev) refl
     from : (o : Option (List Revision)) → extended J d.id (leaves_of J d.id) d.rev ≡ o → IsLegal (makes_on limit J d o).journal
     from None e = h
     from (Some path) e =
-        stores_if (nat_le 65535 (generation_of path)) _ _ (λ t. h) (λ t. stores_if (is_known J d.id (made d path)) _ _ (λ u. h)
-        (λ u. adds_legal limit J (edit_of d path) h (made_acceptable J d path h (extended_known J d.id (leaves_of J d.id) d.rev path known e) (λ k. both_ways _ u (is_known_from J d.id (made d path) k)))))
+        stores_if (nat_le 65535 (generation_of (parent_of path))) _ _ (λ t. h) (λ t. stores_if (is_known J d.id (made d (parent_of path))) _ _ (λ u. h)
+        (λ u. adds_legal limit J (edit_of d path) h (made_acceptable J d path h (extended_known J d.id (leaves_of J d.id) d.rev path known e) (λ k. both_ways _ u (is_known_from J d.id (made d (parent_of path)) k)))))
 
 -- documents one after the other
 pub all_legal : {A : Type 0} (store : List Edit → A → Stores) → ((J : List Edit) (x : A) → IsLegal J → IsLegal (store J x).journal) → (deleted : Bool) (J : List Edit) (xs : List A) → IsLegal J → IsLegal (stores_all store deleted J xs).journal

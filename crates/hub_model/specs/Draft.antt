@@ -1,5 +1,5 @@
 -- An edit whose revision the database makes (CouchDB API reference, PUT and DELETE of a document, _bulk_docs).
-use Rattle.std.specs.Prelude.{◌≡◌, ◌⊎◌, ◌≤◌, ◌<◌, length, ℕ, ◌+◌, List, [], ◌∷◌, ◌++◌, Bool, true, false, if◌then◌else◌, nat_le, Option, Some, None, codes}
+use Rattle.std.specs.Prelude.{◌≡◌, ◌⊎◌, ◌≤◌, ◌<◌, length, ℕ, ◌+◌, List, [], ◌∷◌, ◌++◌, Bool, true, false, if◌then◌else◌, nat_le, Option, Some, None, slice_get, codes}
 use Rattle.md5.specs.Md5.{md5}
 use Rattle.hex.specs.Hex.{encode_lower}
 use Rattle.json.specs.Print.{quoted}
@@ -32,34 +32,38 @@ abbrev pub bool_text : Bool → List ℕ
 bool_text false = codes "false"
 bool_text true = codes "true"
 
--- the JSON text of the revision that is extended
-abbrev pub parent_text : List Revision → List ℕ
-parent_text [] = codes "null"
-parent_text (r ∷ older) = quoted (text_of r)
+-- the revision that is extended: the first of the path, if there is one
+abbrev pub parent_of : List Revision → Option Revision
+parent_of path = slice_get path 0
+
+-- its JSON text
+abbrev pub parent_text : Option Revision → List ℕ
+parent_text None = codes "null"
+parent_text (Some r) = quoted (text_of r)
 
 -- `[deleted,parent,id,body]`, which this project hashes
-abbrev pub draft_text : Draft → List Revision → List ℕ
-draft_text d path = codes "[" ++ bool_text d.deleted ++ codes "," ++ parent_text path ++ codes "," ++ quoted d.id ++ codes "," ++ d.body ++ codes "]"
+abbrev pub draft_text : Draft → Option Revision → List ℕ
+draft_text d parent = codes "[" ++ (bool_text d.deleted ++ (codes "," ++ (parent_text parent ++ (codes "," ++ (quoted d.id ++ (codes "," ++ (d.body ++ codes "]")))))))
 
 -- the generation of the revision that is extended, 0 where there is none
-abbrev pub generation_of : List Revision → ℕ
-generation_of [] = 0
-generation_of (r ∷ older) = r.generation
+abbrev pub generation_of : Option Revision → ℕ
+generation_of None = 0
+generation_of (Some r) = r.generation
 
--- the draft's revision where it extends the path
-abbrev pub made : Draft → List Revision → Revision
-made d path = record { generation = generation_of path + 1; hash = encode_lower (md5 (draft_text d path)) }
+-- the draft's revision where it extends this one
+abbrev pub made : Draft → Option Revision → Revision
+made d parent = record { generation = generation_of parent + 1; hash = encode_lower (md5 (draft_text d parent)) }
 
--- the edit that a draft becomes
+-- the edit that a draft becomes where it extends the path
 abbrev pub edit_of : Draft → List Revision → Edit
-edit_of d path = record { id = d.id; path = made d path ∷ path; deleted = d.deleted; body = d.body }
+edit_of d path = record { id = d.id; path = made d (parent_of path) ∷ path; deleted = d.deleted; body = d.body }
 
 -- what storing it answers where it extends this path
 abbrev pub makes_on : ℕ → List Edit → Draft → Option (List Revision) → Stores
 makes_on limit J d None = refuses J Conflict
 makes_on limit J d (Some path) =
-    if nat_le 65535 (generation_of path) then refuses J GenerationLimit
-    else if is_known J d.id (made d path) then refuses J Conflict
+    if nat_le 65535 (generation_of (parent_of path)) then refuses J GenerationLimit
+    else if is_known J d.id (made d (parent_of path)) then refuses J Conflict
     else adds limit J (edit_of d path)
 
 -- what storing it answers, and the journal after it
@@ -73,9 +77,9 @@ Extends J id None path = (((r : Revision) → ¬ IsKnown J id r) × (path ≡ []
 
 -- storing a draft as a relation: after J it may come out so and leave the journal so
 abbrev pub Makes : ℕ → List Edit → Draft → Outcome Revision → List Edit → Type 0
-Makes limit J d (Stored r) new = (path : List Revision) × Extends J d.id d.rev path × (generation_of path < 65535) × (r ≡ made d path) × (¬ IsKnown J d.id r) × (length J < limit) × (new ≡ J ++ edit_of d path ∷ [])
+Makes limit J d (Stored r) new = (path : List Revision) × Extends J d.id d.rev path × (generation_of (parent_of path) < 65535) × (r ≡ made d (parent_of path)) × (¬ IsKnown J d.id r) × (length J < limit) × (new ≡ J ++ edit_of d path ∷ [])
 Makes limit J d Known new = ⊥
-Makes limit J d (Refused Conflict) new = (((path : List Revision) → ¬ Extends J d.id d.rev path) ⊎ ((path : List Revision) × Extends J d.id d.rev path × (generation_of path < 65535) × IsKnown J d.id (made d path))) × (new ≡ J)
-Makes limit J d (Refused GenerationLimit) new = (path : List Revision) × Extends J d.id d.rev path × (65535 ≤ generation_of path) × (new ≡ J)
-Makes limit J d (Refused SequenceFull) new = (path : List Revision) × Extends J d.id d.rev path × (generation_of path < 65535) × (¬ IsKnown J d.id (made d path)) × (limit ≤ length J) × (new ≡ J)
+Makes limit J d (Refused Conflict) new = (((path : List Revision) → ¬ Extends J d.id d.rev path) ⊎ ((path : List Revision) × Extends J d.id d.rev path × (generation_of (parent_of path) < 65535) × IsKnown J d.id (made d (parent_of path)))) × (new ≡ J)
+Makes limit J d (Refused GenerationLimit) new = (path : List Revision) × Extends J d.id d.rev path × (65535 ≤ generation_of (parent_of path)) × (new ≡ J)
+Makes limit J d (Refused SequenceFull) new = (path : List Revision) × Extends J d.id d.rev path × (generation_of (parent_of path) < 65535) × (¬ IsKnown J d.id (made d (parent_of path))) × (limit ≤ length J) × (new ≡ J)
 Makes limit J d (Refused _) new = ⊥

@@ -5,6 +5,7 @@ pub mod Leaves
 pub mod Walk
 pub mod Current
 pub mod Row
+pub mod Filter
 pub mod Outcome
 pub mod Draft
 pub mod Missing

@@ -20,6 +20,15 @@ pub enum Style {
     AllDocs,
 }
 
+/// Where a feed begins.
+#[derive(Clone, Copy, Debug, PartialEq, Eq)]
+pub enum Since {
+    /// After this sequence.
+    From(u64),
+    /// After everything that is there when it is opened.
+    Now,
+}
+
 /// What a feed of such rows hands to its subscriber.
 #[derive(Debug, Drop)]
 pub enum Item<R> {

@@ -8,7 +8,7 @@ ghost use Rattle.hub_model.specs.Laws.{KnownIsTested, HistoryIsTested, Acceptabl
 mod feeds;
 mod outcomes;
 
-pub use feeds::{Item, Mode, Style};
+pub use feeds::{Item, Mode, Since, Style};
 pub use outcomes::{Fault, Outcome};
 
 /// The tests of what is known, of histories and of what may be stored are right.
