@@ -1,6 +1,6 @@
 -- In a path a revision stands at the one place that its generation tells.
 use Rattle.std.proofs.Common.{◌≡◌, ◌≢◌, ℕ, suc, zero, ◌+◌, ◌-◌, ◌<◌, ◌≤◌, List, [], ◌∷◌, length, true, false, Option, Some, None, inl, inr, arith, refl, sym, ap, ◌∙◌, subst}
-use Rattle.std.specs.Prelude.{slice_get, MatchOption}
+use Rattle.std.specs.Prelude.{drop, slice_get, MatchOption}
 use Rattle.std.specs.Borrow.{Bor}
 use Rattle.std.specs.List.{HoldsAt}
 use Rattle.std.specs.Option.{option_copied}
@@ -8,6 +8,7 @@ use Rattle.std.proofs.lemmas.Bool.{cases_Bool, both_ways}
 use Rattle.std.proofs.lemmas.Option.{same_Some, slice_get_past, slice_get_read}
 use Rattle.hub_model.specs.Revision.{Revision, is_same}
 use Rattle.hub_model.specs.Path.{Falls, IsPath, names, behind}
+use Rattle.hub_document.specs.Lines.{from_on}
 use Rattle.hub_model.proofs.Tests.{same_is, same_self, or_false, or_right}
 
 -- one revision has one generation
@@ -92,3 +93,20 @@ behind_none (x ∷ p) r h = let n = or_false (is_same r x) (names p r) h in rw n
 pub copied_at : {X : Type 0} (xs : List X) (k : ℕ) (o : Option (Bor X)) → MatchOption o (length xs ≤ k) (λ x. (k < length xs) × HoldsAt {X = X} (λ y. x.now ≡ y) xs k) → option_copied o ≡ slice_get xs k
 copied_at xs k None h = sym (slice_get_past xs k h)
 copied_at xs k (Some x) h = sym (slice_get_read xs _ k x.now refl h.0 (h.1 x.now))
+
+-- from a revision on the path is what stands from its place on
+pub from_on_at : (p : List Revision) (k : ℕ) (r : Revision) → IsPath p → slice_get p k ≡ Some r → from_on r p ≡ drop k p
+from_on_at [] k r f h = absurd f
+from_on_at (x ∷ p) zero r f h = let same : is_same r x ≡ true = subst (λ z. is_same r z ≡ true) (sym (same_Some x r h)) (same_self r) in rw same refl
+from_on_at (x ∷ []) (suc k) r f h = absurd (cc)
+from_on_at (x ∷ y ∷ p) (suc k) r f h =
+    let g = lower x (y ∷ p) (suc k) r f h in
+    elim (cases_Bool (is_same r x)) [
+      | inl t ↦ absurd (omega (arith, g, same_generation r x (same_is r x t)))
+      | inr t ↦ rw t (from_on_at (y ∷ p) k r f.1 h)
+    ]
+
+-- and from one on that is not named nothing does
+pub from_on_none : (p : List Revision) (r : Revision) → names p r ≡ false → from_on r p ≡ []
+from_on_none [] r h = refl
+from_on_none (x ∷ p) r h = let n = or_false (is_same r x) (names p r) h in rw n.0 (from_on_none p r n.1)

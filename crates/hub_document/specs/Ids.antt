@@ -1,5 +1,5 @@
 -- The ids of documents (CouchDB API reference, documents and design documents; the limits are own).
-use Rattle.std.specs.Prelude.{◌≡◌, ◌≤◌, ℕ, List, [], ◌∷◌, length, codes, Bool, true, false, ◌&&◌, ◌==◌, nat_lt, if◌then◌else◌, Option, Some, None, option_and_then}
+use Rattle.std.specs.Prelude.{◌≡◌, ◌≤◌, ℕ, List, [], ◌∷◌, length, codes, Bool, true, false, ◌&&◌, not, ◌==◌, nat_lt, if◌then◌else◌, Option, Some, None, option_and_then}
 use Rattle.std.specs.List.{starts_with}
 use Rattle.serde_json.specs.Data.{Data}
 use Rattle.serde_json.specs.Find.{get, as_str}
@@ -21,3 +21,7 @@ if_id s = if is_id s then Some s else None
 -- the id that `_id` gives
 abbrev pub id_of : Data → Option (List ℕ)
 id_of d = option_and_then if_id (option_and_then as_str (get (codes "_id") d))
+
+-- the text, where it is an id of 512 bytes at most
+abbrev pub short_id : List ℕ → Option (List ℕ)
+short_id s = if is_id s && not (nat_lt 512 (length s)) then Some s else None

@@ -1,10 +1,15 @@
+pub mod Asking
 pub mod BodyText
+pub mod DocText
 pub mod Fields
 pub mod Histories
 pub mod Ids
 pub mod Inside
 pub mod Limited
+pub mod Lines
+pub mod Local
 pub mod Profile
+pub mod Put
 pub mod Read
 pub mod RevisionLaws
 pub mod RevisionText

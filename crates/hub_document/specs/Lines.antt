@@ -1,0 +1,8 @@
+-- What stands behind a revision in a path (CouchDB API reference, documents with revs=true).
+use Rattle.std.specs.Prelude.{List, [], ◌∷◌, if◌then◌else◌}
+use Rattle.hub_model.specs.Revision.{Revision, is_same}
+
+-- the revision and all behind it; nothing where the path does not name it
+abbrev pub from_on : Revision → List Revision → List Revision
+from_on r [] = []
+from_on r (s ∷ older) = if is_same r s then s ∷ older else from_on r older

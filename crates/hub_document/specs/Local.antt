@@ -1,0 +1,40 @@
+-- Local documents, which are not replicated (CouchDB API reference, local documents; that `_rev` is not looked at is own).
+use Rattle.std.specs.Prelude.{◌≡◌, ◌≤◌, ℕ, List, length, codes, Bool, true, false, not, ◌&&◌, ◌==◌, nat_lt, Option, Some, None, option_map, unwrap_or, Result, Ok}
+use Rattle.std.specs.List.{starts_with}
+use Rattle.std.specs.Str.{bytes_eq}
+use Rattle.serde_json.specs.Data.{Data, Members}
+use Rattle.serde_json.specs.Find.{get, as_str, as_object}
+use Rattle.serde_json.specs.Written.{members_have_float}
+use Rattle.hub_document.specs.BodyText.{body_text}
+use Rattle.hub_document.specs.Read.{or_fault, if_holds, json_of}
+use Rattle.hub_document.specs.SpecialMembers.{are_good_members, deleted_of}
+use Rattle.hub_document.specs.declared.doc.DocFault.{DocFault}
+use Rattle.hub_document.specs.declared.doc.DocFault.TheVariants.{NotJson, NotObject, BadNumber, BadId, BadMember, TooLong}
+use Rattle.hub_document.specs.declared.local_doc.LocalDoc.{LocalDoc}
+
+-- `_local/` and a name
+abbrev pub is_local_id : List ℕ → Bool
+is_local_id s = starts_with (λ x y. x == y) s (codes "_local/") && nat_lt 7 (length s)
+
+-- such an id of 512 bytes at most
+pub record IsLocalId (s : List ℕ) : Type 0 where
+  pub local : is_local_id s ≡ true
+  pub short : length s ≤ 512
+
+-- an `_id` is absent, or this one
+abbrev pub is_named_so : List ℕ → Option Data → Bool
+is_named_so id None = true
+is_named_so id (Some d) = unwrap_or (option_map (bytes_eq id) (as_str d)) false
+
+-- the local document of this id that an object of these members is, or the first fault
+abbrev pub local_of : List ℕ → Data → Members → Result LocalDoc DocFault
+local_of id d ms =
+    or_fault (if_holds (not (members_have_float ms))) BadNumber (λ _.
+    or_fault (if_holds (is_local_id id && is_named_so id (get (codes "_id") d))) BadId (λ _.
+    or_fault (if_holds (are_good_members ms && not (deleted_of d))) BadMember (λ _.
+    or_fault (if_holds (not (nat_lt 512 (length id)))) TooLong (λ _.
+    Ok (record { id = id; body = body_text ms })))))
+
+-- the local document of this id that a text is, or the first fault
+abbrev pub local_in : List ℕ → List ℕ → Result LocalDoc DocFault
+local_in id text = or_fault (json_of text) NotJson (λ d. or_fault (as_object d) NotObject (local_of id d))
