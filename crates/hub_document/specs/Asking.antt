@@ -14,7 +14,7 @@ use Rattle.hub_document.specs.declared.open_revs.OpenRevs.TheVariants.{All, List
 
 -- one in front, where there is one
 abbrev pub in_front : {A : Type 0} → A → Option (List A) → Option (List A)
-in_front a rest = option_map (λ as. a ∷ as) rest
+in_front a rest = option_map (λ others. a ∷ others) rest
 
 -- the texts of an array's items, where each is one
 abbrev pub texts_of : Items → Option (List (List ℕ))

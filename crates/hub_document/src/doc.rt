@@ -38,9 +38,9 @@ impl Doc {
         new_edits: bool,
         bytes: &[u8],
     ) -> Result<Doc, DocFault>
-        ensures ok { IfOk result (λ d. put_in id.now (option_map (λ s. s.now) rev) new_edits bytes.now ≡ Ok d) }
+        ensures ok { IfOk result (λ d. put_in id.now (option_map (λ s. s.now) rev.entry) new_edits bytes.now ≡ Ok d) }
         ensures err { IfErr result (λ e. (e ≡ DocFault.NoMemory)
-            ⊎ (put_in id.now (option_map (λ s. s.now) rev) new_edits bytes.now ≡ Err e)) }
+            ⊎ (put_in id.now (option_map (λ s. s.now) rev.entry) new_edits bytes.now ≡ Err e)) }
     {
         Err(DocFault::NoMemory)
     }
