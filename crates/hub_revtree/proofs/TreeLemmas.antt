@@ -1,14 +1,15 @@
 -- What the branches of a tree show of it as a journal.
-use Rattle.std.proofs.Common.{◌≡◌, ℕ, List, [], ◌∷◌, ◌++◌, Bool, true, false, ap, refl, sym, ◌∙◌, subst, ⊎_elim, not}
+use Rattle.std.proofs.Common.{◌≡◌, ℕ, List, [], ◌∷◌, ◌++◌, Bool, true, false, ap, refl, sym, ◌∙◌, subst, ⊎_elim, not, inl, inr}
 use Rattle.std.specs.Prelude.{IfSome, IfNone, Option, Some, None, slice_get, find, option_map, ◌↔◌, IsTrue, Contains}
 use Rattle.std.specs.List.{list_any, list_all}
-use Rattle.std.proofs.lemmas.Bool.{and_parts, and_from, both_ways}
+use Rattle.std.proofs.lemmas.Bool.{cases_Bool, and_parts, and_from, both_ways}
 use Rattle.std.proofs.lemmas.Option.{same_Some}
 use Rattle.std.proofs.lemmas.List.Folds.{list_all-map}
 use Rattle.std.proofs.lemmas.List.{map-append}
 use Rattle.hub_model.specs.Revision.{Revision}
 use Rattle.hub_model.specs.Path.{IsFirst, IsHistory, names, agrees, is_history, is_first}
 use Rattle.hub_model.specs.Journal.{Edit, IsHead, IsKnown, IsAcceptable, IsLegal, edits_of, is_known, is_head_known}
+use Rattle.hub_model.specs.Walk.{is_head}
 use Rattle.hub_model.specs.Leaves.{Leaf, IsMarked, IsWinner, best_first, leaves_among, leaves_of, revisions_of}
 use Rattle.hub_model.proofs.Lists.{contains_none, contains_here, contains_there, contains_cases}
 use Rattle.hub_model.proofs.Legal.{legal_more, legal_sound, first_in, has_first}
@@ -150,3 +151,11 @@ none_wins (e ∷ es) tree h =
     none : (ls : List Leaf) → winner_of ls ≡ None → (r : Revision) → Contains (revisions_of ls) r → ⊥
     none [] q r c = contains_none r c
     none (l ∷ ls) q r c = absurd (cc)
+
+-- the body of a head
+pub body_by : (bs : List Branch) (r : Revision) → option_map (λ b. b.body) (find (λ b. is_first r b.path) bs) ≡ option_map (λ e. e.body) (find (is_head r) (edits_in bs))
+body_by [] r = refl
+body_by (b ∷ bs) r = elim (cases_Bool (is_first r b.path)) [
+  | inl t ↦ rw t refl
+  | inr t ↦ rw t (body_by bs r)
+]

@@ -1,3 +1,4 @@
 pub mod Tree
 pub mod Branch
 pub mod Winner
+pub mod Extend

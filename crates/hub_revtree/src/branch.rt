@@ -73,6 +73,16 @@ pub(crate) fn agrees_with_all(branches: &[Branch], path: &Path) -> bool
     branches.iter().all(|branch| agrees(path, &branch.path))
 }
 
+/// The members of the branch that the revision heads. One look a branch.
+pub(crate) fn head_body<'a>(branches: &'a [Branch], rev: &RevId) -> Option<&'a Body>
+    ensures { option_map (λ b. b.now) result ≡ option_map (λ b. b.body) (find (λ b. is_first rev.now b.path) branches.now) }
+{
+    branches
+        .iter()
+        .find(|branch| branch.is_head(rev))
+        .map(|branch| &branch.body)
+}
+
 /// Whether the branch that the revision heads is deleted. One look a branch.
 pub(crate) fn head_mark(branches: &[Branch], rev: &RevId) -> Option<bool>
     ensures { result ≡ option_map (λ b. b.deleted) (find (λ b. is_first rev.now b.path) branches.now) }

@@ -30,3 +30,25 @@ impl From<AllocError> for MergeFault {
         MergeFault::NoMemory
     }
 }
+
+/// Why an edit is not made.
+#[derive(Clone, Copy, Debug, PartialEq, Eq)]
+pub enum EditFault {
+    /// A growth was refused.
+    NoMemory,
+    /// No leaf is named or chosen, or the made revision is known.
+    Conflict,
+    /// The revision that is extended has the last generation, 65,535.
+    GenerationLimit,
+}
+
+impl From<AllocError> for EditFault {
+    ghost use Rattle.std.specs.Prelude.{◌≡◌};
+    ghost use Rattle.hub_revtree.specs.declared.fault.EditFault.TheVariants.{NoMemory};
+
+    ghost from_gives = { λ _ e. e ≡ NoMemory };
+
+    fn from(_refused: AllocError) -> EditFault {
+        EditFault::NoMemory
+    }
+}

@@ -3,12 +3,14 @@
 #![tactic(auto)]
 
 mod branch;
+mod edit;
 mod fault;
 mod leaf;
+mod look;
 #[cfg(test)]
 mod tests;
 mod tree;
 
-pub use fault::{MergeFault, Merged};
+pub use fault::{EditFault, MergeFault, Merged};
 pub use leaf::Winner;
 pub use tree::{Ready, RevTree};

@@ -1,8 +1,9 @@
 //! The tree of a document's revisions.
 
-ghost use Rattle.std.specs.Prelude.{Bool, ◌≡◌, ◌≤◌, ◌++◌, ◌∷◌, ◌↔◌, [], length, slice_get, IsTrue, IsSome, IsNone, IfSome, IfNone, IfOk, OnErr, option_map, None};
-ghost use Rattle.hub_model.specs.Journal.{IsKnown, IsAcceptable};
+ghost use Rattle.std.specs.Prelude.{Bool, ◌≡◌, ◌≤◌, ◌++◌, ◌∷◌, ◌↔◌, [], length, slice_get, IsTrue, IsSome, IsNone, IfSome, IfNone, IfOk, OnErr, option_map, None, Some};
+ghost use Rattle.hub_model.specs.Journal.{IsKnown, IsAcceptable, head_of};
 ghost use Rattle.hub_model.specs.Leaves.{IsMarked, IsWinner, leaves_of, revisions_of};
+ghost use Rattle.hub_revtree.specs.Branch.{edits_in};
 ghost use Rattle.hub_revtree.specs.Tree.{HasKnownHead, IsRevTree, nameless};
 ghost use Rattle.hub_revtree.specs.Winner.{winner_of};
 
@@ -50,7 +51,23 @@ impl Model for Ready {
     ghost view = { λ a. edit_of a.branch };
 }
 
+impl Ready {
+    /// The revision of the edit. Constant time.
+    pub fn rev(&self) -> RevId
+        ensures { head_of self.now ≡ Some result }
+    {
+        self.branch.path.head()
+    }
+}
+
 impl RevTree {
+    // The stored edits.
+    pub(crate) fn branches(&self) -> &[Branch]
+        ensures edits { edits_in result.now ≡ self.now.edits }
+    {
+        self.branches.as_slice()
+    }
+
     /// A tree with no edit.
     pub fn new(alloc: Global) -> RevTree
         ensures { result.edits ≡ [] }

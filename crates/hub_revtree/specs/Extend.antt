@@ -1,0 +1,30 @@
+-- What an edit that is made here becomes in a tree (CouchDB API reference, PUT and DELETE of a document).
+use Rattle.std.specs.Prelude.{ℕ, List, [], ◌∷◌, Bool, if◌then◌else◌, nat_le, Option, Some, None, Result, Ok, Err}
+use Rattle.hub_model.specs.Revision.{Revision}
+use Rattle.hub_model.specs.Journal.{Edit, is_known}
+use Rattle.hub_model.specs.Leaves.{leaves_of}
+use Rattle.hub_model.specs.Walk.{line_of}
+use Rattle.hub_model.specs.Draft.{Draft, extended, made, generation_of, parent_of}
+use Rattle.hub_revtree.specs.Tree.{nameless}
+use Rattle.hub_revtree.specs.declared.fault.EditFault.{EditFault}
+use Rattle.hub_revtree.specs.declared.fault.EditFault.TheVariants.{Conflict, GenerationLimit}
+
+-- an edit before its revision is made
+abbrev pub draft : List ℕ → Option Revision → Bool → List ℕ → Draft
+draft id rev deleted body = record { id = id; rev = rev; deleted = deleted; body = body }
+
+-- the edit that a draft becomes on this path, its id left out; or why it becomes none
+abbrev pub extends_path : List Edit → Draft → Option (List Revision) → Result Edit EditFault
+extends_path edits d None = Err Conflict
+extends_path edits d (Some path) =
+    if nat_le 65535 (generation_of (parent_of path)) then Err GenerationLimit
+    else (if is_known edits [] (made d (parent_of path)) then Err Conflict
+    else Ok (nameless (made d (parent_of path) ∷ path) d.deleted d.body))
+
+-- the edit that a draft becomes after these edits of its document, on the path that it extends
+abbrev pub extends : List Edit → Draft → Result Edit EditFault
+extends edits d = extends_path edits d (extended edits [] (leaves_of edits []) d.rev)
+
+-- a known revision and all that stands behind it
+abbrev pub path_to : List Edit → Revision → Option (List Revision)
+path_to edits r = if is_known edits [] r then Some (line_of edits [] r) else None
