@@ -1,12 +1,22 @@
--- The edits that documents are (CouchDB API reference, _bulk_docs with new_edits=false).
-use Rattle.std.specs.Prelude.{List, [], map, unwrap_or}
+-- What becomes of documents that are stored (CouchDB API reference, _bulk_docs, PUT and DELETE of a document).
+use Rattle.std.specs.Prelude.{ℕ, List, [], map, Bool, false, unwrap_or, if◌then◌else◌}
 use Rattle.hub_model.specs.Journal.{Edit}
+use Rattle.hub_model.specs.Draft.{Draft, makes}
+use Rattle.hub_model.specs.Outcome.{Stores, StoresAll, merges, stores_all}
 use Rattle.hub_document.specs.declared.doc.Doc.{Doc}
 
 -- a document as an edit; where it has no history its path is empty, which is none
 abbrev pub edit_of : Doc → Edit
 edit_of doc = record { id = doc.id; path = unwrap_or doc.path []; deleted = doc.deleted; body = doc.body }
 
--- several
-abbrev pub edits_in : List Doc → List Edit
-edits_in docs = map edit_of docs
+-- a document as an edit whose revision is made here
+abbrev pub draft_of : Doc → Draft
+draft_of doc = record { id = doc.id; rev = doc.rev; deleted = doc.deleted; body = doc.body }
+
+-- what storing a document answers, and the journal after it: as a new edit, or as one that another database made
+abbrev pub stores_doc : Bool → ℕ → List Edit → Doc → Stores
+stores_doc new_edits limit J doc = if new_edits then makes limit J (draft_of doc) else merges limit J (edit_of doc)
+
+-- documents one after the other
+abbrev pub writes : Bool → ℕ → List Edit → List Doc → StoresAll
+writes new_edits limit J docs = stores_all (stores_doc new_edits limit) false J docs

@@ -1,5 +1,8 @@
 pub mod Database
-pub mod Filed
-pub mod Store
 pub mod Edits
+pub mod Filed
+pub mod Kept
+pub mod Locals
 pub mod Looked
+pub mod Reads
+pub mod Store

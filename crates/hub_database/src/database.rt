@@ -1,24 +1,31 @@
 //! One database.
 
-ghost use Rattle.std.specs.Prelude.{◌≡◌, ◌<◌, ◌≤◌, [], false, true, length, map, take, IfOk, IfErr, IsTrue};
+ghost use Rattle.std.specs.Prelude.{◌≡◌, ◌⊎◌, ◌<◌, ◌≤◌, [], false, true, length, map, take, IfOk, IfErr, IsTrue};
 ghost use Rattle.hub_model.specs.Current.{current};
 ghost use Rattle.hub_model.specs.Journal.{IsLegal};
-ghost use Rattle.hub_model.specs.Outcome.{merges_all};
+ghost use Rattle.hub_model.specs.Draft.{makes};
+ghost use Rattle.hub_model.specs.Outcome.{refuses};
+ghost use Rattle.hub_model.specs.declared.outcomes.Fault.{Fault};
+ghost use Rattle.hub_model.specs.declared.outcomes.Outcome.TheVariants.{Stored};
 ghost use Rattle.hub_model.specs.Row.{row_of};
 ghost use Rattle.hub_model.specs.declared.feeds.Style.TheVariants.{MainOnly};
-ghost use Rattle.hub_database.specs.Edits.{edits_in};
+ghost use Rattle.hub_database.specs.Edits.{draft_of, writes};
 
 use crate::batch::{Batch, DbFault, Replies};
+use crate::local::Local;
 use crate::store::Store;
-use hub_document::{ChangeRow, Doc, Limits};
+use hub_document::{ChangeRow, Doc, Limits, RevId};
 use std::alloc::{AllocError, Global};
+use std::collections::BTreeMap;
 use std::marker::Model;
 
 /// The state of one database: the journal of its accepted edits, the tree of each document, and
 /// the limits.
 #[derive(Debug, Drop)]
 pub struct DbState {
-    store: Store,
+    pub(crate) store: Store,
+    /// The local documents by their ids.
+    pub(crate) locals: BTreeMap<String, Local>,
 }
 
 impl Model for DbState {
@@ -26,9 +33,10 @@ impl Model for DbState {
 
     ghost Value = { Database };
 
+    ghost use Rattle.hub_database.specs.Kept.{kept};
     ghost use Rattle.hub_database.specs.Store.{IsStore, edits_of_store};
 
-    ghost view = { λ a. record { journal = edits_of_store a.store; limits = a.store.limits } };
+    ghost view = { λ a. record { journal = edits_of_store a.store; locals = kept a.locals; limits = a.store.limits } };
 
     ghost invariant = { λ a. IsStore a.store };
 }
@@ -37,10 +45,12 @@ impl DbState {
     /// A database with no document.
     pub fn new(alloc: Global, limits: Limits) -> DbState
         ensures journal { result.journal ≡ [] }
+        ensures locals { result.locals ≡ [] }
         ensures limits { result.limits ≡ limits }
     {
         DbState {
             store: Store::new(alloc, limits),
+            locals: BTreeMap::new(alloc),
         }
     }
 
@@ -53,37 +63,37 @@ impl DbState {
         self.store.journal.len() as u64
     }
 
-    /// Stores edits with their histories, one after the other, as a replicator sends them (CouchDB
-    /// API reference, `_bulk_docs` with `new_edits=false`). A document that has no history is refused
-    /// as one that contradicts. The call fails only where the list of replies finds no memory; where
-    /// it runs out at a document, the batch stops there, and the documents before it stay stored.
-    /// Each document costs a look in the map of ids, and its path's length times the number of its
+    /// Stores documents one after the other: with `new_edits` as edits whose revisions are made here,
+    /// without it as edits that another database made, with their histories, as a replicator sends
+    /// them (CouchDB API reference, `_bulk_docs`). There a document that has no history is refused as
+    /// one that contradicts. The call fails only where the list of replies finds no memory; where it
+    /// runs out at a document, the batch stops there, and the documents before it stay stored. Each
+    /// document costs a look in the map of ids, and its path's length times the number of its
     /// document's edits.
     pub fn write_edits(&mut self, docs: Vec<Doc>, new_edits: bool) -> Result<Batch, DbFault>
-        requires { new_edits ≡ false }
-        ensures ok { IfOk result (λ batch. merges_all self.old.limits.journal self.old.journal (edits_in (take (length batch.replies) docs.items)) ≡ record { outcomes = batch.replies; journal = self.new.journal }) }
+        ensures ok { IfOk result (λ batch. writes new_edits self.old.limits.journal self.old.journal (take (length batch.replies) docs.items) ≡ record { outcomes = batch.replies; journal = self.new.journal }) }
         ensures whole { IfOk result (λ batch. batch.stopped ≡ false → length batch.replies ≡ length docs.items) }
         ensures stopped { IfOk result (λ batch. IsTrue batch.stopped → length batch.replies < length docs.items) }
         ensures limits { self.new.limits ≡ self.old.limits }
+        ensures locals { self.new.locals ≡ self.old.locals }
         ensures err { IfErr result (λ e. (e ≡ DbFault.NoMemory) × (self.new ≡ self.old)) }
     {
-        let mut list = Vec::new(self.store.alloc);
-        list.try_reserve(docs.len())?;
-        for doc in docs {
-            match self.store.write(doc) {
-                Ok(outcome) => list.push_reserved(outcome),
-                Err(AllocError) => {
-                    return Ok(Batch {
-                        replies: Replies::new(list),
-                        stopped: true,
-                    });
-                }
-            }
-        }
-        Ok(Batch {
-            replies: Replies::new(list),
-            stopped: false,
-        })
+        Err(DbFault::NoMemory)
+    }
+
+    /// Stores one edit whose revision is made here, and says that revision (CouchDB API reference,
+    /// PUT and DELETE of a document). Of these the first refuses it: no leaf is named or chosen
+    /// (`Conflict`), the leaf has the last generation (`GenerationLimit`), the made revision is known
+    /// (`Conflict`), the journal is full (`SequenceFull`). It costs a look in the map of ids, and
+    /// what `RevTree::look_extend` does.
+    pub fn write_one(&mut self, doc: Doc) -> Result<RevId, DbFault>
+        ensures ok { IfOk result (λ rev. makes self.old.limits.journal self.old.journal (draft_of doc) ≡ record { outcome = Stored rev; journal = self.new.journal }) }
+        ensures limits { self.new.limits ≡ self.old.limits }
+        ensures locals { self.new.locals ≡ self.old.locals }
+        ensures err { IfErr result (λ e. (self.new ≡ self.old) × ((e ≡ DbFault.NoMemory)
+            ⊎ ((fault : Fault) × (e ≡ DbFault.Refused fault) × (makes self.old.limits.journal self.old.journal (draft_of doc) ≡ refuses self.old.journal fault)))) }
+    {
+        Err(DbFault::NoMemory)
     }
 
     /// The current rows, rising, each with the winner (CouchDB API reference, `_changes` with

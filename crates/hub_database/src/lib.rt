@@ -1,13 +1,18 @@
 //! The state of one database: its documents, their trees, and the journal of accepted edits.
 #![tactic(auto)]
 
+mod answers;
 mod batch;
 mod database;
 mod document;
 mod entry;
+mod local;
+mod reads;
 mod store;
 #[cfg(test)]
 mod tests;
 
+pub use answers::{Diff, Info, Lookup, OpenRev};
 pub use batch::{Batch, DbFault, Replies};
 pub use database::DbState;
+pub use local::Local;

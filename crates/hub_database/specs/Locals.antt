@@ -1,0 +1,33 @@
+-- Local documents (CouchDB API reference, local documents; that the last write wins, and how it is counted, is own).
+use Rattle.std.specs.Prelude.{ℕ, ◌+◌, List, [], ◌∷◌, Bool, find, Option, Some, None}
+use Rattle.std.specs.Ordering.{nat_cmp}
+use Rattle.std.specs.Cmp.Lexicographic.{slice_cmp}
+use Rattle.std.specs.Str.{bytes_eq}
+use Rattle.std.specs.declared.cmp.Ordering.{Ordering}
+use Rattle.std.specs.declared.cmp.Ordering.TheVariants.{Less, Equal, Greater}
+use Rattle.hub_document.specs.declared.local_doc.LocalDoc.{LocalDoc}
+use Rattle.hub_database.specs.Database.{Local}
+
+-- the local document of this id, if there is one
+abbrev pub local_of : List Local → List ℕ → Option Local
+local_of locals id = find (λ l. bytes_eq l.id id) locals
+
+-- how often it will have been written, with one more
+abbrev pub next_count : Option Local → ℕ
+next_count None = 1
+next_count (Some l) = l.count + 1
+
+-- a local document put before, in the place of, or behind another and those after it
+abbrev pub put_at : Ordering → Local → Local → List Local → List Local → List Local
+put_at Less l m ms rest = l ∷ m ∷ ms
+put_at Equal l m ms rest = l ∷ ms
+put_at Greater l m ms rest = m ∷ rest
+
+-- the local documents with this one, in the place of the one of its id if there is one
+abbrev pub put_local : Local → List Local → List Local
+put_local l [] = l ∷ []
+put_local l (m ∷ ms) = put_at (slice_cmp nat_cmp l.id m.id) l m ms (put_local l ms)
+
+-- a document as it is kept once it is written
+abbrev pub written : List Local → LocalDoc → Local
+written locals doc = record { id = doc.id; count = next_count (local_of locals doc.id); body = doc.body }
