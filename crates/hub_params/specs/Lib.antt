@@ -1,0 +1,2 @@
+pub mod DocParams
+pub mod Query

@@ -1,0 +1,6 @@
+//! The parameters of queries.
+#![tactic(auto)]
+
+mod doc_params;
+
+pub use doc_params::DocParams;
