@@ -12,9 +12,9 @@ use Rattle.hub_document.specs.declared.limits.Limits.{Limits}
 use Rattle.std.specs.Prelude.{find, Result, Ok, Err}
 use Rattle.serde_json.specs.Data.{Data, Items}
 use Rattle.hub_document.specs.Read.{json_of}
-use Rattle.hub_http.specs.declared.route.Route.{Route}
-use Rattle.hub_http.specs.declared.route.Route.TheVariants.{PutDatabase, BulkDocs, Changes}
-use Rattle.hub_http.specs.declared.route.RouteFault.{RouteFault}
+use Rattle.hub_routes.specs.declared.route.Route.{Route}
+use Rattle.hub_routes.specs.declared.route.Route.TheVariants.{PutDatabase, BulkDocs, Changes}
+use Rattle.hub_routes.specs.declared.route.RouteFault.{RouteFault}
 use Rattle.hub_http.specs.declared.reply.Reply.TheVariants.{Refused}
 use Rattle.hub_http.specs.declared.refusal.Refusal.{Refusal}
 use Rattle.hub_http.specs.declared.refusal.Refusal.TheVariants.{NoMemory}

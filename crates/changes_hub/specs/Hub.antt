@@ -17,11 +17,11 @@ use Rattle.hub_document.specs.Read.{json_of}
 use Rattle.hub_database.specs.Edits.{edits_in}
 use Rattle.serde_json.specs.Data.{Data, Items}
 use Rattle.hub_http.specs.Stream.{Asked}
-use Rattle.hub_http.specs.Routes.{GoesTo}
-use Rattle.hub_http.specs.Refusals.{of_route_fault}
-use Rattle.hub_http.specs.declared.route.Route.{Route}
-use Rattle.hub_http.specs.declared.route.Route.TheVariants.{PutDatabase, BulkDocs, Changes}
-use Rattle.hub_http.specs.declared.route.RouteFault.{RouteFault}
+use Rattle.hub_routes.specs.Routes.{GoesTo}
+use Rattle.hub_routes.specs.RouteRefusals.{of_route_fault}
+use Rattle.hub_routes.specs.declared.route.Route.{Route}
+use Rattle.hub_routes.specs.declared.route.Route.TheVariants.{PutDatabase, BulkDocs, Changes}
+use Rattle.hub_routes.specs.declared.route.RouteFault.{RouteFault}
 use Rattle.hub_http.specs.declared.reply.Reply.TheVariants.{Done, Refused}
 use Rattle.hub_http.specs.declared.refusal.Refusal.{Refusal}
 use Rattle.hub_http.specs.declared.refusal.Refusal.TheVariants.{NoMemory, NotJson, BadName, Exists, TooMany, Absent, BadFlag}

@@ -1,12 +1,10 @@
 pub mod FrontLemmas
 pub mod HeadLemmas
-pub mod Inserts
 pub mod ItemLemmas
 pub mod JoinLemmas
 pub mod LengthLemmas
 pub mod ReadLemmas
 pub mod RequestLemmas
-pub mod RouteLemmas
 pub mod SendLemmas
 pub mod StreamLemmas
 pub mod UniqueLemmas

@@ -7,5 +7,3 @@ pub mod Refusals
 pub mod Texts
 pub mod Chunks
 pub mod Items
-pub mod Table
-pub mod Routes

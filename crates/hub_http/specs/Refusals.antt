@@ -6,8 +6,6 @@ use Rattle.hub_document.specs.declared.doc.DocFault.{DocFault}
 use Rattle.hub_document.specs.declared.doc.DocFault.TheVariants as doc
 use Rattle.hub_model.specs.declared.outcomes.Fault.{Fault}
 use Rattle.hub_model.specs.declared.outcomes.Fault.TheVariants as stored
-use Rattle.hub_http.specs.declared.route.RouteFault.{RouteFault}
-use Rattle.hub_http.specs.declared.route.RouteFault.TheVariants as route
 
 -- the status of the answer
 abbrev pub status_of : Refusal → ℕ
@@ -109,11 +107,3 @@ of_fault stored.Contradicts = Contradicts
 of_fault stored.Conflict = Conflict
 of_fault stored.GenerationLimit = GenerationLimit
 of_fault stored.SequenceFull = SequenceFull
-
--- the refusal of a request that has no route
-abbrev pub of_route_fault : RouteFault → Refusal
-of_route_fault route.NoMemory = NoMemory
-of_route_fault route.Missing = Missing
-of_route_fault route.MethodNotAllowed = MethodNotAllowed
-of_route_fault route.BadName = BadName
-of_route_fault route.LengthMissing = LengthMissing

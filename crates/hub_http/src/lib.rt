@@ -1,4 +1,4 @@
-//! Requests, routes and the texts of answers.
+//! Requests and the texts of answers.
 #![tactic(auto)]
 
 mod chunk;
@@ -17,9 +17,6 @@ mod request;
 #[cfg(test)]
 mod request_tests;
 mod requests;
-mod route;
-#[cfg(test)]
-mod route_tests;
 mod tally;
 #[cfg(test)]
 mod tally_tests;
@@ -36,5 +33,4 @@ pub use refusal::Refusal;
 pub use reply::{Reply, reply_bytes};
 pub use request::Request;
 pub use requests::{Requests, one_reading};
-pub use route::{Route, RouteFault, Routes};
 pub use tally::Tally;

@@ -2,7 +2,6 @@
 ghost use Rattle.std.specs.Prelude.{◌≡◌};
 ghost use Rattle.hub_http.specs.Refusals.{status_of, error_of, reason_of};
 
-use crate::route::RouteFault;
 use http::StatusCode;
 use hub_document::DocFault;
 use hub_model::Fault;
@@ -218,23 +217,6 @@ impl From<Fault> for Refusal {
             Fault::Conflict => Refusal::Conflict,
             Fault::GenerationLimit => Refusal::GenerationLimit,
             Fault::SequenceFull => Refusal::SequenceFull,
-        }
-    }
-}
-
-impl From<RouteFault> for Refusal {
-    ghost use Rattle.std.specs.Prelude.{◌≡◌};
-    ghost use Rattle.hub_http.specs.Refusals.{of_route_fault};
-
-    ghost from_gives = { λ f r. r ≡ of_route_fault f };
-
-    fn from(fault: RouteFault) -> Refusal {
-        match fault {
-            RouteFault::NoMemory => Refusal::NoMemory,
-            RouteFault::Missing => Refusal::Missing,
-            RouteFault::MethodNotAllowed => Refusal::MethodNotAllowed,
-            RouteFault::BadName => Refusal::BadName,
-            RouteFault::LengthMissing => Refusal::LengthMissing,
         }
     }
 }

@@ -6,8 +6,8 @@ use Rattle.matchit.specs.Order.{placed}
 use Rattle.matchit.specs.Route.{Scan, parse_route}
 use Rattle.matchit.specs.Router.{RouteOf, route_from}
 use Rattle.matchit.specs.Seek.{first}
-use Rattle.hub_http.specs.declared.route.Kind.{Kind}
-use Rattle.hub_http.specs.declared.route.Kind.TheVariants.{Welcome, AllDbs, DbUpdates, Database, BulkDocs, Changes, RevsDiff, FullCommit, Document, Design, Local}
+use Rattle.hub_routes.specs.declared.kind.Kind.{Kind}
+use Rattle.hub_routes.specs.declared.kind.Kind.TheVariants.{Welcome, AllDbs, DbUpdates, Database, BulkDocs, Changes, RevsDiff, FullCommit, Document, Local}
 
 -- routes with what each names
 abbrev pub Routes : Type 0
@@ -26,7 +26,7 @@ with_route text kind rows = with_scan (parse_route text) kind rows
 unfoldable pub table : Routes
 table =
     with_route (codes "/{db}/_local/{name}") Local
-    (with_route (codes "/{db}/_design/{name}") Design
+    (with_route (codes "/{db}/_design/{name}") Document
     (with_route (codes "/{db}/{id}") Document
     (with_route (codes "/{db}/_ensure_full_commit") FullCommit
     (with_route (codes "/{db}/_revs_diff") RevsDiff

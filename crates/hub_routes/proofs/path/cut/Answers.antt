@@ -1,6 +1,6 @@
 use Rattle.std.proofs.Common.{◌==◌, sym}
-use Rattle.hub_http.proofs.RouteLemmas.{cut_before, cut_after, all_before, none_after}
-use Rattle.hub_http.proofs.route.cut.Goals as goal
+use Rattle.hub_routes.proofs.RouteLemmas.{cut_before, cut_after, all_before, none_after}
+use Rattle.hub_routes.proofs.path.cut.Goals as goal
 
 pub returns-in-Some-clause-before : goal.returns-in-Some-clause-before
 returns-in-Some-clause-before c = cut_before (λ b. b == c.args.at) c.args.bytes.now c.in-Some.i (sym c.in-Some.ensures)

@@ -1,7 +1,7 @@
 use Rattle.std.proofs.Common.{refl}
 use Rattle.matchit.proofs.OnLiterals.{matchit_on_literals}
-use Rattle.hub_http.specs.Table.{table, with_route}
-use Rattle.hub_http.proofs.route.sample_paths.Goals as goal
+use Rattle.hub_routes.specs.Table.{table, with_route}
+use Rattle.hub_routes.proofs.samples.sample_paths.Goals as goal
 
 pub returns : goal.returns
 unfolding matchit_on_literals table with_route
@@ -21,4 +21,6 @@ returns c = record {
   local = refl;
   deep = refl;
   empty = refl;
+  no_design = refl;
+  no_local = refl;
 }

@@ -3,8 +3,8 @@ use Rattle.std.proofs.Common.{◌≡◌, Result, Ok, Err}
 use Rattle.matchit.specs.declared.error.InsertError.{InsertError}
 use Rattle.matchit.specs.Route.{Scan}
 use Rattle.matchit.specs.Router.{InsertsRead}
-use Rattle.hub_http.specs.declared.route.Kind.{Kind}
-use Rattle.hub_http.specs.Table.{Routes, with_scan}
+use Rattle.hub_routes.specs.declared.kind.Kind.{Kind}
+use Rattle.hub_routes.specs.Table.{Routes, with_scan}
 
 pub inserts_scan : (x : Result Scan InsertError) (kind : Kind) (old new : Routes) (u : Unit {0}) → InsertsRead x kind old new (Ok u) → new ≡ with_scan x kind old
 inserts_scan (Ok s) kind old new u h = h.1

@@ -1,6 +1,6 @@
 use Rattle.std.proofs.Common.{refl}
-use Rattle.hub_http.specs.Table.{table}
-use Rattle.hub_http.proofs.route.table.Goals as goal
+use Rattle.hub_routes.specs.Table.{table}
+use Rattle.hub_routes.proofs.kind.table.Goals as goal
 
 pub returns : goal.returns
 unfolding table

@@ -1,8 +1,8 @@
 use Rattle.matchit.specs.Route.{parse_route}
-use Rattle.hub_http.specs.Table.{with_route}
-use Rattle.hub_http.proofs.Inserts.{inserts_scan}
-use Rattle.hub_http.proofs.route.add.Goals.{in-Ok, in-Err}
-use Rattle.hub_http.proofs.route.add.Goals as goal
+use Rattle.hub_routes.specs.Table.{with_route}
+use Rattle.hub_routes.proofs.Inserts.{inserts_scan}
+use Rattle.hub_routes.proofs.kind.add.Goals.{in-Ok, in-Err}
+use Rattle.hub_routes.proofs.kind.add.Goals as goal
 
 pub returns : goal.returns
 unfolding with_route

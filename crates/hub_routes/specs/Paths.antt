@@ -1,0 +1,48 @@
+-- The parts of a target, and what a path names (RFC 3986, sections 2.1 and 3; CouchDB API reference, documents, design and local documents).
+use Rattle.std.specs.Prelude.{ℕ, Bool, ◌&&◌, ◌==◌, List, length, drop, codes, nat_lt, Option, option_map, if◌then◌else◌}
+use Rattle.std.specs.List.{before_first, after_first, starts_with}
+use Rattle.percent_encoding.specs.Percent.{percent_encode, percent_decode}
+use Rattle.hub_routes.specs.Table.{kind_at}
+use Rattle.hub_routes.specs.declared.kind.Kind.{Kind}
+use Rattle.hub_routes.specs.declared.kind.Kind.TheVariants.{Document, Local}
+
+-- what stands before the first `?`
+abbrev pub path_of : List ℕ → List ℕ
+path_of target = before_first (λ b. b == 63) target
+
+-- what stands behind it, empty where there is none
+abbrev pub query_of : List ℕ → List ℕ
+query_of target = after_first (λ b. b == 63) target
+
+-- the path with each byte outside ASCII escaped
+unfoldable pub ascii_path : List ℕ → List ℕ
+ascii_path path = percent_encode (record { mask = 0 }) path
+
+-- the first part of the path
+abbrev pub name_part : List ℕ → List ℕ
+name_part path = before_first (λ b. b == 47) (drop 1 path)
+
+-- what stands behind it and its slash
+abbrev pub id_part : List ℕ → List ℕ
+id_part path = after_first (λ b. b == 47) (drop 1 path)
+
+-- the name of the database: its escapes are read
+abbrev pub name_of : List ℕ → List ℕ
+name_of path = percent_decode (name_part path)
+
+-- the id of the document, with `_design/` or `_local/` where it has that: its escapes are read
+abbrev pub id_of : List ℕ → List ℕ
+id_of path = percent_decode (id_part path)
+
+-- the id of a local document: `_local/` and 1 byte or more
+abbrev pub is_local : List ℕ → Bool
+is_local id = starts_with (λ x y. x == y) id (codes "_local/") && nat_lt 7 (length id)
+
+-- a document is a local one where its id says so
+abbrev pub refined : Kind → List ℕ → Kind
+refined Document id = if is_local id then Local else Document
+refined kind id = kind
+
+-- what a path names: the kind by the table, and the id
+abbrev pub kind_of : List ℕ → Option Kind
+kind_of path = option_map (λ kind. refined kind (id_of path)) (kind_at (ascii_path path))

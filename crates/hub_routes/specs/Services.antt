@@ -1,0 +1,61 @@
+-- What methods ask of paths (CouchDB API reference, the methods of each path; RFC 9110, section 9.1).
+use Rattle.std.specs.Prelude.{ℕ, Bool, true, false, List, Option, Some, None, Result, Ok, Err, if◌then◌else◌, bytes_eq, codes}
+use Rattle.hub_document.specs.Ids.{is_id}
+use Rattle.hub_routes.specs.declared.kind.Kind.{Kind}
+use Rattle.hub_routes.specs.declared.kind.Kind.TheVariants as kind
+use Rattle.hub_routes.specs.declared.service.Method.{Method}
+use Rattle.hub_routes.specs.declared.service.Method.TheVariants.{Get, Head, Put, Post, Delete, Other}
+use Rattle.hub_routes.specs.declared.service.Access.{Access}
+use Rattle.hub_routes.specs.declared.service.Access.TheVariants.{GetDocument, PutDocument, DeleteDocument, GetLocal, PutLocal}
+use Rattle.hub_routes.specs.declared.service.Service.{Service}
+use Rattle.hub_routes.specs.declared.service.Service.TheVariants.{Welcome, GetDatabase, PutDatabase, BulkDocs, Changes, RevsDiff, FullCommit, One}
+use Rattle.hub_routes.specs.declared.route.RouteFault.{RouteFault}
+use Rattle.hub_routes.specs.declared.route.RouteFault.TheVariants.{Missing, MethodNotAllowed}
+
+-- the method of a name, letter by letter
+unfoldable pub method_of : List ℕ → Method
+method_of name =
+    if bytes_eq name (codes "GET") then Get
+    else (if bytes_eq name (codes "HEAD") then Head
+    else (if bytes_eq name (codes "PUT") then Put
+    else (if bytes_eq name (codes "POST") then Post
+    else (if bytes_eq name (codes "DELETE") then Delete
+    else Other))))
+
+-- what a method asks of a path of this kind: a service, or why there is none
+unfoldable pub asked_of : Kind → Method → Result Service RouteFault
+asked_of kind.AllDbs method = Err Missing
+asked_of kind.DbUpdates method = Err Missing
+asked_of kind.Welcome Get = Ok Welcome
+asked_of kind.Database Get = Ok GetDatabase
+asked_of kind.Database Head = Ok GetDatabase
+asked_of kind.Database Put = Ok PutDatabase
+asked_of kind.Database Delete = Err Missing
+asked_of kind.BulkDocs Post = Ok BulkDocs
+asked_of kind.Changes Get = Ok Changes
+asked_of kind.Changes Post = Err Missing
+asked_of kind.RevsDiff Post = Ok RevsDiff
+asked_of kind.FullCommit Post = Ok FullCommit
+asked_of kind.Document Get = Ok (One GetDocument)
+asked_of kind.Document Put = Ok (One PutDocument)
+asked_of kind.Document Delete = Ok (One DeleteDocument)
+asked_of kind.Local Get = Ok (One GetLocal)
+asked_of kind.Local Put = Ok (One PutLocal)
+asked_of other method = Err MethodNotAllowed
+
+-- the same of a path, where the table has it
+abbrev pub asked_at : Option Kind → Method → Result Service RouteFault
+asked_at None method = Err Missing
+asked_at (Some kind) method = asked_of kind method
+
+-- a document that is no local one is asked for by the id of a document
+abbrev pub takes : Access → List ℕ → Bool
+takes GetLocal id = true
+takes PutLocal id = true
+takes access id = is_id id
+
+-- a request for it needs a length
+abbrev pub takes_body : Service → Bool
+takes_body BulkDocs = true
+takes_body RevsDiff = true
+takes_body service = false

@@ -1,0 +1,75 @@
+//! What paths name (CouchDB API reference, the paths of the server, databases and documents).
+
+ghost use Rattle.std.specs.Prelude.{◌≡◌, IfOk, OnOk};
+ghost use Rattle.hub_routes.specs.Table.{with_route, table};
+ghost use Rattle.hub_routes.specs.Paths.{refined};
+
+use crate::path::is_local;
+use matchit::Router;
+use std::alloc::{AllocError, Global};
+
+/// What a path names.
+#[derive(Clone, Copy, Debug, PartialEq, Eq)]
+pub enum Kind {
+    /// The hub.
+    Welcome,
+    /// The list of databases.
+    AllDbs,
+    /// The feed of updates of databases.
+    DbUpdates,
+    /// A database.
+    Database,
+    /// Where documents are stored.
+    BulkDocs,
+    /// The feed of changes.
+    Changes,
+    /// Where missing revisions are asked for.
+    RevsDiff,
+    /// Where a commit is asked for.
+    FullCommit,
+    /// A document, or a design document.
+    Document,
+    /// A local document.
+    Local,
+}
+
+// Each route reads well, and no two of them conflict, so that memory alone may lack.
+fn add(router: &mut Router<Kind>, route: &str, kind: Kind) -> Result<(), AllocError>
+    ensures { OnOk result (router.new ≡ with_route route.now kind router.old) }
+{
+    match router.insert(route, kind) {
+        Ok(()) => Ok(()),
+        Err(_) => Err(AllocError),
+    }
+}
+
+// The paths of databases are matched here too where they are not served, so that no part of one
+// is taken for a name.
+pub fn table(alloc: Global) -> Result<Router<Kind>, AllocError>
+    ensures { IfOk result (λ r. r ≡ table) }
+{
+    let mut router = Router::new(alloc);
+    add(&mut router, "/", Kind::Welcome)?;
+    add(&mut router, "/_all_dbs", Kind::AllDbs)?;
+    add(&mut router, "/_db_updates", Kind::DbUpdates)?;
+    add(&mut router, "/{db}", Kind::Database)?;
+    add(&mut router, "/{db}/", Kind::Database)?;
+    add(&mut router, "/{db}/_bulk_docs", Kind::BulkDocs)?;
+    add(&mut router, "/{db}/_changes", Kind::Changes)?;
+    add(&mut router, "/{db}/_revs_diff", Kind::RevsDiff)?;
+    add(&mut router, "/{db}/_ensure_full_commit", Kind::FullCommit)?;
+    add(&mut router, "/{db}/{id}", Kind::Document)?;
+    add(&mut router, "/{db}/_design/{name}", Kind::Document)?;
+    add(&mut router, "/{db}/_local/{name}", Kind::Local)?;
+    Ok(router)
+}
+
+/// The kind of a path whose id has these bytes: a slash that was escaped tells kinds apart too.
+pub fn refined(kind: Kind, id: &[u8]) -> Kind
+    ensures { result ≡ refined kind id.now }
+{
+    match kind {
+        Kind::Document if is_local(id) => Kind::Local,
+        _ => kind,
+    }
+}

@@ -1,0 +1,15 @@
+//! Where requests go.
+#![tactic(auto)]
+
+mod kind;
+mod path;
+mod route;
+mod routes;
+#[cfg(test)]
+mod routes_tests;
+mod samples;
+mod service;
+
+pub use route::{Route, RouteFault};
+pub use routes::Routes;
+pub use samples::{prefixes_stay, sample_ids, sample_paths};

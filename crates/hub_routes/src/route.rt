@@ -1,0 +1,134 @@
+//! Routes, and why there may be none.
+
+ghost use Rattle.std.specs.Prelude.{◌≡◌};
+
+use hub_http::Refusal;
+use std::alloc::AllocError;
+
+/// Where a request goes. Names and ids are parts of the path with their escapes read (an id may
+/// have any length), and are still to be looked up. A query is what stands behind the first `?`
+/// of the target, as it was sent; empty where there is none.
+#[derive(Debug, Drop)]
+pub enum Route {
+    /// `GET /`
+    Welcome,
+    /// `GET /{db}`, `HEAD /{db}`
+    GetDatabase {
+        /// The name of the database.
+        db: String,
+    },
+    /// `PUT /{db}`
+    PutDatabase {
+        /// The name of the database.
+        db: String,
+    },
+    /// `POST /{db}/_bulk_docs`
+    BulkDocs {
+        /// The name of the database.
+        db: String,
+    },
+    /// `GET /{db}/_changes`
+    Changes {
+        /// The name of the database.
+        db: String,
+        /// The query.
+        query: Vec<u8>,
+    },
+    /// `POST /{db}/_revs_diff`
+    RevsDiff {
+        /// The name of the database.
+        db: String,
+    },
+    /// `POST /{db}/_ensure_full_commit`
+    FullCommit {
+        /// The name of the database.
+        db: String,
+    },
+    /// `GET /{db}/{id}`, `GET /{db}/_design/{name}`
+    GetDocument {
+        /// The name of the database.
+        db: String,
+        /// The document's id, with `_design/` where it has that.
+        id: String,
+        /// The query.
+        query: Vec<u8>,
+    },
+    /// `PUT /{db}/{id}`, `PUT /{db}/_design/{name}`
+    PutDocument {
+        /// The name of the database.
+        db: String,
+        /// The document's id, with `_design/` where it has that.
+        id: String,
+        /// The query.
+        query: Vec<u8>,
+    },
+    /// `DELETE /{db}/{id}`, `DELETE /{db}/_design/{name}`
+    DeleteDocument {
+        /// The name of the database.
+        db: String,
+        /// The document's id, with `_design/` where it has that.
+        id: String,
+        /// The query.
+        query: Vec<u8>,
+    },
+    /// `GET /{db}/_local/{name}`
+    GetLocal {
+        /// The name of the database.
+        db: String,
+        /// The document's id, with `_local/`.
+        id: String,
+    },
+    /// `PUT /{db}/_local/{name}`
+    PutLocal {
+        /// The name of the database.
+        db: String,
+        /// The document's id, with `_local/`.
+        id: String,
+    },
+}
+
+/// Why a request has no route.
+#[derive(Clone, Copy, Debug, PartialEq, Eq)]
+pub enum RouteFault {
+    /// No memory was found.
+    NoMemory,
+    /// Nothing that is served has this path.
+    Missing,
+    /// The path does not take this method.
+    MethodNotAllowed,
+    /// The name of the database is not UTF-8 once its escapes are read.
+    BadName,
+    /// The document's id is not UTF-8 once its escapes are read, or no document may have it.
+    BadId,
+    /// A request with a body has no `Content-Length`.
+    LengthMissing,
+}
+
+impl From<AllocError> for RouteFault {
+    ghost use Rattle.std.specs.Prelude.{◌≡◌};
+    ghost use Rattle.hub_routes.specs.declared.route.RouteFault.TheVariants.{NoMemory};
+
+    ghost from_gives = { λ _ e. e ≡ NoMemory };
+
+    fn from(_refused: AllocError) -> RouteFault {
+        RouteFault::NoMemory
+    }
+}
+
+impl From<RouteFault> for Refusal {
+    ghost use Rattle.std.specs.Prelude.{◌≡◌};
+    ghost use Rattle.hub_routes.specs.RouteRefusals.{of_route_fault};
+
+    ghost from_gives = { λ f r. r ≡ of_route_fault f };
+
+    fn from(fault: RouteFault) -> Refusal {
+        match fault {
+            RouteFault::NoMemory => Refusal::NoMemory,
+            RouteFault::Missing => Refusal::Missing,
+            RouteFault::MethodNotAllowed => Refusal::MethodNotAllowed,
+            RouteFault::BadName => Refusal::BadName,
+            RouteFault::BadId => Refusal::BadId,
+            RouteFault::LengthMissing => Refusal::LengthMissing,
+        }
+    }
+}

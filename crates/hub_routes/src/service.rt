@@ -1,0 +1,131 @@
+//! What methods ask of paths (CouchDB API reference, the methods of each path).
+
+ghost use Rattle.std.specs.Prelude.{◌≡◌, IfErr, bytes_eq};
+ghost use Rattle.hub_routes.specs.Services.{method_of, asked_of, takes, takes_body};
+ghost use Rattle.hub_routes.specs.Routes.{IsOfTable};
+
+use crate::kind::Kind;
+use crate::path::is_id;
+use crate::route::RouteFault;
+
+/// A request's method.
+#[derive(Clone, Copy, Debug, PartialEq, Eq)]
+pub enum Method {
+    /// `GET`
+    Get,
+    /// `HEAD`
+    Head,
+    /// `PUT`
+    Put,
+    /// `POST`
+    Post,
+    /// `DELETE`
+    Delete,
+    /// Any other, also one of these in small letters.
+    Other,
+}
+
+/// What is asked of a document.
+#[derive(Clone, Copy, Debug, PartialEq, Eq)]
+pub enum Access {
+    /// Reading a document.
+    GetDocument,
+    /// Storing a document.
+    PutDocument,
+    /// Deleting a document.
+    DeleteDocument,
+    /// Reading a local document.
+    GetLocal,
+    /// Storing a local document.
+    PutLocal,
+}
+
+/// What is asked of the hub.
+#[derive(Clone, Copy, Debug, PartialEq, Eq)]
+pub enum Service {
+    /// The hub's greeting.
+    Welcome,
+    /// What a database is like.
+    GetDatabase,
+    /// Making a database.
+    PutDatabase,
+    /// Storing documents.
+    BulkDocs,
+    /// A feed of changes.
+    Changes,
+    /// Which revisions are missing.
+    RevsDiff,
+    /// A commit.
+    FullCommit,
+    /// One document.
+    One(Access),
+}
+
+fn is(method: &[u8], word: &str) -> bool
+    ensures { result ≡ bytes_eq method.now word.now }
+{
+    method == word.as_bytes()
+}
+
+/// The method of this name (RFC 9110, section 9.1: names of methods differ by case).
+#[tactic(auto, unfolding(crate::specs::Services::method_of))]
+pub fn method_of(name: &[u8]) -> Method
+    ensures { result ≡ method_of name.now }
+{
+    if is(name, "GET") {
+        Method::Get
+    } else if is(name, "HEAD") {
+        Method::Head
+    } else if is(name, "PUT") {
+        Method::Put
+    } else if is(name, "POST") {
+        Method::Post
+    } else if is(name, "DELETE") {
+        Method::Delete
+    } else {
+        Method::Other
+    }
+}
+
+/// What a method asks of a path of this kind, or why nothing.
+#[tactic(auto, unfolding(crate::specs::Services::asked_of))]
+pub fn asked_of(kind: Kind, method: Method) -> Result<Service, RouteFault>
+    ensures value { result ≡ asked_of kind method }
+    ensures fault { IfErr result IsOfTable }
+{
+    match (kind, method) {
+        (Kind::AllDbs | Kind::DbUpdates, _) => Err(RouteFault::Missing),
+        (Kind::Welcome, Method::Get) => Ok(Service::Welcome),
+        (Kind::Database, Method::Get | Method::Head) => Ok(Service::GetDatabase),
+        (Kind::Database, Method::Put) => Ok(Service::PutDatabase),
+        (Kind::Database, Method::Delete) => Err(RouteFault::Missing),
+        (Kind::BulkDocs, Method::Post) => Ok(Service::BulkDocs),
+        (Kind::Changes, Method::Get) => Ok(Service::Changes),
+        (Kind::Changes, Method::Post) => Err(RouteFault::Missing),
+        (Kind::RevsDiff, Method::Post) => Ok(Service::RevsDiff),
+        (Kind::FullCommit, Method::Post) => Ok(Service::FullCommit),
+        (Kind::Document, Method::Get) => Ok(Service::One(Access::GetDocument)),
+        (Kind::Document, Method::Put) => Ok(Service::One(Access::PutDocument)),
+        (Kind::Document, Method::Delete) => Ok(Service::One(Access::DeleteDocument)),
+        (Kind::Local, Method::Get) => Ok(Service::One(Access::GetLocal)),
+        (Kind::Local, Method::Put) => Ok(Service::One(Access::PutLocal)),
+        _ => Err(RouteFault::MethodNotAllowed),
+    }
+}
+
+/// Whether an id may be asked for so.
+pub fn takes(access: Access, id: &[u8]) -> bool
+    ensures { result ≡ takes access id.now }
+{
+    match access {
+        Access::GetLocal | Access::PutLocal => true,
+        _ => is_id(id),
+    }
+}
+
+/// Whether a request for it needs a length.
+pub fn takes_body(service: Service) -> bool
+    ensures { result ≡ takes_body service }
+{
+    matches!(service, Service::BulkDocs | Service::RevsDiff)
+}
