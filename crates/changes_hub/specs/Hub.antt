@@ -1,211 +1,167 @@
--- A hub's databases, and what it answers to a request (CouchDB API reference: PUT /{db}, POST /{db}/_bulk_docs, GET /{db}/_changes; own for the order of refusals).
-use Rattle.std.specs.Prelude.{◌≡◌, ◌⊎◌, ℕ, List, [], ◌∷◌, ◌++◌, length, map, take, find, slice_get, Bool, false, Option, Some, None, Result, Ok, Err, if◌then◌else◌, nat_le, codes, string_bytes}
+-- A hub's databases, and what it answers to a request (CouchDB API reference, the server and its databases; own for the order of refusals).
+use Rattle.std.specs.Prelude.{◌≡◌, ◌⊎◌, ℕ, List, [], ◌∷◌, ◌++◌, length, take, find, slice_get, Bool, Option, Some, None, Result, Ok, Err, if◌then◌else◌, nat_le, string_bytes}
 use Rattle.std.specs.List.{list_any, position_from}
 use Rattle.std.specs.Str.{bytes_eq}
-use Rattle.hub_model.specs.Revision.{Revision}
-use Rattle.hub_model.specs.Journal.{Edit}
-use Rattle.hub_model.specs.declared.outcomes.Outcome.{Outcome}
-use Rattle.hub_model.specs.Current.{current}
-use Rattle.hub_model.specs.Row.{ChangeRow, row_of}
-use Rattle.hub_model.specs.Outcome.{StoresAll, merges_all}
-use Rattle.hub_model.specs.declared.feeds.Style.TheVariants.{MainOnly}
+use Rattle.hub_model.specs.Row.{ChangeRow}
 use Rattle.hub_model.specs.declared.feeds.Mode.TheVariants.{Normal}
 use Rattle.hub_model.specs.declared.feeds.Item.{Item}
 use Rattle.hub_model.specs.declared.feeds.Item.TheVariants.{Row, End}
 use Rattle.hub_document.specs.declared.limits.Limits.{Limits}
-use Rattle.hub_document.specs.Read.{json_of}
-use Rattle.hub_database.specs.Edits.{edits_in}
-use Rattle.serde_json.specs.Data.{Data, Items}
+use Rattle.hub_database.specs.Database.{Database}
+use Rattle.hub_database.specs.Edits.{writes}
 use Rattle.hub_http.specs.Stream.{Asked}
+use Rattle.hub_http.specs.declared.reply.Reply.TheVariants.{Done, Refused}
+use Rattle.hub_http.specs.declared.refusal.Refusal.{Refusal}
+use Rattle.hub_http.specs.declared.refusal.Refusal.TheVariants.{NoMemory, BadName, Exists, TooMany, Absent}
+use Rattle.hub_replies.specs.Bodies.{welcome_body, ok_body}
 use Rattle.hub_routes.specs.Routes.{GoesTo}
 use Rattle.hub_routes.specs.RouteRefusals.{of_route_fault}
 use Rattle.hub_routes.specs.declared.route.Route.{Route}
-use Rattle.hub_routes.specs.declared.route.Route.TheVariants.{PutDatabase, BulkDocs, Changes}
 use Rattle.hub_routes.specs.declared.route.RouteFault.{RouteFault}
-use Rattle.hub_http.specs.declared.reply.Reply.TheVariants.{Done, Refused}
-use Rattle.hub_http.specs.declared.refusal.Refusal.{Refusal}
-use Rattle.hub_http.specs.declared.refusal.Refusal.TheVariants.{NoMemory, NotJson, BadName, Exists, TooMany, Absent, BadFlag}
 use Rattle.hub_session.specs.declared.service.Answer.{Answer}
 use Rattle.hub_session.specs.declared.service.Answer.TheVariants.{Whole, Stream}
+use Rattle.changes_hub.specs.Bulk.{Batch, batch_in, readings, read_docs}
+use Rattle.changes_hub.specs.Calls as call
+use Rattle.changes_hub.specs.Calls.{Feed, Said, Body, Refusing, Feeding, calls}
 use Rattle.changes_hub.specs.Names.{is_name}
-use Rattle.changes_hub.specs.Bulk.{docs_in, readings, read_docs, faults_of, refusals_of, refused_list}
+use Rattle.changes_hub.specs.Targets.{target_of}
+use Rattle.changes_hub.specs.declared.call.Call.{Call}
+use Rattle.changes_hub.specs.declared.call.Call.TheVariants.{BulkDocs}
+use Rattle.changes_hub.specs.declared.call.Target.{Target}
+use Rattle.changes_hub.specs.declared.call.Target.TheVariants.{Greeting, NewDatabase, Database as AtDatabase}
 
--- a database: its name, and its accepted edits
-pub record Database : Type 0 where
+-- a database with its name
+pub record Named : Type 0 where
   pub name : List ℕ
-  pub journal : List Edit
-
--- a feed that is being sent: the rows that are left, and the sequence at its end
-pub record Feed : Type 0 where
-  pub rows : List ChangeRow
-  pub last_seq : ℕ
+  pub state : Database
 
 -- a hub: its databases in the order in which they were made, and the feed that was asked for last, up to its end
 pub record Hub : Type 0 where
-  pub databases : List Database
+  pub databases : List Named
   pub feed : Option Feed
   pub limits : Limits
 
 -- whether a database has this name
-abbrev pub has_name : List ℕ → Database → Bool
+abbrev pub has_name : List ℕ → Named → Bool
 has_name name d = bytes_eq d.name name
-
--- what a request is answered
-pub data Said : Type 0 where
-  Body : (status : ℕ) (body : List ℕ) → Said
-  Refusing : (refusal : Refusal) → Said
-  Feeding : Said
 
 -- an answer with the hub after it
 pub record Step : Type 0 where
   pub said : Said
   pub hub : Hub
 
--- a refusal, which changes nothing
-abbrev pub refuses : Hub → Refusal → Step
-refuses h refusal = record { said = Refusing refusal; hub = h }
+-- an answer that changes nothing
+abbrev pub says : Hub → Said → Step
+says h said = record { said = said; hub = h }
 
 -- ---- making a database
 
--- the body of an answer that says no more than that it was done
-abbrev pub ok_body : List ℕ
-ok_body = codes "{\"ok\":true}\n"
+-- a database without edits
+abbrev pub empty : List ℕ → Limits → Named
+empty name limits = record { name = name; state = record { journal = []; locals = []; limits = limits } }
 
--- the hub with one more, without edits
+-- the hub with one more
 abbrev pub with_database : Hub → List ℕ → Hub
-with_database h name = record h { databases = h.databases ++ record { name = name; journal = [] } ∷ [] }
+with_database h name = record h { databases = h.databases ++ empty name h.limits ∷ [] }
 
 -- a bad name is refused first, then one that is there, then one too many
 abbrev pub creates : Hub → List ℕ → Step
 creates h name =
     if is_name name
-    then (if list_any (has_name name) h.databases then refuses h Exists
-    else (if nat_le h.limits.databases (length h.databases) then refuses h TooMany
+    then (if list_any (has_name name) h.databases then says h (Refusing Exists)
+    else (if nat_le h.limits.databases (length h.databases) then says h (Refusing TooMany)
     else record { said = Body 201 ok_body; hub = with_database h name }))
-    else refuses h BadName
+    else says h (Refusing BadName)
 
--- ---- a database that is asked for by its name
+-- ---- a call on a database
 
--- what comes next, where the database was found
-abbrev pub found : Hub → Option Database → (Database → Step) → Step
-found h None next = refuses h Absent
-found h (Some d) next = next d
+-- the databases, with this state in the place of that of the first of the name
+abbrev pub with_state : List ℕ → Database → List Named → List Named
+with_state name state [] = []
+with_state name state (d ∷ ds) = if has_name name d then record d { state = state } ∷ ds else d ∷ with_state name state ds
 
--- what comes next, at the database of this name: a bad name is refused first, then one that is not there
-abbrev pub at_name : Hub → List ℕ → (Database → Step) → Step
-at_name h name next = if is_name name then found h (find (has_name name) h.databases) next else refuses h BadName
+-- the hub with this state in the place of that of the name
+abbrev pub stored_at : Hub → List ℕ → Database → Hub
+stored_at h name state = record h { databases = with_state name state h.databases }
+
+-- the feed that is being sent after this answer
+abbrev pub feed_after : Option Feed → Said → Option Feed
+feed_after feed (Body status body) = feed
+feed_after feed (Refusing refusal) = feed
+feed_after feed (Feeding begun) = Some begun
+
+-- the hub after a call that came out so on the database of the name
+abbrev pub after_call : Hub → List ℕ → Said → Database → Hub
+after_call h name said state = record h { databases = with_state name state h.databases; feed = feed_after h.feed said }
+
+-- a call on the database that was found
+abbrev pub calls_on : Hub → List ℕ → Call → List ℕ → Option Named → Step
+calls_on h name c body None = says h (Refusing Absent)
+calls_on h name c body (Some d) =
+    let step = calls c name body d.state in
+    record { said = step.said; hub = after_call h name step.said step.state }
+
+-- a call on the database of the name: a bad name is refused first, then one that is not there
+abbrev pub calls_at : Hub → List ℕ → Call → List ℕ → Step
+calls_at h name c body = if is_name name then calls_on h name c body (find (has_name name) h.databases) else says h (Refusing BadName)
 
 -- the database d is the first of the name, and stands at this place
-pub record StandsAt (h : Hub) (name : List ℕ) (at : ℕ) (d : Database) : Type 0 where
+pub record StandsAt (h : Hub) (name : List ℕ) (at : ℕ) (d : Named) : Type 0 where
   pub first : position_from (has_name name) 0 h.databases ≡ Some at
   pub there : slice_get h.databases at ≡ Some d
 
--- ---- storing a batch
-
--- the databases, with this journal in the place of that of the first of the name
-abbrev pub with_journal : List ℕ → List Edit → List Database → List Database
-with_journal name journal [] = []
-with_journal name journal (d ∷ ds) = if has_name name d then record d { journal = journal } ∷ ds else d ∷ with_journal name journal ds
-
--- the hub with this journal in the place of that of the name
-abbrev pub stored_at : Hub → List ℕ → List Edit → Hub
-stored_at h name journal = record h { databases = with_journal name journal h.databases }
-
--- the edits that the documents among these elements are
-abbrev pub edits_among : Items → List Edit
-edits_among docs = edits_in (read_docs (readings docs))
-
--- what came of storing them: the list of those that were refused
-abbrev pub batch_stored : Hub → List ℕ → Items → StoresAll → Step
-batch_stored h name docs stored = record {
-  said = Body 201 (refused_list docs (refusals_of (faults_of (readings docs)) stored.outcomes));
-  hub = stored_at h name stored.journal;
-}
-
--- a batch of these documents, or the refusal of the whole
-abbrev pub stores_docs : Hub → List ℕ → Database → Result Items Refusal → Step
-stores_docs h name d (Err refusal) = refuses h refusal
-stores_docs h name d (Ok docs) = batch_stored h name docs (merges_all h.limits.journal d.journal (edits_among docs))
-
--- a body that is this JSON value, or none
-abbrev pub stores_value : Hub → List ℕ → Database → Option Data → Step
-stores_value h name d None = refuses h NotJson
-stores_value h name d (Some value) = stores_docs h name d (docs_in value)
-
--- storing the batch that the body is in the database of the name
-abbrev pub stores : Hub → List ℕ → List ℕ → Step
-stores h name body = at_name h name (λ d. stores_value h name d (json_of body))
-
--- ---- a feed of what is there
-
--- the current rows of a journal, rising, as they are shown
-abbrev pub feed_of : List Edit → Feed
-feed_of journal = record { rows = map (row_of journal MainOnly false) (current journal); last_seq = length journal }
-
--- a feed of the database; for now a query is refused
-abbrev pub begins_feed : Hub → Database → List ℕ → Step
-begins_feed h d [] = record { said = Feeding; hub = record h { feed = Some (feed_of d.journal) } }
-begins_feed h d (b ∷ query) = refuses h BadFlag
-
--- beginning a feed of the database of the name
-abbrev pub opens : Hub → List ℕ → List ℕ → Step
-opens h name query = at_name h name (λ d. begins_feed h d query)
-
 -- ---- answers
+
+-- what a request is answered that asks for this
+abbrev pub goes_to : Hub → List ℕ → Target → Step
+goes_to h body Greeting = says h (Body 200 welcome_body)
+goes_to h body (NewDatabase name) = creates h (string_bytes name)
+goes_to h body (AtDatabase name c) = calls_at h (string_bytes name) c body
 
 -- what a request that goes there is answered
 abbrev pub goes : Hub → List ℕ → Result Route RouteFault → Step
-goes h body (Err fault) = refuses h (of_route_fault fault)
-goes h body (Ok (PutDatabase db)) = creates h (string_bytes db)
-goes h body (Ok (BulkDocs db)) = stores h (string_bytes db) body
-goes h body (Ok (Changes db query)) = opens h (string_bytes db) query.items
+goes h body (Err fault) = says h (Refusing (of_route_fault fault))
+goes h body (Ok route) = goes_to h body (target_of route)
 
 -- the answer says this
 abbrev pub Says : Answer → Said → Type 0
 Says (Whole (Done status text)) (Body n body) = (status ≡ n) × (text.items ≡ body)
 Says (Whole (Refused refusal)) (Refusing r) = refusal ≡ r
-Says (Stream mode) Feeding = mode ≡ Normal
+Says (Stream mode) (Feeding feed) = mode ≡ Normal
 Says answer said = ⊥
 
--- what storing these edits in the database d of the name answers, and the hub after it
-abbrev pub Leaves : Hub → List ℕ → Database → List Edit → List (Outcome Revision) → Hub → Type 0
-Leaves h name d edits outcomes k =
-    let stored = merges_all h.limits.journal d.journal edits in
-    (outcomes ≡ stored.outcomes) × (k ≡ stored_at h name stored.journal)
+-- the state of a database that has documents from the front of a batch
+pub record HasFront (db : Database) (batch : Batch) (new : Database) : Type 0 where
+  pub count : ℕ
+  pub front : new ≡ record db { journal = (writes batch.new_edits db.limits.journal db.journal (take count (read_docs (readings batch.new_edits batch.docs)))).journal }
 
--- the hub with edits from the front of these stored in the database d of the name
-abbrev pub HasFront : Hub → List ℕ → Database → List Edit → Hub → Type 0
-HasFront h name d edits k = (count : ℕ) × (k ≡ stored_at h name (merges_all h.limits.journal d.journal (take count edits)).journal)
+-- what a call that found no memory may leave of a database: as it was, as the call would have left it, or with documents from the front of a batch
+abbrev pub MayLeave : Call → List ℕ → List ℕ → Database → Database → Type 0
+MayLeave BulkDocs name body db new = (new ≡ db) ⊎ ((batch : Batch) × (batch_in body ≡ Ok batch) × HasFront db batch new)
+MayLeave c name body db new = (new ≡ db) ⊎ (new ≡ (calls c name body db).state)
 
--- the same, of the batch that the body is
-pub record HasBatchFront (h : Hub) (name body : List ℕ) (k : Hub) : Type 0 where
-  pub database : Database
-  pub found : find (has_name name) h.databases ≡ Some database
-  pub value : Data
-  pub json : json_of body ≡ Some value
-  pub docs : Items
-  pub batch : docs_in value ≡ Ok docs
-  pub front : HasFront h name database (edits_among docs) k
+-- the same of the hub
+abbrev pub MayLeaveAt : Hub → List ℕ → Target → Hub → Type 0
+MayLeaveAt h body (AtDatabase name c) k =
+    (k ≡ h) ⊎ ((d : Named) × (new : Database) × (find (has_name (string_bytes name)) h.databases ≡ Some d)
+    × MayLeave c (string_bytes name) body d.state new × (k ≡ stored_at h (string_bytes name) new))
+MayLeaveAt h body target k = k ≡ h
 
--- what a request that found no memory may leave: the hub as it was, or with documents from the front of its batch
-abbrev pub MayLeave : Hub → List ℕ → Result Route RouteFault → Hub → Type 0
-MayLeave h body (Ok (BulkDocs db)) k = (k ≡ h) ⊎ HasBatchFront h (string_bytes db) body k
-MayLeave h body route k = k ≡ h
+-- and of a hub whose request goes there
+abbrev pub MayLeaveTo : Hub → List ℕ → Result Route RouteFault → Hub → Type 0
+MayLeaveTo h body (Err fault) k = k ≡ h
+MayLeaveTo h body (Ok route) k = MayLeaveAt h body (target_of route) k
 
 -- the answer and the hub k are those of the step
 abbrev pub IsStep : Answer → Step → Hub → Type 0
 IsStep answer step k = Says answer step.said × (k ≡ step.hub)
-
--- the step from h is this refusal, or in its place memory was missing; the hub k is as before
-abbrev pub IsRefused : Refusal → Step → Hub → Hub → Type 0
-IsRefused refusal step h k = (k ≡ h) × ((refusal ≡ NoMemory) ⊎ (step ≡ refuses h refusal))
 
 -- from the hub h the request may be answered so, and leave the hub k
 abbrev pub HubAnswers : Hub → Asked → Answer → Hub → Type 0
 HubAnswers h asked answer k =
     (route : Result Route RouteFault) × GoesTo asked route
     × (IsStep answer (goes h asked.body route) k
-    ⊎ (Says answer (Refusing NoMemory) × MayLeave h asked.body route k))
+    ⊎ (Says answer (Refusing NoMemory) × MayLeaveTo h asked.body route k))
 
 -- the next item of a feed with these rows left, and what is left of the feed then
 abbrev pub next_item : ℕ → List ChangeRow → Item ChangeRow × Option Feed

@@ -8,7 +8,8 @@ use Rattle.hub_model.specs.declared.feeds.Item.{Item}
 use Rattle.hub_model.specs.declared.feeds.Item.TheVariants.{Row, End}
 use Rattle.hub_session.specs.declared.closing.StreamEnd.TheVariants.{Complete}
 use Rattle.hub_session.specs.Feeds.{Streams}
-use Rattle.changes_hub.specs.Hub.{Hub, HubGives, feed_of}
+use Rattle.changes_hub.specs.Calls.{feed_of}
+use Rattle.changes_hub.specs.Hub.{Hub, HubGives}
 
 -- each current row of the journal, rising, as it is shown, and then the end: the journal's length, and how many current rows lie above it
 abbrev pub whole_feed : List Edit → List (Item ChangeRow)

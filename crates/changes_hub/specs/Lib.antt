@@ -1,5 +1,7 @@
-pub mod Names
 pub mod Bulk
+pub mod Calls
+pub mod Came
 pub mod Hub
-pub mod Views
 pub mod Laws
+pub mod Names
+pub mod Targets
