@@ -1,0 +1,79 @@
+-- The JSON bodies of a database's answers (CouchDB API reference; own for the order of the members).
+use Rattle.std.specs.Prelude.{ℕ, List, [], ◌∷◌, ◌++◌, map, codes, decimal}
+use Rattle.std.specs.List.{join_with_byte}
+use Rattle.json.specs.Print.{quoted}
+use Rattle.hub_model.specs.Revision.{Revision, text_of}
+use Rattle.hub_model.specs.Missing.{Diff}
+use Rattle.hub_document.specs.declared.doc.Doc.{Doc}
+use Rattle.hub_document.specs.DocText.{doc_text, local_text}
+use Rattle.hub_database.specs.declared.answers.Info.{Info}
+use Rattle.hub_database.specs.declared.answers.OpenRev.{OpenRev}
+use Rattle.hub_database.specs.declared.answers.OpenRev.TheVariants.{Found, Missing}
+
+-- what the hub says of itself
+abbrev pub welcome_body : List ℕ
+welcome_body = codes "{\"couchdb\":\"Welcome\",\"version\":\"3.0.0\"}\n"
+
+-- what was asked for is done
+abbrev pub ok_body : List ℕ
+ok_body = codes "{\"ok\":true}\n"
+
+-- what was written is kept
+abbrev pub commit_body : List ℕ
+commit_body = codes "{\"instance_start_time\":\"0\",\"ok\":true}\n"
+
+-- what a database of this name says of itself
+unfoldable pub info_body : List ℕ → Info → List ℕ
+info_body name info =
+    codes "{\"db_name\":" ++ (quoted name ++ (codes ",\"doc_count\":" ++ (decimal info.doc_count ++ (codes ",\"doc_del_count\":" ++ (decimal info.doc_del_count ++ (codes ",\"update_seq\":" ++ (decimal info.update_seq ++ codes ",\"instance_start_time\":\"0\"}\n")))))))
+
+-- an edit that is stored: the JSON text of its document's id, and the text of its revision
+unfoldable pub edit_text : List ℕ → List ℕ → List ℕ
+edit_text id rev = codes "{\"ok\":true,\"id\":" ++ (id ++ (codes ",\"rev\":" ++ (quoted rev ++ codes "}")))
+
+-- the answer to an edit of the document of this id
+unfoldable pub edit_body : List ℕ → Revision → List ℕ
+edit_body id rev = edit_text (quoted id) (text_of rev) ++ codes "\n"
+
+-- the answer to an edit of a local document, which was written this many times
+unfoldable pub local_edit_body : List ℕ → ℕ → List ℕ
+local_edit_body id count = edit_text (quoted id) (codes "0-" ++ decimal count) ++ codes "\n"
+
+-- a document
+unfoldable pub doc_body : Doc → List ℕ
+doc_body doc = doc_text doc ++ codes "\n"
+
+-- a local document: its id, how often it was written, and its members
+unfoldable pub local_doc_body : List ℕ → ℕ → List ℕ → List ℕ
+local_doc_body id count body = local_text id count body ++ codes "\n"
+
+-- the list of these texts, with commas (44) between them
+unfoldable pub list_text : List (List ℕ) → List ℕ
+list_text texts = codes "[" ++ (join_with_byte 44 texts ++ codes "]")
+
+-- a revision that was asked for
+unfoldable pub open_rev_text : OpenRev → List ℕ
+open_rev_text (Found doc) = codes "{\"ok\":" ++ (doc_text doc ++ codes "}")
+open_rev_text (Missing rev) = codes "{\"missing\":" ++ (quoted (text_of rev) ++ codes "}")
+
+-- the revisions that were asked for
+unfoldable pub open_revs_body : List OpenRev → List ℕ
+open_revs_body revs = list_text (map open_rev_text revs) ++ codes "\n"
+
+-- the list of some revisions
+unfoldable pub revisions_text : List Revision → List ℕ
+revisions_text revs = list_text (map (λ r. quoted (text_of r)) revs)
+
+-- the member of the leaves that may be behind, where there are any
+unfoldable pub ancestors_text : List Revision → List ℕ
+ancestors_text [] = []
+ancestors_text (r ∷ revs) = codes ",\"possible_ancestors\":" ++ revisions_text (r ∷ revs)
+
+-- the member of a document that misses revisions
+unfoldable pub diff_text : Diff → List ℕ
+diff_text d =
+    quoted d.id ++ (codes ":{\"missing\":" ++ (revisions_text d.missing ++ (ancestors_text d.possible_ancestors ++ codes "}")))
+
+-- what the documents that were asked for miss, an object with commas (44) between its members
+unfoldable pub diffs_body : List Diff → List ℕ
+diffs_body ds = codes "{" ++ (join_with_byte 44 (map diff_text ds) ++ codes "}\n")

@@ -1,0 +1,45 @@
+-- The answer to a batch of documents (CouchDB API reference, POST /{db}/_bulk_docs).
+use Rattle.std.specs.Prelude.{ℕ, List, [], ◌∷◌, ◌++◌, Option, Some, None, option_and_then, codes}
+use Rattle.json.specs.Print.{quoted}
+use Rattle.serde_json.specs.Data.{Data, Items, no_items, item}
+use Rattle.serde_json.specs.Find.{get, as_str}
+use Rattle.hub_model.specs.Revision.{text_of}
+use Rattle.hub_http.specs.declared.refusal.Refusal.{Refusal}
+use Rattle.hub_http.specs.Refusals.{error_of, reason_of}
+use Rattle.hub_replies.specs.declared.batch.BatchReply.{BatchReply}
+use Rattle.hub_replies.specs.declared.batch.BatchReply.TheVariants.{Stored, Refused}
+use Rattle.hub_replies.specs.Bodies.{edit_text, list_text}
+
+-- the id that an element names, where it is a text
+abbrev pub id_in : Data → Option (List ℕ)
+id_in d = option_and_then as_str (get (codes "_id") d)
+
+-- its JSON text
+abbrev pub id_text : Option (List ℕ) → List ℕ
+id_text None = codes "null"
+id_text (Some id) = quoted id
+
+-- the members that say why, and the brace that closes them
+unfoldable pub reason_members : Refusal → List ℕ
+reason_members refusal =
+    codes ",\"error\":\"" ++ (error_of refusal ++ (codes "\",\"reason\":\"" ++ (reason_of refusal ++ codes "\"}")))
+
+-- an element that is refused
+unfoldable pub refused_text : Option (List ℕ) → Refusal → List ℕ
+refused_text id refusal = codes "{\"id\":" ++ (id_text id ++ reason_members refusal)
+
+-- what the answer says of an element
+unfoldable pub reply_text : Option (List ℕ) → BatchReply → List ℕ
+reply_text id (Stored rev) = edit_text (id_text id) (text_of rev)
+reply_text id (Refused refusal) = refused_text id refusal
+
+-- of those elements alone that have a reply, in order
+abbrev pub reply_texts : Items → List (Option BatchReply) → List (List ℕ)
+reply_texts no_items replies = []
+reply_texts (item d ds) [] = []
+reply_texts (item d ds) (None ∷ replies) = reply_texts ds replies
+reply_texts (item d ds) (Some reply ∷ replies) = reply_text (id_in d) reply ∷ reply_texts ds replies
+
+-- the list of them
+unfoldable pub batch_body : Items → List (Option BatchReply) → List ℕ
+batch_body ds replies = list_text (reply_texts ds replies) ++ codes "\n"

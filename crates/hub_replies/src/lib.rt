@@ -1,0 +1,16 @@
+//! The JSON bodies of a database's answers: each is compact, and a line feed ends it.
+#![tactic(auto)]
+
+mod batch;
+mod diffs;
+mod docs;
+mod edits;
+mod fixed;
+mod info;
+
+pub use batch::{BatchReply, batch_body};
+pub use diffs::diffs_body;
+pub use docs::{doc_body, local_doc_body, open_revs_body};
+pub use edits::{edit_body, local_edit_body};
+pub use fixed::{commit_body, ok_body, welcome_body};
+pub use info::info_body;
