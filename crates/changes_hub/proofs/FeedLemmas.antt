@@ -11,7 +11,8 @@ use Rattle.hub_model.proofs.Lists.{contains_here, contains_there}
 use Rattle.hub_model.proofs.Rows.{current_within}
 use Rattle.hub_session.specs.declared.closing.StreamEnd.TheVariants.{Complete}
 use Rattle.hub_session.specs.Feeds.{Streams}
-use Rattle.changes_hub.specs.Hub.{Hub, HubGives, goes_on, feed_of}
+use Rattle.changes_hub.specs.Calls.{feed_of}
+use Rattle.changes_hub.specs.Hub.{Hub, HubGives, goes_on}
 use Rattle.changes_hub.specs.Laws.{CompleteFeedIsWhole}
 
 -- the rows that are left, and the end

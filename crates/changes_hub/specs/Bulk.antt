@@ -11,8 +11,8 @@ use Rattle.hub_http.specs.Refusals.{of_fault, of_doc_fault}
 use Rattle.hub_model.specs.Revision.{Revision}
 use Rattle.hub_model.specs.declared.outcomes.Outcome.{Outcome}
 use Rattle.hub_model.specs.declared.outcomes.Outcome.TheVariants.{Stored, Known, Refused}
-use Rattle.hub_replies.specs.declared.bulk.BatchReply.{BatchReply}
-use Rattle.hub_replies.specs.declared.bulk.BatchReply.TheVariants as reply
+use Rattle.hub_replies.specs.declared.batch.BatchReply.{BatchReply}
+use Rattle.hub_replies.specs.declared.batch.BatchReply.TheVariants as reply
 
 -- the elements of a batch, and whether their revisions are made here
 pub record Batch : Type 0 where

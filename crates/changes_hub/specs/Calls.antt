@@ -1,5 +1,5 @@
 -- What a database answers to a call (CouchDB API reference: documents, local documents, _bulk_docs, _revs_diff, _changes; own for the order of refusals).
-use Rattle.std.specs.Prelude.{◌≡◌, ◌×◌, ◌⊎◌, ℕ, ◌^◌, List, [], ◌∷◌, length, map, Bool, true, false, if◌then◌else◌, nat_le, codes, string_bytes, Option, Some, None, Result, Ok, Err}
+use Rattle.std.specs.Prelude.{◌≡◌, ℕ, ◌^◌, List, [], ◌∷◌, length, map, take, Bool, true, false, if◌then◌else◌, nat_le, codes, string_bytes, Option, Some, None, Result, Ok, Err}
 use Rattle.hub_model.specs.Revision.{Revision}
 use Rattle.hub_model.specs.Journal.{Edit}
 use Rattle.hub_model.specs.Leaves.{Leaf, leaves_of}
@@ -58,6 +58,14 @@ pub record Step : Type 0 where
 -- an answer that changes nothing
 abbrev pub reads : Database → Said → Step
 reads db said = record { said = said; state = db }
+
+-- what a database says of itself
+abbrev pub says_info : List ℕ → Database → Said
+says_info name db = Body 200 (info_body name (info_of db.journal))
+
+-- a commit has nothing to do
+abbrev pub says_commit : Said
+says_commit = Body 201 commit_body
 
 -- ---- reading documents
 
@@ -168,6 +176,11 @@ stores db (Ok batch) =
     let stored = writes batch.new_edits db.limits.journal db.journal (read_docs read) in
     record { said = Body 201 (batch_body batch.docs (replies_of batch.new_edits (faults_of read) stored.outcomes)); state = record db { journal = stored.journal } }
 
+-- the state of a database that has documents from the front of a batch
+pub record HasFront (db : Database) (batch : Batch) (new : Database) : Type 0 where
+  pub count : ℕ
+  pub front : new ≡ record db { journal = (writes batch.new_edits db.limits.journal db.journal (take count (read_docs (readings batch.new_edits batch.docs)))).journal }
+
 -- ---- feeds
 
 -- the current rows of a journal, rising, as they are shown
@@ -183,11 +196,11 @@ begins db (b ∷ query) = Refusing BadFlag
 
 -- what a database of this name answers to a call with this body, and the database after it
 abbrev pub calls : Call → List ℕ → List ℕ → Database → Step
-calls call.Info name body db = reads db (Body 200 (info_body name (info_of db.journal)))
+calls call.Info name body db = reads db (says_info name db)
 calls call.BulkDocs name body db = stores db (batch_in body)
 calls (call.Changes query) name body db = reads db (begins db query.items)
 calls call.RevsDiff name body db = reads db (says_diffs db (asked_by body))
-calls call.FullCommit name body db = reads db (Body 201 commit_body)
+calls call.FullCommit name body db = reads db says_commit
 calls (call.GetDocument id query) name body db = reads db (gets_doc db (string_bytes id) (doc_asked query.items))
 calls (call.PutDocument id query) name body db = puts_doc db (put_in (string_bytes id) (doc_asked query.items).rev (doc_asked query.items).new_edits body)
 calls (call.DeleteDocument id query) name body db = deletes_doc db (string_bytes id) (doc_asked query.items).rev

@@ -1,5 +1,5 @@
 -- A hub's databases, and what it answers to a request (CouchDB API reference, the server and its databases; own for the order of refusals).
-use Rattle.std.specs.Prelude.{◌≡◌, ◌⊎◌, ℕ, List, [], ◌∷◌, ◌++◌, length, take, find, slice_get, Bool, Option, Some, None, Result, Ok, Err, if◌then◌else◌, nat_le, string_bytes}
+use Rattle.std.specs.Prelude.{◌≡◌, ◌⊎◌, ℕ, List, [], ◌∷◌, ◌++◌, length, find, slice_get, Bool, Option, Some, None, Result, Ok, Err, if◌then◌else◌, nat_le, string_bytes}
 use Rattle.std.specs.List.{list_any, position_from}
 use Rattle.std.specs.Str.{bytes_eq}
 use Rattle.hub_model.specs.Row.{ChangeRow}
@@ -8,7 +8,6 @@ use Rattle.hub_model.specs.declared.feeds.Item.{Item}
 use Rattle.hub_model.specs.declared.feeds.Item.TheVariants.{Row, End}
 use Rattle.hub_document.specs.declared.limits.Limits.{Limits}
 use Rattle.hub_database.specs.Database.{Database}
-use Rattle.hub_database.specs.Edits.{writes}
 use Rattle.hub_http.specs.Stream.{Asked}
 use Rattle.hub_http.specs.declared.reply.Reply.TheVariants.{Done, Refused}
 use Rattle.hub_http.specs.declared.refusal.Refusal.{Refusal}
@@ -20,9 +19,9 @@ use Rattle.hub_routes.specs.declared.route.Route.{Route}
 use Rattle.hub_routes.specs.declared.route.RouteFault.{RouteFault}
 use Rattle.hub_session.specs.declared.service.Answer.{Answer}
 use Rattle.hub_session.specs.declared.service.Answer.TheVariants.{Whole, Stream}
-use Rattle.changes_hub.specs.Bulk.{Batch, batch_in, readings, read_docs}
+use Rattle.changes_hub.specs.Bulk.{Batch, batch_in}
 use Rattle.changes_hub.specs.Calls as call
-use Rattle.changes_hub.specs.Calls.{Feed, Said, Body, Refusing, Feeding, calls}
+use Rattle.changes_hub.specs.Calls.{Feed, Said, Body, Refusing, Feeding, calls, HasFront}
 use Rattle.changes_hub.specs.Names.{is_name}
 use Rattle.changes_hub.specs.Targets.{target_of}
 use Rattle.changes_hub.specs.declared.call.Call.{Call}
@@ -53,6 +52,10 @@ pub record Step : Type 0 where
 -- an answer that changes nothing
 abbrev pub says : Hub → Said → Step
 says h said = record { said = said; hub = h }
+
+-- a greeting
+abbrev pub greets : Hub → Step
+greets h = says h (Body 200 welcome_body)
 
 -- ---- making a database
 
@@ -98,7 +101,7 @@ after_call h name said state = record h { databases = with_state name state h.da
 abbrev pub calls_on : Hub → List ℕ → Call → List ℕ → Option Named → Step
 calls_on h name c body None = says h (Refusing Absent)
 calls_on h name c body (Some d) =
-    let step = calls c name body d.state in
+    let step = calls c d.name body d.state in
     record { said = step.said; hub = after_call h name step.said step.state }
 
 -- a call on the database of the name: a bad name is refused first, then one that is not there
@@ -114,7 +117,7 @@ pub record StandsAt (h : Hub) (name : List ℕ) (at : ℕ) (d : Named) : Type 0 
 
 -- what a request is answered that asks for this
 abbrev pub goes_to : Hub → List ℕ → Target → Step
-goes_to h body Greeting = says h (Body 200 welcome_body)
+goes_to h body Greeting = greets h
 goes_to h body (NewDatabase name) = creates h (string_bytes name)
 goes_to h body (AtDatabase name c) = calls_at h (string_bytes name) c body
 
@@ -130,22 +133,22 @@ Says (Whole (Refused refusal)) (Refusing r) = refusal ≡ r
 Says (Stream mode) (Feeding feed) = mode ≡ Normal
 Says answer said = ⊥
 
--- the state of a database that has documents from the front of a batch
-pub record HasFront (db : Database) (batch : Batch) (new : Database) : Type 0 where
-  pub count : ℕ
-  pub front : new ≡ record db { journal = (writes batch.new_edits db.limits.journal db.journal (take count (read_docs (readings batch.new_edits batch.docs)))).journal }
-
 -- what a call that found no memory may leave of a database: as it was, as the call would have left it, or with documents from the front of a batch
 abbrev pub MayLeave : Call → List ℕ → List ℕ → Database → Database → Type 0
 MayLeave BulkDocs name body db new = (new ≡ db) ⊎ ((batch : Batch) × (batch_in body ≡ Ok batch) × HasFront db batch new)
 MayLeave c name body db new = (new ≡ db) ⊎ (new ≡ (calls c name body db).state)
 
--- the same of the hub
+-- the same of a hub and its database of the name
+abbrev pub MayLeaveBy : Hub → List ℕ → Call → List ℕ → Hub → Type 0
+MayLeaveBy h name c body k =
+    (k ≡ h) ⊎ ((d : Named) × (new : Database) × (find (has_name name) h.databases ≡ Some d)
+    × MayLeave c d.name body d.state new × (k ≡ stored_at h name new))
+
+-- and of a hub that is asked for this
 abbrev pub MayLeaveAt : Hub → List ℕ → Target → Hub → Type 0
-MayLeaveAt h body (AtDatabase name c) k =
-    (k ≡ h) ⊎ ((d : Named) × (new : Database) × (find (has_name (string_bytes name)) h.databases ≡ Some d)
-    × MayLeave c (string_bytes name) body d.state new × (k ≡ stored_at h (string_bytes name) new))
-MayLeaveAt h body target k = k ≡ h
+MayLeaveAt h body (AtDatabase name c) k = MayLeaveBy h (string_bytes name) c body k
+MayLeaveAt h body Greeting k = k ≡ h
+MayLeaveAt h body (NewDatabase name) k = k ≡ h
 
 -- and of a hub whose request goes there
 abbrev pub MayLeaveTo : Hub → List ℕ → Result Route RouteFault → Hub → Type 0

@@ -1,54 +1,61 @@
 //! Batches of documents (CouchDB API reference, `POST /{db}/_bulk_docs`).
 
-ghost use Rattle.std.specs.Prelude.{◌≡◌, ◌++◌, OnOk, take, string_bytes, length, ◌⊎◌, Ok, Err, IfOk, IfErr, option_map, Some};
+ghost use Rattle.std.specs.Prelude.{◌≡◌, Ok, Err, IfOk, IfErr, OnErr, codes};
+ghost use Rattle.serde_json.specs.Find.{get};
 ghost use Rattle.serde_json.specs.View.{view, items_view};
-ghost use Rattle.serde_json.specs.Written.{comma_if};
-ghost use Rattle.json.specs.Print.{quoted};
-ghost use Rattle.changes_hub.specs.Bulk.{docs_in, readings, read_docs, faults_of, refused_by, refusals_of, refused_row, refused_list, id_text, id_in, reason_members};
+ghost use Rattle.changes_hub.specs.Bulk.{batch_of, batch_in, flag_of, readings, read_docs, faults_of, reply_to, replies_of};
+ghost use Rattle.changes_hub.specs.Came.{HasStored, HasStoredFront, Stores};
 
-use hub_document::{Doc, DocFault, RevId};
-use hub_http::{Refusal, put_quoted};
+use hub_database::{DbState, Replies};
+use hub_document::{Doc, DocFault, RevId, read_value};
+use hub_http::Refusal;
 use hub_model::Outcome;
+use hub_replies::{BatchReply, batch_body};
 use serde_json::Value;
 use std::alloc::{AllocError, Global};
 
-/// The documents that a request brings, each as it came. They have to come with the revisions of
-/// another database: `new_edits` has to be false.
-pub fn elements_of(request: &Value) -> Result<&Vec<Value>, Refusal>
-    ensures ok { IfOk result (λ v. docs_in (view request.now) ≡ Ok (items_view v.now.items)) }
-    ensures err { IfErr result (λ e. docs_in (view request.now) ≡ Err e) }
+// Whether the revisions of a batch are made here: yes, where the request does not say.
+fn new_edits_of(request: &Value) -> Option<bool>
+    ensures { result ≡ flag_of (get (codes "new_edits") (view request.now)) }
 {
-    let Some(elements) = request.get("docs").and_then(Value::as_array) else {
+    match request.get("new_edits") {
+        Some(flag) => flag.as_bool(),
+        None => Some(true),
+    }
+}
+
+// The elements of a batch, and whether their revisions are made here.
+fn batch_of(request: &Value) -> Result<(&Vec<Value>, bool), Refusal>
+    ensures ok { IfOk result (λ b. batch_of (view request.now) ≡ Ok (record { docs = items_view b.0.now.items; new_edits = b.1 })) }
+    ensures err { IfErr result (λ e. batch_of (view request.now) ≡ Err e) }
+{
+    let Some(docs) = request.get("docs").and_then(Value::as_array) else {
         return Err(Refusal::NotObject);
     };
-    let Some(new_edits) = request.get("new_edits") else {
-        return Err(Refusal::BadMember);
-    };
-    match new_edits.as_bool() {
-        Some(false) => Ok(elements),
-        Some(true) => Err(Refusal::BadMember),
+    match new_edits_of(request) {
+        Some(new_edits) => Ok((docs, new_edits)),
         None => Err(Refusal::NotObject),
     }
 }
 
 /// What the elements of a batch are.
 #[derive(Debug, Drop)]
-pub struct Readings {
+struct Readings {
     /// Those that are documents, in order.
-    pub docs: Vec<Doc>,
+    docs: Vec<Doc>,
     /// For each element its fault, if it is no document.
-    pub faults: Vec<Option<DocFault>>,
+    faults: Vec<Option<DocFault>>,
 }
 
-/// Reads each element by itself. It costs the elements' length.
-pub fn read_elements(alloc: Global, elements: &[Value]) -> Result<Readings, AllocError>
-    ensures docs { IfOk result (λ r. r.docs.items ≡ read_docs (readings (items_view elements.now))) }
-    ensures faults { IfOk result (λ r. r.faults.items ≡ faults_of (readings (items_view elements.now))) }
+// Reads each element by itself. It costs the elements' length.
+fn read_elements(alloc: Global, elements: &[Value], new_edits: bool) -> Result<Readings, AllocError>
+    ensures docs { IfOk result (λ r. r.docs.items ≡ read_docs (readings new_edits (items_view elements.now))) }
+    ensures faults { IfOk result (λ r. r.faults.items ≡ faults_of (readings new_edits (items_view elements.now))) }
 {
     let mut docs = Vec::with_capacity(alloc, elements.len())?;
     let mut faults = Vec::with_capacity(alloc, elements.len())?;
     for element in elements {
-        match Doc::of_value(alloc, element, false) {
+        match Doc::of_value(alloc, element, new_edits) {
             Ok(doc) => {
                 docs.push(doc)?;
                 faults.push(None)?;
@@ -60,33 +67,40 @@ pub fn read_elements(alloc: Global, elements: &[Value]) -> Result<Readings, Allo
     Ok(Readings { docs, faults })
 }
 
-/// Why storing refused a document, if it did.
-fn refused_by(outcome: &Outcome<RevId>) -> Option<Refusal>
-    ensures { result ≡ refused_by outcome.now }
+// The reply to a document, if it has one.
+fn reply_to(new_edits: bool, outcome: &Outcome<RevId>) -> Option<BatchReply>
+    ensures { result ≡ reply_to new_edits outcome.now }
 {
     match outcome {
-        Outcome::Stored(_) => None,
+        Outcome::Stored(rev) => {
+            if new_edits {
+                Some(BatchReply::Stored(*rev))
+            } else {
+                None
+            }
+        }
         Outcome::Known => None,
-        Outcome::Refused(fault) => Some(Refusal::from(*fault)),
+        Outcome::Refused(fault) => Some(BatchReply::Refused(Refusal::from(*fault))),
     }
 }
 
-/// Why each element was refused, if it was.
-pub fn refusals(
+// The reply to each element, if it has one.
+fn replies_of(
     alloc: Global,
+    new_edits: bool,
     faults: &[Option<DocFault>],
     outcomes: &[Outcome<RevId>],
-) -> Result<Vec<Option<Refusal>>, AllocError>
-    ensures { IfOk result (λ rs. rs.items ≡ refusals_of faults.now outcomes.now) }
+) -> Result<Vec<Option<BatchReply>>, AllocError>
+    ensures { IfOk result (λ rs. rs.items ≡ replies_of new_edits faults.now outcomes.now) }
 {
     let mut list = Vec::with_capacity(alloc, faults.len())?;
     let mut left = outcomes;
     for fault in faults {
         match fault {
-            Some(fault) => list.push(Some(Refusal::from(*fault)))?,
+            Some(fault) => list.push(Some(BatchReply::Refused(Refusal::from(*fault))))?,
             None => match left {
                 [first, rest @ ..] => {
-                    list.push(refused_by(first))?;
+                    list.push(reply_to(new_edits, first))?;
                     left = rest;
                 }
                 [] => list.push(None)?,
@@ -96,96 +110,50 @@ pub fn refusals(
     Ok(list)
 }
 
-/// Appends the id that an element names, `null` where it is no text.
-fn put_id(out: &mut Vec<u8>, element: &Value) -> Result<(), AllocError>
-    ensures { OnOk result (out.new.items ≡ out.old.items ++ id_text (id_in (view element.now))) }
+// Stores documents one after the other. An error says that one of them found no memory: those before
+// it stand.
+fn store_docs(state: &mut DbState, docs: Vec<Doc>, new_edits: bool) -> Result<Replies, AllocError>
+    ensures ok { IfOk result (λ replies. HasStored new_edits state.old docs.items replies state.new) }
+    ensures err { OnErr result (HasStoredFront new_edits state.old docs.items state.new) }
 {
-    match element.get("_id").and_then(Value::as_str) {
-        Some(id) => put_quoted(out, id),
-        None => Ok(out.extend_from_slice(b"null")?),
+    match state.write_edits(docs, new_edits) {
+        Ok(batch) => {
+            if batch.stopped {
+                Err(AllocError)
+            } else {
+                Ok(batch.replies)
+            }
+        }
+        Err(_) => Err(AllocError),
     }
 }
 
-/// The members that say why an element was refused, and the brace that closes them.
-#[tactic(auto, unfolding(crate::specs::Bulk::reason_members))]
-fn reason_members(alloc: Global, refusal: Refusal) -> Result<String, AllocError>
-    ensures { IfOk result (λ s. string_bytes s ≡ reason_members refusal) }
+// Stores the batch that a value is.
+fn store_batch(alloc: Global, state: &mut DbState, request: &Value) -> Result<Vec<u8>, Refusal>
+    ensures { Stores (batch_of (view request.now)) state.old result state.new }
 {
-    let error = refusal.error();
-    let reason = refusal.reason();
-    format!(in alloc; ",\"error\":\"{error}\",\"reason\":\"{reason}\"}}")
+    let (docs, new_edits) = match batch_of(request) {
+        Ok(batch) => batch,
+        Err(refusal) => return Err(refusal),
+    };
+    let readings = read_elements(alloc, docs.as_slice(), new_edits)?;
+    let outcomes = store_docs(state, readings.docs, new_edits)?;
+    let replies = replies_of(
+        alloc,
+        new_edits,
+        readings.faults.as_slice(),
+        outcomes.as_slice(),
+    )?;
+    Ok(batch_body(alloc, docs.as_slice(), replies.as_slice())?)
 }
 
-/// Appends an element that was refused.
-#[tactic(auto, unfolding(crate::specs::Bulk::refused_row))]
-fn put_refused(
-    alloc: Global,
-    out: &mut Vec<u8>,
-    element: &Value,
-    refusal: Refusal,
-) -> Result<(), AllocError>
-    ensures { OnOk result (out.new.items ≡ out.old.items ++ refused_row (id_in (view element.now)) refusal) }
+/// Stores the batch of documents that a body is. It costs the body's length, and what
+/// `DbState::write_edits` does.
+pub(crate) fn store(alloc: Global, state: &mut DbState, body: &[u8]) -> Result<Vec<u8>, Refusal>
+    ensures { Stores (batch_in body.now) state.old result state.new }
 {
-    let members = reason_members(alloc, refusal)?;
-    out.extend_from_slice(b"{\"id\":")?;
-    put_id(out, element)?;
-    Ok(out.extend_from_slice(members.as_bytes())?)
-}
-
-/// Appends an element of the list of those that were refused, behind a comma where it is a later one.
-fn put_element(
-    alloc: Global,
-    out: &mut Vec<u8>,
-    later: bool,
-    element: &Value,
-    refusal: Refusal,
-) -> Result<(), AllocError>
-    ensures { OnOk result (out.new.items ≡ out.old.items ++ (comma_if later ++ refused_row (id_in (view element.now)) refusal)) }
-{
-    if later {
-        out.push(b',')?;
+    match read_value(alloc, body) {
+        Ok(request) => store_batch(alloc, state, &request),
+        Err(fault) => Err(Refusal::from(fault)),
     }
-    put_refused(alloc, out, element, refusal)
-}
-
-/// The elements that were refused, as the answer to a batch lists them.
-#[tactic(auto, using(crate::proofs::ListLemmas::listed_all))]
-pub fn refused_list(
-    alloc: Global,
-    elements: &[Value],
-    refusals: &[Option<Refusal>],
-) -> Result<Vec<u8>, AllocError>
-    ensures { IfOk result (λ t. t.items ≡ refused_list (items_view elements.now) refusals.now) }
-{
-    let mut text = Vec::new(alloc);
-    text.push(b'[')?;
-    let mut later = false;
-    let mut left = refusals;
-    for element in elements {
-        let [first, rest @ ..] = left else {
-            continue;
-        };
-        left = rest;
-        let Some(refusal) = first else {
-            continue;
-        };
-        put_element(alloc, &mut text, later, element, *refusal)?;
-        later = true;
-    }
-    text.extend_from_slice(b"]\n")?;
-    Ok(text)
-}
-
-/// The answer to a batch: the elements that were refused, by their own faults or by the outcomes of
-/// storing the others.
-pub fn batch_body(
-    alloc: Global,
-    elements: &[Value],
-    faults: &[Option<DocFault>],
-    outcomes: &[Outcome<RevId>],
-) -> Result<Vec<u8>, AllocError>
-    ensures { IfOk result (λ t. t.items ≡ refused_list (items_view elements.now) (refusals_of faults.now outcomes.now)) }
-{
-    let refusals = refusals(alloc, faults, outcomes)?;
-    refused_list(alloc, elements, refusals.as_slice())
 }

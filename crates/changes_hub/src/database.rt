@@ -1,13 +1,19 @@
-//! A database by its name, and a feed of it.
+//! A database by its name, and its answers to calls.
 
-ghost use Rattle.std.specs.Prelude.{◌≡◌, ℕ, map, take, IfOk, OnErr};
-ghost use Rattle.hub_database.specs.Edits.{edits_in};
-ghost use Rattle.hub_model.specs.Outcome.{merges_all};
+ghost use Rattle.std.specs.Prelude.{◌≡◌};
+ghost use Rattle.changes_hub.specs.Calls.{calls, begins, says_info, says_commit};
+ghost use Rattle.changes_hub.specs.Came.{Begins, Reads, CameOut, with_status};
+ghost use Rattle.changes_hub.specs.Hub.{MayLeave, has_name};
 
-use hub_database::{DbState, Replies};
-use hub_document::{ChangeRow, Doc};
-use std::alloc::AllocError;
-use std::vec::IntoIter;
+use crate::call::Call;
+use crate::response::{Feed, Response};
+use crate::{bulk, diff, documents, locals};
+use http::StatusCode;
+use hub_database::DbState;
+use hub_http::Refusal;
+use hub_replies::{commit_body, info_body};
+use std::alloc::Global;
+use std::marker::Model;
 
 /// A database and its name.
 #[derive(Drop)]
@@ -16,49 +22,96 @@ pub(crate) struct Database {
     pub(crate) state: DbState,
 }
 
-impl Database {
-    ghost use Rattle.changes_hub.specs.Hub.{feed_of};
-    ghost use Rattle.changes_hub.specs.Views.{feed_in};
+impl Model for Database {
+    ghost use Rattle.std.specs.Prelude.{string_bytes};
+    ghost use Rattle.changes_hub.specs.Hub.{Named};
 
-    /// Stores documents one after the other. An error says that one of them found no memory: those
-    /// before it stand.
-    pub(crate) fn store(&mut self, docs: Vec<Doc>) -> Result<Replies, AllocError>
-        ensures ok { IfOk result (λ replies. merges_all self.old.state.limits.journal self.old.state.journal (edits_in docs.items)
-            ≡ record { outcomes = replies; journal = self.new.state.journal }) }
-        ensures err { OnErr result ((count : ℕ)
-            × (self.new.state.journal ≡ (merges_all self.old.state.limits.journal self.old.state.journal (take count (edits_in docs.items))).journal)) }
-        ensures name { self.new.name ≡ self.old.name }
-        ensures limits { self.new.state.limits ≡ self.old.state.limits }
-    {
-        match self.state.write_edits(docs, false) {
-            Ok(batch) => {
-                if batch.stopped {
-                    Err(AllocError)
-                } else {
-                    Ok(batch.replies)
-                }
-            }
-            Err(_) => Err(AllocError),
-        }
-    }
+    ghost Value = { Named };
 
-    /// A feed of what the database holds.
-    pub(crate) fn feed(&self) -> Result<Feed, AllocError>
-        ensures { IfOk result (λ f. feed_in f ≡ feed_of self.now.state.journal) }
-    {
-        let rows = self.state.rows()?;
-        Ok(Feed {
-            rows: rows.into_iter(),
-            last_seq: self.state.update_seq(),
-        })
+    ghost view = { λ a. record { name = string_bytes a.name; state = a.state } };
+}
+
+// What a database says of itself.
+fn info(alloc: Global, name: &str, state: &DbState) -> Result<Vec<u8>, Refusal>
+    ensures { Reads 200 (says_info name.now state.now) result }
+{
+    let info = state.info()?;
+    Ok(info_body(alloc, name, &info)?)
+}
+
+// The answer to a commit, which has nothing to do: every edit that was answered is stored.
+fn commit(alloc: Global) -> Result<Vec<u8>, Refusal>
+    ensures { Reads 201 says_commit result }
+{
+    Ok(Vec::from_slice(alloc, commit_body())?)
+}
+
+// Begins a feed.
+fn begin_feed(state: &DbState, query: &[u8]) -> Result<Response, Refusal>
+    ensures { Begins (begins state.now query.now) result }
+{
+    if query.is_empty() {
+        Ok(Response::Feed(Feed::of(state)?))
+    } else {
+        Err(Refusal::BadFlag)
     }
 }
 
-/// A feed that is being sent.
-#[derive(Drop)]
-pub(crate) struct Feed {
-    /// The rows that were not handed yet.
-    pub(crate) rows: IntoIter<ChangeRow>,
-    /// The sequence at the end.
-    pub(crate) last_seq: u64,
+// A body with this status, or a refusal.
+fn with_status(status: StatusCode, body: Result<Vec<u8>, Refusal>) -> Result<Response, Refusal>
+    ensures { result ≡ with_status status body }
+{
+    match body {
+        Ok(body) => Ok(Response::Body(status, body)),
+        Err(refusal) => Err(refusal),
+    }
+}
+
+impl Database {
+    /// Whether it has this name.
+    pub(crate) fn has_name(&self, name: &str) -> bool
+        ensures { result ≡ has_name name.now self.now }
+    {
+        self.name.as_str() == name
+    }
+
+    /// What it answers to a call with this body.
+    pub(crate) fn answer(
+        &mut self,
+        alloc: Global,
+        call: Call,
+        body: &[u8],
+    ) -> Result<Response, Refusal>
+        ensures came { CameOut (calls call self.old.name body.now self.old.state) (MayLeave call self.old.name body.now self.old.state) result self.new.state }
+        ensures name { self.new.name ≡ self.old.name }
+    {
+        let name = self.name.as_str();
+        let state = &mut self.state;
+        match call {
+            Call::Info => with_status(StatusCode::OK, info(alloc, name, state)),
+            Call::BulkDocs => with_status(StatusCode::CREATED, bulk::store(alloc, state, body)),
+            Call::Changes(query) => begin_feed(state, query.as_slice()),
+            Call::RevsDiff => with_status(StatusCode::OK, diff::revs_diff(alloc, state, body)),
+            Call::FullCommit => with_status(StatusCode::CREATED, commit(alloc)),
+            Call::GetDocument(id, query) => with_status(
+                StatusCode::OK,
+                documents::get(alloc, state, id.as_str(), query.as_slice()),
+            ),
+            Call::PutDocument(id, query) => with_status(
+                StatusCode::CREATED,
+                documents::put(alloc, state, id.as_str(), query.as_slice(), body),
+            ),
+            Call::DeleteDocument(id, query) => with_status(
+                StatusCode::OK,
+                documents::delete(alloc, state, id.as_str(), query.as_slice()),
+            ),
+            Call::GetLocal(id) => {
+                with_status(StatusCode::OK, locals::get(alloc, state, id.as_str()))
+            }
+            Call::PutLocal(id) => with_status(
+                StatusCode::CREATED,
+                locals::put(alloc, state, id.as_str(), body),
+            ),
+        }
+    }
 }

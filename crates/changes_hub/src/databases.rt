@@ -1,33 +1,28 @@
 //! The databases of a hub, and its answers to requests.
 
-ghost use Rattle.std.specs.Prelude.{◌≡◌, ◌⊎◌, IfOk, IfErr, OnOk, MatchResult, Some, List, All, [], position, slice_get, string_bytes, None, map, nat_le, length, OnErr, ℕ, take, ◌<◌, Ok, Result};
+ghost use Rattle.std.specs.Prelude.{◌≡◌, ◌<◌, ℕ, List, Result, None, IfOk, IfErr, OnOk, OnErr, [], length, nat_le, string_bytes};
 ghost use Rattle.std.specs.List.{list_any, position_from};
-ghost use Rattle.changes_hub.specs.Views.{database_of};
-ghost use Rattle.std.specs.Str.{bytes_eq};
-ghost use Rattle.hub_database.specs.Edits.{edits_in};
-ghost use Rattle.hub_model.specs.Outcome.{merges_all};
-ghost use Rattle.hub_http.specs.declared.refusal.Refusal.TheVariants.{NoMemory as no_memory};
-ghost use Rattle.changes_hub.specs.Hub.{HubAnswers, HubGives, Says, Step, Database as Named, has_name, refuses, at_name, creates, stores, opens, Body, with_database, StandsAt, HasFront, HasBatchFront, Leaves, stores_docs, IsStep, IsRefused, MayLeave, goes, edits_among};
-ghost use Rattle.hub_session.specs.declared.service.Answer.{Answer};
 ghost use Rattle.hub_http.specs.Stream.{asked_by};
 ghost use Rattle.hub_routes.specs.Routes.{GoesTo};
 ghost use Rattle.hub_routes.specs.declared.route.Route.{Route};
 ghost use Rattle.hub_routes.specs.declared.route.RouteFault.{RouteFault};
-ghost use Rattle.changes_hub.specs.Bulk.{docs_in};
+ghost use Rattle.changes_hub.specs.Calls.{Said, Refusing};
+ghost use Rattle.changes_hub.specs.Came.{Responds, Goes, IsSame, IsFound, CameAt};
+ghost use Rattle.changes_hub.specs.Hub.{HubAnswers, HubGives, MayLeaveBy, MayLeaveAt, MayLeaveTo, Says, has_name, says, greets, creates, calls_at, goes, goes_to, with_database, feed_after};
+ghost use Rattle.changes_hub.specs.declared.call.Call.{Call};
 ghost use Rattle.changes_hub.specs.Laws.{CompleteFeedIsWhole};
-ghost use Rattle.serde_json.specs.View.{view};
-ghost use Rattle.serde_json.specs.Data.{Items};
 
-use crate::bulk::{batch_body, elements_of, read_elements};
-use crate::database::{Database, Feed};
+use crate::call::{Call, Target, target_of};
+use crate::database::Database;
 use crate::name::is_name;
+use crate::response::{Feed, Response};
 use http::StatusCode;
-use hub_database::{DbState, Replies};
-use hub_document::{ChangeRow, Doc, Item, Limits, Mode, read_value};
+use hub_database::DbState;
+use hub_document::{ChangeRow, Item, Limits, Mode};
 use hub_http::{Refusal, Reply, Request};
-use hub_routes::{Route, Routes};
+use hub_replies::{ok_body, welcome_body};
+use hub_routes::Routes;
 use hub_session::{Answer, Service};
-use serde_json::Value;
 use std::alloc::{AllocError, Global};
 use std::marker::Model;
 
@@ -48,41 +43,21 @@ impl Model for Databases {
 
     ghost Value = { Hub };
 
-    ghost use Rattle.std.specs.Prelude.{map, option_map};
-    ghost use Rattle.changes_hub.specs.Views.{database_of, feed_in, AreLimited};
-
-    ghost view = { λ a. record { databases = map database_of a.list.items; feed = option_map feed_in a.feed; limits = a.limits } };
-
-    ghost invariant = { λ a. AreLimited a.limits a.list.items };
+    ghost view = { λ a. record { databases = a.list.items; feed = a.feed; limits = a.limits } };
 }
 
 /// Where the first database of this name stands. It costs a look at each name.
 fn position_of(list: &[Database], name: &str) -> Option<usize>
-    ensures { result ≡ position (λ d. bytes_eq (string_bytes d.name) name.now) list.now }
+    ensures { result ≡ position_from (has_name name.now) 0 list.now }
 {
-    list.iter().position(|d| d.name.as_str() == name)
-}
-
-/// The same, by what the databases show.
-fn place_of(list: &[Database], name: &str) -> Option<usize>
-    ensures { result ≡ position_from (has_name name.now) 0 (map database_of list.now) }
-{
-    position_of(list, name)
+    list.iter().position(|d| d.has_name(name))
 }
 
 /// Whether a database has this name. It costs a look at each name.
 fn is_taken(list: &[Database], name: &str) -> bool
-    ensures { result ≡ list_any (has_name name.now) (map database_of list.now) }
+    ensures { result ≡ list_any (has_name name.now) list.now }
 {
-    place_of(list, name).is_some()
-}
-
-/// An answer with this status and body.
-fn done(alloc: Global, status: StatusCode, body: &[u8]) -> Result<Answer, AllocError>
-    ensures { IfOk result (λ a. Says a (Body status body.now)) }
-{
-    let body = Vec::from_slice(alloc, body)?;
-    Ok(Answer::Whole(Reply::Done { status, body }))
+    list.iter().any(|d| d.has_name(name))
 }
 
 impl Databases {
@@ -98,22 +73,6 @@ impl Databases {
             list: Vec::new(alloc),
             feed: None,
         })
-    }
-
-    /// Where the database of this name stands, or why there is none.
-    fn find(&self, name: &str) -> Result<usize, Refusal>
-        ensures ok { IfOk result (λ at. (d : Named) × StandsAt self.now name.now at d
-            × ((next : Named → Step) → at_name self.now name.now next ≡ next d)) }
-        ensures within { IfOk result (λ at. at < length self.now.databases) }
-        ensures err { IfErr result (λ e. (next : Named → Step) → at_name self.now name.now next ≡ refuses self.now e) }
-    {
-        if !is_name(name) {
-            return Err(Refusal::BadName);
-        }
-        match place_of(self.list.as_slice(), name) {
-            Some(at) => Ok(at),
-            None => Err(Refusal::Absent),
-        }
     }
 
     /// Whether there are as many databases as there may be.
@@ -135,8 +94,7 @@ impl Databases {
 
     /// Makes a database.
     fn create(&mut self, name: String) -> Result<Answer, Refusal>
-        ensures ok { IfOk result (λ a. IsStep a (creates self.old (string_bytes name)) self.new) }
-        ensures err { IfErr result (λ e. IsRefused e (creates self.old (string_bytes name)) self.old self.new) }
+        ensures { Goes (creates self.old (string_bytes name)) (IsSame self.old) result self.new }
     {
         if !is_name(name.as_str()) {
             return Err(Refusal::BadName);
@@ -147,100 +105,93 @@ impl Databases {
         if self.is_full() {
             return Err(Refusal::TooMany);
         }
-        let Ok(answer) = done(self.alloc, StatusCode::CREATED, b"{\"ok\":true}\n") else {
-            return Err(Refusal::NoMemory);
-        };
-        match self.add(name) {
-            Ok(()) => Ok(answer),
-            Err(_) => Err(Refusal::NoMemory),
+        let body = Vec::from_slice(self.alloc, ok_body())?;
+        self.add(name)?;
+        Ok(Answer::Whole(Reply::Done {
+            status: StatusCode::CREATED,
+            body,
+        }))
+    }
+
+    /// Greets.
+    fn greet(&self) -> Result<Answer, Refusal>
+        ensures { Goes (greets self.now) (IsSame self.now) result self.now }
+    {
+        let body = Vec::from_slice(self.alloc, welcome_body())?;
+        Ok(Answer::Whole(Reply::Done {
+            status: StatusCode::OK,
+            body,
+        }))
+    }
+
+    /// Where the database of this name stands, or why there is none.
+    fn find(&self, name: &str) -> Result<usize, Refusal>
+        ensures ok { IfOk result (λ at. IsFound self.now name.now at) }
+        ensures within { IfOk result (λ at. at < length self.now.databases) }
+        ensures err { IfErr result (λ e. (call : Call) (body : List ℕ) → calls_at self.now name.now call body ≡ says self.now (Refusing e)) }
+    {
+        if !is_name(name) {
+            return Err(Refusal::BadName);
+        }
+        match position_of(self.list.as_slice(), name) {
+            Some(at) => Ok(at),
+            None => Err(Refusal::Absent),
         }
     }
 
-    /// Begins a feed of the rows that are there, which are made at once.
-    fn open_feed(&mut self, name: &str, query: &[u8]) -> Result<Answer, Refusal>
-        ensures ok { IfOk result (λ a. IsStep a (opens self.old name.now query.now) self.new) }
-        ensures err { IfErr result (λ e. IsRefused e (opens self.old name.now query.now) self.old self.new) }
+    /// A call on the database at this place.
+    fn call_at(&mut self, at: usize, call: Call, body: &[u8]) -> Result<Response, Refusal>
+        requires { at < length self.old.databases }
+        ensures { CameAt call body.now self.old at result self.new }
     {
-        let at = self.find(name)?;
-        if !query.is_empty() {
-            return Err(Refusal::BadFlag);
-        }
-        match self.list[at].feed() {
-            Ok(feed) => {
+        self.list[at].answer(self.alloc, call, body)
+    }
+
+    /// The answer that a response is: a feed is kept until it was sent.
+    fn respond(&mut self, response: Response) -> Answer
+        ensures { (said : Said) → Responds response said → Says result said × (self.new ≡ record self.old { feed = feed_after self.old.feed said }) }
+    {
+        match response {
+            Response::Body(status, body) => Answer::Whole(Reply::Done { status, body }),
+            Response::Feed(feed) => {
                 self.feed = Some(feed);
-                Ok(Answer::Stream(Mode::Normal))
+                Answer::Stream(Mode::Normal)
             }
-            Err(_) => Err(Refusal::NoMemory),
         }
     }
 
-    /// Stores documents in the database at this place. An error says that one of them found no
-    /// memory: those before it stand.
-    fn store_at(&mut self, at: usize, docs: Vec<Doc>) -> Result<Replies, AllocError>
-        requires { at < length self.old.databases }
-        ensures ok { IfOk result (λ replies. (name : List ℕ) (d : Named) → StandsAt self.old name at d
-            → Leaves self.old name d (edits_in docs.items) replies self.new) }
-        ensures err { OnErr result ((name : List ℕ) (d : Named) → StandsAt self.old name at d
-            → HasFront self.old name d (edits_in docs.items) self.new) }
+    /// A call on the database of this name.
+    fn call(&mut self, name: &str, call: Call, body: &[u8]) -> Result<Answer, Refusal>
+        ensures { Goes (calls_at self.old name.now call body.now) (MayLeaveBy self.old name.now call body.now) result self.new }
     {
-        self.list[at].store(docs)
-    }
-
-    /// Stores the batch that a value is in the database at this place.
-    fn store_batch(&mut self, at: usize, request: &Value) -> Result<Answer, Refusal>
-        requires { at < length self.old.databases }
-        ensures ok { IfOk result (λ a. (name : List ℕ) (d : Named) → StandsAt self.old name at d
-            → IsStep a (stores_docs self.old name d (docs_in (view request.now))) self.new) }
-        ensures err { IfErr result (λ e. (name : List ℕ) (d : Named) → StandsAt self.old name at d
-            → IsRefused e (stores_docs self.old name d (docs_in (view request.now))) self.old self.new
-            ⊎ ((e ≡ Refusal.NoMemory) × (docs : Items) × (docs_in (view request.now) ≡ Ok docs) × HasFront self.old name d (edits_among docs) self.new)) }
-    {
-        let elements = elements_of(request)?;
-        let Ok(readings) = read_elements(self.alloc, elements.as_slice()) else {
-            return Err(Refusal::NoMemory);
+        let at = match self.find(name) {
+            Ok(at) => at,
+            Err(refusal) => return Err(refusal),
         };
-        let Ok(replies) = self.store_at(at, readings.docs) else {
-            return Err(Refusal::NoMemory);
-        };
-        match batch_body(
-            self.alloc,
-            elements.as_slice(),
-            readings.faults.as_slice(),
-            replies.as_slice(),
-        ) {
-            Ok(body) => Ok(Answer::Whole(Reply::Done {
-                status: StatusCode::CREATED,
-                body,
-            })),
-            Err(_) => Err(Refusal::NoMemory),
+        match self.call_at(at, call, body) {
+            Ok(response) => Ok(self.respond(response)),
+            Err(refusal) => Err(refusal),
         }
     }
 
-    /// Stores a batch of documents. It costs the body's length, and what `DbState::write_edits` does.
-    fn store(&mut self, name: &str, body: &[u8]) -> Result<Answer, Refusal>
-        ensures ok { IfOk result (λ a. IsStep a (stores self.old name.now body.now) self.new) }
-        ensures err { IfErr result (λ e. IsRefused e (stores self.old name.now body.now) self.old self.new
-            ⊎ ((e ≡ Refusal.NoMemory) × HasBatchFront self.old name.now body.now self.new)) }
+    /// The answer to a request that asks for this.
+    fn go(&mut self, target: Target, body: &[u8]) -> Result<Answer, Refusal>
+        ensures { Goes (goes_to self.old body.now target) (MayLeaveAt self.old body.now target) result self.new }
     {
-        let at = self.find(name)?;
-        match read_value(self.alloc, body) {
-            Ok(request) => self.store_batch(at, &request),
-            Err(fault) => Err(Refusal::from(fault)),
+        match target {
+            Target::Greeting => self.greet(),
+            Target::NewDatabase(name) => self.create(name),
+            Target::Database(name, call) => self.call(name.as_str(), call, body),
         }
     }
 
     /// The answer to a request.
     fn answered(&mut self, request: &Request) -> Result<Answer, Refusal>
-        ensures ok { IfOk result (λ a. (route : Result Route RouteFault) × GoesTo (asked_by request.now) route
-            × IsStep a (goes self.old request.now.body.items route) self.new) }
-        ensures err { IfErr result (λ e. (route : Result Route RouteFault) × GoesTo (asked_by request.now) route
-            × (IsRefused e (goes self.old request.now.body.items route) self.old self.new
-            ⊎ ((e ≡ Refusal.NoMemory) × MayLeave self.old request.now.body.items route self.new))) }
+        ensures { (route : Result Route RouteFault) × GoesTo (asked_by request.now) route
+            × Goes (goes self.old request.now.body.items route) (MayLeaveTo self.old request.now.body.items route) result self.new }
     {
         match self.routes.route(self.alloc, request) {
-            Ok(Route::PutDatabase { db }) => self.create(db),
-            Ok(Route::BulkDocs { db }) => self.store(db.as_str(), request.body.as_slice()),
-            Ok(Route::Changes { db, query }) => self.open_feed(db.as_str(), query.as_slice()),
+            Ok(route) => self.go(target_of(route), request.body.as_slice()),
             Err(fault) => Err(Refusal::from(fault)),
         }
     }

@@ -4,9 +4,14 @@
 ghost use Rattle.std.specs.Prelude.{◌≡◌, ◌↔◌, ◌⊎◌, IsTrue};
 
 mod bulk;
+mod call;
 mod database;
 mod databases;
+mod diff;
+mod documents;
+mod locals;
 mod name;
+mod response;
 mod stream;
 #[cfg(test)]
 mod tests;

@@ -5,6 +5,7 @@ ghost use Rattle.hub_http.specs.Refusals.{status_of, error_of, reason_of};
 use http::StatusCode;
 use hub_document::DocFault;
 use hub_model::Fault;
+use std::alloc::AllocError;
 
 /// Why a request was refused (CouchDB API reference, HTTP status codes).
 #[derive(Clone, Copy, Debug, PartialEq, Eq)]
@@ -180,6 +181,17 @@ impl Refusal {
             Refusal::DocDeleted => "deleted",
             Refusal::MethodNotAllowed => "method not allowed",
         }
+    }
+}
+
+impl From<AllocError> for Refusal {
+    ghost use Rattle.std.specs.Prelude.{◌≡◌};
+    ghost use Rattle.hub_http.specs.declared.refusal.Refusal.TheVariants.{NoMemory};
+
+    ghost from_gives = { λ _ r. r ≡ NoMemory };
+
+    fn from(_refused: AllocError) -> Refusal {
+        Refusal::NoMemory
     }
 }
 
