@@ -1,2 +1,4 @@
+pub mod PlaceLemmas
+pub mod CallLemmas
 pub mod FeedLemmas
 pub mod SessionLemmas

@@ -2,7 +2,7 @@
 use Rattle.std.specs.Prelude.{◌≡◌, ℕ, ◌^◌, List, [], ◌∷◌, length, map, take, Bool, true, false, if◌then◌else◌, nat_le, codes, string_bytes, Option, Some, None, Result, Ok, Err}
 use Rattle.hub_model.specs.Revision.{Revision}
 use Rattle.hub_model.specs.Journal.{Edit}
-use Rattle.hub_model.specs.Leaves.{Leaf, leaves_of}
+use Rattle.hub_model.specs.Leaves.{leaves_of}
 use Rattle.hub_model.specs.Current.{current}
 use Rattle.hub_model.specs.Row.{ChangeRow, row_of}
 use Rattle.hub_model.specs.Draft.{makes}
@@ -29,6 +29,8 @@ use Rattle.hub_database.specs.Reads.{info_of, lookup, open_revs}
 use Rattle.hub_database.specs.declared.answers.Lookup.{Lookup}
 use Rattle.hub_database.specs.declared.answers.Lookup.TheVariants.{Unknown, Deleted, Found}
 use Rattle.hub_database.specs.declared.answers.OpenRev.{OpenRev}
+use Rattle.hub_revtree.specs.Winner.{winner_of}
+use Rattle.hub_revtree.specs.declared.leaf.Winner.{Winner}
 use Rattle.hub_http.specs.Refusals.{of_doc_fault, of_fault}
 use Rattle.hub_http.specs.declared.refusal.Refusal.{Refusal}
 use Rattle.hub_http.specs.declared.refusal.Refusal.TheVariants.{NotJson, BadRev, Conflict, SequenceFull, Missing, DocDeleted, BadFlag}
@@ -119,25 +121,29 @@ puts_doc db (Ok doc) = edits 201 db doc
 abbrev pub deletion : List ℕ → Revision → Doc
 deletion id rev = record { id = id; rev = Some rev; path = None; deleted = true; body = codes "{}" }
 
--- deleting a leaf of a document that has these leaves, if it can be one at all
-abbrev pub deletes_leaf : Database → Option (List ℕ) → Revision → List Leaf → Step
-deletes_leaf db None rev leaves = reads db (Refusing Missing)
-deletes_leaf db (Some id) rev [] = reads db (Refusing Missing)
-deletes_leaf db (Some id) rev (winner ∷ others) = edits 200 db (deletion id rev)
+-- the winner of a document, if there is one
+abbrev pub winner_in : Database → List ℕ → Option Winner
+winner_in db id = winner_of (leaves_of db.journal id)
 
--- deleting a document that has these leaves, where no leaf is named
-abbrev pub says_unnamed : List Leaf → Said
-says_unnamed [] = Refusing Missing
-says_unnamed (winner ∷ others) = Refusing (if winner.edit.deleted then DocDeleted else Conflict)
+-- deleting a leaf of a document that has this winner, if it can be one at all
+abbrev pub deletes_leaf : Database → Option (List ℕ) → Revision → Option Winner → Step
+deletes_leaf db None rev winner = reads db (Refusing Missing)
+deletes_leaf db (Some id) rev None = reads db (Refusing Missing)
+deletes_leaf db (Some id) rev (Some winner) = edits 200 db (deletion id rev)
+
+-- deleting a document that has this winner, where no leaf is named
+abbrev pub refuses_unnamed : Option Winner → Refusal
+refuses_unnamed None = Missing
+refuses_unnamed (Some winner) = if winner.deleted then DocDeleted else Conflict
 
 -- deleting the leaf that a text names
 abbrev pub deletes_named : Database → List ℕ → Option Revision → Step
 deletes_named db id None = reads db (Refusing BadRev)
-deletes_named db id (Some rev) = deletes_leaf db (short_id id) rev (leaves_of db.journal id)
+deletes_named db id (Some rev) = deletes_leaf db (short_id id) rev (winner_in db id)
 
 -- deleting a document
 abbrev pub deletes_doc : Database → List ℕ → Option (List ℕ) → Step
-deletes_doc db id None = reads db (says_unnamed (leaves_of db.journal id))
+deletes_doc db id None = reads db (Refusing (refuses_unnamed (winner_in db id)))
 deletes_doc db id (Some rev) = deletes_named db id (revision_of rev)
 
 -- ---- local documents

@@ -3,6 +3,7 @@
 ghost use Rattle.std.specs.Prelude.{◌≡◌, Ok, Err, IfOk, IfErr, OnErr, codes};
 ghost use Rattle.serde_json.specs.Find.{get};
 ghost use Rattle.serde_json.specs.View.{view, items_view};
+ghost use Rattle.hub_replies.specs.Bulk.{batch_body};
 ghost use Rattle.changes_hub.specs.Bulk.{batch_of, batch_in, flag_of, readings, read_docs, faults_of, reply_to, replies_of};
 ghost use Rattle.changes_hub.specs.Came.{HasStored, HasStoredFront, Stores};
 
@@ -128,6 +129,20 @@ fn store_docs(state: &mut DbState, docs: Vec<Doc>, new_edits: bool) -> Result<Re
     }
 }
 
+// The answer to a batch.
+fn reply(
+    alloc: Global,
+    elements: &[Value],
+    new_edits: bool,
+    faults: &[Option<DocFault>],
+    outcomes: &[Outcome<RevId>],
+) -> Result<Vec<u8>, AllocError>
+    ensures { IfOk result (λ t. t.items ≡ batch_body (items_view elements.now) (replies_of new_edits faults.now outcomes.now)) }
+{
+    let replies = replies_of(alloc, new_edits, faults, outcomes)?;
+    batch_body(alloc, elements, replies.as_slice())
+}
+
 // Stores the batch that a value is.
 fn store_batch(alloc: Global, state: &mut DbState, request: &Value) -> Result<Vec<u8>, Refusal>
     ensures { Stores (batch_of (view request.now)) state.old result state.new }
@@ -136,15 +151,18 @@ fn store_batch(alloc: Global, state: &mut DbState, request: &Value) -> Result<Ve
         Ok(batch) => batch,
         Err(refusal) => return Err(refusal),
     };
-    let readings = read_elements(alloc, docs.as_slice(), new_edits)?;
-    let outcomes = store_docs(state, readings.docs, new_edits)?;
-    let replies = replies_of(
+    let Readings { docs: read, faults } = read_elements(alloc, docs.as_slice(), new_edits)?;
+    let outcomes = store_docs(state, read, new_edits)?;
+    match reply(
         alloc,
+        docs.as_slice(),
         new_edits,
-        readings.faults.as_slice(),
+        faults.as_slice(),
         outcomes.as_slice(),
-    )?;
-    Ok(batch_body(alloc, docs.as_slice(), replies.as_slice())?)
+    ) {
+        Ok(body) => Ok(body),
+        Err(_) => Err(Refusal::NoMemory),
+    }
 }
 
 /// Stores the batch of documents that a body is. It costs the body's length, and what

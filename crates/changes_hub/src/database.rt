@@ -67,6 +67,42 @@ fn with_status(status: StatusCode, body: Result<Vec<u8>, Refusal>) -> Result<Res
     }
 }
 
+/// What a database answers to a call with this body.
+fn answer(
+    alloc: Global,
+    name: &str,
+    state: &mut DbState,
+    call: Call,
+    body: &[u8],
+) -> Result<Response, Refusal>
+    ensures { CameOut (calls call name.now body.now state.old) (MayLeave call name.now body.now state.old) result state.new }
+{
+    match call {
+        Call::Info => with_status(StatusCode::OK, info(alloc, name, state)),
+        Call::BulkDocs => with_status(StatusCode::CREATED, bulk::store(alloc, state, body)),
+        Call::Changes(query) => begin_feed(state, query.as_slice()),
+        Call::RevsDiff => with_status(StatusCode::OK, diff::revs_diff(alloc, state, body)),
+        Call::FullCommit => with_status(StatusCode::CREATED, commit(alloc)),
+        Call::GetDocument(id, query) => with_status(
+            StatusCode::OK,
+            documents::get(alloc, state, id.as_str(), query.as_slice()),
+        ),
+        Call::PutDocument(id, query) => with_status(
+            StatusCode::CREATED,
+            documents::put(alloc, state, id.as_str(), query.as_slice(), body),
+        ),
+        Call::DeleteDocument(id, query) => with_status(
+            StatusCode::OK,
+            documents::delete(alloc, state, id.as_str(), query.as_slice()),
+        ),
+        Call::GetLocal(id) => with_status(StatusCode::OK, locals::get(alloc, state, id.as_str())),
+        Call::PutLocal(id) => with_status(
+            StatusCode::CREATED,
+            locals::put(alloc, state, id.as_str(), body),
+        ),
+    }
+}
+
 impl Database {
     /// Whether it has this name.
     pub(crate) fn has_name(&self, name: &str) -> bool
@@ -85,33 +121,6 @@ impl Database {
         ensures came { CameOut (calls call self.old.name body.now self.old.state) (MayLeave call self.old.name body.now self.old.state) result self.new.state }
         ensures name { self.new.name ≡ self.old.name }
     {
-        let name = self.name.as_str();
-        let state = &mut self.state;
-        match call {
-            Call::Info => with_status(StatusCode::OK, info(alloc, name, state)),
-            Call::BulkDocs => with_status(StatusCode::CREATED, bulk::store(alloc, state, body)),
-            Call::Changes(query) => begin_feed(state, query.as_slice()),
-            Call::RevsDiff => with_status(StatusCode::OK, diff::revs_diff(alloc, state, body)),
-            Call::FullCommit => with_status(StatusCode::CREATED, commit(alloc)),
-            Call::GetDocument(id, query) => with_status(
-                StatusCode::OK,
-                documents::get(alloc, state, id.as_str(), query.as_slice()),
-            ),
-            Call::PutDocument(id, query) => with_status(
-                StatusCode::CREATED,
-                documents::put(alloc, state, id.as_str(), query.as_slice(), body),
-            ),
-            Call::DeleteDocument(id, query) => with_status(
-                StatusCode::OK,
-                documents::delete(alloc, state, id.as_str(), query.as_slice()),
-            ),
-            Call::GetLocal(id) => {
-                with_status(StatusCode::OK, locals::get(alloc, state, id.as_str()))
-            }
-            Call::PutLocal(id) => with_status(
-                StatusCode::CREATED,
-                locals::put(alloc, state, id.as_str(), body),
-            ),
-        }
+        answer(alloc, self.name.as_str(), &mut self.state, call, body)
     }
 }

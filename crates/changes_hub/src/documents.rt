@@ -1,12 +1,10 @@
 //! Documents by their ids (CouchDB API reference, `/{db}/{docid}`).
 
-ghost use Rattle.std.specs.Prelude.{◌≡◌, List};
-ghost use Rattle.hub_model.specs.Leaves.{Leaf, leaves_of};
-ghost use Rattle.hub_revtree.specs.Winner.{winner_of};
+ghost use Rattle.std.specs.Prelude.{◌≡◌};
 ghost use Rattle.hub_document.specs.Ids.{short_id};
 ghost use Rattle.hub_document.specs.Put.{put_in};
 ghost use Rattle.hub_params.specs.DocParams.{doc_asked};
-ghost use Rattle.changes_hub.specs.Calls.{says_found, says_revs, gets_revs, gets_doc, edits, puts_doc, deletes_leaf, deletes_named, deletes_doc, says_unnamed, Refusing};
+ghost use Rattle.changes_hub.specs.Calls.{says_found, says_revs, gets_revs, gets_doc, edits, puts_doc, deletes_leaf, deletes_doc, refuses_unnamed, winner_in};
 ghost use Rattle.changes_hub.specs.Came.{Reads, Writes};
 
 use hub_database::{DbFault, DbState, Lookup, OpenRev};
@@ -113,27 +111,33 @@ pub(crate) fn put(
     }
 }
 
-// Refuses to delete a document of which no leaf is named.
+// Why a document of which no leaf is named is not deleted.
 fn refuse_unnamed(winner: Option<Winner>) -> Refusal
-    ensures { (leaves : List Leaf) → winner ≡ winner_of leaves → says_unnamed leaves ≡ Refusing result }
+    ensures { result ≡ refuses_unnamed winner }
 {
     match winner {
         None => Refusal::Missing,
-        Some(winner) if winner.deleted => Refusal::DocDeleted,
-        Some(_) => Refusal::Conflict,
+        Some(winner) => {
+            if winner.deleted {
+                Refusal::DocDeleted
+            } else {
+                Refusal::Conflict
+            }
+        }
     }
 }
 
 // Deletes the leaf of this revision.
 fn delete_leaf(alloc: Global, state: &mut DbState, id: &str, rev: RevId) -> Result<Vec<u8>, Refusal>
-    ensures { Writes 200 state.old (deletes_leaf state.old (short_id id.now) rev (leaves_of state.old.journal id.now)) result state.new }
+    ensures { Writes 200 state.old (deletes_leaf state.old (short_id id.now) rev (winner_in state.old id.now)) result state.new }
 {
+    let winner = state.winner(id)?;
     let Some(id) = DocId::read(alloc, id)? else {
         return Err(Refusal::Missing);
     };
-    if state.winner(id.as_str())?.is_none() {
+    let Some(_) = winner else {
         return Err(Refusal::Missing);
-    }
+    };
     let body = Body::empty(alloc)?;
     let doc = Doc {
         id,

@@ -1,0 +1,100 @@
+-- What becomes of a call on a database, and of the hub then.
+use Rattle.std.proofs.Common.{◌≡◌, ℕ, List, length, take, Option, Some, refl, sym, ap, ◌∙◌, subst, set, slice_get, get_or, arith, ◌⊎◌, inl, inr}
+use Rattle.std.specs.Prelude.{find, Vec, Result, Ok, Err}
+use Rattle.std.specs.declared.alloc.Global.{Global}
+use Rattle.std.proofs.lemmas.List.{take_all}
+use Rattle.hub_model.specs.Revision.{Revision}
+use Rattle.hub_model.specs.Outcome.{StoresAll}
+use Rattle.hub_model.specs.declared.outcomes.Outcome.{Outcome}
+use Rattle.hub_document.specs.declared.doc.Doc.{Doc}
+use Rattle.hub_document.specs.declared.limits.Limits.{Limits}
+use Rattle.hub_database.specs.Database.{Database}
+use Rattle.hub_database.specs.Edits.{writes}
+use Rattle.hub_http.specs.declared.refusal.Refusal.{Refusal}
+use Rattle.hub_session.specs.declared.service.Answer.{Answer}
+use Rattle.changes_hub.specs.Bulk.{Batch, batch_in, readings, read_docs}
+use Rattle.changes_hub.specs.Calls as call
+use Rattle.changes_hub.specs.Calls.{Feed, Said, Body, Refusing, Step, HasFront, reads, stores, calls}
+use Rattle.changes_hub.specs.Came.{Responds, Reads, Writes, Stores, Begins, CameOut, CameAt, Goes, IsFound, HasStored, with_status}
+use Rattle.changes_hub.specs.Hub.{Hub, Named, StandsAt, MayLeave, MayLeaveBy, Says, after_call, feed_after, stored_at, with_state, calls_at, calls_on}
+use Rattle.changes_hub.specs.declared.call.Call.{Call}
+use Rattle.changes_hub.specs.declared.call.Call.TheVariants.{BulkDocs}
+use Rattle.changes_hub.specs.declared.response.Response.{Response}
+use Rattle.changes_hub.specs.declared.response.Response.TheVariants as response
+use Rattle.changes_hub.proofs.PlaceLemmas.{changed_at, stands}
+
+-- a body as a response
+responds : (status : ℕ) (body : Vec ℕ Global) (said : Said) → said ≡ Body status body.items → Responds (response.Body status body) said
+responds status body said e = subst (λ s. Responds (response.Body status body) s) (sym e) (refl, refl)
+
+pub reads_came : (status : ℕ) (said : Said) (r : Result (Vec ℕ Global) Refusal) (db : Database) (may : Database → Type 0) → may db → Reads status said r → CameOut (reads db said) may (with_status status r) db
+reads_came status said (Ok body) db may m h = (responds status body said h, refl)
+reads_came status said (Err e) db may m (inl none) = inr (none, m)
+reads_came status said (Err e) db may m (inr h) = inl (h, refl)
+
+pub begins_came : (said : Said) (r : Result Response Refusal) (db : Database) (may : Database → Type 0) → may db → Begins said r → CameOut (reads db said) may r db
+begins_came said (Ok r) db may m h = (h, refl)
+begins_came said (Err e) db may m (inl none) = inr (none, m)
+begins_came said (Err e) db may m (inr h) = inl (h, refl)
+
+pub writes_came : (status : ℕ) (old : Database) (step : Step) (r : Result (Vec ℕ Global) Refusal) (new : Database) (may : Database → Type 0) → may old → may step.state → Writes status old step r new → CameOut step may (with_status status r) new
+writes_came status old step (Ok body) new may m n h = (responds status body step.said h.0, h.1)
+writes_came status old step (Err e) new may m n (inl h) = inl h
+writes_came status old step (Err e) new may m n (inr (none, inl same)) = inr (none, subst may (sym same) m)
+writes_came status old step (Err e) new may m n (inr (none, inr done)) = inr (none, subst may (sym done) n)
+
+pub stores_came : (old : Database) (name body : List ℕ) (r : Result (Vec ℕ Global) Refusal) (new : Database) → Stores (batch_in body) old r new
+    → CameOut (stores old (batch_in body)) (MayLeave BulkDocs name body old) (with_status 201 r) new
+stores_came old name body (Ok text) new h = (responds 201 text (stores old (batch_in body)).said h.0, h.1)
+stores_came old name body (Err e) new (inl h) = inl h
+stores_came old name body (Err e) new (inr h) = inr h
+
+-- a batch that was stored whole is a front of it
+pub whole_front : (b : Batch) (old new : Database) (docs : List Doc) (outcomes : List (Outcome Revision)) → docs ≡ read_docs (readings b.new_edits b.docs) → HasStored b.new_edits old docs outcomes new → HasFront old b new
+whole_front b old new docs outcomes same s =
+    let all : docs ≡ take (length docs) (read_docs (readings b.new_edits b.docs)) = sym (take_all (length docs) docs (omega arith)) ∙ ap (take (length docs)) same in
+    let journal = ap (λ (z : StoresAll). z.journal) (sym s.stored) ∙ ap (λ ds. (writes b.new_edits old.limits.journal old.journal ds).journal) all in
+    record { count = length docs; front = s.rest ∙ ap (λ J. record old { journal = J }) journal }
+
+-- ---- the hub
+
+-- the database that stood at a place was x, and is y now
+pub put_back : (h : Hub) (list : List Named) (feed : Option Feed) (limits : Limits) (at : ℕ) (x y d : Named) → record { databases = list; feed = feed; limits = limits } ≡ h → slice_get h.databases at ≡ Some d → x ≡ get_or list at x → y.name ≡ x.name
+    → (d ≡ x) × (record { databases = set list at y; feed = feed; limits = limits } ≡ record h { databases = set h.databases at (record d { state = y.state }) })
+put_back h list feed limits at x y d view there is name =
+    let there' : slice_get list at ≡ Some d = ap (λ (k : Hub). slice_get k.databases at) view ∙ there in
+    let same : d ≡ x = stands list at x d there' is in
+    let new : y ≡ record d { state = y.state } = ap (λ n. record { name = n; state = y.state }) (name ∙ ap (λ (z : Named). z.name) (sym same)) in
+    let changed = ap (λ z. record { databases = set list at z; feed = feed; limits = limits }) new in
+    (same, changed ∙ ap (λ (k : Hub). record k { databases = set k.databases at (record d { state = y.state }) }) view)
+
+module _ (h : Hub) (name : List ℕ) (c : Call) (body : List ℕ) (at : ℕ) (found : IsFound h name at) where
+  abbrev d : Named
+  d = found.0
+
+  abbrev step : Step
+  step = calls c d.name body d.state
+
+  mid_is : (new : Database) (mid : Hub) → mid ≡ record h { databases = set h.databases at (record d { state = new }) } → mid ≡ stored_at h name new
+  mid_is new mid e = e ∙ ap (λ ds. record h { databases = ds }) (changed_at h name at d new found.1)
+
+  pub call_ok : (response : Response) (answer : Answer) (mid final : Hub) → CameAt c body h at (Ok response) mid
+      → ((said : Said) → Responds response said → Says answer said × (final ≡ record mid { feed = feed_after mid.feed said }))
+      → Goes (calls_at h name c body) (MayLeaveBy h name c body) (Ok answer) final
+  call_ok response answer mid final came respond =
+      let (new, (says, state), changed) = came d found.1.there in
+      let (said, last) = respond step.said says in
+      let hub : mid ≡ stored_at h name step.state = mid_is new mid changed ∙ ap (stored_at h name) state in
+      let whole : final ≡ after_call h name step.said step.state = last ∙ ap (λ (k : Hub). record k { feed = feed_after k.feed step.said }) hub in
+      rw (found.3 c body) (said, whole)
+
+  pub call_err : (e : Refusal) (mid : Hub) → CameAt c body h at (Err e) mid → Goes (calls_at h name c body) (MayLeaveBy h name c body) (Err e) mid
+  call_err e mid came = from (came d found.1.there)
+    where
+      from : ((new : Database) × CameOut step (MayLeave c d.name body d.state) (Err e) new × (mid ≡ record h { databases = set h.databases at (record d { state = new }) }))
+          → Goes (calls_at h name c body) (MayLeaveBy h name c body) (Err e) mid
+      from (new, inl (said, state), changed) =
+          let hub : mid ≡ stored_at h name step.state = mid_is new mid changed ∙ ap (stored_at h name) state in
+          let whole : mid ≡ after_call h name step.said step.state = hub ∙ ap (λ s. after_call h name s step.state) (sym said) in
+          rw (found.3 c body) (inl (said, whole))
+      from (new, inr (none, may), changed) = inr (none, inr (d, new, found.2, may, mid_is new mid changed))
