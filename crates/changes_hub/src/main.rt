@@ -8,6 +8,8 @@ mod call;
 mod database;
 mod databases;
 mod diff;
+#[cfg(test)]
+mod document_tests;
 mod documents;
 mod locals;
 mod name;

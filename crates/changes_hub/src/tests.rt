@@ -8,20 +8,24 @@ use std::alloc::{AllocError, Global};
 use std::test::Fail;
 
 /// What the hub writes for these bytes, and why it closes.
-fn answered(alloc: Global, input: &[u8], limits: Limits) -> Result<(Vec<u8>, Closing), AllocError> {
+pub(crate) fn answered(
+    alloc: Global,
+    input: &[u8],
+    limits: Limits,
+) -> Result<(Vec<u8>, Closing), AllocError> {
     let mut writer = Tally::new(Vec::new(alloc));
     let closing = answer_stream(alloc, Tally::new(input), &mut writer, limits)?;
     Ok((writer.into_inner(), closing))
 }
 
 /// A request with a body.
-fn request(alloc: Global, line: &str, body: &str) -> Result<String, AllocError> {
+pub(crate) fn request(alloc: Global, line: &str, body: &str) -> Result<String, AllocError> {
     let len = body.len();
     format!(in alloc; "{line} HTTP/1.1\r\nHost: h\r\nContent-Length: {len}\r\n\r\n{body}")
 }
 
 /// A whole answer.
-fn whole(alloc: Global, status: &str, body: &str) -> Result<String, AllocError> {
+pub(crate) fn whole(alloc: Global, status: &str, body: &str) -> Result<String, AllocError> {
     let len = body.len() as u64 + 1;
     format!(in alloc;
         "HTTP/1.1 {status}\r\nContent-Type: application/json\r\nContent-Length: {len}\r\n\r\n{body}\n"
@@ -180,9 +184,15 @@ fn refusals(rt: HostRuntime) -> Result<(), Fail> {
             "method_not_allowed",
             "method not allowed",
         ),
-        ("GET /d", "", "404 Not Found", "not_found", "missing"),
+        ("DELETE /d", "", "404 Not Found", "not_found", "missing"),
         ("GET /d/a", "", "404 Not Found", "not_found", "missing"),
-        ("GET /", "", "404 Not Found", "not_found", "missing"),
+        (
+            "POST /d/_changes",
+            "",
+            "404 Not Found",
+            "not_found",
+            "missing",
+        ),
         (
             "GET /e/_changes",
             "",
@@ -246,20 +256,6 @@ fn refusals(rt: HostRuntime) -> Result<(), Fail> {
             "bad_request",
             "not an object",
         ),
-        (
-            "POST /d/_bulk_docs",
-            "{\"docs\":[]}",
-            "400 Bad Request",
-            "bad_request",
-            "bad member",
-        ),
-        (
-            "POST /d/_bulk_docs",
-            "{\"docs\":[],\"new_edits\":true}",
-            "400 Bad Request",
-            "bad_request",
-            "bad member",
-        ),
     ];
     for (line, body, status, error, reason) in table {
         let refusal = refused(alloc, status, error, reason)?;
@@ -299,7 +295,7 @@ fn names(rt: HostRuntime) -> Result<(), Fail> {
     let alloc = rt.alloc();
     let (output, _) = answered(
         alloc,
-        b"PUT /a%2Fb HTTP/1.1\r\n\r\nPUT /a%2fb/ HTTP/1.1\r\n\r\nPUT /a/b HTTP/1.1\r\n\r\nHEAD /a%2Fb HTTP/1.1\r\n\r\n",
+        b"PUT /a%2Fb HTTP/1.1\r\n\r\nPUT /a%2fb/ HTTP/1.1\r\n\r\nPUT /a/b HTTP/1.1\r\n\r\nHEAD /a%2Fb HTTP/1.1\r\n\r\nGET /a%2fb/ HTTP/1.1\r\n\r\n",
         Limits::full(),
     )?;
     let exists = refused(
@@ -308,10 +304,19 @@ fn names(rt: HostRuntime) -> Result<(), Fail> {
         "file_exists",
         "The database could not be created, the file already exists.",
     )?;
-    let missing = refused(alloc, "404 Not Found", "not_found", "missing")?;
-    let head =
-        "HTTP/1.1 404 Not Found\r\nContent-Type: application/json\r\nContent-Length: 41\r\n\r\n";
-    let expected = format!(in alloc; "{MADE}{exists}{missing}{head}")?;
+    let bad = refused(
+        alloc,
+        "404 Not Found",
+        "not_found",
+        "Database does not exist.",
+    )?;
+    let head = "HTTP/1.1 200 OK\r\nContent-Type: application/json\r\nContent-Length: 91\r\n\r\n";
+    let info = whole(
+        alloc,
+        "200 OK",
+        "{\"db_name\":\"a/b\",\"doc_count\":0,\"doc_del_count\":0,\"update_seq\":0,\"instance_start_time\":\"0\"}",
+    )?;
+    let expected = format!(in alloc; "{MADE}{exists}{bad}{head}{info}")?;
     assert_eq!(rt; output.as_slice(), expected.as_bytes());
     Ok(())
 }
