@@ -41,7 +41,7 @@ pub record AsksFor (a : Asked) (access : Access) (db id : List ℕ) : Type 0 whe
   pub document : id ≡ document_of a
   pub taken : takes access (document_of a) ≡ true
 
--- what reading an id, in a database of this name, gives
+-- the route to one document, by what is asked of it
 unfoldable pub route_to : Access → String Global → String Global → Vec ℕ Global → Route
 route_to access.GetDocument db id query = GetDocument db id query
 route_to access.PutDocument db id query = PutDocument db id query
