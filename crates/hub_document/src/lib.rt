@@ -1,6 +1,9 @@
 //! Documents and their revisions, as JSON texts bring them (CouchDB API reference, documents).
 #![tactic(auto)]
 
+mod asked;
+#[cfg(test)]
+mod asked_tests;
 mod body;
 mod change_row;
 mod doc;
@@ -20,6 +23,7 @@ mod revisions;
 mod tests;
 mod write;
 
+pub use asked::Asked;
 pub use body::Body;
 pub use change_row::ChangeRow;
 pub use doc::{Doc, DocFault};
@@ -28,7 +32,7 @@ pub use hub_model::{Item, Mode};
 pub use limits::Limits;
 pub use local_doc::{LocalDoc, LocalId, write_local};
 pub use made::rev_of_edit;
-pub use open_revs::{Asked, OpenRevs};
+pub use open_revs::OpenRevs;
 pub use path::Path;
 pub use read::read_value;
 pub use revision::{RevId, revision_texts};
