@@ -2,3 +2,11 @@ mod PathLemmas
 mod PlaceLemmas
 mod RevisionLemmas
 mod TextLemmas
+mod RoundTripValues
+mod RoundTripMembers
+mod RoundTripTexts
+mod RoundTripHistories
+mod RoundTripLemmas
+mod RoundTripUtf8
+mod RoundTripReads
+mod RoundTripDocs

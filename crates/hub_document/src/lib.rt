@@ -19,6 +19,7 @@ mod path;
 mod read;
 mod revision;
 mod revisions;
+mod round_trip;
 #[cfg(test)]
 mod tests;
 mod write;
@@ -37,3 +38,4 @@ pub use path::Path;
 pub use read::read_value;
 pub use revision::{RevId, revision_texts};
 pub use revisions::Revisions;
+pub use round_trip::documents_read_back;
