@@ -1,12 +1,15 @@
+pub mod MadeLemmas
+pub mod PartLemmas
 mod PathLemmas
 mod PlaceLemmas
 mod RevisionLemmas
-mod TextLemmas
-mod RoundTripValues
-mod RoundTripMembers
-mod RoundTripTexts
+mod RoundTripDocs
 mod RoundTripHistories
 mod RoundTripLemmas
-mod RoundTripUtf8
+mod RoundTripMembers
 mod RoundTripReads
-mod RoundTripDocs
+mod RoundTripTexts
+mod RoundTripUtf8
+mod RoundTripValues
+mod TextLemmas
+pub mod WriteLemmas

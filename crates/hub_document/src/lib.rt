@@ -16,12 +16,14 @@ mod members;
 mod numbers;
 mod open_revs;
 mod path;
+mod put;
 mod read;
 mod revision;
 mod revisions;
 mod round_trip;
 #[cfg(test)]
 mod tests;
+mod text;
 mod write;
 
 pub use asked::Asked;
