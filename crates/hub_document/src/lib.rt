@@ -22,6 +22,8 @@ mod revision;
 mod revisions;
 mod round_trip;
 #[cfg(test)]
+mod round_trip_tests;
+#[cfg(test)]
 mod tests;
 mod text;
 mod write;
