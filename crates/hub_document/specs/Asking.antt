@@ -1,12 +1,12 @@
 -- Revisions that are asked for (CouchDB API reference, _revs_diff, and documents with open_revs).
-use Rattle.std.specs.Prelude.{ℕ, List, [], ◌∷◌, codes, Bool, if◌then◌else◌, Option, Some, None, option_map, option_and_then, Result, Ok, Err}
+use Rattle.std.specs.Prelude.{ℕ, List, [], ◌∷◌, codes, Bool, true, ◌&&◌, is_some, if◌then◌else◌, Option, Some, option_map, option_and_then, Result, Ok}
 use Rattle.std.specs.Str.{bytes_eq}
 use Rattle.hub_model.specs.Revision.{Revision}
 use Rattle.hub_model.specs.Missing.{Asked}
 use Rattle.serde_json.specs.Data.{Data, Items, no_items, item, Members, no_members, member}
 use Rattle.serde_json.specs.Find.{as_str, as_array, as_object}
-use Rattle.hub_document.specs.Read.{or_fault, json_of}
-use Rattle.hub_document.specs.RevisionText.{revision_of}
+use Rattle.hub_document.specs.Histories.{rev_in}
+use Rattle.hub_document.specs.Read.{or_fault, if_holds, json_of}
 use Rattle.hub_document.specs.declared.doc.DocFault.{DocFault}
 use Rattle.hub_document.specs.declared.doc.DocFault.TheVariants.{NotObject, BadRev}
 use Rattle.hub_document.specs.declared.open_revs.OpenRevs.{OpenRevs}
@@ -16,36 +16,39 @@ use Rattle.hub_document.specs.declared.open_revs.OpenRevs.TheVariants.{All, List
 abbrev pub in_front : {A : Type 0} → A → Option (List A) → Option (List A)
 in_front a rest = option_map (λ others. a ∷ others) rest
 
--- the texts of an array's items, where each is one
-abbrev pub texts_of : Items → Option (List (List ℕ))
-texts_of no_items = Some []
-texts_of (item d ds) = option_and_then (λ s. in_front s (texts_of ds)) (as_str d)
+-- the revisions of an array's items, where each writes one
+abbrev pub revs_of : Items → Option (List Revision)
+revs_of no_items = Some []
+revs_of (item d ds) = option_and_then (λ r. in_front r (revs_of ds)) (rev_in d)
 
--- the texts of a value, where it is an array of texts
-abbrev pub texts_in : Data → Option (List (List ℕ))
-texts_in d = option_and_then texts_of (as_array d)
+-- the revisions of a value, where it is an array of them
+abbrev pub revs_in : Data → Option (List Revision)
+revs_in d = option_and_then revs_of (as_array d)
 
--- the revisions that texts are, where each is one
-abbrev pub revisions_of_texts : List (List ℕ) → Option (List Revision)
-revisions_of_texts [] = Some []
-revisions_of_texts (s ∷ rest) = option_and_then (λ r. in_front r (revisions_of_texts rest)) (revision_of s)
+-- whether each item is a text
+abbrev pub are_texts : Items → Bool
+are_texts no_items = true
+are_texts (item d ds) = is_some (as_str d) && are_texts ds
 
--- each member with its texts, where each is an array of texts
-abbrev pub texts_by_id : Members → Option (List (List ℕ × List (List ℕ)))
-texts_by_id no_members = Some []
-texts_by_id (member id d ms) = option_and_then (λ texts. in_front (id, texts) (texts_by_id ms)) (texts_in d)
+-- whether each member is an array of texts
+abbrev pub are_lists : Members → Bool
+are_lists no_members = true
+are_lists (member id d ms) = is_some (option_and_then (λ ds. if_holds (are_texts ds)) (as_array d)) && are_lists ms
 
--- the same with the revisions
-abbrev pub asked_of_texts : List (List ℕ × List (List ℕ)) → Option (List Asked)
-asked_of_texts [] = Some []
-asked_of_texts (p ∷ rest) = option_and_then (λ revs. in_front (record { id = p.0; revs = revs }) (asked_of_texts rest)) (revisions_of_texts p.1)
+-- each member's id with its revisions, where each is an array of them
+abbrev pub asked_of : Members → Option (List Asked)
+asked_of no_members = Some []
+asked_of (member id d ms) = option_and_then (λ revs. in_front (record { id = id; revs = revs }) (asked_of ms)) (revs_in d)
 
 -- what a value asks: an object of arrays of texts, or else that fault; each text a revision, or else that one
 abbrev pub asked_in : Data → Result (List Asked) DocFault
-asked_in d = or_fault (option_and_then texts_by_id (as_object d)) NotObject (λ rows. or_fault (asked_of_texts rows) BadRev Ok)
+asked_in d =
+    or_fault (as_object d) NotObject (λ ms.
+    or_fault (if_holds (are_lists ms)) NotObject (λ _.
+    or_fault (asked_of ms) BadRev Ok))
 
 -- the revisions of a document that a text asks for: `all`, or a JSON array of revisions
 abbrev pub open_revs_in : List ℕ → Option OpenRevs
 open_revs_in text =
     if bytes_eq text (codes "all") then Some All
-    else option_map Listed (option_and_then revisions_of_texts (option_and_then texts_in (json_of text)))
+    else option_map Listed (option_and_then revs_in (json_of text))

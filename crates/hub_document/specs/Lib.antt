@@ -15,5 +15,6 @@ pub mod Put
 pub mod Read
 pub mod RevisionLaws
 pub mod RevisionText
+pub mod RoundTrip
 pub mod SpecialMembers
 pub mod SpecialText

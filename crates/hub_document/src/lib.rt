@@ -1,6 +1,9 @@
 //! Documents and their revisions, as JSON texts bring them (CouchDB API reference, documents).
 #![tactic(auto)]
 
+mod asked;
+#[cfg(test)]
+mod asked_tests;
 mod body;
 mod change_row;
 mod doc;
@@ -17,11 +20,15 @@ mod put;
 mod read;
 mod revision;
 mod revisions;
+mod round_trip;
+#[cfg(test)]
+mod round_trip_tests;
 #[cfg(test)]
 mod tests;
 mod text;
 mod write;
 
+pub use asked::Asked;
 pub use body::Body;
 pub use change_row::ChangeRow;
 pub use doc::{Doc, DocFault};
@@ -30,8 +37,9 @@ pub use hub_model::{Item, Mode};
 pub use limits::Limits;
 pub use local_doc::{LocalDoc, LocalId, write_local};
 pub use made::rev_of_edit;
-pub use open_revs::{Asked, OpenRevs};
+pub use open_revs::OpenRevs;
 pub use path::Path;
 pub use read::read_value;
 pub use revision::{RevId, revision_texts};
 pub use revisions::Revisions;
+pub use round_trip::documents_read_back;

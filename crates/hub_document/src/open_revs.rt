@@ -1,14 +1,17 @@
-//! Revisions that are asked for.
+//! Revisions of one document that are asked for.
 
-ghost use Rattle.std.specs.Prelude.{◌≡◌, ◌⊎◌, IfOk, IfErr, Ok, Err};
-ghost use Rattle.serde_json.specs.View.{view};
-ghost use Rattle.hub_document.specs.Asking.{asked_in, open_revs_in};
+ghost use Rattle.std.specs.Prelude.{◌≡◌, IfOk, option_map};
+ghost use Rattle.serde_json.specs.View.{view, items_view};
+ghost use Rattle.hub_document.specs.Asking.{open_revs_in, revs_of as revs_of_items, revs_in as revs_in_value};
+ghost use Rattle.hub_document.specs.Histories.{rev_in as rev_in_value};
+ghost use Rattle.hub_document.specs.Read.{json_of as json_in};
 
 use crate::doc::DocFault;
+use crate::read::read_value;
+use crate::revision::RevId;
 use crate::revisions::Revisions;
 use serde_json::Value;
 use std::alloc::{AllocError, Global};
-use std::marker::Model;
 
 /// Which revisions of a document are asked for (CouchDB API reference, documents, `open_revs`).
 #[derive(Debug, Drop)]
@@ -25,36 +28,56 @@ impl OpenRevs {
     pub fn read(alloc: Global, text: &str) -> Result<Option<OpenRevs>, AllocError>
         ensures { IfOk result (λ o. o ≡ open_revs_in text.now) }
     {
-        Err(AllocError)
+        if text == "all" {
+            return Ok(Some(OpenRevs::All));
+        }
+        let Some(value) = json_of(alloc, text)? else {
+            return Ok(None);
+        };
+        let revs = revs_in(alloc, &value)?;
+        Ok(revs.map(OpenRevs::Listed))
     }
 }
 
-/// Some revisions of a document (CouchDB API reference, `_revs_diff`).
-#[derive(Debug, Drop)]
-pub struct Asked {
-    /// The document's id, which need be none that a document can have.
-    pub id: String,
-    /// The revisions.
-    pub revs: Revisions,
+// The JSON value that a text is, if it is one.
+fn json_of(alloc: Global, text: &str) -> Result<Option<Value>, AllocError>
+    ensures { IfOk result (λ o. option_map view o ≡ json_in text.now) }
+{
+    match read_value(alloc, text.as_bytes()) {
+        Ok(value) => Ok(Some(value)),
+        Err(DocFault::NotJson) => Ok(None),
+        Err(_) => Err(AllocError),
+    }
 }
 
-impl Model for Asked {
-    ghost use Rattle.std.specs.Prelude.{string_bytes};
-    ghost use Rattle.hub_model.specs.Missing.{Asked as Asking};
-
-    ghost Value = { Asking };
-
-    ghost view = { λ a. record { id = string_bytes a.id; revs = a.revs } };
+// The revision that a JSON string writes.
+fn rev_in(value: &Value) -> Option<RevId>
+    ensures { result ≡ rev_in_value (view value.now) }
+{
+    let text = value.as_str()?;
+    RevId::read(text)
 }
 
-impl Asked {
-    /// What an object of arrays of revisions asks for, in the byte order of its keys. A value of
-    /// another shape is `NotObject`, then a text that is no revision is `BadRev`. It costs the
-    /// value's size.
-    pub fn read_all(alloc: Global, value: &Value) -> Result<Vec<Asked>, DocFault>
-        ensures ok { IfOk result (λ v. asked_in (view value.now) ≡ Ok v.items) }
-        ensures err { IfErr result (λ e. (e ≡ DocFault.NoMemory) ⊎ (asked_in (view value.now) ≡ Err e)) }
-    {
-        Err(DocFault::NoMemory)
+// The revisions of an array's items, where each writes one.
+fn revs_of(alloc: Global, items: &Vec<Value>) -> Result<Option<Revisions>, AllocError>
+    ensures { IfOk result (λ o. o ≡ revs_of_items (items_view items.now.items)) }
+{
+    let mut list = Vec::new(alloc);
+    for item in items {
+        let Some(rev) = rev_in(item) else {
+            return Ok(None);
+        };
+        list.push(rev)?;
+    }
+    Ok(Some(Revisions::new(list)))
+}
+
+/// The revisions of a value, where it is an array of them. It costs the value's size.
+pub(crate) fn revs_in(alloc: Global, value: &Value) -> Result<Option<Revisions>, AllocError>
+    ensures { IfOk result (λ o. o ≡ revs_in_value (view value.now)) }
+{
+    match value.as_array() {
+        Some(items) => revs_of(alloc, items),
+        None => Ok(None),
     }
 }

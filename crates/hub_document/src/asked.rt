@@ -1,0 +1,101 @@
+//! Revisions of several documents that are asked for.
+
+ghost use Rattle.std.specs.Prelude.{◌≡◌, ◌⊎◌, IfOk, IfErr, Ok, Err, option_map};
+ghost use Rattle.serde_json.specs.View.{view, items_view, members_view};
+ghost use Rattle.serde_json.specs.Find.{as_array};
+ghost use Rattle.hub_document.specs.Asking.{asked_in, asked_of as asked_of_members, are_lists as are_lists_of, are_texts as are_texts_of};
+
+use crate::doc::DocFault;
+use crate::open_revs::revs_in;
+use crate::revisions::Revisions;
+use serde_json::{Map, Value};
+use std::alloc::{AllocError, Global};
+use std::marker::Model;
+
+/// Some revisions of a document (CouchDB API reference, `_revs_diff`).
+#[derive(Debug, Drop)]
+pub struct Asked {
+    /// The document's id, which need be none that a document can have.
+    pub id: String,
+    /// The revisions.
+    pub revs: Revisions,
+}
+
+impl Model for Asked {
+    ghost use Rattle.std.specs.Prelude.{string_bytes};
+    ghost use Rattle.hub_model.specs.Missing.{Asked as Asking};
+
+    ghost Value = { Asking };
+
+    ghost view = { λ a. record { id = string_bytes a.id; revs = a.revs } };
+}
+
+impl Asked {
+    // These revisions of the document of this id.
+    fn of_id(alloc: Global, id: &str, revs: Revisions) -> Result<Asked, AllocError>
+        ensures { IfOk result (λ a. a ≡ record { id = id.now; revs = revs }) }
+    {
+        let id = String::from_str(alloc, id)?;
+        Ok(Asked { id, revs })
+    }
+
+    /// What an object of arrays of revisions asks for, in the byte order of its keys. A value of
+    /// another shape is `NotObject`, then a text that is no revision is `BadRev`. It costs the
+    /// value's size.
+    pub fn read_all(alloc: Global, value: &Value) -> Result<Vec<Asked>, DocFault>
+        ensures ok { IfOk result (λ v. asked_in (view value.now) ≡ Ok v.items) }
+        ensures err { IfErr result (λ e. (e ≡ DocFault.NoMemory) ⊎ (asked_in (view value.now) ≡ Err e)) }
+    {
+        let Some(members) = value.as_object() else {
+            return Err(DocFault::NotObject);
+        };
+        if !are_lists(members) {
+            return Err(DocFault::NotObject);
+        }
+        match asked_of(alloc, members)? {
+            Some(asked) => Ok(asked),
+            None => Err(DocFault::BadRev),
+        }
+    }
+}
+
+fn are_texts(items: &Vec<Value>) -> bool
+    ensures { result ≡ are_texts_of (items_view items.now.items) }
+{
+    for item in items {
+        if !item.is_string() {
+            return false;
+        }
+    }
+    true
+}
+
+// Whether each member is an array of texts.
+fn are_lists(members: &Map<String, Value>) -> bool
+    ensures { result ≡ are_lists_of (members_view members.now.entries) }
+{
+    for (_, member) in members.iter() {
+        let Some(items) = member.as_array() else {
+            return false;
+        };
+        if !are_texts(items) {
+            return false;
+        }
+    }
+    true
+}
+
+// The members' ids with their revisions, where each is an array of them.
+fn asked_of(alloc: Global, members: &Map<String, Value>) -> Result<Option<Vec<Asked>>, AllocError>
+    ensures { IfOk result (λ o. option_map (λ v. v.items) o
+        ≡ asked_of_members (members_view members.now.entries)) }
+{
+    let mut asked = Vec::new(alloc);
+    for (key, member) in members.iter() {
+        let Some(revs) = revs_in(alloc, member)? else {
+            return Ok(None);
+        };
+        asked.push(Asked::of_id(alloc, key.as_str(), revs)?)?;
+    }
+    Ok(Some(asked))
+}
