@@ -1,13 +1,15 @@
 //! The order of leaves.
 
-ghost use Rattle.std.specs.Prelude.{◌≡◌};
+ghost use Rattle.std.specs.Prelude.{◌≡◌, map, IfOk, OnOk};
+ghost use Rattle.std.specs.List.{position_or_len};
 ghost use Rattle.hub_model.specs.Revision.{revision_cmp};
 ghost use Rattle.hub_model.specs.Leaves.{leaf_cmp, leaves_among, best_first};
 ghost use Rattle.hub_revtree.specs.Branch.{edits_in};
-ghost use Rattle.hub_revtree.specs.Winner.{winner_of, better_of};
+ghost use Rattle.hub_revtree.specs.Winner.{winner_of, better_of, is_above, put_in, winners_of};
 
 use crate::branch::{Branch, is_behind};
 use hub_document::RevId;
+use std::alloc::{AllocError, Global};
 use std::cmp::Ordering;
 
 /// A document's winner.
@@ -62,4 +64,46 @@ pub(crate) fn best_leaf(branches: &[Branch]) -> Option<Winner>
         }
     }
     best
+}
+
+// The place of the first of the leaves that this one is above; past the last where there is none.
+fn place_of(leaf: &Winner, leaves: &[Winner]) -> usize
+    ensures { result ≡ position_or_len (is_above leaf.now) leaves.now }
+{
+    leaves
+        .iter()
+        .position(|other| leaf_order(leaf, other).is_gt())
+        .unwrap_or(leaves.len())
+}
+
+// Puts a leaf before the first that it is above.
+fn put(leaves: &mut Vec<Winner>, leaf: Winner) -> Result<(), AllocError>
+    ensures { OnOk result (leaves.new.items ≡ put_in leaf leaves.old.items) }
+{
+    let place = place_of(&leaf, leaves.as_slice());
+    leaves.insert(place, leaf)?;
+    Ok(())
+}
+
+/// The branches' heads that stand behind no head, best first. Each head is looked for in each
+/// branch, and each leaf is compared with those that came before it.
+pub(crate) fn best_leaves(alloc: Global, branches: &[Branch]) -> Result<Vec<Winner>, AllocError>
+    ensures { IfOk result (λ leaves. leaves.items ≡ winners_of (best_first (leaves_among (edits_in branches.now) (edits_in branches.now)))) }
+{
+    let mut leaves = Vec::new(alloc);
+    for branch in branches.iter().rev() {
+        let rev = branch.path.head();
+        if !is_behind(branches, &rev) {
+            let deleted = branch.deleted;
+            put(&mut leaves, Winner { rev, deleted })?;
+        }
+    }
+    Ok(leaves)
+}
+
+/// The revisions of the leaves, in the same order.
+pub(crate) fn revisions(alloc: Global, leaves: &[Winner]) -> Result<Vec<RevId>, AllocError>
+    ensures { IfOk result (λ revs. revs.items ≡ map (λ w. w.rev) leaves.now) }
+{
+    leaves.iter().map(|leaf| leaf.rev).collect(alloc)
 }
