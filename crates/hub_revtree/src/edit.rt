@@ -1,7 +1,7 @@
 //! Edits that are made here.
 
 ghost use Rattle.std.specs.Prelude.{◌≡◌, ◌⊎◌, ◌≤◌, ◌<◌, ◌++◌, ◌∷◌, [], length, option_map, Some, Ok, Err, IfOk, IfErr, OnOk};
-ghost use Rattle.hub_model.specs.Draft.{extended as extended_in, generation_of, made};
+ghost use Rattle.hub_model.specs.Draft.{extended as extended_in, generation_of, made, parent_of};
 ghost use Rattle.hub_model.specs.Journal.{Edit, IsAcceptable, head_of};
 ghost use Rattle.hub_model.specs.Leaves.{leaves_of};
 ghost use Rattle.hub_model.specs.Path.{IsHistory};
@@ -14,31 +14,32 @@ use crate::tree::{Ready, RevTree};
 use hub_document::{Body, DocId, Path, RevId, rev_of_edit};
 use std::alloc::{AllocError, Global};
 
-// The generation of what is extended; 0 of nothing.
-fn generation(parent: Option<RevId>) -> u16
-    ensures { result ≡ generation_of parent }
+// The generation of the path's first revision; 0 of an empty path.
+fn generation(path: &[RevId]) -> u16
+    ensures { result ≡ generation_of (parent_of path.now) }
 {
-    match parent {
+    match path.first() {
         Some(rev) => rev.generation(),
         None => 0,
     }
 }
 
-// The revision of an edit on this parent. A generation has at most 16 bits (own).
+// The revision of an edit that extends this path.
 fn next_rev(
     alloc: Global,
     id: &DocId,
-    parent: Option<RevId>,
+    older: &[RevId],
     deleted: bool,
     body: &Body,
 ) -> Result<RevId, EditFault>
-    ensures ok { IfOk result (λ rev. rev ≡ made (draft id.now parent deleted body.now) parent) }
-    ensures below { OnOk result (generation_of parent < 65535) }
-    ensures err { IfErr result (λ e. (e ≡ EditFault.NoMemory) ⊎ ((e ≡ EditFault.GenerationLimit) × (65535 ≤ generation_of parent))) }
+    ensures ok { IfOk result (λ rev. rev ≡ made (draft id.now (parent_of older.now) deleted body.now) (parent_of older.now)) }
+    ensures below { OnOk result (generation_of (parent_of older.now) < 65535) }
+    ensures err { IfErr result (λ e. (e ≡ EditFault.NoMemory) ⊎ ((e ≡ EditFault.GenerationLimit) × (65535 ≤ generation_of (parent_of older.now)))) }
 {
-    if generation(parent) == u16::MAX {
+    if generation(older) == u16::MAX {
         return Err(EditFault::GenerationLimit);
     }
+    let parent = older.first().copied();
     let rev = rev_of_edit(alloc, deleted, parent, id, body)?;
     Ok(rev)
 }
@@ -57,7 +58,8 @@ fn path_on(alloc: Global, rev: RevId, older: &[RevId]) -> Result<Path, AllocErro
 impl RevTree {
     // The path of a leaf; None of another revision. One look an edit.
     fn leaf_line(&self, rev: &RevId) -> Option<&[RevId]>
-        ensures { option_map (λ line. line.now) result ≡ extended_in self.now.edits [] (leaves_of self.now.edits []) (Some rev.now) }
+        ensures tree { IsRevTree self.now.edits }
+        ensures line { option_map (λ line. line.now) result ≡ extended_in self.now.edits [] (leaves_of self.now.edits []) (Some rev.now) }
     {
         if is_behind(self.branches(), rev) {
             return None;
@@ -67,7 +69,8 @@ impl RevTree {
 
     // The path of a deleted winner, the empty one of a tree with no edit, and None of any other tree.
     fn dead_line(&self) -> Option<&[RevId]>
-        ensures { option_map (λ line. line.now) result ≡ extended_in self.now.edits [] (leaves_of self.now.edits []) None }
+        ensures tree { IsRevTree self.now.edits }
+        ensures line { option_map (λ line. line.now) result ≡ extended_in self.now.edits [] (leaves_of self.now.edits []) None }
     {
         match self.best() {
             Some(winner) if winner.deleted => self.line(&winner.rev),
@@ -78,7 +81,8 @@ impl RevTree {
 
     // The path that an edit extends, the parent's in front.
     fn extended(&self, parent: Option<RevId>) -> Option<&[RevId]>
-        ensures { option_map (λ line. line.now) result ≡ extended_in self.now.edits [] (leaves_of self.now.edits []) parent }
+        ensures tree { IsRevTree self.now.edits }
+        ensures line { option_map (λ line. line.now) result ≡ extended_in self.now.edits [] (leaves_of self.now.edits []) parent }
     {
         match parent {
             Some(rev) => self.leaf_line(&rev),
@@ -109,7 +113,7 @@ impl RevTree {
         let Some(older) = self.extended(parent) else {
             return Err(EditFault::Conflict);
         };
-        let rev = match next_rev(alloc, id, older.first().copied(), deleted, &body) {
+        let rev = match next_rev(alloc, id, older, deleted, &body) {
             Ok(rev) => rev,
             Err(e) => return Err(e),
         };

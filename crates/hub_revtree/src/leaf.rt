@@ -1,7 +1,6 @@
 //! The order of leaves.
 
-ghost use Rattle.std.specs.Prelude.{◌≡◌, map, IfOk, OnOk};
-ghost use Rattle.std.specs.List.{position_or_len};
+ghost use Rattle.std.specs.Prelude.{◌≡◌, map, position, IfOk, OnOk};
 ghost use Rattle.hub_model.specs.Revision.{revision_cmp};
 ghost use Rattle.hub_model.specs.Leaves.{leaf_cmp, leaves_among, best_first};
 ghost use Rattle.hub_revtree.specs.Branch.{edits_in};
@@ -66,21 +65,20 @@ pub(crate) fn best_leaf(branches: &[Branch]) -> Option<Winner>
     best
 }
 
-// The place of the first of the leaves that this one is above; past the last where there is none.
-fn place_of(leaf: &Winner, leaves: &[Winner]) -> usize
-    ensures { result ≡ position_or_len (is_above leaf.now) leaves.now }
+// The place of the first of the leaves that this one is above.
+fn first_below(leaf: &Winner, leaves: &[Winner]) -> Option<usize>
+    ensures { result ≡ position (is_above leaf.now) leaves.now }
 {
     leaves
         .iter()
         .position(|other| leaf_order(leaf, other).is_gt())
-        .unwrap_or(leaves.len())
 }
 
 // Puts a leaf before the first that it is above.
 fn put(leaves: &mut Vec<Winner>, leaf: Winner) -> Result<(), AllocError>
     ensures { OnOk result (leaves.new.items ≡ put_in leaf leaves.old.items) }
 {
-    let place = place_of(&leaf, leaves.as_slice());
+    let place = first_below(&leaf, leaves.as_slice()).unwrap_or(leaves.len());
     leaves.insert(place, leaf)?;
     Ok(())
 }
@@ -93,10 +91,11 @@ pub(crate) fn best_leaves(alloc: Global, branches: &[Branch]) -> Result<Vec<Winn
     let mut leaves = Vec::new(alloc);
     for branch in branches.iter().rev() {
         let rev = branch.path.head();
-        if !is_behind(branches, &rev) {
-            let deleted = branch.deleted;
-            put(&mut leaves, Winner { rev, deleted })?;
+        if is_behind(branches, &rev) {
+            continue;
         }
+        let deleted = branch.deleted;
+        put(&mut leaves, Winner { rev, deleted })?;
     }
     Ok(leaves)
 }

@@ -37,12 +37,14 @@ fn below(alloc: Global, revs: &[RevId], generation: u16) -> Result<Vec<RevId>, A
 impl RevTree {
     // A known revision and all that stands behind it. One look an edit.
     pub(crate) fn line(&self, rev: &RevId) -> Option<&[RevId]>
-        ensures { option_map (λ line. line.now) result ≡ path_to self.now.edits rev.now }
+        ensures line { option_map (λ line. line.now) result ≡ path_to self.now.edits rev.now }
+        ensures tree { IsRevTree self.now.edits }
     {
         line_from(self.branches(), rev)
     }
 
-    /// The leaves, best first. Each head is looked for in each edit's path.
+    /// The leaves, best first. Each head is looked for in each edit's path, and each leaf is compared
+    /// with other leaves: at most the square of the number of edits.
     pub fn leaves(&self, alloc: Global) -> Result<Revisions, AllocError>
         ensures { IfOk result (λ revs. revs ≡ revisions_of (leaves_of self.now.edits [])) }
     {

@@ -64,6 +64,7 @@ impl RevTree {
     // The stored edits.
     pub(crate) fn branches(&self) -> &[Branch]
         ensures edits { edits_in result.now ≡ self.now.edits }
+        ensures tree { IsRevTree self.now.edits }
     {
         self.branches.as_slice()
     }
