@@ -1,3 +1,4 @@
 pub mod BranchLemmas
+pub mod HeadLemmas
 pub mod LeafLemmas
 pub mod TreeLemmas
