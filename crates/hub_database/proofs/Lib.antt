@@ -1,4 +1,5 @@
 pub mod ListLemmas
+pub mod NamedLemmas
 pub mod MergeLemmas
 pub mod FiledLemmas
 pub mod StoreLemmas
