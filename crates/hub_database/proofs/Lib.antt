@@ -4,3 +4,6 @@ pub mod MergeLemmas
 pub mod FiledLemmas
 pub mod StoreLemmas
 pub mod RowLemmas
+pub mod ShownLemmas
+pub mod EntryLemmas
+pub mod MissingLemmas

@@ -4,9 +4,12 @@
 mod answers;
 mod batch;
 mod database;
+mod diff;
 mod document;
+mod entries;
 mod entry;
 mod local;
+mod open;
 mod reads;
 mod store;
 #[cfg(test)]
