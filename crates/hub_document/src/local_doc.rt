@@ -1,11 +1,12 @@
 //! Local documents.
 
-ghost use Rattle.std.specs.Prelude.{◌≡◌, ◌⊎◌, ◌++◌, IfOk, IfErr, OnOk, OnErr, Ok, Err, string_bytes};
+ghost use Rattle.std.specs.Prelude.{◌≡◌, ◌⊎◌, ◌++◌, length, take, IfOk, IfErr, OnOk, OnErr, Ok, Err, string_bytes};
 ghost use Rattle.hub_document.specs.DocText.{local_text};
 ghost use Rattle.hub_document.specs.Local.{local_in};
 
 use crate::body::Body;
 use crate::doc::DocFault;
+use crate::text::{put_count, put_head, put_rest};
 use std::alloc::{AllocError, Global};
 use std::marker::Model;
 
@@ -63,11 +64,28 @@ impl LocalDoc {
     }
 }
 
+fn put_local(out: &mut Vec<u8>, id: &str, count: u64, body: &Body) -> Result<(), AllocError>
+    ensures ok { OnOk result (out.new.items ≡ out.old.items ++ local_text id.now count body.now) }
+    ensures front { take (length out.old.items) out.new.items ≡ out.old.items }
+{
+    put_head(out, id)?;
+    put_count(out, count)?;
+    put_rest(out, body)?;
+    Ok(())
+}
+
 /// Writes a local document behind what the vector holds: `count` says how often it was written, and
 /// is its revision `0-count`. Where that needs more memory than there is, the vector stays as it was.
 pub fn write_local(out: &mut Vec<u8>, id: &str, count: u64, body: &Body) -> Result<(), AllocError>
     ensures ok { OnOk result (out.new.items ≡ out.old.items ++ local_text id.now count body.now) }
     ensures err { OnErr result (out.new.items ≡ out.old.items) }
 {
-    Err(AllocError)
+    let held = out.len();
+    match put_local(out, id, count, body) {
+        Ok(()) => Ok(()),
+        Err(refused) => {
+            out.truncate(held);
+            Err(refused)
+        }
+    }
 }
