@@ -1,9 +1,8 @@
 //! Documents.
 
-ghost use Rattle.std.specs.Prelude.{◌≡◌, ◌⊎◌, ◌++◌, length, take, IfOk, IfErr, OnOk, OnErr, Ok, Err, option_map};
+ghost use Rattle.std.specs.Prelude.{◌≡◌, ◌++◌, length, take, IfOk, OnOk, OnErr};
 ghost use Rattle.hub_document.specs.DocText.{doc_text};
 ghost use Rattle.hub_document.specs.SpecialText.{special_text};
-ghost use Rattle.hub_document.specs.Put.{put_in};
 
 use crate::body::Body;
 use crate::doc_id::DocId;
@@ -30,23 +29,6 @@ pub struct Doc {
 }
 
 impl Doc {
-    /// The document that a JSON text is under the id that a request names, or the first fault. The
-    /// leaf that it edits may be named by the request too, by `rev`; an edit that was not made here
-    /// (`new_edits` is false) is a bad member. It costs the text's length.
-    pub fn read_put(
-        alloc: Global,
-        id: &str,
-        rev: Option<&str>,
-        new_edits: bool,
-        bytes: &[u8],
-    ) -> Result<Doc, DocFault>
-        ensures ok { IfOk result (λ d. put_in id.now (option_map (λ s. s.now) rev.entry) new_edits bytes.now ≡ Ok d) }
-        ensures err { IfErr result (λ e. (e ≡ DocFault.NoMemory)
-            ⊎ (put_in id.now (option_map (λ s. s.now) rev.entry) new_edits bytes.now ≡ Err e)) }
-    {
-        Err(DocFault::NoMemory)
-    }
-
     /// Writes the document behind what the vector holds: `_rev` where a revision is named,
     /// `_deleted` where it is deleted, `_revisions` where it has a path. Where that needs more memory
     /// than there is, the vector stays as it was. It costs the text's length.
