@@ -10,6 +10,8 @@ mod entries;
 mod entry;
 mod local;
 mod open;
+#[cfg(test)]
+mod read_tests;
 mod reads;
 mod store;
 #[cfg(test)]
