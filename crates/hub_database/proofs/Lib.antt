@@ -1,5 +1,9 @@
 pub mod ListLemmas
+pub mod NamedLemmas
 pub mod MergeLemmas
 pub mod FiledLemmas
 pub mod StoreLemmas
 pub mod RowLemmas
+pub mod ShownLemmas
+pub mod EntryLemmas
+pub mod MissingLemmas

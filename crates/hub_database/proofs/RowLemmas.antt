@@ -7,7 +7,7 @@ use Rattle.std.proofs.lemmas.Option.{slice_get-map, slice_get_within}
 use Rattle.std.proofs.lemmas.Bool.{eq-eqb}
 use Rattle.hub_model.specs.Revision.{Revision}
 use Rattle.hub_model.specs.Journal.{Edit, edits_of}
-use Rattle.hub_model.specs.Leaves.{Leaf, is_behind_head, with_leaf, leaves_among, comes_before, placed, best_first, leaves_of, revisions_of}
+use Rattle.hub_model.specs.Leaves.{Leaf, leaves_of, revisions_of}
 use Rattle.hub_model.specs.Current.{current_from, is_edited}
 use Rattle.hub_model.specs.Row.{ChangeRow, row_of, is_deleted}
 use Rattle.hub_model.specs.declared.feeds.Style.TheVariants.{MainOnly}
@@ -16,58 +16,17 @@ use Rattle.hub_database.specs.declared.entry.Entry.{Entry}
 use Rattle.hub_database.specs.declared.document.Document.{Document}
 use Rattle.hub_database.specs.Filed.{named, edit_at, edit_in, journal_of, IsFiled}
 use Rattle.hub_database.specs.Store.{filed, files}
-use Rattle.hub_database.proofs.ListLemmas.{any_map, number_apart}
+use Rattle.hub_database.proofs.ListLemmas.{number_apart}
+use Rattle.hub_database.proofs.NamedLemmas.{renamed, leaves_named, revisions_named, deleted_named}
 use Rattle.hub_database.proofs.StoreLemmas.{get_at}
-
--- a leaf, its edit with this id
-abbrev renamed : List ℕ → Leaf → Leaf
-renamed id l = record { rev = l.rev; edit = named id l.edit }
-
-with_named : (id : List ℕ) (es : List Edit) (e : Edit) (path : List Revision) (ls : List Leaf) → with_leaf (map (named id) es) (named id e) path (map (renamed id) ls) ≡ map (renamed id) (with_leaf es e path ls)
-with_named id es e [] ls = refl
-with_named id es e (r ∷ older) ls = ap (λ b. if b then map (renamed id) ls else (renamed id (record { rev = r; edit = e }) ∷ map (renamed id) ls)) (any_map (is_behind_head r) (named id) es) ∙ from (list_any (is_behind_head r) es)
-  where
-    from : (b : Bool) → (if b then map (renamed id) ls else (renamed id (record { rev = r; edit = e }) ∷ map (renamed id) ls)) ≡ map (renamed id) (if b then ls else (record { rev = r; edit = e } ∷ ls))
-    from true = refl
-    from false = refl
-
-among_named : (id : List ℕ) (es fs : List Edit) → leaves_among (map (named id) es) (map (named id) fs) ≡ map (renamed id) (leaves_among es fs)
-among_named id es [] = refl
-among_named id es (e ∷ fs) = ap (with_leaf (map (named id) es) (named id e) e.path) (among_named id es fs) ∙ with_named id es e e.path (leaves_among es fs)
-
-placed_named : (id : List ℕ) (l : Leaf) (ls : List Leaf) → placed (renamed id l) (map (renamed id) ls) ≡ map (renamed id) (placed l ls)
-placed_named id l [] = refl
-placed_named id l (m ∷ ms) = from (comes_before l m) (placed_named id l ms)
-  where
-    from : (b : Bool) → placed (renamed id l) (map (renamed id) ms) ≡ map (renamed id) (placed l ms)
-        → (if b then (renamed id l ∷ renamed id m ∷ map (renamed id) ms) else (renamed id m ∷ placed (renamed id l) (map (renamed id) ms))) ≡ map (renamed id) (if b then (l ∷ m ∷ ms) else (m ∷ placed l ms))
-    from true h = refl
-    from false h = ap (λ ns. renamed id m ∷ ns) h
-
-best_named : (id : List ℕ) (ls : List Leaf) → best_first (map (renamed id) ls) ≡ map (renamed id) (best_first ls)
-best_named id [] = refl
-best_named id (l ∷ ls) = ap (placed (renamed id l)) (best_named id ls) ∙ placed_named id l (best_first ls)
-
-revisions_named : (id : List ℕ) (ls : List Leaf) → revisions_of (map (renamed id) ls) ≡ revisions_of ls
-revisions_named id [] = refl
-revisions_named id (l ∷ ls) = ap (λ rs. l.rev ∷ rs) (revisions_named id ls)
-
-deleted_named : (id : List ℕ) (ls : List Leaf) → is_deleted (map (renamed id) ls) ≡ is_deleted ls
-deleted_named id [] = refl
-deleted_named id (l ∷ ls) = refl
 
 -- a document's row, by its tree
 pub row_by : (J : List Edit) (id : List ℕ) (edits : List Edit) (seq : ℕ) → edits_of J id ≡ map (named id) edits → IsRevTree edits
     → row_of J MainOnly false (record { seq = seq; id = id }) ≡ record { seq = seq; id = id; changes = take 1 (revisions_of (leaves_of edits [])); deleted = is_deleted (leaves_of edits []); doc = None; seen = length J }
 row_by J id edits seq kept tree =
-    ap (λ (ls : List Leaf). record { seq = seq; id = id; changes = take 1 (revisions_of ls); deleted = is_deleted ls; doc = None; seen = length J }) leaves
+    ap (λ (ls : List Leaf). record { seq = seq; id = id; changes = take 1 (revisions_of ls); deleted = is_deleted ls; doc = None; seen = length J }) (leaves_named J id edits kept tree.one)
     ∙ (ap (λ (rs : List Revision). record { seq = seq; id = id; changes = take 1 rs; deleted = is_deleted (map (renamed id) (leaves_of edits [])); doc = None; seen = length J }) (revisions_named id (leaves_of edits []))
     ∙ ap (λ (b : Bool). record { seq = seq; id = id; changes = take 1 (revisions_of (leaves_of edits [])); deleted = b; doc = None; seen = length J }) (deleted_named id (leaves_of edits [])))
-  where
-    leaves : leaves_of J id ≡ map (renamed id) (leaves_of edits [])
-    leaves =
-        ap (λ es. best_first (leaves_among es es)) kept ∙ (ap best_first (among_named id edits edits)
-        ∙ (best_named id (leaves_among edits edits) ∙ ap (λ es. map (renamed id) (best_first (leaves_among es es))) (sym tree.one)))
 
 drop_map : {A B : Type 0} (f : A → B) (xs : List A) (i : ℕ) (x : A) → slice_get xs i ≡ Some x → drop i (map f xs) ≡ f x ∷ drop (i + 1) (map f xs)
 drop_map f [] i x h = absurd (cc)

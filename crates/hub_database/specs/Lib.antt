@@ -1,6 +1,7 @@
 pub mod Database
 pub mod Edits
 pub mod Filed
+pub mod Found
 pub mod Kept
 pub mod Locals
 pub mod Looked

@@ -4,9 +4,14 @@
 mod answers;
 mod batch;
 mod database;
+mod diff;
 mod document;
+mod entries;
 mod entry;
 mod local;
+mod open;
+#[cfg(test)]
+mod read_tests;
 mod reads;
 mod store;
 #[cfg(test)]

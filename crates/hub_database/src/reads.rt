@@ -1,24 +1,42 @@
 //! What a database is asked.
 
-ghost use Rattle.std.specs.Prelude.{◌≡◌, option_map, IfOk};
+ghost use Rattle.std.specs.Prelude.{◌≡◌, [], IfOk, IfSome, IfNone};
+ghost use Rattle.hub_model.specs.Journal.{edits_of};
 ghost use Rattle.hub_model.specs.Leaves.{leaves_of};
-ghost use Rattle.hub_model.specs.Missing.{diffs};
 ghost use Rattle.hub_revtree.specs.Winner.{winner_of};
-ghost use Rattle.hub_database.specs.Reads.{open_revs as open_revs_of, lookup, info_of, entry_of, entry_doc_of};
+ghost use Rattle.hub_database.specs.Found.{IsFound};
+ghost use Rattle.hub_database.specs.Reads.{lookup, info_of};
+ghost use Rattle.hub_database.specs.Store.{IsStore, edits_of_store};
 
-use crate::answers::{Diff, Info, Lookup, OpenRev};
+use crate::answers::{Info, Lookup};
 use crate::database::DbState;
-use hub_document::{Asked, Doc, OpenRevs, RevId};
+use crate::document::Document;
+use crate::store::Store;
 use hub_revtree::Winner;
 use std::alloc::AllocError;
+
+impl Store {
+    /// The document with this id. One look in the map.
+    pub(crate) fn document(&self, id: &str) -> Option<&Document>
+        requires { IsStore self.now }
+        ensures found { IfSome result (λ d. IsFound (edits_of_store self.now) id.now d.now) }
+        ensures none { IfNone result (edits_of (edits_of_store self.now) id.now ≡ []) }
+    {
+        let number = self.numbers.get(id).copied()?;
+        let document = &self.documents[number as usize];
+        document.tree.one();
+        Some(document)
+    }
+}
 
 impl DbState {
     /// The winner of a document, with its mark; None where there is no such document. A look in the
     /// map of ids, and what `RevTree::best` costs.
-    pub fn winner(&self, id: &str) -> Result<Option<Winner>, AllocError>
-        ensures { IfOk result (λ w. w ≡ winner_of (leaves_of self.now.journal id.now)) }
+    pub fn winner(&self, id: &str) -> Option<Winner>
+        ensures { result ≡ winner_of (leaves_of self.now.journal id.now) }
     {
-        Err(AllocError)
+        let document = self.store.document(id)?;
+        document.tree.best()
     }
 
     /// How many documents there are, and how many edits. Constant time: the counts are kept.
@@ -33,45 +51,18 @@ impl DbState {
     pub fn get(&self, id: &str, revs: bool) -> Result<Lookup, AllocError>
         ensures { IfOk result (λ found. found ≡ lookup self.now.journal id.now revs) }
     {
-        Err(AllocError)
-    }
-
-    /// The revisions of a document that are asked for, each with its history where `revs` asks for
-    /// it. Of an unknown document there is no leaf, and each listed revision is missing. A look in
-    /// the map of ids, and for each revision a look an edit and a copy.
-    pub fn open_revs(
-        &self,
-        id: &str,
-        which: &OpenRevs,
-        revs: bool,
-    ) -> Result<Vec<OpenRev>, AllocError>
-        ensures { IfOk result (λ found. found.items ≡ open_revs_of self.now.journal id.now which.now revs) }
-    {
-        Err(AllocError)
-    }
-
-    /// Which of the revisions asked for are missing, of the documents alone of which some are, in
-    /// the order asked. It costs a look in the map of ids for each document, and what
-    /// `RevTree::missing` and `RevTree::possible_ancestors` do.
-    pub fn revs_diff(&self, asked: Vec<Asked>) -> Result<Vec<Diff>, AllocError>
-        ensures { IfOk result (λ found. found.items ≡ diffs self.now.journal asked.items) }
-    {
-        Err(AllocError)
-    }
-
-    /// The id and the revision of the edit of this sequence; None of a sequence that no edit has.
-    /// Constant time.
-    pub fn entry(&self, seq: u64) -> Result<Option<(&str, RevId)>, AllocError>
-        ensures { IfOk result (λ entry. option_map (λ p. (p.0.now, p.1)) entry ≡ entry_of self.now.journal seq) }
-    {
-        Err(AllocError)
-    }
-
-    /// The edit of this sequence, with its history; None of a sequence that no edit has. It costs
-    /// a copy of the edit.
-    pub fn entry_doc(&self, seq: u64) -> Result<Option<Doc>, AllocError>
-        ensures { IfOk result (λ doc. doc ≡ entry_doc_of self.now.journal seq) }
-    {
-        Err(AllocError)
+        let Some(document) = self.store.document(id) else {
+            return Ok(Lookup::Unknown);
+        };
+        let Some(winner) = document.tree.best() else {
+            return Ok(Lookup::Unknown);
+        };
+        if winner.deleted {
+            return Ok(Lookup::Deleted);
+        }
+        match document.shown(self.store.alloc, &winner.rev, revs)? {
+            Some(doc) => Ok(Lookup::Found(doc)),
+            None => Ok(Lookup::Unknown),
+        }
     }
 }

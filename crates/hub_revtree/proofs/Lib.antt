@@ -1,4 +1,5 @@
 pub mod BranchLemmas
+pub mod HeadLemmas
 pub mod LeafLemmas
 pub mod TreeLemmas
 pub mod LineLemmas

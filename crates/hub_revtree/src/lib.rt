@@ -5,6 +5,7 @@
 mod branch;
 mod edit;
 mod fault;
+mod heads;
 mod leaf;
 mod look;
 #[cfg(test)]
@@ -12,5 +13,6 @@ mod tests;
 mod tree;
 
 pub use fault::{EditFault, MergeFault, Merged};
+pub use heads::StoredEdit;
 pub use leaf::Winner;
 pub use tree::{Ready, RevTree};

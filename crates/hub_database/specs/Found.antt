@@ -1,0 +1,27 @@
+-- A document that a database has, and what its tree shows (own).
+use Rattle.std.specs.Prelude.{◌≡◌, ℕ, List, [], map, Bool, Option, option_map, if◌then◌else◌, Some, None}
+use Rattle.hub_model.specs.Revision.{Revision}
+use Rattle.hub_model.specs.Journal.{Edit, edits_of}
+use Rattle.hub_model.specs.Missing.{Asked, Diff, diff_of, is_wanted}
+use Rattle.hub_model.specs.Walk.{shown}
+use Rattle.hub_revtree.specs.Extend.{path_to}
+use Rattle.hub_database.specs.declared.document.Document.{Document}
+use Rattle.hub_database.specs.Filed.{named}
+
+-- the document has the id, and its tree the journal's edits of it, their id left out
+pub record IsFound (J : List Edit) (id : List ℕ) (d : Document) : Type 0 where
+  pub same : d.id ≡ id
+  pub kept : edits_of J id ≡ map (named id) d.tree.edits
+  pub one : edits_of d.tree.edits [] ≡ d.tree.edits
+
+-- what a document shows of a revision
+abbrev pub shown_in : Document → Revision → Option Edit
+shown_in d r = option_map (named d.id) (shown d.tree.edits [] r)
+
+-- what a document that is asked for misses, where that is anything
+abbrev pub wanted_diff : List Edit → Asked → Option Diff
+wanted_diff J a = if is_wanted (diff_of J a) then Some (diff_of J a) else None
+
+-- a known revision and all that stands behind it, where that is asked for
+abbrev pub history_of : Bool → List Edit → Revision → Option (List Revision)
+history_of revs edits r = if revs then path_to edits r else None

@@ -1,0 +1,57 @@
+//! The edits of a database by their sequences.
+
+ghost use Rattle.std.specs.Prelude.{◌≡◌, IfOk, option_map};
+ghost use Rattle.hub_revtree.specs.Tree.{nameless};
+ghost use Rattle.hub_database.specs.Filed.{named};
+ghost use Rattle.hub_database.specs.Reads.{entry_at, entry_of, entry_doc_of};
+ghost use Rattle.hub_database.specs.Store.{IsStore, edits_of_store};
+
+use crate::database::DbState;
+use crate::document::Document;
+use crate::store::Store;
+use hub_document::{Doc, RevId};
+use hub_revtree::StoredEdit;
+use std::alloc::AllocError;
+
+impl Store {
+    // The edit of this sequence, with its document. Constant time.
+    fn edit(&self, seq: u64) -> Option<(&Document, StoredEdit<'_>)>
+        requires { IsStore self.now }
+        ensures { option_map (λ p. named p.0.now.id (nameless p.1.path.now p.1.deleted p.1.body.now)) result ≡ entry_at (edits_of_store self.now) seq }
+    {
+        let at = seq.checked_sub(1)?;
+        let entry = self.journal.get(at as usize)?;
+        let document = &self.documents[entry.document as usize];
+        let edit = document.tree.edit(entry.revision as usize)?;
+        Some((document, edit))
+    }
+}
+
+impl DbState {
+    /// The id and the revision of the edit of this sequence; None of a sequence that no edit has.
+    /// Constant time.
+    pub fn entry(&self, seq: u64) -> Option<(&str, RevId)>
+        ensures { option_map (λ p. (p.0.now, p.1)) result ≡ entry_of self.now.journal seq }
+    {
+        let (document, edit) = self.store.edit(seq)?;
+        Some((document.id.as_str(), edit.path.head()))
+    }
+
+    /// The edit of this sequence, with its history; None of a sequence that no edit has. It costs
+    /// a copy of the edit.
+    pub fn entry_doc(&self, seq: u64) -> Result<Option<Doc>, AllocError>
+        ensures { IfOk result (λ doc. doc ≡ entry_doc_of self.now.journal seq) }
+    {
+        let alloc = self.store.alloc;
+        let Some((document, edit)) = self.store.edit(seq) else {
+            return Ok(None);
+        };
+        Ok(Some(Doc {
+            id: document.id.copy(alloc)?,
+            rev: Some(edit.path.head()),
+            path: Some(edit.path.copy(alloc)?),
+            deleted: edit.deleted,
+            body: edit.body.copy(alloc)?,
+        }))
+    }
+}

@@ -1,0 +1,107 @@
+//! Revisions that are asked for.
+
+ghost use Rattle.std.specs.Prelude.{◌≡◌, map, option_map, IfOk};
+ghost use Rattle.hub_database.specs.Found.{history_of, shown_in};
+ghost use Rattle.hub_database.specs.Reads.{doc_shown, open_rev_of, open_revs as open_revs_of};
+ghost use Rattle.hub_database.specs.declared.answers.OpenRev.TheVariants.{Missing};
+
+use crate::answers::OpenRev;
+use crate::database::DbState;
+use crate::document::Document;
+use hub_document::{Doc, OpenRevs, Path, RevId};
+use std::alloc::{AllocError, Global};
+
+impl Document {
+    // The history of a revision, where it is asked for.
+    fn history(&self, alloc: Global, rev: &RevId, revs: bool) -> Result<Option<Path>, AllocError>
+        ensures { IfOk result (λ path. path ≡ history_of revs self.now.tree.edits rev.now) }
+    {
+        if revs {
+            self.tree.path(alloc, rev)
+        } else {
+            Ok(None)
+        }
+    }
+
+    /// A revision, with its history where `revs` asks for it; None where it has no body. A look an
+    /// edit, and a copy.
+    pub(crate) fn shown(
+        &self,
+        alloc: Global,
+        rev: &RevId,
+        revs: bool,
+    ) -> Result<Option<Doc>, AllocError>
+        ensures { IfOk result (λ doc. doc ≡ option_map (doc_shown revs) (shown_in self.now rev.now)) }
+    {
+        let Some(edit) = self.tree.headed(rev) else {
+            return Ok(None);
+        };
+        Ok(Some(Doc {
+            id: self.id.copy(alloc)?,
+            rev: Some(edit.path.head()),
+            path: self.history(alloc, rev, revs)?,
+            deleted: edit.deleted,
+            body: edit.body.copy(alloc)?,
+        }))
+    }
+
+    // What is shown of a revision.
+    fn open_rev(&self, alloc: Global, rev: &RevId, revs: bool) -> Result<OpenRev, AllocError>
+        ensures { IfOk result (λ found. found ≡ open_rev_of revs rev.now (shown_in self.now rev.now)) }
+    {
+        match self.shown(alloc, rev, revs)? {
+            Some(doc) => Ok(OpenRev::Found(doc)),
+            None => Ok(OpenRev::Missing(*rev)),
+        }
+    }
+
+    // What is shown of each of these revisions.
+    fn open_revs(
+        &self,
+        alloc: Global,
+        asked: &[RevId],
+        revs: bool,
+    ) -> Result<Vec<OpenRev>, AllocError>
+        ensures { IfOk result (λ found. found.items ≡ map (λ r. open_rev_of revs r (shown_in self.now r)) asked.now) }
+    {
+        let mut found = Vec::new(alloc);
+        for rev in asked {
+            found.push(self.open_rev(alloc, rev, revs)?)?;
+        }
+        Ok(found)
+    }
+}
+
+// What is shown of revisions of which none is known.
+fn all_missing(alloc: Global, asked: &[RevId]) -> Result<Vec<OpenRev>, AllocError>
+    ensures { IfOk result (λ found. found.items ≡ map Missing asked.now) }
+{
+    asked.iter().copied().map(OpenRev::Missing).collect(alloc)
+}
+
+impl DbState {
+    /// The revisions of a document that are asked for, each with its history where `revs` asks for
+    /// it. Of an unknown document there is no leaf, and each listed revision is missing. A look in
+    /// the map of ids, and for each revision a look an edit and a copy.
+    pub fn open_revs(
+        &self,
+        id: &str,
+        which: &OpenRevs,
+        revs: bool,
+    ) -> Result<Vec<OpenRev>, AllocError>
+        ensures { IfOk result (λ found. found.items ≡ open_revs_of self.now.journal id.now which.now revs) }
+    {
+        let alloc = self.store.alloc;
+        match (self.store.document(id), which) {
+            (Some(document), OpenRevs::All) => {
+                let leaves = document.tree.leaves(alloc)?;
+                document.open_revs(alloc, leaves.as_slice(), revs)
+            }
+            (Some(document), OpenRevs::Listed(listed)) => {
+                document.open_revs(alloc, listed.as_slice(), revs)
+            }
+            (None, OpenRevs::All) => Ok(Vec::new(alloc)),
+            (None, OpenRevs::Listed(listed)) => all_missing(alloc, listed.as_slice()),
+        }
+    }
+}
