@@ -4,9 +4,9 @@ ghost use Rattle.std.specs.Prelude.{◌≡◌, option_map, IfOk};
 ghost use Rattle.hub_model.specs.Leaves.{leaves_of};
 ghost use Rattle.hub_model.specs.Missing.{diffs};
 ghost use Rattle.hub_revtree.specs.Winner.{winner_of};
-ghost use Rattle.hub_database.specs.Reads.{open_revs as open_revs_of, lookup, info_of, entry_of, entry_doc_of};
+ghost use Rattle.hub_database.specs.Reads.{open_revs as open_revs_of, lookup, entry_of, entry_doc_of};
 
-use crate::answers::{Diff, Info, Lookup, OpenRev};
+use crate::answers::{Diff, Lookup, OpenRev};
 use crate::database::DbState;
 use hub_document::{Asked, Doc, OpenRevs, RevId};
 use hub_revtree::Winner;
@@ -17,13 +17,6 @@ impl DbState {
     /// map of ids, and what `RevTree::best` costs.
     pub fn winner(&self, id: &str) -> Result<Option<Winner>, AllocError>
         ensures { IfOk result (λ w. w ≡ winner_of (leaves_of self.now.journal id.now)) }
-    {
-        Err(AllocError)
-    }
-
-    /// How many documents there are, and how many edits. Constant time: the counts are kept.
-    pub fn info(&self) -> Result<Info, AllocError>
-        ensures { IfOk result (λ i. i ≡ info_of self.now.journal) }
     {
         Err(AllocError)
     }
