@@ -1,10 +1,12 @@
 pub mod Asking
 pub mod BodyText
 pub mod DocText
+pub mod DraftText
 pub mod Fields
 pub mod Histories
 pub mod Ids
 pub mod Inside
+pub mod Joined
 pub mod Limited
 pub mod Lines
 pub mod Local
@@ -14,3 +16,4 @@ pub mod Read
 pub mod RevisionLaws
 pub mod RevisionText
 pub mod SpecialMembers
+pub mod SpecialText

@@ -13,11 +13,13 @@ mod members;
 mod numbers;
 mod open_revs;
 mod path;
+mod put;
 mod read;
 mod revision;
 mod revisions;
 #[cfg(test)]
 mod tests;
+mod text;
 mod write;
 
 pub use body::Body;

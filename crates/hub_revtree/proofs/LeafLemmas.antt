@@ -1,16 +1,18 @@
 -- The first of the leaves, one branch more at a time.
-use Rattle.std.proofs.Common.{◌≡◌, List, [], ◌∷◌, ◌++◌, length, Bool, true, false, ap, refl, sym, ◌∙◌, subst, append_assoc}
-use Rattle.std.specs.Prelude.{Option, Some, slice_get, drop, if◌then◌else◌}
-use Rattle.std.specs.List.{list_any}
+use Rattle.std.proofs.Common.{◌≡◌, ℕ, ap₂, suc, ◌+◌, ◌≤◌, List, [], ◌∷◌, ◌++◌, length, Bool, true, false, ap, refl, sym, ◌∙◌, subst, append_assoc, inl, inr, arith}
+use Rattle.std.specs.Prelude.{Option, Some, slice_get, drop, if◌then◌else◌, map, insert, not, nat_lt, position, unwrap_or}
+use Rattle.std.specs.List.{list_any, position_or_len}
+use Rattle.std.proofs.lemmas.Bool.{cases_Bool, ltb-false}
+use Rattle.std.proofs.lemmas.List.Sums.{prefix_len-le-length}
 use Rattle.std.proofs.lemmas.Option.{same_Some}
 use Rattle.std.proofs.Math.Seq.{drop-append_seam}
 use Rattle.hub_model.specs.Revision.{Revision}
 use Rattle.hub_model.specs.Journal.{Edit}
-use Rattle.hub_model.specs.Leaves.{Leaf, is_behind_head, with_leaf, leaves_among, comes_before, placed, best_first}
+use Rattle.hub_model.specs.Leaves.{Leaf, is_behind_head, with_leaf, leaves_among, comes_before, placed, best_first, revisions_of}
 use Rattle.hub_revtree.specs.declared.leaf.Winner.{Winner}
 use Rattle.hub_revtree.specs.declared.branch.Branch.{Branch}
 use Rattle.hub_revtree.specs.Branch.{edit_of, edits_in}
-use Rattle.hub_revtree.specs.Winner.{winner_of, better_of}
+use Rattle.hub_revtree.specs.Winner.{winner_of, better_of, is_above, put_in, winners_of}
 use Rattle.hub_revtree.proofs.BranchLemmas.{any_map}
 
 abbrev one : Leaf → Winner
@@ -47,3 +49,49 @@ turn xs front back x e h =
     let whole : front ++ (x ∷ drop (length back) xs) ≡ xs = sym (append_assoc front (x ∷ []) (drop (length back) xs)) ∙ (ap (λ z. z ++ drop (length back) xs) e ∙ h) in
     let left : drop (length front) xs ≡ x ∷ drop (length back) xs = ap (λ z. drop (length front) z) (sym whole) ∙ drop-append_seam front (x ∷ drop (length back) xs) in
     (ap (λ z. front ++ z) left ∙ whole, left)
+
+pub place_within : {A : Type 0} (p : A → Bool) (xs : List A) → position_or_len p xs ≤ length xs
+place_within p xs = prefix_len-le-length (λ x. not (p x)) xs
+
+-- the place of the first that passes, or the end
+place_is : {A : Type 0} (p : A → Bool) (xs : List A) → unwrap_or (position p xs) (length xs) ≡ position_or_len p xs
+place_is p xs = elim (cases_Bool (nat_lt (position_or_len p xs) (length xs))) [
+  | inl t ↦ rw t refl
+  | inr t ↦ rw t (omega (arith, place_within p xs, ltb-false (position_or_len p xs) (length xs) t))
+]
+
+pub place_from : {A : Type 0} (p : A → Bool) (xs : List A) (o : Option ℕ) (n place : ℕ) → o ≡ position p xs → n ≡ length xs → place ≡ unwrap_or o n → place ≡ position_or_len p xs
+place_from p xs o n place found end at = at ∙ (ap₂ (λ (x : Option ℕ) (y : ℕ). unwrap_or x y) found end ∙ place_is p xs)
+
+-- a leaf that is put in its place
+placed_put : (l : Leaf) (ls : List Leaf) → winners_of (placed l ls) ≡ put_in (one l) (winners_of ls)
+placed_put l [] = refl
+placed_put l (m ∷ ms) = from (comes_before l m) (placed_put l ms)
+  where
+    from : (b : Bool) → winners_of (placed l ms) ≡ put_in (one l) (winners_of ms)
+        → winners_of (if b then (l ∷ m ∷ ms) else (m ∷ placed l ms)) ≡ insert (winners_of (m ∷ ms)) (if not b then 1 + position_or_len (is_above (one l)) (winners_of ms) else 0) (one l)
+    from true ih = refl
+    from false ih =
+        let one_on : 1 + position_or_len (is_above (one l)) (winners_of ms) ≡ suc (position_or_len (is_above (one l)) (winners_of ms)) = omega arith in
+        rw one_on (ap (λ ws. one m ∷ ws) ih)
+
+-- the branches from one on that are leaves, best first
+abbrev pub sorted_of : List Branch → List Branch → List Winner
+sorted_of all some = winners_of (best_first (leaves_among (edits_in all) (edits_in some)))
+
+sorted_with : (es : List Edit) (e : Edit) (path : List Revision) (r : Revision) (ls : List Leaf) → slice_get path 0 ≡ Some r → (b : Bool) → list_any (is_behind_head r) es ≡ b
+    → winners_of (best_first (with_leaf es e path ls)) ≡ (if b then winners_of (best_first ls) else put_in (record { rev = r; deleted = e.deleted }) (winners_of (best_first ls)))
+sorted_with es e [] r ls h b is = absurd (cc)
+sorted_with es e (x ∷ older) r ls h true is = let t : list_any (is_behind_head x) es ≡ true = subst (λ z. list_any (is_behind_head z) es ≡ true) (sym (same_Some x r h)) is in rw t refl
+sorted_with es e (x ∷ older) r ls h false is =
+    let t : list_any (is_behind_head x) es ≡ false = subst (λ z. list_any (is_behind_head z) es ≡ false) (sym (same_Some x r h)) is in
+    rw t (placed_put (record { rev = x; edit = e }) (best_first ls) ∙ ap (λ z. put_in (record { rev = z; deleted = e.deleted }) (winners_of (best_first ls))) (same_Some x r h))
+
+pub sorted_more : (all some : List Branch) (branch : Branch) (r : Revision) → slice_get branch.path 0 ≡ Some r → (b : Bool) → list_any (λ c. is_behind_head r (edit_of c)) all ≡ b
+    → sorted_of all (branch ∷ some) ≡ (if b then sorted_of all some else put_in (record { rev = r; deleted = branch.deleted }) (sorted_of all some))
+sorted_more all some branch r h b is = sorted_with (edits_in all) (edit_of branch) branch.path r (leaves_among (edits_in all) (edits_in some)) h b (any_map (is_behind_head r) edit_of all ∙ is)
+
+-- the revisions of the leaves
+pub revs_of : (ls : List Leaf) → map (λ w. w.rev) (winners_of ls) ≡ revisions_of ls
+revs_of [] = refl
+revs_of (l ∷ ls) = ap (λ rs. l.rev ∷ rs) (revs_of ls)

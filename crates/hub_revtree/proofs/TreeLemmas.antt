@@ -36,10 +36,14 @@ rev_tree bs legal = record { legal = legal; one = all_of_one bs }
 pub leaves_by : (bs : List Branch) → leaves_of (edits_in bs) [] ≡ best_first (leaves_among (edits_in bs) (edits_in bs))
 leaves_by bs = ap (λ es. best_first (leaves_among es es)) (all_of_one bs)
 
+-- the same of a slice of the branches
+pub sorted_by : (bs : List Branch) (es : List Edit) → edits_in bs ≡ es → best_first (leaves_among (edits_in bs) (edits_in bs)) ≡ leaves_of es []
+sorted_by bs es same = sym (leaves_by bs) ∙ ap (λ z. leaves_of z []) same
+
 pub legal_push : (bs : List Branch) (b : Branch) → IsLegal (edits_in bs) → IsAcceptable (edits_in bs) (edit_of b) → IsLegal (edits_in (bs ++ b ∷ []))
 legal_push bs b legal a = subst IsLegal (sym (map-append edit_of bs (b ∷ []))) (legal_more (edits_in bs) (edit_of b) legal a)
 
-known_by : (bs : List Branch) (r : Revision) → is_known (edits_in bs) [] r ≡ list_any (λ b. names b.path r) bs
+pub known_by : (bs : List Branch) (r : Revision) → is_known (edits_in bs) [] r ≡ list_any (λ b. names b.path r) bs
 known_by bs r = ap (λ es. list_any (λ (e : Edit). names e.path r) es) (all_of_one bs) ∙ any_map (λ (e : Edit). names e.path r) edit_of bs
 
 knows_of : (bs : List Branch) (r : Revision) → list_any (λ b. names b.path r) bs ≡ true ↔ IsKnown (edits_in bs) [] r
@@ -90,7 +94,7 @@ module _ (bs xs : List Branch) (same : xs ≡ bs) (path : List Revision) (x : Re
 
 -- the mark of a head
 module _ (bs : List Branch) (r : Revision) where
-  in_tree : (bs : List Branch) (b : Branch) → Contains bs b → Contains (edits_in bs) (edit_of b)
+  pub in_tree : (bs : List Branch) (b : Branch) → Contains bs b → Contains (edits_in bs) (edit_of b)
   in_tree [] b c = absurd (contains_none b c)
   in_tree (x ∷ bs) b c =
       ⊎_elim (λ v. subst (λ z. Contains (edits_in (x ∷ bs)) (edit_of z)) v (contains_here (edit_of x) (edits_in bs))) (λ d. contains_there (edit_of x) (edit_of b) (edits_in bs) (in_tree bs b d)) (contains_cases x b bs c)

@@ -1,5 +1,6 @@
 -- The first of some leaves (CouchDB API reference, document revisions and conflicts).
-use Rattle.std.specs.Prelude.{List, [], ◌∷◌, Option, Some, None, if◌then◌else◌}
+use Rattle.std.specs.Prelude.{List, [], ◌∷◌, map, insert, Bool, Option, Some, None, if◌then◌else◌}
+use Rattle.std.specs.List.{position_or_len}
 use Rattle.std.specs.Ordering.{is_gt}
 use Rattle.hub_model.specs.Leaves.{Leaf, leaf_cmp}
 use Rattle.hub_revtree.specs.declared.leaf.Winner.{Winner}
@@ -13,3 +14,15 @@ winner_of (leaf ∷ others) = Some (record { rev = leaf.rev; deleted = leaf.edit
 abbrev pub better_of : Winner → Option Winner → Winner
 better_of leaf None = leaf
 better_of leaf (Some best) = if is_gt (leaf_cmp leaf.deleted leaf.rev best.deleted best.rev) then leaf else best
+
+-- whether a leaf is above another
+abbrev pub is_above : Winner → Winner → Bool
+is_above leaf other = is_gt (leaf_cmp leaf.deleted leaf.rev other.deleted other.rev)
+
+-- a leaf put before the first that it is above, or last
+abbrev pub put_in : Winner → List Winner → List Winner
+put_in leaf leaves = insert leaves (position_or_len (is_above leaf) leaves) leaf
+
+-- the revisions and the marks of the leaves
+abbrev pub winners_of : List Leaf → List Winner
+winners_of leaves = map (λ leaf. record { rev = leaf.rev; deleted = leaf.edit.deleted }) leaves

@@ -1,12 +1,14 @@
 //! One stored edit of a document.
 
-ghost use Rattle.std.specs.Prelude.{◌≡◌, drop, find, option_map};
+ghost use Rattle.std.specs.Prelude.{◌≡◌, drop, filter, find, not, option_map, IfOk};
 ghost use Rattle.std.specs.List.{list_any, list_all};
 ghost use Rattle.hub_model.specs.Path.{names, agrees as agrees_with, is_one as is_at_most_one, is_first};
 ghost use Rattle.hub_model.specs.Leaves.{is_behind_head as stands_behind_head};
+ghost use Rattle.hub_document.specs.Lines.{from_on};
 ghost use Rattle.hub_revtree.specs.Branch.{edit_of};
 
 use hub_document::{Body, Path, RevId};
+use std::alloc::{AllocError, Global};
 
 /// A stored edit: its path, whether it deletes the document, and the members.
 #[derive(Debug, Drop)]
@@ -57,6 +59,30 @@ pub(crate) fn is_named(branches: &[Branch], rev: &RevId) -> bool
     ensures { result ≡ list_any (λ b. names b.path rev.now) branches.now }
 {
     branches.iter().any(|branch| branch.path.names(rev))
+}
+
+/// Those of the revisions that no path names, in the same order. One look a branch for each.
+pub(crate) fn unnamed(
+    alloc: Global,
+    branches: &[Branch],
+    revs: &[RevId],
+) -> Result<Vec<RevId>, AllocError>
+    ensures { IfOk result (λ found. found.items ≡ filter (λ r. not (list_any (λ b. names b.path r) branches.now)) revs.now) }
+{
+    revs.iter()
+        .copied()
+        .filter(|rev| !is_named(branches, rev))
+        .collect(alloc)
+}
+
+/// The revision and all that stands behind it in the first path that names it. One look a branch.
+pub(crate) fn line_from<'a>(branches: &'a [Branch], rev: &RevId) -> Option<&'a [RevId]>
+    ensures { option_map (λ line. line.now) result ≡ option_map (λ b. from_on rev.now b.path) (find (λ b. names b.path rev.now) branches.now) }
+{
+    branches
+        .iter()
+        .find(|branch| branch.path.names(rev))
+        .map(|branch| branch.path.line(rev))
 }
 
 /// Whether the revision stands behind a head. One look a branch.

@@ -1,13 +1,14 @@
 //! The order of leaves.
 
-ghost use Rattle.std.specs.Prelude.{◌≡◌};
+ghost use Rattle.std.specs.Prelude.{◌≡◌, map, position, IfOk, OnOk};
 ghost use Rattle.hub_model.specs.Revision.{revision_cmp};
 ghost use Rattle.hub_model.specs.Leaves.{leaf_cmp, leaves_among, best_first};
 ghost use Rattle.hub_revtree.specs.Branch.{edits_in};
-ghost use Rattle.hub_revtree.specs.Winner.{winner_of, better_of};
+ghost use Rattle.hub_revtree.specs.Winner.{winner_of, better_of, is_above, put_in, winners_of};
 
 use crate::branch::{Branch, is_behind};
 use hub_document::RevId;
+use std::alloc::{AllocError, Global};
 use std::cmp::Ordering;
 
 /// A document's winner.
@@ -62,4 +63,46 @@ pub(crate) fn best_leaf(branches: &[Branch]) -> Option<Winner>
         }
     }
     best
+}
+
+// The place of the first of the leaves that this one is above.
+fn first_below(leaf: &Winner, leaves: &[Winner]) -> Option<usize>
+    ensures { result ≡ position (is_above leaf.now) leaves.now }
+{
+    leaves
+        .iter()
+        .position(|other| leaf_order(leaf, other).is_gt())
+}
+
+// Puts a leaf before the first that it is above.
+fn put(leaves: &mut Vec<Winner>, leaf: Winner) -> Result<(), AllocError>
+    ensures { OnOk result (leaves.new.items ≡ put_in leaf leaves.old.items) }
+{
+    let place = first_below(&leaf, leaves.as_slice()).unwrap_or(leaves.len());
+    leaves.insert(place, leaf)?;
+    Ok(())
+}
+
+/// The branches' heads that stand behind no head, best first. Each head is looked for in each
+/// branch, and each leaf is compared with those that came before it.
+pub(crate) fn best_leaves(alloc: Global, branches: &[Branch]) -> Result<Vec<Winner>, AllocError>
+    ensures { IfOk result (λ leaves. leaves.items ≡ winners_of (best_first (leaves_among (edits_in branches.now) (edits_in branches.now)))) }
+{
+    let mut leaves = Vec::new(alloc);
+    for branch in branches.iter().rev() {
+        let rev = branch.path.head();
+        if is_behind(branches, &rev) {
+            continue;
+        }
+        let deleted = branch.deleted;
+        put(&mut leaves, Winner { rev, deleted })?;
+    }
+    Ok(leaves)
+}
+
+/// The revisions of the leaves, in the same order.
+pub(crate) fn revisions(alloc: Global, leaves: &[Winner]) -> Result<Vec<RevId>, AllocError>
+    ensures { IfOk result (λ revs. revs.items ≡ map (λ w. w.rev) leaves.now) }
+{
+    leaves.iter().map(|leaf| leaf.rev).collect(alloc)
 }

@@ -1,22 +1,56 @@
 //! What a tree is asked.
 
-ghost use Rattle.std.specs.Prelude.{◌≡◌, [], IfOk, find, option_map};
+ghost use Rattle.std.specs.Prelude.{◌≡◌, [], IfOk, filter, find, nat_lt, option_map};
 ghost use Rattle.hub_model.specs.Leaves.{leaves_of, revisions_of};
-ghost use Rattle.hub_model.specs.Missing.{missing as missing_from, possible_ancestors as ancestors_from};
+ghost use Rattle.hub_model.specs.Missing.{highest as highest_of, missing as missing_from, possible_ancestors as ancestors_from};
 ghost use Rattle.hub_model.specs.Walk.{is_head};
 ghost use Rattle.hub_revtree.specs.Extend.{path_to};
+ghost use Rattle.hub_revtree.specs.Tree.{IsRevTree};
 
-use crate::branch::head_body;
+use crate::branch::{head_body, line_from, unnamed};
+use crate::leaf::{best_leaves, revisions};
 use crate::tree::RevTree;
 use hub_document::{Body, Path, RevId, Revisions};
 use std::alloc::{AllocError, Global};
 
+// The greatest generation of the revisions; 0 of none.
+fn highest(revs: &[RevId]) -> u16
+    ensures { result ≡ highest_of revs.now }
+{
+    let mut highest = 0;
+    for rev in revs {
+        highest = rev.generation().max(highest);
+    }
+    highest
+}
+
+// Those of the revisions that are of a generation below this one, in the same order.
+fn below(alloc: Global, revs: &[RevId], generation: u16) -> Result<Vec<RevId>, AllocError>
+    ensures { IfOk result (λ found. found.items ≡ filter (λ r. nat_lt r.generation generation) revs.now) }
+{
+    revs.iter()
+        .copied()
+        .filter(|rev| rev.generation() < generation)
+        .collect(alloc)
+}
+
 impl RevTree {
-    /// The leaves, best first. Each head is looked for in each edit's path.
+    // A known revision and all that stands behind it. One look an edit.
+    pub(crate) fn line(&self, rev: &RevId) -> Option<&[RevId]>
+        ensures line { option_map (λ line. line.now) result ≡ path_to self.now.edits rev.now }
+        ensures tree { IsRevTree self.now.edits }
+    {
+        line_from(self.branches(), rev)
+    }
+
+    /// The leaves, best first. Each head is looked for in each edit's path, and each leaf is compared
+    /// with other leaves: at most the square of the number of edits.
     pub fn leaves(&self, alloc: Global) -> Result<Revisions, AllocError>
         ensures { IfOk result (λ revs. revs ≡ revisions_of (leaves_of self.now.edits [])) }
     {
-        Err(AllocError)
+        let leaves = best_leaves(alloc, self.branches())?;
+        let revs = revisions(alloc, leaves.as_slice())?;
+        Ok(Revisions::new(revs))
     }
 
     /// A known revision and all that stands behind it; None of one that is not known. It costs a
@@ -24,7 +58,11 @@ impl RevTree {
     pub fn path(&self, alloc: Global, rev: &RevId) -> Result<Option<Path>, AllocError>
         ensures { IfOk result (λ path. path ≡ path_to self.now.edits rev.now) }
     {
-        Err(AllocError)
+        let Some(line) = self.line(rev) else {
+            return Ok(None);
+        };
+        let revisions = Vec::from_slice(alloc, line)?;
+        Ok(Some(Path::new(revisions)))
     }
 
     /// The members of the edit that the revision heads; None where it heads none, as an ancestor
@@ -39,7 +77,8 @@ impl RevTree {
     pub fn missing(&self, alloc: Global, revs: &[RevId]) -> Result<Revisions, AllocError>
         ensures { IfOk result (λ found. found ≡ missing_from self.now.edits [] revs.now) }
     {
-        Err(AllocError)
+        let found = unnamed(alloc, self.branches(), revs)?;
+        Ok(Revisions::new(found))
     }
 
     /// The leaves of a generation below the greatest missing one of these revisions, best first:
@@ -48,6 +87,10 @@ impl RevTree {
     pub fn possible_ancestors(&self, alloc: Global, revs: &[RevId]) -> Result<Revisions, AllocError>
         ensures { IfOk result (λ found. found ≡ ancestors_from self.now.edits [] revs.now) }
     {
-        Err(AllocError)
+        let missing = self.missing(alloc, revs)?;
+        let newest = highest(missing.as_slice());
+        let leaves = self.leaves(alloc)?;
+        let found = below(alloc, leaves.as_slice(), newest)?;
+        Ok(Revisions::new(found))
     }
 }

@@ -1,9 +1,12 @@
-//! Trees with their winners, known heads and contradictions.
+//! Trees of edits that documents' texts bring.
+
+mod edits;
+mod looks;
+mod merges;
 
 use crate::{MergeFault, Merged, RevTree};
 use hub_document::{Doc, RevId};
-use std::alloc::Global;
-use std::test::Fail;
+use std::alloc::{AllocError, Global};
 
 // What becomes of the document that the text is.
 fn merge(alloc: Global, tree: &mut RevTree, text: &str) -> Option<Result<Merged, MergeFault>> {
@@ -11,56 +14,18 @@ fn merge(alloc: Global, tree: &mut RevTree, text: &str) -> Option<Result<Merged,
     Some(tree.merge(doc.path?, doc.deleted, doc.body))
 }
 
-#[test]
-fn best_leaf_wins(rt: HostRuntime) -> Result<(), Fail> {
-    let alloc = rt.alloc();
-    let mut tree = RevTree::new(alloc);
-    assert_eq!(rt; tree.winner(), None);
-    for text in [
-        "{\"_id\":\"d\",\"_rev\":\"1-q\"}",
-        "{\"_id\":\"d\",\"_deleted\":true,\"_revisions\":{\"start\":2,\"ids\":[\"b\",\"q\"]}}",
-        "{\"_id\":\"d\",\"_rev\":\"1-z\"}",
-        "{\"_id\":\"d\",\"_revisions\":{\"start\":2,\"ids\":[\"a\",\"q\"]}}",
-    ] {
-        assert_eq!(rt; merge(alloc, &mut tree, text), Some(Ok(Merged::Added)));
+// The revisions' texts, each with a blank behind it.
+fn texts_of(alloc: Global, revs: &[RevId]) -> Result<Vec<u8>, AllocError> {
+    let mut out = Vec::new(alloc);
+    for rev in revs {
+        rev.print(&mut out)?;
+        out.push(b' ')?;
     }
-    assert_eq!(rt; tree.winner(), RevId::read("2-a"));
-    assert_eq!(rt; tree.len(), 4);
-    Ok(())
+    Ok(out)
 }
 
-#[test]
-fn known_heads_change_nothing(rt: HostRuntime) -> Result<(), Fail> {
-    let alloc = rt.alloc();
-    let mut tree = RevTree::new(alloc);
-    let first = "{\"_id\":\"d\",\"_revisions\":{\"start\":2,\"ids\":[\"y\",\"x\"]}}";
-    let other = "{\"_id\":\"d\",\"_revisions\":{\"start\":2,\"ids\":[\"y\",\"q\"]}}";
-    let inner = "{\"_id\":\"d\",\"_rev\":\"1-x\"}";
-    assert_eq!(rt; merge(alloc, &mut tree, first), Some(Ok(Merged::Added)));
-    assert_eq!(rt; merge(alloc, &mut tree, first), Some(Ok(Merged::Known)));
-    assert_eq!(rt; merge(alloc, &mut tree, other), Some(Ok(Merged::Known)));
-    assert_eq!(rt; merge(alloc, &mut tree, inner), Some(Ok(Merged::Known)));
-    assert_eq!(rt; tree.len(), 1);
-    Ok(())
-}
-
-#[test]
-fn contradictions_change_nothing(rt: HostRuntime) -> Result<(), Fail> {
-    let alloc = rt.alloc();
-    let mut tree = RevTree::new(alloc);
-    let first = "{\"_id\":\"d\",\"_revisions\":{\"start\":2,\"ids\":[\"y\",\"x\"]}}";
-    let other = "{\"_id\":\"d\",\"_revisions\":{\"start\":3,\"ids\":[\"w\",\"y\",\"q\"]}}";
-    assert_eq!(rt; merge(alloc, &mut tree, first), Some(Ok(Merged::Added)));
-    assert_eq!(rt;
-        merge(alloc, &mut tree, other),
-        Some(Err(MergeFault::Contradicts))
-    );
-    assert_eq!(rt; tree.len(), 1);
-    assert_eq!(rt; tree.winner(), RevId::read("2-y"));
-    let Some(unknown) = RevId::read("3-w") else {
-        return Ok(());
-    };
-    assert!(rt; !tree.knows(&unknown));
-    assert_eq!(rt; tree.deleted(&unknown), None);
-    Ok(())
+// The texts of the tree's leaves.
+fn leaves_of(alloc: Global, tree: &RevTree) -> Result<Vec<u8>, AllocError> {
+    let leaves = tree.leaves(alloc)?;
+    texts_of(alloc, leaves.as_slice())
 }

@@ -11,7 +11,7 @@ use crate::branch::{Branch, agrees_with_all, head_mark, is_named};
 use crate::fault::{MergeFault, Merged};
 use crate::leaf::{Winner, best_leaf};
 use hub_document::{Body, Path, RevId};
-use std::alloc::Global;
+use std::alloc::{AllocError, Global};
 use std::marker::Model;
 
 /// The stored edits of one document, in the order in which they came. The document's id stands
@@ -64,6 +64,7 @@ impl RevTree {
     // The stored edits.
     pub(crate) fn branches(&self) -> &[Branch]
         ensures edits { edits_in result.now ≡ self.now.edits }
+        ensures tree { IsRevTree self.now.edits }
     {
         self.branches.as_slice()
     }
@@ -75,6 +76,34 @@ impl RevTree {
         RevTree {
             branches: Vec::new(alloc),
         }
+    }
+
+    // What the tree takes its memory from.
+    pub(crate) fn allocator(&self) -> Global {
+        *self.branches.allocator()
+    }
+
+    // The edit, with memory for it.
+    pub(crate) fn made_ready(
+        &mut self,
+        path: Path,
+        deleted: bool,
+        body: Body,
+    ) -> Result<Ready, AllocError>
+        ensures edits { self.new.edits ≡ self.old.edits }
+        ensures ready { IfOk result (λ ready. ready ≡ nameless path deleted body) }
+        ensures room { IfOk result (λ ready. length ready.path ≤ self.new.room) }
+    {
+        // A path has no more revisions than its head's generation, so that one place has room for it.
+        let head = path.head();
+        let _revisions_at_most = head.generation();
+        self.branches.try_reserve(1)?;
+        let branch = Branch {
+            path,
+            deleted,
+            body,
+        };
+        Ok(Ready { branch })
     }
 
     /// How many edits there are.
@@ -140,22 +169,15 @@ impl RevTree {
         ensures room { IfOk result (λ looked. IfSome looked (λ ready. length ready.path ≤ self.new.room)) }
         ensures contradicts { result ≡ Err MergeFault.Contradicts → (¬ HasKnownHead self.old.edits path) × (¬ IsAcceptable self.old.edits (nameless path deleted body)) }
     {
-        // A path has no more revisions than its head's generation, so that one place has room for it.
         let head = path.head();
-        let _revisions_at_most = head.generation();
         if is_named(self.branches.as_slice(), &head) {
             return Ok(None);
         }
         if !agrees_with_all(self.branches.as_slice(), &path) {
             return Err(MergeFault::Contradicts);
         }
-        self.branches.try_reserve(1)?;
-        let branch = Branch {
-            path,
-            deleted,
-            body,
-        };
-        Ok(Some(Ready { branch }))
+        let ready = self.made_ready(path, deleted, body)?;
+        Ok(Some(ready))
     }
 
     /// Takes an edit that `look_merge` made ready. It takes no memory, and constant time.

@@ -1,6 +1,5 @@
-use Rattle.std.proofs.Common.{◌≡◌, ap, ◌∙◌}
+use Rattle.std.proofs.Common.{ap, ◌∙◌}
 use Rattle.std.specs.Prelude.{find, option_map}
-use Rattle.hub_model.specs.Path.{is_first}
 use Rattle.hub_model.specs.Walk.{is_head}
 use Rattle.hub_revtree.proofs.TreeLemmas.{body_by}
 use Rattle.hub_revtree.proofs.tree.RevTree.body.Goals as goal

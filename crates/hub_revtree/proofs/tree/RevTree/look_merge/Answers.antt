@@ -1,5 +1,4 @@
-use Rattle.std.proofs.Common.{sym, arith, refl}
-use Rattle.hub_revtree.proofs.BranchLemmas.{within_generation}
+use Rattle.std.proofs.Common.{sym, refl}
 use Rattle.hub_revtree.proofs.TreeLemmas.{rev_tree, head_known, head_new, acceptable, contradicts}
 use Rattle.hub_revtree.proofs.tree.RevTree.look_merge.Goals as goal
 
@@ -24,11 +23,11 @@ returns-then-not-agrees_with_all-clause-contradicts c =
       contradicts c.self.inside.branches.items _ c.as_slice.ensures.value c.args.path c.head-head.result c.head-head.ensures.value c.is_named.result c.is_named.ensures _ c.as_slice-2.ensures.value c.agrees_with_all.result c.agrees_with_all.ensures c.args.deleted c.args.body c.if-not-agrees_with_all.true,
     ))
 
-pub returns-in_err-try_reserve-clause-tree : goal.returns-in_err-try_reserve-clause-tree
-returns-in_err-try_reserve-clause-tree c = rw c.try_reserve.ensures.items (rev_tree _ c.self.invariant)
+pub returns-in_err-ready-clause-tree : goal.returns-in_err-ready-clause-tree
+returns-in_err-ready-clause-tree c = rw (c.made_ready.ensures.edits, sym c.self.view_is) (rev_tree _ c.self.invariant)
 
 pub returns-clause-tree : goal.returns-clause-tree
-returns-clause-tree c = rw c.try_reserve.ensures.items (rev_tree _ c.self.invariant)
+returns-clause-tree c = rw (c.made_ready.ensures.edits, sym c.self.view_is) (rev_tree _ c.self.invariant)
 
 pub returns-clause-known : goal.returns-clause-known
 returns-clause-known c =
@@ -39,7 +38,4 @@ returns-clause-known c =
 
 pub returns-clause-acceptable : goal.returns-clause-acceptable
 returns-clause-acceptable c =
-    rw (sym c.self.view_is) (acceptable c.self.inside.branches.items _ c.as_slice.ensures.value c.args.path c.head-head.result c.head-head.ensures.value c.is_named.result c.is_named.ensures _ c.as_slice-2.ensures.value c.agrees_with_all.result c.agrees_with_all.ensures c.args.deleted c.args.body c.self.invariant c.head-head.ensures.good c.if-is_named.false c.if-not-agrees_with_all.false)
-
-pub returns-clause-room : goal.returns-clause-room
-returns-clause-room c = omega (arith, within_generation c.args.path c.head-head.result c.head-head.ensures.good c.head-head.ensures.value, c.generation-revisions_at_most.ensures.good.below, c.in_ok-try_reserve.ensures.ok)
+    rw (c.in_ok-ready.ensures.ready, sym c.self.view_is) (acceptable c.self.inside.branches.items _ c.as_slice.ensures.value c.args.path c.head-head.result c.head-head.ensures.value c.is_named.result c.is_named.ensures _ c.as_slice-2.ensures.value c.agrees_with_all.result c.agrees_with_all.ensures c.args.deleted c.args.body c.self.invariant c.head-head.ensures.good c.if-is_named.false c.if-not-agrees_with_all.false)
