@@ -9,12 +9,14 @@ use Rattle.std.proofs.lemmas.List.Folds.{list_any-append}
 use Rattle.std.proofs.Math.ListN.{drop_of_length-le}
 use Rattle.std.proofs.lemmas.Option.{same_Some, none-some, slice_get_within}
 use Rattle.hub_model.specs.Journal.{Edit, IsAcceptable, IsLegal, edits_of}
-use Rattle.hub_model.specs.Current.{is_edited}
+use Rattle.hub_model.specs.Current.{current, is_edited}
 use Rattle.hub_model.proofs.Legal.{legal_more}
 use Rattle.hub_model.proofs.Lists.{same_number, same_text}
 use Rattle.hub_model.proofs.Tests.{or_right}
 use Rattle.hub_database.specs.declared.entry.Entry.{Entry}
 use Rattle.hub_database.specs.Filed.{Filed, named, no_edit, edit_in, edit_at, journal_of, IsFiled}
+use Rattle.hub_database.specs.Store.{one_if}
+use Rattle.hub_database.proofs.CountLemmas.{edited_none, edited_some, documents_more}
 use Rattle.hub_database.proofs.ListLemmas.{get_push, get_push_other, maps_agree, text_same, text_apart, number_apart, or_none}
 
 -- the document is there with these edits, or not at all
@@ -43,7 +45,8 @@ module _ (limit : ℕ) (numbers : List ℕ → Option ℕ) (documents : List Fil
       (numbers' : List ℕ → Option ℕ) (documents' : List Filed)
       (at : slice_get documents' k ≡ Some (record { id = id; latest = length entries + 1; edits = edits ++ e ∷ [] }))
       (other : (j : ℕ) → j ≢ k → slice_get documents' j ≡ slice_get documents j)
-      (this : numbers' id ≡ Some k) (rest : (q : List ℕ) → q ≢ id → numbers' q ≡ numbers q) (fewer : length documents' ≤ length entries + 1) where
+      (this : numbers' id ≡ Some k) (rest : (q : List ℕ) → q ≢ id → numbers' q ≡ numbers q)
+      (stay : (d : Filed) → slice_get documents k ≡ Some d → length documents' ≡ length documents) (more : slice_get documents k ≡ None → length documents' ≡ length documents + 1) where
     abbrev changed : Filed
     changed = record { id = id; latest = length entries + 1; edits = edits ++ e ∷ [] }
 
@@ -168,6 +171,34 @@ module _ (limit : ℕ) (numbers : List ℕ → Option ℕ) (documents : List Fil
         from (inl s) = newest s (same_Some entry y (sym (get_push entries entry) ∙ subst (λ n. slice_get (entries ++ entry ∷ []) n ≡ Some y) s g))
         from (inr n) = let there : slice_get entries i ≡ Some y = sym (get_push_other entries entry i n) ∙ g in older (slice_get_within entries i y there) there (same_number y.document k)
 
+    some' : (j : ℕ) (d : Filed) → slice_get documents' j ≡ Some d → 1 ≤ length d.edits
+    some' j d g = from (same_number j k)
+      where
+        longer : length (edits ++ e ∷ []) ≡ length edits + 1
+        longer = length_push edits e
+
+        from : (j ≡ k) ⊎ (j ≢ k) → 1 ≤ length d.edits
+        from (inl s) = subst (λ (z : Filed). 1 ≤ length z.edits) (same_Some changed d (sym at ∙ subst (λ i. slice_get documents' i ≡ Some d) s g)) (omega (arith, longer))
+        from (inr n) = st.some j d (sym (other j n) ∙ g)
+
+    -- the documents are as many as the current rows
+    as_many : (length documents' ≤ length entries + 1) × (length documents' ≡ length (current (journal_of documents entries ++ named id e ∷ [])))
+    as_many = ⊎_elim (λ w. there w.1.0 w.1.1) (λ w. absent w.0 w.1) was
+      where
+        rows : length (current (journal_of documents entries ++ named id e ∷ [])) + one_if (is_edited id (journal_of documents entries)) ≡ length (current (journal_of documents entries)) + 1
+        rows = documents_more (journal_of documents entries) (named id e)
+
+        there : (d : Filed) → slice_get documents k ≡ Some d → (length documents' ≤ length entries + 1) × (length documents' ≡ length (current (journal_of documents entries ++ named id e ∷ [])))
+        there d g =
+            let has : 1 ≤ length edits = subst (λ es. 1 ≤ length es) (at_k d g).1 (st.some k d g) in
+            let known = edited_some id (journal_of documents entries) (omega (arith, has, ap length kept_of, length-map edits (named id))) in
+            (omega (arith, stay d g, st.fewer), omega (arith, stay d g, st.each, rows, ap one_if known))
+
+        absent : numbers id ≡ None → slice_get documents k ≡ None → (length documents' ≤ length entries + 1) × (length documents' ≡ length (current (journal_of documents entries ++ named id e ∷ [])))
+        absent none g =
+            let new = edited_none id (journal_of documents entries) (st.others id none) in
+            (omega (arith, more g, st.fewer), omega (arith, more g, st.each, rows, ap one_if new))
+
     -- what holds of the documents goes on to hold
     pub filed_more : IsFiled limit numbers' documents' (entries ++ entry ∷ [])
     filed_more = record {
@@ -179,5 +210,7 @@ module _ (limit : ℕ) (numbers : List ℕ → Option ℕ) (documents : List Fil
       latest = latest';
       legal = subst IsLegal (sym journal_is) (legal_more (journal_of documents entries) (named id e) st.legal ok);
       count = omega (arith, room, length_push entries entry);
-      fewer = omega (arith, fewer, length_push entries entry);
+      fewer = omega (arith, as_many.0, length_push entries entry);
+      some = some';
+      each = as_many.1 ∙ ap (λ J. length (current J)) (sym journal_is);
     }

@@ -1,4 +1,5 @@
 pub mod ListLemmas
+pub mod CountLemmas
 pub mod NamedLemmas
 pub mod MergeLemmas
 pub mod FiledLemmas
@@ -7,3 +8,4 @@ pub mod RowLemmas
 pub mod ShownLemmas
 pub mod EntryLemmas
 pub mod MissingLemmas
+pub mod InfoLemmas

@@ -1,7 +1,6 @@
 -- The rows of the documents, one entry more at a time.
 use Rattle.std.proofs.Common.{◌≡◌, ◌≢◌, ℕ, zero, suc, ◌+◌, ◌<◌, List, [], ◌∷◌, ◌++◌, length, Bool, true, false, ap, refl, sym, ◌∙◌, not, arith, append_assoc}
 use Rattle.std.specs.Prelude.{get_or, Option, Some, None, slice_get, drop, map, take, nat_eq, if◌then◌else◌, option_map}
-use Rattle.std.specs.List.{list_any}
 use Rattle.std.proofs.lemmas.List.{length-map}
 use Rattle.std.proofs.lemmas.Option.{slice_get-map, slice_get_within}
 use Rattle.std.proofs.lemmas.Bool.{eq-eqb}

@@ -1,62 +1,88 @@
 -- What storing one edit does to the documents and the journal of a store.
-use Rattle.std.proofs.Common.{◌≡◌, ◌≢◌, ℕ, zero, suc, ◌+◌, ◌<◌, ◌≤◌, List, [], ◌∷◌, ◌++◌, length, Bool, ap, refl, sym, ◌∙◌, subst, arith, inl, inr}
-use Rattle.std.specs.Prelude.{IfOk, OnErr, Result, Ok, Err, get_or, Option, Some, None, slice_get, slice_set, map, option_map, nat_le, if◌then◌else◌}
+use Rattle.std.proofs.Common.{◌≡◌, ◌≢◌, ℕ, zero, suc, ◌+◌, ◌<◌, ◌≤◌, List, [], ◌∷◌, ◌++◌, length, Bool, true, false, ap, refl, sym, ◌∙◌, subst, arith, inl, inr}
+use Rattle.std.specs.Prelude.{IfOk, OnErr, Result, Ok, Err, get_or, Option, Some, None, slice_get, slice_set, map, option_map, nat_le, unwrap_or, if◌then◌else◌}
+use Rattle.std.specs.BTreeMap.{get_by_text}
+use Rattle.std.specs.Map.{update}
 use Rattle.std.specs.Str.{bytes_eq}
+use Rattle.std.specs.declared.alloc.AllocError.{AllocError}
 use Rattle.std.proofs.lemmas.Bool.{leb-false}
-use Rattle.std.proofs.lemmas.Option.{same_Some, slice_get-map, slice_get_past, slice_get_within, get_or_from_slice_get}
+use Rattle.std.proofs.lemmas.Option.{same_Some, none-some, slice_get-map, slice_get_past, slice_get_within, get_or_from_slice_get}
 use Rattle.std.proofs.lemmas.List.{length-map, length_push}
+use Rattle.std.proofs.lemmas.List.Elements.{filter-append}
 use Rattle.std.proofs.Math.Seq.{map-set_same}
 use Rattle.std.proofs.Math.ListN.{length-set}
 use Rattle.hub_model.specs.Revision.{Revision}
-use Rattle.hub_model.specs.Journal.{Edit, edits_of}
-use Rattle.hub_model.specs.Outcome.{merges}
+use Rattle.hub_model.specs.Journal.{Edit, edits_of, head_of}
+use Rattle.hub_model.specs.Leaves.{leaves_of, leaves_among, best_first}
+use Rattle.hub_model.specs.Row.{is_deleted}
 use Rattle.hub_model.specs.declared.outcomes.Outcome.{Outcome}
-use Rattle.hub_model.specs.declared.outcomes.Outcome.TheVariants.{Stored, Known, Refused}
-use Rattle.hub_revtree.specs.Tree.{IsRevTree, nameless}
+use Rattle.hub_model.specs.declared.outcomes.Outcome.TheVariants as outcome
+use Rattle.hub_revtree.specs.Tree.{IsRevTree}
 use Rattle.hub_database.specs.declared.entry.Entry.{Entry}
 use Rattle.hub_database.specs.declared.document.Document.{Document}
-use Rattle.hub_database.specs.Filed.{Filed, named, edit_at, journal_of, IsFiled, Settles, grown, after, numbered}
-use Rattle.hub_database.specs.Store.{filed, files, IsStore, IsSameStore, edits_of_store}
+use Rattle.hub_database.specs.declared.document.Incoming.{Incoming}
+use Rattle.hub_database.specs.declared.document.Looked.{Looked}
+use Rattle.hub_database.specs.declared.document.Looked.TheVariants.{Known, Refused, Ready}
 use Rattle.hub_database.specs.declared.store.Store.{Store}
-use Rattle.std.specs.BTreeMap.{get_by_text}
-use Rattle.std.specs.declared.alloc.AllocError.{AllocError}
+use Rattle.hub_database.specs.Filed.{Filed, named, edit_at, journal_of, IsFiled}
+use Rattle.hub_database.specs.Looked.{Extends, IsStorable, stores_edit, look_at, unless_full, outcome_of, grown, joined, after, numbered}
+use Rattle.hub_database.specs.Store.{filed, files, IsStore, IsCounted, IsSameStore, Inserts, edits_of_store, deleted_in, one_if}
 use Rattle.hub_database.proofs.ListLemmas.{get_push, get_push_other, get_set, get_set_other, text_same, text_apart, count_filter}
-use Rattle.hub_database.proofs.MergeLemmas.{acceptable_in, merges_by}
+use Rattle.hub_database.proofs.CountLemmas.{deleted_more, deleted_some}
+use Rattle.hub_database.proofs.NamedLemmas.{leaves_named, deleted_named}
+use Rattle.hub_database.proofs.MergeLemmas.{acceptable_in, stores_by}
 use Rattle.hub_database.proofs.FiledLemmas.{Was, kept_of, journal_is, filed_more}
 
--- what storing an edit leaves: the documents in order, and what the answer says
-abbrev pub Leaves : ℕ → List Filed → List Entry → Edit → Outcome Revision → (List ℕ → Option ℕ) → List Filed → List Entry → Type 0
-Leaves limit documents entries e o numbers' documents' entries' =
-    IsFiled limit numbers' documents' entries' × (merges limit (journal_of documents entries) e ≡ record { outcome = o; journal = journal_of documents' entries' })
+-- what storing an edit leaves: the documents in order, and the journal with the edit if it is stored
+abbrev pub Leaves : ℕ → List Filed → List Entry → List ℕ → Looked → (List ℕ → Option ℕ) → List Filed → List Entry → Type 0
+Leaves limit documents entries id l numbers' documents' entries' = IsFiled limit numbers' documents' entries' × (journal_of documents' entries' ≡ joined id l (journal_of documents entries))
 
+-- what is to be stored finds the journal not full
+room_in : (limit n : ℕ) (l : Looked) (e : Edit) → unless_full (nat_le limit n) l ≡ Ready e → n < limit
+room_in limit n l e h = leb-false limit n (from (nat_le limit n) l h)
+  where
+    from : (full : Bool) (l : Looked) → unless_full full l ≡ Ready e → full ≡ false
+    from true Known h = absurd (cc)
+    from true (Refused f) h = absurd (cc)
+    from true (Ready x) h = absurd (cc)
+    from false l h = refl
+
+stays : (J J' : List Edit) (id : List ℕ) → J' ≡ J → (count count' : ℕ) (was is : Bool) → was ≡ is_deleted (leaves_of J id) → is ≡ is_deleted (leaves_of J' id)
+    → count ≡ deleted_in J → count' + one_if was ≡ count + one_if is → count' ≡ deleted_in J'
+stays J J' id same count count' was is w i c h =
+    let now : is ≡ was = i ∙ (ap (λ K. is_deleted (leaves_of K id)) same ∙ sym w) in
+    let all : deleted_in J' ≡ deleted_in J = ap deleted_in same in
+    omega (arith, h, c, all, ap one_if now)
+
+-- the count goes on to be that of the documents with a deleted winner
+counted_on : (J J' : List Edit) (id : List ℕ) (l : Looked) → J' ≡ joined id l J → (count count' : ℕ) (was is : Bool) → was ≡ is_deleted (leaves_of J id) → is ≡ is_deleted (leaves_of J' id)
+    → count ≡ deleted_in J → count' + one_if was ≡ count + one_if is → count' ≡ deleted_in J'
+counted_on J J' id Known same count count' was is w i c h = stays J J' id same count count' was is w i c h
+counted_on J J' id (Refused f) same count count' was is w i c h = stays J J' id same count count' was is w i c h
+counted_on J J' id (Ready e) same count count' was is w i c h =
+    let more = deleted_more J (named id e) in
+    let now : is ≡ is_deleted (leaves_of (J ++ named id e ∷ []) id) = i ∙ ap (λ K. is_deleted (leaves_of K id)) same in
+    let all : deleted_in J' ≡ deleted_in (J ++ named id e ∷ []) = ap deleted_in same in
+    omega (arith, h, c, more, all, ap one_if w, ap one_if now)
+
+-- where it is stored
 module _ (limit : ℕ) (numbers : List ℕ → Option ℕ) (documents : List Filed) (entries : List Entry) (st : IsFiled limit numbers documents entries) (id : List ℕ) (k : ℕ) (edits : List Edit) (was : Was numbers documents id k edits)
-    (one : edits_of edits [] ≡ edits) (path : List Revision) (deleted : Bool) (body : List ℕ) where
-  many : length (journal_of documents entries) ≡ length entries
-  many = length-map entries _
-
-  answers : (o : Outcome Revision) → Settles (nat_le limit (length entries)) edits (nameless path deleted body) o
-      → merges limit (journal_of documents entries) (named id (nameless path deleted body)) ≡ record { outcome = o; journal = grown o (journal_of documents entries) (named id (nameless path deleted body)) }
-  answers o s = merges_by (journal_of documents entries) id edits (kept_of limit numbers documents entries st id k edits was) one limit (nat_le limit (length entries)) path deleted body o (ap (nat_le limit) many) s
-
-  -- where it is stored
-  stores : (r : Revision) → Settles (nat_le limit (length entries)) edits (nameless path deleted body) (Stored r) → (numbers' : List ℕ → Option ℕ) (documents' : List Filed)
-      → slice_get documents' k ≡ Some (record { id = id; latest = length entries + 1; edits = edits ++ nameless path deleted body ∷ [] }) → ((j : ℕ) → j ≢ k → slice_get documents' j ≡ slice_get documents j)
-      → numbers' id ≡ Some k → ((q : List ℕ) → q ≢ id → numbers' q ≡ numbers q) → length documents' ≤ length entries + 1
-      → Leaves limit documents entries (named id (nameless path deleted body)) (Stored r) numbers' documents' (entries ++ record { document = k; revision = length edits } ∷ [])
-  stores r s numbers' documents' at other this rest fewer =
-      let ok = acceptable_in (journal_of documents entries) id edits (kept_of limit numbers documents entries st id k edits was) one path deleted body st.legal s.1 in
-      let room : length entries < limit = leb-false limit (length entries) s.2 in (
-        filed_more limit numbers documents entries st id k edits was (nameless path deleted body) ok room numbers' documents' at other this rest fewer,
-        answers (Stored r) s ∙ ap (λ J. record { outcome = Stored r; journal = J }) (sym (journal_is limit numbers documents entries st id k edits was (nameless path deleted body) ok room numbers' documents' at other this rest fewer)),
+    (one : edits_of edits [] ≡ edits) where
+  stores : (e : Edit) → IsStorable edits (Ready e) → length entries < limit → (numbers' : List ℕ → Option ℕ) (documents' : List Filed)
+      → slice_get documents' k ≡ Some (record { id = id; latest = length entries + 1; edits = edits ++ e ∷ [] }) → ((j : ℕ) → j ≢ k → slice_get documents' j ≡ slice_get documents j)
+      → numbers' id ≡ Some k → ((q : List ℕ) → q ≢ id → numbers' q ≡ numbers q)
+      → ((d : Filed) → slice_get documents k ≡ Some d → length documents' ≡ length documents) → (slice_get documents k ≡ None → length documents' ≡ length documents + 1)
+      → Leaves limit documents entries id (Ready e) numbers' documents' (entries ++ record { document = k; revision = length edits } ∷ [])
+  stores e s room numbers' documents' at other this rest stay more =
+      let ok = acceptable_in (journal_of documents entries) id edits (kept_of limit numbers documents entries st id k edits was) one e st.legal s.0 s.1 in (
+        filed_more limit numbers documents entries st id k edits was e ok room numbers' documents' at other this rest stay more,
+        journal_is limit numbers documents entries st id k edits was e ok room numbers' documents' at other this rest stay more,
       )
 
 -- an edit of a document that is there
-module _ (limit : ℕ) (numbers : List ℕ → Option ℕ) (documents : List Document) (entries : List Entry) (st : IsFiled limit numbers (files documents) entries) (id : List ℕ) (k : ℕ) (there : numbers id ≡ Some k) (d : Document) (at : slice_get documents k ≡ Some d) where
+module _ (limit : ℕ) (numbers : List ℕ → Option ℕ) (documents : List Document) (entries : List Entry) (st : IsFiled limit numbers (files documents) entries) (k : ℕ) (d : Document) (at : slice_get documents k ≡ Some d) where
   filed_at : slice_get (files documents) k ≡ Some (filed d)
   filed_at = slice_get-map filed documents k ∙ ap (option_map filed) at
-
-  named_so : d.id ≡ id
-  named_so = let f = st.found id k there in ap (λ (z : Filed). z.id) (same_Some (filed d) f.0 (sym filed_at ∙ f.1)) ∙ f.2
 
   same_files : (d' : Document) → filed d' ≡ filed d → files (slice_set documents k d') ≡ files documents
   same_files d' e = map-set_same filed documents k d' d (e ∙ ap filed (sym (get_or_from_slice_get documents k d d at)))
@@ -64,56 +90,161 @@ module _ (limit : ℕ) (numbers : List ℕ → Option ℕ) (documents : List Doc
   pub in_range : k < length documents
   in_range = slice_get_within documents k d at
 
+  kept_at : edits_of (journal_of (files documents) entries) d.id ≡ map (named d.id) d.tree.edits
+  kept_at = st.kept k (filed d) filed_at
+
   -- a document has no more edits than the journal
   pub few_edits : length d.tree.edits ≤ length entries
   few_edits =
-      let same : length (edits_of (journal_of (files documents) entries) d.id) ≡ length (map (named d.id) d.tree.edits) = ap length (st.kept k (filed d) filed_at) in
+      let same : length (edits_of (journal_of (files documents) entries) d.id) ≡ length (map (named d.id) d.tree.edits) = ap length kept_at in
       omega (arith, same, length-map d.tree.edits (named d.id), count_filter (λ (e : Edit). bytes_eq e.id d.id) (journal_of (files documents) entries), length-map entries (edit_at (files documents)))
+
+  -- its winner is deleted where the tree's is
+  pub mark_at : IsRevTree d.tree.edits → is_deleted (leaves_of d.tree.edits []) ≡ is_deleted (leaves_of (journal_of (files documents) entries) d.id)
+  mark_at tree = sym (ap is_deleted (leaves_named (journal_of (files documents) entries) d.id d.tree.edits kept_at tree.one) ∙ deleted_named d.id (leaves_of d.tree.edits []))
+
+  -- so it is counted
+  pub mark_counted : IsRevTree d.tree.edits → (count : ℕ) → count ≡ deleted_in (journal_of (files documents) entries) → one_if (is_deleted (leaves_of d.tree.edits [])) ≤ count
+  mark_counted tree count c = omega (arith, c, ap one_if (mark_at tree), deleted_some (journal_of (files documents) entries) d.id)
 
   pub unchanged : (d' : Document) (entries' : List Entry) → filed d' ≡ filed d → entries' ≡ entries → IsFiled limit numbers (files (slice_set documents k d')) entries' × (journal_of (files (slice_set documents k d')) entries' ≡ journal_of (files documents) entries)
   unchanged d' entries' e es = rw (same_files d' e, es) (st, refl)
 
-  pub extended : (tree : IsRevTree d.tree.edits) (path : List Revision) (deleted : Bool) (body : List ℕ) (o : Outcome Revision) (d' : Document) (entries' : List Entry)
-      → Settles (nat_le limit (length entries)) d.tree.edits (nameless path deleted body) o → filed d' ≡ after o (filed d) (length entries + 1) (nameless path deleted body) → entries' ≡ grown o entries (record { document = k; revision = length d.tree.edits })
-      → Leaves limit (files documents) entries (named id (nameless path deleted body)) o numbers (files (slice_set documents k d')) entries'
-  extended tree path deleted body (Stored r) d' entries' s e es =
+  leaves_so : (tree : IsRevTree d.tree.edits) (l : Looked) (room : (e : Edit) → l ≡ Ready e → length entries < limit) (d' : Document) (entries' : List Entry)
+      → IsStorable d.tree.edits l → filed d' ≡ after l (filed d) (length entries + 1) → entries' ≡ grown l entries (record { document = k; revision = length d.tree.edits })
+      → Leaves limit (files documents) entries d.id l numbers (files (slice_set documents k d')) entries'
+  leaves_so tree (Ready x) room d' entries' s e es =
       let within : k < length documents = slice_get_within documents k d at in
       let now : slice_get (files (slice_set documents k d')) k ≡ Some (filed d') = slice_get-map filed (slice_set documents k d') k ∙ ap (option_map filed) (get_set documents k d' within) in
-      rw es (stores limit numbers (files documents) entries st id k d.tree.edits (inl (there, (filed d, filed_at, refl))) tree.one path deleted body r s numbers (files (slice_set documents k d'))
-      (now ∙ ap Some (e ∙ ap (λ (i : List ℕ). record { id = i; latest = length entries + 1; edits = d.tree.edits ++ nameless path deleted body ∷ [] }) named_so))
+      rw es (stores limit numbers (files documents) entries st d.id k d.tree.edits (inl (st.own k (filed d) filed_at, (filed d, filed_at, refl))) tree.one x s (room x refl) numbers (files (slice_set documents k d'))
+      (now ∙ ap Some e)
       (λ j n. slice_get-map filed (slice_set documents k d') j ∙ (ap (option_map filed) (get_set_other documents k d' j n) ∙ sym (slice_get-map filed documents j)))
-      there (λ q n. refl) (let l : length (files (slice_set documents k d')) ≡ length (slice_set documents k d') = length-map (slice_set documents k d') filed in omega (arith, l, length-set documents k d', length-map documents filed, st.fewer)))
-  extended tree path deleted body Known d' entries' s e es =
-      rw (same_files d' e, es) (st, answers limit numbers (files documents) entries st id k d.tree.edits (inl (there, (filed d, filed_at, refl))) tree.one path deleted body Known s)
-  extended tree path deleted body (Refused fault) d' entries' s e es =
-      rw (same_files d' e, es) (st, answers limit numbers (files documents) entries st id k d.tree.edits (inl (there, (filed d, filed_at, refl))) tree.one path deleted body (Refused fault) s)
+      (st.own k (filed d) filed_at) (λ q n. refl)
+      (λ f g. let l : length (files (slice_set documents k d')) ≡ length (slice_set documents k d') = length-map (slice_set documents k d') filed in omega (arith, l, length-set documents k d', length-map documents filed))
+      (λ g. absurd (none-some (filed d) (sym g ∙ filed_at))))
+  leaves_so tree Known room d' entries' s e es = rw (same_files d' e, es) (st, refl)
+  leaves_so tree (Refused fault) room d' entries' s e es = rw (same_files d' e, es) (st, refl)
+
+  -- what storing it leaves
+  pub extended : (id : List ℕ) → numbers id ≡ Some k → IsRevTree d.tree.edits → (edit : Incoming) (d' : Document) (entries' : List Entry) (o : Outcome Revision)
+      → Extends (nat_le limit (length entries)) k edit (filed d) (filed d') entries entries' o → IsRevTree d'.tree.edits
+      → (count count' : ℕ) → count ≡ deleted_in (journal_of (files documents) entries) → count' + one_if (is_deleted (leaves_of d.tree.edits [])) ≡ count + one_if (is_deleted (leaves_of d'.tree.edits []))
+      → IsFiled limit numbers (files (slice_set documents k d')) entries'
+      × (stores_edit limit (journal_of (files documents) entries) id edit ≡ record { outcome = o; journal = journal_of (files (slice_set documents k d')) entries' })
+      × (count' ≡ deleted_in (journal_of (files (slice_set documents k d')) entries'))
+  extended id there tree edit d' entries' o x tree' count count' c h =
+      let l : Looked = unless_full (nat_le limit (length entries)) (look_at d.id d.tree.edits edit) in
+      let left = leaves_so tree l (λ e r. room_in limit (length entries) (look_at d.id d.tree.edits edit) e r) d' entries' x.storable x.filed x.journal in
+      let full : nat_le limit (length (journal_of (files documents) entries)) ≡ nat_le limit (length entries) = ap (nat_le limit) (length-map entries (edit_at (files documents))) in
+      let f = st.found id k there in
+      let this : d.id ≡ id = ap (λ (z : Filed). z.id) (same_Some (filed d) f.0 (sym filed_at ∙ f.1)) ∙ f.2 in
+      let said = stores_by (journal_of (files documents) entries) d.id d.tree.edits kept_at tree.one limit (nat_le limit (length entries)) full edit in
+      let answers : stores_edit limit (journal_of (files documents) entries) d.id edit ≡ record { outcome = o; journal = journal_of (files (slice_set documents k d')) entries' } = said ∙ (ap (λ (a : Outcome Revision). record { outcome = a; journal = joined d.id l (journal_of (files documents) entries) }) (sym x.answer) ∙ ap (λ (J : List Edit). record { outcome = o; journal = J }) (sym left.1)) in
+      let now : slice_get (files (slice_set documents k d')) k ≡ Some (filed d') = slice_get-map filed (slice_set documents k d') k ∙ ap (option_map filed) (get_set documents k d' in_range) in
+      let named_now : d'.id ≡ d.id = id_stays l (filed d) (length entries + 1) (filed d') x.filed in
+      let kept_now : edits_of (journal_of (files (slice_set documents k d')) entries') d'.id ≡ map (named d'.id) d'.tree.edits = left.0.kept k (filed d') now in
+      let mark_now : is_deleted (leaves_of d'.tree.edits []) ≡ is_deleted (leaves_of (journal_of (files (slice_set documents k d')) entries') d.id) =
+      sym (ap is_deleted (leaves_named (journal_of (files (slice_set documents k d')) entries') d'.id d'.tree.edits kept_now tree'.one) ∙ deleted_named d'.id (leaves_of d'.tree.edits [])) ∙ ap (λ (i : List ℕ). is_deleted (leaves_of (journal_of (files (slice_set documents k d')) entries') i)) named_now in (
+        left.0,
+        subst (λ i. stores_edit limit (journal_of (files documents) entries) i edit ≡ record { outcome = o; journal = journal_of (files (slice_set documents k d')) entries' }) this answers,
+        counted_on (journal_of (files documents) entries) (journal_of (files (slice_set documents k d')) entries') d.id l left.1 count count' (is_deleted (leaves_of d.tree.edits [])) (is_deleted (leaves_of d'.tree.edits [])) (mark_at tree) mark_now c h,
+      )
+    where
+      id_stays : (l : Looked) (f : Filed) (n : ℕ) (g : Filed) → g ≡ after l f n → g.id ≡ f.id
+      id_stays Known f n g e = ap (λ (z : Filed). z.id) e
+      id_stays (Refused fault) f n g e = ap (λ (z : Filed). z.id) e
+      id_stays (Ready x) f n g e = ap (λ (z : Filed). z.id) e
 
 -- the first edit of a document
-pub inserted : (limit : ℕ) (numbers : List ℕ → Option ℕ) (documents : List Document) (entries : List Entry) → IsFiled limit numbers (files documents) entries → (id : List ℕ) → numbers id ≡ None
-    → (path : List Revision) (deleted : Bool) (body : List ℕ) (o : Outcome Revision) (numbers' : List ℕ → Option ℕ) (documents' : List Document) (entries' : List Entry)
-    → Settles (nat_le limit (length entries)) [] (nameless path deleted body) o → files documents' ≡ grown o (files documents) (record { id = id; latest = length entries + 1; edits = nameless path deleted body ∷ [] })
-    → entries' ≡ grown o entries (record { document = length documents; revision = 0 }) → ((q : List ℕ) → numbers' q ≡ numbered o numbers id (length documents) q)
-    → Leaves limit (files documents) entries (named id (nameless path deleted body)) o numbers' (files documents') entries'
-inserted limit numbers documents entries st id absent path deleted body o numbers' documents' entries' s fs es ns = rw (fs, es) (at o s ns)
+abbrev pub unwritten : List ℕ → Filed
+unwritten id = record { id = id; latest = 0; edits = [] }
+
+inserted : (limit : ℕ) (numbers : List ℕ → Option ℕ) (documents : List Document) (entries : List Entry) → IsFiled limit numbers (files documents) entries → (id : List ℕ) → numbers id ≡ None
+    → (l : Looked) (room : (e : Edit) → l ≡ Ready e → length entries < limit) (numbers' : List ℕ → Option ℕ) (documents' : List Document) (entries' : List Entry)
+    → IsStorable [] l → files documents' ≡ grown l (files documents) (after l (unwritten id) (length entries + 1))
+    → entries' ≡ grown l entries (record { document = length documents; revision = 0 }) → ((q : List ℕ) → numbers' q ≡ numbered l numbers id (length documents) q)
+    → Leaves limit (files documents) entries id l numbers' (files documents') entries'
+inserted limit numbers documents entries st id absent l room numbers' documents' entries' s fs es ns = rw (fs, es) (at l s room ns)
   where
     many_files : length (files documents) ≡ length documents
     many_files = length-map documents filed
 
-    was : Was numbers (files documents) id (length documents) []
-    was = inr (absent, slice_get_past (files documents) (length documents) (omega (arith, many_files)), refl)
+    past : slice_get (files documents) (length documents) ≡ None
+    past = slice_get_past (files documents) (length documents) (omega (arith, many_files))
 
-    at : (o : Outcome Revision) → Settles (nat_le limit (length entries)) [] (nameless path deleted body) o → ((q : List ℕ) → numbers' q ≡ numbered o numbers id (length documents) q)
-        → Leaves limit (files documents) entries (named id (nameless path deleted body)) o numbers' (grown o (files documents) (record { id = id; latest = length entries + 1; edits = nameless path deleted body ∷ [] })) (grown o entries (record { document = length documents; revision = 0 }))
-    at (Stored r) s ns =
-        let new : Filed = record { id = id; latest = length entries + 1; edits = nameless path deleted body ∷ [] } in
-        stores limit numbers (files documents) entries st id (length documents) [] was refl path deleted body r s numbers' (files documents ++ new ∷ [])
+    at : (l : Looked) → IsStorable [] l → ((e : Edit) → l ≡ Ready e → length entries < limit) → ((q : List ℕ) → numbers' q ≡ numbered l numbers id (length documents) q)
+        → Leaves limit (files documents) entries id l numbers' (grown l (files documents) (after l (unwritten id) (length entries + 1))) (grown l entries (record { document = length documents; revision = 0 }))
+    at (Ready e) s room ns =
+        let new : Filed = record { id = id; latest = length entries + 1; edits = e ∷ [] } in
+        stores limit numbers (files documents) entries st id (length documents) [] (inr (absent, past, refl)) refl e s (room e refl) numbers' (files documents ++ new ∷ [])
         (subst (λ n. slice_get (files documents ++ new ∷ []) n ≡ Some new) many_files (get_push (files documents) new))
         (λ j n. get_push_other (files documents) new j (λ e. n (e ∙ many_files)))
         (ns id ∙ ap (λ b. if b then Some (length documents) else numbers id) (text_same id id refl))
         (λ q n. ns q ∙ ap (λ b. if b then Some (length documents) else numbers q) (text_apart id q (λ e. n (sym e))))
-        (omega (arith, length_push (files documents) new, many_files, st.fewer))
-    at Known s ns = let same : numbers' ≡ numbers = λ i q. ns q i in (subst (λ f. IsFiled limit f (files documents) entries) (sym same) st, answers limit numbers (files documents) entries st id (length documents) [] was refl path deleted body Known s)
-    at (Refused fault) s ns = let same : numbers' ≡ numbers = λ i q. ns q i in (subst (λ f. IsFiled limit f (files documents) entries) (sym same) st, answers limit numbers (files documents) entries st id (length documents) [] was refl path deleted body (Refused fault) s)
+        (λ d g. absurd (none-some d (sym past ∙ g))) (λ g. length_push (files documents) new)
+    at Known s room ns = let same : numbers' ≡ numbers = λ i q. ns q i in (subst (λ f. IsFiled limit f (files documents) entries) (sym same) st, refl)
+    at (Refused fault) s room ns = let same : numbers' ≡ numbers = λ i q. ns q i in (subst (λ f. IsFiled limit f (files documents) entries) (sym same) st, refl)
+
+-- the count after it
+first_counted : (J J' : List Edit) (id : List ℕ) (l : Looked) (n count count' : ℕ) → J' ≡ joined id l J → edits_of J id ≡ [] → IsStorable [] l → count ≡ deleted_in J
+    → count' ≡ count + one_if (is_deleted (leaves_of (after l (unwritten id) n).edits [])) → count' ≡ deleted_in J'
+first_counted J J' id Known n count count' same none s c h = omega (arith, h, c, ap deleted_in same)
+first_counted J J' id (Refused fault) n count count' same none s c h = omega (arith, h, c, ap deleted_in same)
+first_counted J J' id (Ready e) n count count' same none s c h =
+    let one : edits_of (e ∷ []) [] ≡ e ∷ [] = ap (λ b. if b then (e ∷ []) else []) (text_same e.id [] s.0) in
+    let kept : edits_of (J ++ named id e ∷ []) id ≡ map (named id) (e ∷ []) = filter-append (λ (f : Edit). bytes_eq f.id id) J (named id e ∷ []) ∙ (ap (λ es. es ++ (if bytes_eq id id then (named id e ∷ []) else [])) none ∙ ap (λ b. if b then (named id e ∷ []) else []) (text_same id id refl)) in
+    let now : is_deleted (leaves_of (e ∷ []) []) ≡ is_deleted (leaves_of (J ++ named id e ∷ []) id) = sym (ap is_deleted (leaves_named (J ++ named id e ∷ []) id (e ∷ []) kept one) ∙ deleted_named id (leaves_of (e ∷ []) [])) in
+    let before : false ≡ is_deleted (leaves_of J id) = sym (ap (λ es. is_deleted (best_first (leaves_among es es))) none) in
+    counted_on J J' id (Ready e) same count count' false (is_deleted (leaves_of (e ∷ []) [])) before (now ∙ ap (λ K. is_deleted (leaves_of K id)) (sym same)) c (omega (arith, h))
+
+-- what a new document brings, one by one
+pub first_stored : (full : Bool) (id : List ℕ) (edit : Incoming) (old new : Store) (none d : Filed) (l : Looked) (e : Edit) (r : Revision) (number : ℕ)
+    → none ≡ unwritten id → l ≡ unless_full full (look_at none.id none.edits edit) → l ≡ Ready e → IsStorable none.edits l → head_of e ≡ Some r
+    → d ≡ record { id = none.id; latest = length old.journal.items + 1; edits = none.edits ++ e ∷ [] } → number ≡ length old.documents.items
+    → files new.documents.items ≡ files old.documents.items ++ d ∷ [] → new.journal.items ≡ old.journal.items ++ record { document = number; revision = length none.edits } ∷ []
+    → ((q : List ℕ) → get_by_text new.numbers q ≡ update bytes_eq (get_by_text old.numbers) id (Some number) q)
+    → new.deleted ≡ old.deleted + one_if (is_deleted (leaves_of d.edits [])) → Inserts full id edit old new (outcome.Stored r)
+first_stored full id edit old new none d l e r number first looked ready storable head now place fs js ns count =
+    let is : unless_full full (look_at id [] edit) ≡ Ready e = sym (ap (λ (z : Filed). unless_full full (look_at z.id z.edits edit)) first) ∙ (sym looked ∙ ready) in
+    let filed_now : d ≡ after (Ready e) (unwritten id) (length old.journal.items + 1) = now ∙ ap (λ (z : Filed). record { id = z.id; latest = length old.journal.items + 1; edits = z.edits ++ e ∷ [] }) first in
+    record {
+      answer = sym (ap outcome_of is ∙ ap (λ o. outcome.Stored (unwrap_or o (record { generation = 0; hash = [] }))) head);
+      files = fs ∙ (ap (λ x. files old.documents.items ++ x ∷ []) filed_now ∙ sym (ap (λ k. grown k (files old.documents.items) (after k (unwritten id) (length old.journal.items + 1))) is));
+      journal = js ∙ (ap (λ n. old.journal.items ++ record { document = n; revision = length none.edits } ∷ []) place
+          ∙ (ap (λ (z : Filed). old.journal.items ++ record { document = length old.documents.items; revision = length z.edits } ∷ []) first
+          ∙ sym (ap (λ k. grown k old.journal.items (record { document = length old.documents.items; revision = 0 })) is)));
+      numbers = λ q. ns q ∙ (ap (λ n. update bytes_eq (get_by_text old.numbers) id (Some n) q) place ∙ sym (ap (λ k. numbered k (get_by_text old.numbers) id (length old.documents.items) q) is));
+      storable = subst (IsStorable []) (ready ∙ sym is) (subst (λ (z : Filed). IsStorable z.edits l) first storable);
+      deleted = count ∙ (ap (λ (z : Filed). old.deleted + one_if (is_deleted (leaves_of z.edits []))) filed_now ∙ sym (ap (λ k. old.deleted + one_if (is_deleted (leaves_of (after k (unwritten id) 0).edits []))) is));
+    }
+
+-- what storing it leaves
+pub inserted_so : (old new : Store) → IsStore old → IsCounted old → (id : List ℕ) → get_by_text old.numbers id ≡ None → (edit : Incoming) (o : Outcome Revision)
+    → Inserts (nat_le old.limits.journal (length old.journal.items)) id edit old new o → new.limits ≡ old.limits
+    → IsStore new × (stores_edit old.limits.journal (edits_of_store old) id edit ≡ record { outcome = o; journal = edits_of_store new }) × IsCounted new
+inserted_so old new st counted id absent edit o x stay =
+    let l : Looked = unless_full (nat_le old.limits.journal (length old.journal.items)) (look_at id [] edit) in
+    let left = inserted old.limits.journal (get_by_text old.numbers) old.documents.items old.journal.items st id absent l (λ e r. room_in old.limits.journal (length old.journal.items) (look_at id [] edit) e r) (get_by_text new.numbers) new.documents.items new.journal.items x.storable x.files x.journal x.numbers in
+    let none : edits_of (edits_of_store old) id ≡ [] = st.others id absent in
+    let full : nat_le old.limits.journal (length (edits_of_store old)) ≡ nat_le old.limits.journal (length old.journal.items) = ap (nat_le old.limits.journal) (length-map old.journal.items (edit_at (files old.documents.items))) in
+    let said = stores_by (edits_of_store old) id [] none refl old.limits.journal (nat_le old.limits.journal (length old.journal.items)) full edit in (
+      rw stay left.0,
+      said ∙ (ap (λ (a : Outcome Revision). record { outcome = a; journal = joined id l (edits_of_store old) }) (sym x.answer) ∙ ap (λ (J : List Edit). record { outcome = o; journal = J }) (sym left.1)),
+      first_counted (edits_of_store old) (edits_of_store new) id l 0 old.deleted new.deleted left.1 none x.storable counted x.deleted,
+    )
+
+-- a call that changed nothing
+pub same_store : (old new : Store) → IsStore old → IsCounted old → IsSameStore old new → new.limits ≡ old.limits → IsStore new × IsCounted new × (edits_of_store new ≡ edits_of_store old)
+same_store old new st counted w stay =
+    let same : get_by_text new.numbers ≡ get_by_text old.numbers = λ i q. w.numbers q i in
+    (rw (stay, same, w.documents, w.journal) st, rw (w.deleted, w.documents, w.journal) counted, rw (w.documents, w.journal) refl)
+
+-- what the call leaves
+pub inserted_all : (old new : Store) → IsStore old → IsCounted old → (id : List ℕ) → get_by_text old.numbers id ≡ None → (edit : Incoming) (result : Result (Outcome Revision) AllocError)
+    → IfOk result (Inserts (nat_le old.limits.journal (length old.journal.items)) id edit old new) → OnErr result (IsSameStore old new) → new.limits ≡ old.limits
+    → IsStore new × IfOk result (λ o. stores_edit old.limits.journal (edits_of_store old) id edit ≡ record { outcome = o; journal = edits_of_store new }) × IsCounted new
+inserted_all old new st counted id absent edit (Ok o) x w stay = let left = inserted_so old new st counted id absent edit o x stay in (left.0, left.1, left.2)
+inserted_all old new st counted id absent edit (Err e) x w stay = let left = same_store old new st counted w stay in (left.0, tt, left.1)
 
 pub get_at : {A : Type 0} (xs : List A) (k : ℕ) (d : A) → k < length xs → d ≡ get_or xs k d → slice_get xs k ≡ Some d
 get_at [] k d h e = absurd (omega arith)
@@ -124,25 +255,7 @@ get_at (x ∷ xs) (suc k) d h e = get_at xs k d (omega arith) e
 pub number_below : (limit : ℕ) (numbers : List ℕ → Option ℕ) (documents : List Document) (entries : List Entry) → IsFiled limit numbers (files documents) entries → (id : List ℕ) (k : ℕ) → numbers id ≡ Some k → k < length documents
 number_below limit numbers documents entries st id k there = let f = st.found id k there in omega (arith, slice_get_within (files documents) k f.0 f.1, length-map documents filed)
 
--- the same as `extended` and `unchanged`, of a call's result
-pub extended_so : (limit : ℕ) (numbers : List ℕ → Option ℕ) (documents : List Document) (entries : List Entry) (st : IsFiled limit numbers (files documents) entries) (id : List ℕ) (k : ℕ) (there : numbers id ≡ Some k) (d : Document) (at : slice_get documents k ≡ Some d)
-    → IsRevTree d.tree.edits → (path : List Revision) (deleted : Bool) (body : List ℕ) (result : Result (Outcome Revision) AllocError) (d' : Document) (entries' : List Entry)
-    → IfOk result (Settles (nat_le limit (length entries)) d.tree.edits (nameless path deleted body)) → IfOk result (λ o. filed d' ≡ after o (filed d) (length entries + 1) (nameless path deleted body))
-    → IfOk result (λ o. entries' ≡ grown o entries (record { document = k; revision = length d.tree.edits })) → OnErr result ((filed d' ≡ filed d) × (entries' ≡ entries))
-    → IsFiled limit numbers (files (slice_set documents k d')) entries' × IfOk result (λ o. merges limit (journal_of (files documents) entries) (named id (nameless path deleted body)) ≡ record { outcome = o; journal = journal_of (files (slice_set documents k d')) entries' })
-    × OnErr result (journal_of (files (slice_set documents k d')) entries' ≡ journal_of (files documents) entries)
-extended_so limit numbers documents entries st id k there d at tree path deleted body (Ok o) d' entries' s f e w = let l = extended limit numbers documents entries st id k there d at tree path deleted body o d' entries' s f e in (l.0, l.1, tt)
-extended_so limit numbers documents entries st id k there d at tree path deleted body (Err x) d' entries' s f e w = let l = unchanged limit numbers documents entries st id k there d at d' entries' w.0 w.1 in (l.0, tt, l.1)
-
--- the same as `inserted`
-pub inserted_so : (old new : Store) → IsStore old → (id : List ℕ) → get_by_text old.numbers id ≡ None → (path : List Revision) (deleted : Bool) (body : List ℕ) (result : Result (Outcome Revision) AllocError)
-    → IfOk result (Settles (nat_le old.limits.journal (length old.journal.items)) [] (nameless path deleted body))
-    → IfOk result (λ o. files new.documents.items ≡ grown o (files old.documents.items) (record { id = id; latest = length old.journal.items + 1; edits = nameless path deleted body ∷ [] }))
-    → IfOk result (λ o. new.journal.items ≡ grown o old.journal.items (record { document = length old.documents.items; revision = 0 }))
-    → IfOk result (λ o. (q : List ℕ) → get_by_text new.numbers q ≡ numbered o (get_by_text old.numbers) id (length old.documents.items) q) → OnErr result (IsSameStore old new) → new.limits ≡ old.limits
-    → IsStore new × IfOk result (λ o. merges old.limits.journal (edits_of_store old) (named id (nameless path deleted body)) ≡ record { outcome = o; journal = edits_of_store new }) × OnErr result (edits_of_store new ≡ edits_of_store old)
-inserted_so old new st id absent path deleted body (Ok o) s f e n w stay =
-    let l = inserted old.limits.journal (get_by_text old.numbers) old.documents.items old.journal.items st id absent path deleted body o (get_by_text new.numbers) new.documents.items new.journal.items s f e n in (rw stay l.0, l.1, tt)
-inserted_so old new st id absent path deleted body (Err x) s f e n w stay =
-    let same : get_by_text new.numbers ≡ get_by_text old.numbers = λ i q. w.numbers q i in
-    (rw (stay, same, w.documents, w.journal) st, tt, rw (w.documents, w.journal) refl)
+-- what holds in any case holds of an error
+pub on_err : {T E : Type 0} (result : Result T E) (P : Type 0) → P → OnErr result P
+on_err (Ok x) P p = tt
+on_err (Err e) P p = p

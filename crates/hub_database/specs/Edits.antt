@@ -1,8 +1,14 @@
 -- What becomes of documents that are stored (CouchDB API reference, _bulk_docs, PUT and DELETE of a document).
-use Rattle.std.specs.Prelude.{ℕ, List, [], map, Bool, false, unwrap_or, if◌then◌else◌}
+use Rattle.std.specs.Prelude.{ℕ, List, [], Bool, false, unwrap_or, Result, Ok, Err, if◌then◌else◌}
 use Rattle.hub_model.specs.Journal.{Edit}
 use Rattle.hub_model.specs.Draft.{Draft, makes}
 use Rattle.hub_model.specs.Outcome.{Stores, StoresAll, merges, stores_all}
+use Rattle.hub_model.specs.Revision.{Revision}
+use Rattle.hub_model.specs.declared.outcomes.Fault.TheVariants as fault
+use Rattle.hub_model.specs.declared.outcomes.Outcome.{Outcome}
+use Rattle.hub_model.specs.declared.outcomes.Outcome.TheVariants as outcome
+use Rattle.hub_database.specs.declared.batch.DbFault.{DbFault}
+use Rattle.hub_database.specs.declared.batch.DbFault.TheVariants as db_fault
 use Rattle.hub_document.specs.declared.doc.Doc.{Doc}
 
 -- a document as an edit; where it has no history its path is empty, which is none
@@ -20,3 +26,9 @@ stores_doc new_edits limit J doc = if new_edits then makes limit J (draft_of doc
 -- documents one after the other
 abbrev pub writes : Bool → ℕ → List Edit → List Doc → StoresAll
 writes new_edits limit J docs = stores_all (stores_doc new_edits limit) false J docs
+
+-- what a call answers whose one edit came so: as an edit that is made is never known before, Known is told as a conflict
+abbrev pub reply_of : Outcome Revision → Result Revision DbFault
+reply_of (outcome.Stored rev) = Ok rev
+reply_of (outcome.Refused f) = Err (db_fault.Refused f)
+reply_of outcome.Known = Err (db_fault.Refused fault.Conflict)

@@ -1,13 +1,7 @@
 -- The documents of a database with their trees, and the journal that they make up (own).
-use Rattle.std.specs.Prelude.{◌≡◌, ℕ, ◌+◌, ◌<◌, ◌≤◌, List, [], ◌∷◌, ◌++◌, length, drop, map, slice_get, get_or, Bool, false, true, not, nat_eq, Option, Some, None}
-use Rattle.std.specs.Map.{update}
-use Rattle.std.specs.Str.{bytes_eq}
-use Rattle.hub_model.specs.Revision.{Revision}
-use Rattle.hub_model.specs.Journal.{Edit, IsLegal, edits_of, head_of, is_head_known, is_acceptable}
-use Rattle.hub_model.specs.Current.{is_edited}
-use Rattle.hub_model.specs.declared.outcomes.Fault.TheVariants.{Contradicts, SequenceFull}
-use Rattle.hub_model.specs.declared.outcomes.Outcome.{Outcome}
-use Rattle.hub_model.specs.declared.outcomes.Outcome.TheVariants.{Stored, Known, Refused}
+use Rattle.std.specs.Prelude.{◌≡◌, ℕ, ◌+◌, ◌<◌, ◌≤◌, List, [], length, drop, map, slice_get, get_or, false, not, nat_eq, Option, Some, None}
+use Rattle.hub_model.specs.Journal.{Edit, IsLegal, edits_of}
+use Rattle.hub_model.specs.Current.{current, is_edited}
 use Rattle.hub_database.specs.declared.entry.Entry.{Entry}
 
 -- a document: its id, the sequence of its latest edit, and its edits with their id left out
@@ -47,29 +41,5 @@ pub record IsFiled (limit : ℕ) (numbers : List ℕ → Option ℕ) (documents 
   pub legal : IsLegal (journal_of documents entries)
   pub count : length entries ≤ limit
   pub fewer : length documents ≤ length entries
-
--- what storing an edit answers, after the edits of its document, where the journal is full or not
-abbrev pub Settles : Bool → List Edit → Edit → Outcome Revision → Type 0
-Settles full edits e (Stored r) = (is_head_known edits [] e.path ≡ false) × (is_acceptable edits e ≡ true) × (full ≡ false) × (head_of e ≡ Some r)
-Settles full edits e Known = is_head_known edits [] e.path ≡ true
-Settles full edits e (Refused Contradicts) = (is_head_known edits [] e.path ≡ false) × (is_acceptable edits e ≡ false)
-Settles full edits e (Refused SequenceFull) = (is_head_known edits [] e.path ≡ false) × (is_acceptable edits e ≡ true) × (full ≡ true)
-Settles full edits e (Refused _) = ⊥
-
--- the list with x at its end, where the outcome is that it was stored
-abbrev pub grown : {A : Type 0} → Outcome Revision → List A → A → List A
-grown (Stored r) xs x = xs ++ x ∷ []
-grown Known xs x = xs
-grown (Refused fault) xs x = xs
-
--- the document with e as its latest edit, where the outcome is that it was stored
-abbrev pub after : Outcome Revision → Filed → ℕ → Edit → Filed
-after (Stored r) d n e = record { id = d.id; latest = n; edits = d.edits ++ e ∷ [] }
-after Known d n e = d
-after (Refused fault) d n e = d
-
--- the numbers by id, with this one where the outcome is that it was stored
-abbrev pub numbered : Outcome Revision → (List ℕ → Option ℕ) → List ℕ → ℕ → List ℕ → Option ℕ
-numbered (Stored r) numbers id k = update bytes_eq numbers id (Some k)
-numbered Known numbers id k = numbers
-numbered (Refused fault) numbers id k = numbers
+  pub some : (k : ℕ) (d : Filed) → slice_get documents k ≡ Some d → 1 ≤ length d.edits
+  pub each : length documents ≡ length (current (journal_of documents entries))

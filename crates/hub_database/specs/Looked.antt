@@ -1,13 +1,98 @@
--- What a look at a tree may give (own).
-use Rattle.std.specs.Prelude.{◌≡◌, ◌≤◌, ℕ, List, length, Bool}
-use Rattle.hub_model.specs.Journal.{Edit, IsAcceptable}
-use Rattle.hub_model.specs.declared.outcomes.Outcome.TheVariants.{Stored, Known, Refused}
-use Rattle.hub_database.specs.Filed.{Settles}
+-- What a look at a document's tree says of an edit, and what that does to the documents and the journal (own).
+use Rattle.std.specs.Prelude.{◌≡◌, ◌+◌, ◌≤◌, ℕ, List, [], ◌∷◌, ◌++◌, length, Bool, true, if◌then◌else◌, Option, Some, Result, Ok, Err, unwrap_or}
+use Rattle.std.specs.Map.{update}
+use Rattle.std.specs.Str.{bytes_eq}
+use Rattle.hub_model.specs.Revision.{Revision}
+use Rattle.hub_model.specs.Journal.{Edit, IsAcceptable, head_of, is_head_known, is_acceptable}
+use Rattle.hub_model.specs.declared.outcomes.Fault.TheVariants as fault
+use Rattle.hub_model.specs.declared.outcomes.Outcome.{Outcome}
+use Rattle.hub_model.specs.declared.outcomes.Outcome.TheVariants as outcome
+use Rattle.hub_model.specs.Outcome.{Stores, merges}
+use Rattle.hub_model.specs.Draft.{makes}
+use Rattle.hub_revtree.specs.Extend.{draft, extends}
+use Rattle.hub_revtree.specs.Tree.{nameless}
+use Rattle.hub_revtree.specs.declared.fault.EditFault.{EditFault}
+use Rattle.hub_revtree.specs.declared.fault.EditFault.TheVariants as edit_fault
+use Rattle.hub_database.specs.Filed.{Filed, named}
+use Rattle.hub_database.specs.declared.entry.Entry.{Entry}
+use Rattle.hub_database.specs.declared.document.Incoming.{Incoming}
+use Rattle.hub_database.specs.declared.document.Origin.{Origin}
+use Rattle.hub_database.specs.declared.document.Origin.TheVariants.{Elsewhere, Here}
 use Rattle.hub_database.specs.declared.document.Looked.{Looked}
-use Rattle.hub_database.specs.declared.document.Looked.TheVariants as looked
+use Rattle.hub_database.specs.declared.document.Looked.TheVariants.{Known, Refused, Ready}
 
--- what is known of the edit e after a look at a tree with these edits and this room
-abbrev pub LooksAs : Bool → List Edit → Edit → ℕ → Looked → Type 0
-LooksAs full edits e room looked.Known = Settles full edits e Known
-LooksAs full edits e room (looked.Refused fault) = Settles full edits e (Refused fault)
-LooksAs full edits e room (looked.Ready head ready) = Settles full edits e (Stored head) × (ready ≡ e) × IsAcceptable edits ready × (length ready.path ≤ room)
+-- what storing an edit of the document answers, and the journal after it
+abbrev pub stores_from : ℕ → List Edit → List ℕ → Origin → Bool → List ℕ → Stores
+stores_from limit J id (Elsewhere path) deleted body = merges limit J (named id (nameless path deleted body))
+stores_from limit J id (Here rev) deleted body = makes limit J (draft id rev deleted body)
+
+-- the same of a document's part of a write
+abbrev pub stores_edit : ℕ → List Edit → List ℕ → Incoming → Stores
+stores_edit limit J id edit = stores_from limit J id edit.origin edit.deleted edit.body
+
+-- what is said of an edit with its history, by the tests
+abbrev pub look_by : Edit → Bool → Bool → Looked
+look_by e known acceptable = if known then Known else if acceptable then Ready e else Refused fault.Contradicts
+
+-- what is said of an edit that is made here: what it becomes, or why it becomes none
+abbrev pub look_made : Result Edit EditFault → Looked
+look_made (Ok e) = Ready e
+look_made (Err edit_fault.GenerationLimit) = Refused fault.GenerationLimit
+look_made (Err _) = Refused fault.Conflict
+
+-- what is said of an edit after these edits of its document, whose id is left out
+abbrev pub look_from : List ℕ → List Edit → Origin → Bool → List ℕ → Looked
+look_from id edits (Elsewhere path) deleted body = look_by (nameless path deleted body) (is_head_known edits [] path) (is_acceptable edits (nameless path deleted body))
+look_from id edits (Here rev) deleted body = look_made (extends edits (draft id rev deleted body))
+
+-- the same of a document's part of a write
+abbrev pub look_at : List ℕ → List Edit → Incoming → Looked
+look_at id edits edit = look_from id edits edit.origin edit.deleted edit.body
+
+-- where the journal is full nothing is stored
+abbrev pub unless_full : Bool → Looked → Looked
+unless_full true (Ready e) = Refused fault.SequenceFull
+unless_full full l = l
+
+-- an edit that is to be stored may stand after these edits, its id left out
+abbrev pub IsStorable : List Edit → Looked → Type 0
+IsStorable edits (Ready e) = (e.id ≡ []) × IsAcceptable edits e
+IsStorable edits l = Unit {0}
+
+-- a tree with this room has room for it
+abbrev pub HasRoom : ℕ → Looked → Type 0
+HasRoom room (Ready e) = length e.path ≤ room
+HasRoom room l = Unit {0}
+
+-- the answer
+abbrev pub outcome_of : Looked → Outcome Revision
+outcome_of Known = outcome.Known
+outcome_of (Refused f) = outcome.Refused f
+outcome_of (Ready e) = outcome.Stored (unwrap_or (head_of e) (record { generation = 0; hash = [] }))
+
+-- the list with x at its end, where the edit is stored
+abbrev pub grown : {A : Type 0} → Looked → List A → A → List A
+grown (Ready e) xs x = xs ++ x ∷ []
+grown l xs x = xs
+
+-- the journal with the edit at its end, if it is stored
+abbrev pub joined : List ℕ → Looked → List Edit → List Edit
+joined id (Ready e) J = J ++ named id e ∷ []
+joined id l J = J
+
+-- the document with the edit as its latest one, if it is stored
+abbrev pub after : Looked → Filed → ℕ → Filed
+after (Ready e) d n = record { id = d.id; latest = n; edits = d.edits ++ e ∷ [] }
+after l d n = d
+
+-- the numbers by id, with this one if the edit is stored
+abbrev pub numbered : Looked → (List ℕ → Option ℕ) → List ℕ → ℕ → List ℕ → Option ℕ
+numbered (Ready e) numbers id k = update bytes_eq numbers id (Some k)
+numbered l numbers id k = numbers
+
+-- what storing an edit leaves: L is what a look says of it
+pub record Extends (full : Bool) (number : ℕ) (edit : Incoming) (old new : Filed) (before later : List Entry) (o : Outcome Revision) : Type 0 where
+  pub answer : o ≡ outcome_of (unless_full full (look_at old.id old.edits edit))
+  pub filed : new ≡ after (unless_full full (look_at old.id old.edits edit)) old (length before + 1)
+  pub journal : later ≡ grown (unless_full full (look_at old.id old.edits edit)) before (record { document = number; revision = length old.edits })
+  pub storable : IsStorable old.edits (unless_full full (look_at old.id old.edits edit))

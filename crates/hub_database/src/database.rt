@@ -9,12 +9,15 @@ ghost use Rattle.hub_model.specs.declared.outcomes.Fault.{Fault};
 ghost use Rattle.hub_model.specs.declared.outcomes.Outcome.TheVariants.{Stored};
 ghost use Rattle.hub_model.specs.Row.{row_of};
 ghost use Rattle.hub_model.specs.declared.feeds.Style.TheVariants.{MainOnly};
-ghost use Rattle.hub_database.specs.Edits.{draft_of, writes};
+ghost use Rattle.hub_database.specs.Edits.{draft_of, writes, reply_of};
+ghost use Rattle.hub_database.specs.Reads.{info_of};
 
+use crate::answers::Info;
 use crate::batch::{Batch, DbFault, Replies};
 use crate::local::Local;
 use crate::store::Store;
 use hub_document::{ChangeRow, Doc, Limits, RevId};
+use hub_model::{Fault, Outcome};
 use std::alloc::{AllocError, Global};
 use std::collections::BTreeMap;
 use std::marker::Model;
@@ -34,11 +37,22 @@ impl Model for DbState {
     ghost Value = { Database };
 
     ghost use Rattle.hub_database.specs.Kept.{kept};
-    ghost use Rattle.hub_database.specs.Store.{IsStore, edits_of_store};
+    ghost use Rattle.hub_database.specs.Store.{IsStore, IsCounted, edits_of_store};
 
     ghost view = { λ a. record { journal = edits_of_store a.store; locals = kept a.locals; limits = a.store.limits } };
 
-    ghost invariant = { λ a. IsStore a.store };
+    ghost invariant = { λ a. IsStore a.store × IsCounted a.store };
+}
+
+// What a call answers whose edit came so. No edit that is made here was known before.
+fn reply(outcome: Outcome<RevId>) -> Result<RevId, DbFault>
+    ensures { result ≡ reply_of outcome }
+{
+    match outcome {
+        Outcome::Stored(rev) => Ok(rev),
+        Outcome::Refused(fault) => Err(DbFault::Refused(fault)),
+        Outcome::Known => Err(DbFault::Refused(Fault::Conflict)),
+    }
 }
 
 impl DbState {
@@ -78,7 +92,23 @@ impl DbState {
         ensures locals { self.new.locals ≡ self.old.locals }
         ensures err { IfErr result (λ e. (e ≡ DbFault.NoMemory) × (self.new ≡ self.old)) }
     {
-        Err(DbFault::NoMemory)
+        let mut list = Vec::new(self.store.alloc);
+        list.try_reserve(docs.len())?;
+        for doc in docs {
+            match self.store.write(doc, new_edits) {
+                Ok(outcome) => list.push_reserved(outcome),
+                Err(AllocError) => {
+                    return Ok(Batch {
+                        replies: Replies::new(list),
+                        stopped: true,
+                    });
+                }
+            }
+        }
+        Ok(Batch {
+            replies: Replies::new(list),
+            stopped: false,
+        })
     }
 
     /// Stores one edit whose revision is made here, and says that revision (CouchDB API reference,
@@ -93,7 +123,22 @@ impl DbState {
         ensures err { IfErr result (λ e. (self.new ≡ self.old) × ((e ≡ DbFault.NoMemory)
             ⊎ ((fault : Fault) × (e ≡ DbFault.Refused fault) × (makes self.old.limits.journal self.old.journal (draft_of doc) ≡ refuses self.old.journal fault)))) }
     {
-        Err(DbFault::NoMemory)
+        let outcome = self.store.write(doc, true)?;
+        reply(outcome)
+    }
+
+    /// How many documents there are, and how many edits (CouchDB API reference, `GET /{db}`).
+    /// Constant time: the counts are kept.
+    pub fn info(&self) -> Info
+        ensures { result ≡ info_of self.now.journal }
+    {
+        let doc_count = self.store.documents.len() as u64;
+        let doc_del_count = self.store.deleted;
+        Info {
+            doc_count: doc_count - doc_del_count,
+            doc_del_count,
+            update_seq: self.update_seq(),
+        }
     }
 
     /// The current rows, rising, each with the winner (CouchDB API reference, `_changes` with

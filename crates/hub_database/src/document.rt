@@ -1,17 +1,18 @@
 //! One document of a database.
 
-ghost use Rattle.std.specs.Prelude.{[], ◌∷◌, None, ◌≡◌, ◌+◌, ◌<◌, ◌≤◌, ◌^◌, nat_le, length, take, IfOk, OnOk, OnErr};
+ghost use Rattle.std.specs.Prelude.{[], ◌∷◌, ◌++◌, None, Some, ◌≡◌, ◌+◌, ◌<◌, ◌≤◌, ◌^◌, nat_le, length, take, vec_len, vec_capacity, IfOk, OnOk, OnErr};
+ghost use Rattle.hub_model.specs.Journal.{IsAcceptable, head_of};
 ghost use Rattle.hub_model.specs.Leaves.{leaves_of, revisions_of};
 ghost use Rattle.hub_model.specs.Row.{is_deleted};
-ghost use Rattle.hub_revtree.specs.Tree.{IsRevTree, nameless};
-ghost use Rattle.hub_database.specs.Filed.{Settles, grown, after};
+ghost use Rattle.hub_revtree.specs.Tree.{IsRevTree};
+ghost use Rattle.hub_database.specs.Looked.{IsStorable, HasRoom, look_from, look_at, unless_full, Extends};
 ghost use Rattle.hub_database.specs.Store.{filed};
-ghost use Rattle.hub_database.specs.Looked.{LooksAs};
+ghost use Rattle.hub_database.specs.declared.document.Origin.TheVariants.{Elsewhere, Here};
 
 use crate::entry::Entry;
 use hub_document::{Body, ChangeRow, DocId, Path, RevId, Revisions};
 use hub_model::{Fault, Outcome};
-use hub_revtree::{MergeFault, Ready, RevTree};
+use hub_revtree::{EditFault, MergeFault, Ready, RevTree};
 use std::alloc::{AllocError, Global};
 
 /// A document: the sequence of its latest edit, and its tree.
@@ -22,10 +23,19 @@ pub(crate) struct Document {
     pub(crate) tree: RevTree,
 }
 
+/// Where an edit's revision is made.
+#[derive(Debug, Drop)]
+pub(crate) enum Origin {
+    /// In another database: it comes with its history.
+    Elsewhere(Path),
+    /// Here, on the leaf that is named, or without a name on one that is chosen.
+    Here(Option<RevId>),
+}
+
 /// A document's part of a write.
 #[derive(Debug, Drop)]
 pub(crate) struct Incoming {
-    pub(crate) path: Path,
+    pub(crate) origin: Origin,
     pub(crate) deleted: bool,
     pub(crate) body: Body,
 }
@@ -37,35 +47,148 @@ pub(crate) enum Looked {
     Known,
     /// The edit is refused.
     Refused(Fault),
-    /// This is to be stored, with its revision.
-    Ready(RevId, Ready),
+    /// This is to be stored.
+    Ready(Ready),
 }
 
-/// What becomes of an edit, where the journal is full or not: the tree decides first. It costs what
-/// `RevTree::look_merge` does.
-pub(crate) fn look(tree: &mut RevTree, full: bool, edit: Incoming) -> Result<Looked, AllocError>
+impl Looked {
+    // The same, but that a full journal takes nothing.
+    fn unless_full(self, full: bool) -> Looked
+        ensures { result ≡ unless_full full self }
+    {
+        if !full {
+            return self;
+        }
+        match self {
+            Looked::Known => Looked::Known,
+            Looked::Refused(fault) => Looked::Refused(fault),
+            Looked::Ready(_) => Looked::Refused(Fault::SequenceFull),
+        }
+    }
+}
+
+// What becomes of an edit that comes with its history.
+fn look_merge(
+    tree: &mut RevTree,
+    path: Path,
+    deleted: bool,
+    body: Body,
+) -> Result<Looked, AllocError>
     ensures edits { tree.new.edits ≡ tree.old.edits }
     ensures tree { IsRevTree tree.old.edits }
-    ensures looked { IfOk result (LooksAs full tree.old.edits (nameless edit.path edit.deleted edit.body) tree.new.room) }
+    ensures looked { IfOk result (λ l. l ≡ look_from [] tree.old.edits (Elsewhere path) deleted body) }
+    ensures storable { IfOk result (IsStorable tree.old.edits) }
+    ensures room { IfOk result (HasRoom tree.new.room) }
 {
-    let head = edit.path.head();
-    match tree.look_merge(edit.path, edit.deleted, edit.body) {
+    match tree.look_merge(path, deleted, body) {
         Ok(None) => Ok(Looked::Known),
-        Ok(Some(ready)) => {
-            if full {
-                Ok(Looked::Refused(Fault::SequenceFull))
-            } else {
-                Ok(Looked::Ready(head, ready))
-            }
-        }
+        Ok(Some(ready)) => Ok(Looked::Ready(ready)),
         Err(MergeFault::Contradicts) => Ok(Looked::Refused(Fault::Contradicts)),
         Err(MergeFault::NoMemory) => Err(AllocError),
     }
 }
 
+// What becomes of an edit that is made here.
+fn look_extend(
+    tree: &mut RevTree,
+    id: &DocId,
+    parent: Option<RevId>,
+    deleted: bool,
+    body: Body,
+) -> Result<Looked, AllocError>
+    ensures edits { tree.new.edits ≡ tree.old.edits }
+    ensures tree { IsRevTree tree.old.edits }
+    ensures looked { IfOk result (λ l. l ≡ look_from id.now tree.old.edits (Here parent) deleted body) }
+    ensures storable { IfOk result (IsStorable tree.old.edits) }
+    ensures room { IfOk result (HasRoom tree.new.room) }
+{
+    match tree.look_extend(id, parent, deleted, body) {
+        Ok(ready) => Ok(Looked::Ready(ready)),
+        Err(EditFault::Conflict) => Ok(Looked::Refused(Fault::Conflict)),
+        Err(EditFault::GenerationLimit) => Ok(Looked::Refused(Fault::GenerationLimit)),
+        Err(EditFault::NoMemory) => Err(AllocError),
+    }
+}
+
+/// What becomes of an edit of the document with this id, where the journal is full or not: the tree
+/// decides first. It costs what `RevTree::look_merge` or `RevTree::look_extend` does.
+pub(crate) fn look(
+    tree: &mut RevTree,
+    id: &DocId,
+    full: bool,
+    edit: Incoming,
+) -> Result<Looked, AllocError>
+    ensures edits { tree.new.edits ≡ tree.old.edits }
+    ensures tree { IsRevTree tree.old.edits }
+    ensures looked { IfOk result (λ l. l ≡ unless_full full (look_at id.now tree.old.edits edit)) }
+    ensures storable { IfOk result (IsStorable tree.old.edits) }
+    ensures room { IfOk result (HasRoom tree.new.room) }
+{
+    let Incoming {
+        origin,
+        deleted,
+        body,
+    } = edit;
+    match origin {
+        Origin::Elsewhere(path) => {
+            let looked = look_merge(tree, path, deleted, body)?;
+            Ok(looked.unless_full(full))
+        }
+        Origin::Here(parent) => {
+            let looked = look_extend(tree, id, parent, deleted, body)?;
+            Ok(looked.unless_full(full))
+        }
+    }
+}
+
 impl Document {
-    /// Stores one more edit of a document that is there, which has this number. It costs what
-    /// `RevTree::look_merge` does.
+    /// A document with no edit.
+    pub(crate) fn new(alloc: Global, id: DocId) -> Document
+        ensures { filed result ≡ record { id = id; latest = 0; edits = [] } }
+    {
+        Document {
+            id,
+            latest: 0,
+            tree: RevTree::new(alloc),
+        }
+    }
+
+    /// Whether the winner is deleted. It costs what `RevTree::best` does.
+    pub(crate) fn is_deleted(&self) -> bool
+        ensures mark { result ≡ is_deleted (leaves_of self.now.tree.edits []) }
+        ensures tree { IsRevTree self.now.tree.edits }
+    {
+        match self.tree.best() {
+            Some(winner) => winner.deleted,
+            None => false,
+        }
+    }
+
+    /// Takes an edit that was looked at, and says its revision. The journal has room for it. It takes
+    /// no memory, and constant time.
+    pub(crate) fn take(&mut self, journal: &mut Vec<Entry>, number: u32, ready: Ready) -> RevId
+        requires acceptable { IsAcceptable self.old.tree.edits ready }
+        requires room { length ready.path ≤ self.old.tree.room }
+        requires entry { vec_len journal.old + 1 ≤ vec_capacity journal.old }
+        requires few { length self.old.tree.edits ≤ length journal.old.items }
+        requires limit { length journal.old.items + 1 < 2 ^ 32 }
+        ensures rev { head_of ready ≡ Some result }
+        ensures filed { filed self.new ≡ record { id = self.old.id; latest = length journal.old.items + 1; edits = self.old.tree.edits ++ ready ∷ [] } }
+        ensures journal { journal.new.items ≡ journal.old.items ++ record { document = number; revision = length self.old.tree.edits } ∷ [] }
+    {
+        let rev = ready.rev();
+        let revision = self.tree.len() as u32;
+        self.tree.adopt(ready);
+        journal.push_reserved(Entry {
+            document: number,
+            revision,
+        });
+        self.latest = journal.len() as u32;
+        rev
+    }
+
+    /// Stores one more edit of a document that is there, which has this number. It costs what `look`
+    /// does.
     pub(crate) fn extend(
         &mut self,
         journal: &mut Vec<Entry>,
@@ -76,25 +199,16 @@ impl Document {
         requires limit { limit < 2 ^ 32 }
         requires few { length self.old.tree.edits ≤ length journal.old.items }
         ensures tree { IsRevTree self.old.tree.edits }
-        ensures settles { IfOk result (Settles (nat_le limit (length journal.old.items)) self.old.tree.edits (nameless edit.path edit.deleted edit.body)) }
-        ensures filed { IfOk result (λ o. filed self.new ≡ after o (filed self.old) (length journal.old.items + 1) (nameless edit.path edit.deleted edit.body)) }
-        ensures journal { IfOk result (λ o. journal.new.items ≡ grown o journal.old.items (record { document = number; revision = length self.old.tree.edits })) }
+        ensures extended { IfOk result (Extends (nat_le limit (length journal.old.items)) number edit (filed self.old) (filed self.new) journal.old.items journal.new.items) }
         ensures err { OnErr result ((filed self.new ≡ filed self.old) × (journal.new.items ≡ journal.old.items)) }
     {
         let full = journal.len() as u64 >= limit;
-        match look(&mut self.tree, full, edit)? {
+        match look(&mut self.tree, &self.id, full, edit)? {
             Looked::Known => Ok(Outcome::Known),
             Looked::Refused(fault) => Ok(Outcome::Refused(fault)),
-            Looked::Ready(head, ready) => {
+            Looked::Ready(ready) => {
                 journal.try_reserve(1)?;
-                let revision = self.tree.len() as u32;
-                self.tree.adopt(ready);
-                journal.push_reserved(Entry {
-                    document: number,
-                    revision,
-                });
-                self.latest = journal.len() as u32;
-                Ok(Outcome::Stored(head))
+                Ok(Outcome::Stored(self.take(journal, number, ready)))
             }
         }
     }

@@ -5,10 +5,10 @@ ghost use Rattle.hub_model.specs.Journal.{edits_of};
 ghost use Rattle.hub_model.specs.Leaves.{leaves_of};
 ghost use Rattle.hub_revtree.specs.Winner.{winner_of};
 ghost use Rattle.hub_database.specs.Found.{IsFound};
-ghost use Rattle.hub_database.specs.Reads.{lookup, info_of};
+ghost use Rattle.hub_database.specs.Reads.{lookup};
 ghost use Rattle.hub_database.specs.Store.{IsStore, edits_of_store};
 
-use crate::answers::{Info, Lookup};
+use crate::answers::Lookup;
 use crate::database::DbState;
 use crate::document::Document;
 use crate::store::Store;
@@ -37,13 +37,6 @@ impl DbState {
     {
         let document = self.store.document(id)?;
         document.tree.best()
-    }
-
-    /// How many documents there are, and how many edits. Constant time: the counts are kept.
-    pub fn info(&self) -> Result<Info, AllocError>
-        ensures { IfOk result (λ i. i ≡ info_of self.now.journal) }
-    {
-        Err(AllocError)
     }
 
     /// A document: its winner, with its history where `revs` asks for it. A look in the map of ids,

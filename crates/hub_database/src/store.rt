@@ -1,21 +1,18 @@
 //! Documents with their trees, and the journal.
 
-ghost use Rattle.std.specs.Prelude.{ℕ, List, [], ◌∷◌, false, ◌≡◌, ◌+◌, ◌≤◌, nat_le, length, map, IfOk, OnErr};
+ghost use Rattle.std.specs.Prelude.{[], false, ◌≡◌, ◌+◌, ◌<◌, ◌≤◌, ◌^◌, nat_le, length, map, IfOk, OnErr};
 ghost use Rattle.std.specs.BTreeMap.{get_by_text};
 ghost use Rattle.hub_model.specs.Current.{current};
-ghost use Rattle.hub_model.specs.Outcome.{merges};
 ghost use Rattle.hub_model.specs.Row.{row_of};
 ghost use Rattle.hub_model.specs.declared.feeds.Style.TheVariants.{MainOnly};
-ghost use Rattle.hub_revtree.specs.Tree.{nameless};
-ghost use Rattle.hub_database.specs.Edits.{edit_of};
-ghost use Rattle.hub_database.specs.Filed.{Settles, grown, numbered};
-ghost use Rattle.hub_database.specs.Store.{IsStore, IsSameStore, edits_of_store, files};
+ghost use Rattle.hub_database.specs.Edits.{stores_doc};
+ghost use Rattle.hub_database.specs.Looked.{stores_edit};
+ghost use Rattle.hub_database.specs.Store.{IsStore, IsCounted, IsSameStore, Inserts, edits_of_store, one_if};
 
-use crate::document::{Document, Incoming, Looked, look};
+use crate::document::{Document, Incoming, Looked, Origin, look};
 use crate::entry::Entry;
 use hub_document::{ChangeRow, Doc, DocId, Limits, RevId};
 use hub_model::{Fault, Outcome};
-use hub_revtree::RevTree;
 use std::alloc::{AllocError, Global};
 use std::collections::BTreeMap;
 
@@ -25,13 +22,32 @@ pub(crate) struct Store {
     pub(crate) documents: Vec<Document>,
     pub(crate) numbers: BTreeMap<String, u32>,
     pub(crate) journal: Vec<Entry>,
+    /// How many documents have a deleted winner.
+    pub(crate) deleted: u64,
     pub(crate) limits: Limits,
     pub(crate) alloc: Global,
+}
+
+// The count of documents with a deleted winner, after a document whose winner was one, or was not,
+// and is one now, or is not.
+fn recounted(count: u64, was: bool, is: bool) -> u64
+    requires some { one_if was ≤ count }
+    requires fits { count < 2 ^ 63 }
+    ensures { result + one_if was ≡ count + one_if is }
+{
+    if was == is {
+        return count;
+    }
+    if is {
+        return count + 1;
+    }
+    count - 1
 }
 
 impl Store {
     pub(crate) fn new(alloc: Global, limits: Limits) -> Store
         ensures state { IsStore result }
+        ensures counted { IsCounted result }
         ensures empty { edits_of_store result ≡ [] }
         ensures limits { result.limits ≡ limits }
     {
@@ -39,6 +55,7 @@ impl Store {
             documents: Vec::new(alloc),
             numbers: BTreeMap::new(alloc),
             journal: Vec::new(alloc),
+            deleted: 0,
             limits,
             alloc,
         }
@@ -47,34 +64,27 @@ impl Store {
     // Stores the first edit of a document. The map grows last, and what comes after it takes no
     // memory.
     fn insert(&mut self, id: DocId, edit: Incoming) -> Result<Outcome<RevId>, AllocError>
-        requires { length self.old.documents.items ≤ length self.old.journal.items }
-        ensures settles { IfOk result (Settles (nat_le self.old.limits.journal (length self.old.journal.items)) [] (nameless edit.path edit.deleted edit.body)) }
-        ensures files { IfOk result (λ o. files self.new.documents.items ≡ grown o (files self.old.documents.items) (record { id = id; latest = length self.old.journal.items + 1; edits = nameless edit.path edit.deleted edit.body ∷ [] })) }
-        ensures journal { IfOk result (λ o. self.new.journal.items ≡ grown o self.old.journal.items (record { document = length self.old.documents.items; revision = 0 })) }
-        ensures numbers { IfOk result (λ o. (q : List ℕ) → get_by_text self.new.numbers q ≡ numbered o (get_by_text self.old.numbers) id (length self.old.documents.items) q) }
+        requires few { length self.old.documents.items ≤ length self.old.journal.items }
+        requires count { self.old.deleted ≤ length self.old.documents.items }
+        ensures inserted { IfOk result (Inserts (nat_le self.old.limits.journal (length self.old.journal.items)) id edit self.old self.new) }
         ensures limits { self.new.limits ≡ self.old.limits }
         ensures err { OnErr result (IsSameStore self.old self.new) }
     {
         let full = self.journal.len() as u64 >= self.limits.journal;
-        let alloc = self.alloc;
-        let mut tree = RevTree::new(alloc);
-        match look(&mut tree, full, edit)? {
+        let mut document = Document::new(self.alloc, id);
+        match look(&mut document.tree, &document.id, full, edit)? {
             Looked::Known => Ok(Outcome::Known),
             Looked::Refused(fault) => Ok(Outcome::Refused(fault)),
-            Looked::Ready(head, ready) => {
+            Looked::Ready(ready) => {
                 self.documents.try_reserve(1)?;
                 self.journal.try_reserve(1)?;
                 let number = self.documents.len() as u32;
-                let key = String::from_str(alloc, id.as_str())?;
+                let key = String::from_str(self.alloc, document.id.as_str())?;
                 self.numbers.insert(key, number)?;
-                tree.adopt(ready);
-                self.journal.push_reserved(Entry {
-                    document: number,
-                    revision: 0,
-                });
-                let latest = self.journal.len() as u32;
-                self.documents.push_reserved(Document { id, latest, tree });
-                Ok(Outcome::Stored(head))
+                let rev = document.take(&mut self.journal, number, ready);
+                self.deleted = recounted(self.deleted, false, document.is_deleted());
+                self.documents.push_reserved(document);
+                Ok(Outcome::Stored(rev))
             }
         }
     }
@@ -86,36 +96,72 @@ impl Store {
         self.numbers.get(id).copied()
     }
 
-    /// Stores one document. It costs a look in the map, and what `RevTree::look_merge` does.
-    pub(crate) fn write(&mut self, doc: Doc) -> Result<Outcome<RevId>, AllocError>
-        requires { IsStore self.old }
+    // Stores an edit of the document with this id.
+    fn store(&mut self, id: DocId, edit: Incoming) -> Result<Outcome<RevId>, AllocError>
+        requires state { IsStore self.old }
+        requires counted { IsCounted self.old }
         ensures state { IsStore self.new }
+        ensures counted { IsCounted self.new }
         ensures limits { self.new.limits ≡ self.old.limits }
-        ensures ok { IfOk result (λ o. merges self.old.limits.journal (edits_of_store self.old) (edit_of doc) ≡ record { outcome = o; journal = edits_of_store self.new }) }
+        ensures ok { IfOk result (λ o. stores_edit self.old.limits.journal (edits_of_store self.old) id edit ≡ record { outcome = o; journal = edits_of_store self.new }) }
+        ensures err { OnErr result (edits_of_store self.new ≡ edits_of_store self.old) }
+    {
+        match self.number_of(id.as_str()) {
+            Some(number) => {
+                let document = &mut self.documents[number as usize];
+                let was = document.is_deleted();
+                let outcome = document.extend(
+                    &mut self.journal,
+                    number,
+                    self.limits.journal,
+                    edit,
+                )?;
+                self.deleted = recounted(self.deleted, was, document.is_deleted());
+                Ok(outcome)
+            }
+            None => self.insert(id, edit),
+        }
+    }
+
+    /// Stores one document: with `new_edits` its revision is made here. It costs a look in the map,
+    /// what `RevTree::look_extend` or `RevTree::look_merge` does, and what `RevTree::best` does.
+    pub(crate) fn write(&mut self, doc: Doc, new_edits: bool) -> Result<Outcome<RevId>, AllocError>
+        requires state { IsStore self.old }
+        requires counted { IsCounted self.old }
+        ensures state { IsStore self.new }
+        ensures counted { IsCounted self.new }
+        ensures limits { self.new.limits ≡ self.old.limits }
+        ensures ok { IfOk result (λ o. stores_doc new_edits self.old.limits.journal (edits_of_store self.old) doc ≡ record { outcome = o; journal = edits_of_store self.new }) }
         ensures err { OnErr result (edits_of_store self.new ≡ edits_of_store self.old) }
     {
         let Doc {
             id,
+            rev,
             path,
             deleted,
             body,
-            ..
         } = doc;
+        if new_edits {
+            return self.store(
+                id,
+                Incoming {
+                    origin: Origin::Here(rev),
+                    deleted,
+                    body,
+                },
+            );
+        }
         let Some(path) = path else {
             return Ok(Outcome::Refused(Fault::Contradicts));
         };
-        let edit = Incoming {
-            path,
-            deleted,
-            body,
-        };
-        match self.number_of(id.as_str()) {
-            Some(number) => {
-                let document = &mut self.documents[number as usize];
-                document.extend(&mut self.journal, number, self.limits.journal, edit)
-            }
-            None => self.insert(id, edit),
-        }
+        self.store(
+            id,
+            Incoming {
+                origin: Origin::Elsewhere(path),
+                deleted,
+                body,
+            },
+        )
     }
 
     /// The rows of the documents, each at its latest edit, rising. It goes once through the journal,

@@ -1,0 +1,13 @@
+use Rattle.std.proofs.Common.{◌≡◌, ◌∙◌, ◌+◌, ◌-◌, ap, sym, length, arith}
+use Rattle.hub_database.specs.Database.{Database}
+use Rattle.hub_database.specs.Reads.{info_of}
+use Rattle.hub_database.proofs.InfoLemmas.{count_below, info_by}
+use Rattle.hub_database.proofs.database.DbState.info.Goals as goal
+
+pub returns : goal.returns
+returns c =
+    let store = c.self.inside.store in
+    let below = count_below store c.self.invariant.0 c.self.invariant.1 in
+    let sum : (c.len-doc_count.result - store.deleted) + store.deleted ≡ length store.documents.items = omega (arith, below, c.len-doc_count.ensures, store.documents.ok.0) in
+    info_by store c.self.invariant.0 c.self.invariant.1 (c.len-doc_count.result - store.deleted) c.update_seq.result sum
+    (c.update_seq.ensures.value ∙ sym (ap (λ (z : Database). length z.journal) c.self.view_is)) ∙ ap (λ (z : Database). info_of z.journal) c.self.view_is
