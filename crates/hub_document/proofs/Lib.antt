@@ -1,4 +1,6 @@
+pub mod MadeLemmas
 mod PathLemmas
 mod PlaceLemmas
 mod RevisionLemmas
 mod TextLemmas
+pub mod WriteLemmas

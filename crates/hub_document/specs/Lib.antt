@@ -1,6 +1,7 @@
 pub mod Asking
 pub mod BodyText
 pub mod DocText
+pub mod DraftText
 pub mod Fields
 pub mod Histories
 pub mod Ids

@@ -39,14 +39,16 @@ impl Body {
     pub fn empty(alloc: Global) -> Result<Body, AllocError>
         ensures { IfOk result (λ b. b ≡ codes "{}") }
     {
-        Err(AllocError)
+        let text = Vec::from_slice(alloc, b"{}")?;
+        Ok(Body { text })
     }
 
     /// A copy. It costs the text's length.
     pub fn copy(&self, alloc: Global) -> Result<Body, AllocError>
         ensures { IfOk result (λ b. b ≡ self.now) }
     {
-        Err(AllocError)
+        let text = Vec::from_slice(alloc, self.text.as_slice())?;
+        Ok(Body { text })
     }
 }
 

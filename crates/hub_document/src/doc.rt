@@ -59,7 +59,25 @@ impl Doc {
     pub fn copy(&self, alloc: Global) -> Result<Doc, AllocError>
         ensures { IfOk result (λ d. d ≡ self.now) }
     {
-        Err(AllocError)
+        let id = self.id.copy(alloc)?;
+        let path = copied_path(alloc, &self.path)?;
+        let body = self.body.copy(alloc)?;
+        Ok(Doc {
+            id,
+            rev: self.rev,
+            path,
+            deleted: self.deleted,
+            body,
+        })
+    }
+}
+
+fn copied_path(alloc: Global, path: &Option<Path>) -> Result<Option<Path>, AllocError>
+    ensures { IfOk result (λ p. p ≡ path.now) }
+{
+    match path {
+        Some(path) => Ok(Some(path.copy(alloc)?)),
+        None => Ok(None),
     }
 }
 

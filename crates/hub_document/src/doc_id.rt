@@ -32,7 +32,11 @@ impl DocId {
     pub fn read(alloc: Global, text: &str) -> Result<Option<DocId>, AllocError>
         ensures { IfOk result (λ o. o ≡ short_id text.now) }
     {
-        Err(AllocError)
+        if !is_id(text) || text.len() > 512 {
+            return Ok(None);
+        }
+        let id = DocId::copied(alloc, text)?;
+        Ok(Some(id))
     }
 
     /// A copy of the text. It costs the text's length.

@@ -18,6 +18,7 @@ mod revision;
 mod revisions;
 #[cfg(test)]
 mod tests;
+mod text;
 mod write;
 
 pub use body::Body;

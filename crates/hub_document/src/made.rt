@@ -1,11 +1,18 @@
 //! The revisions that a database makes.
 
-ghost use Rattle.std.specs.Prelude.{◌≡◌, ◌<◌, IfOk};
-ghost use Rattle.hub_model.specs.Draft.{made, generation_of};
+ghost use Rattle.std.specs.Prelude.{◌≡◌, ◌<◌, ◌≤◌, ◌++◌, codes, IfOk, OnOk};
+ghost use Rattle.md5.specs.Md5.{md5};
+ghost use Rattle.hex.specs.Hex.{encode_lower};
+ghost use Rattle.hub_model.specs.Draft.{made, generation_of as generation_in, bool_text, parent_text};
+ghost use Rattle.hub_document.specs.DraftText.{front_text};
+ghost use Rattle.hub_document.specs.RevisionText.{with_hash};
 
 use crate::body::Body;
 use crate::doc_id::DocId;
 use crate::revision::RevId;
+use crate::text::put_quoted;
+use hex::encode_to_slice;
+use md5::{Digest, Md5};
 use std::alloc::{AllocError, Global};
 
 /// The revision of an edit that is made here: its generation is one above its parent's, and its hash
@@ -18,8 +25,73 @@ pub fn rev_of_edit(
     id: &DocId,
     body: &Body,
 ) -> Result<RevId, AllocError>
-    requires { generation_of parent < 65535 }
+    requires { generation_in parent < 65535 }
     ensures { IfOk result (λ r. r ≡ made (record { id = id.now; rev = parent; deleted = deleted; body = body.now }) parent) }
 {
-    Err(AllocError)
+    let front = draft_front(alloc, deleted, parent, id.as_str())?;
+    let digest = digest_of(front.as_slice(), body.as_bytes());
+    Ok(hashed(generation_of(&parent) + 1, &digest))
+}
+
+fn generation_of(parent: &Option<RevId>) -> u16
+    ensures { result ≡ generation_in parent.now }
+{
+    match parent {
+        Some(rev) => rev.generation(),
+        None => 0,
+    }
+}
+
+// What stands before the parent.
+fn opening(deleted: bool) -> &'static [u8]
+    ensures { result.now ≡ codes "[" ++ (bool_text deleted ++ codes ",") }
+{
+    if deleted { b"[true," } else { b"[false," }
+}
+
+fn put_parent(out: &mut Vec<u8>, parent: Option<RevId>) -> Result<(), AllocError>
+    ensures { OnOk result (out.new.items ≡ out.old.items ++ parent_text parent) }
+{
+    match parent {
+        Some(rev) => rev.print_quoted(out),
+        None => out.extend_from_slice(b"null"),
+    }
+}
+
+// What is hashed before the body.
+fn draft_front(
+    alloc: Global,
+    deleted: bool,
+    parent: Option<RevId>,
+    id: &str,
+) -> Result<Vec<u8>, AllocError>
+    ensures { IfOk result (λ v. v.items ≡ front_text deleted parent id.now) }
+{
+    let mut front = Vec::from_slice(alloc, opening(deleted))?;
+    put_parent(&mut front, parent)?;
+    front.extend_from_slice(b",")?;
+    put_quoted(&mut front, id)?;
+    front.extend_from_slice(b",")?;
+    Ok(front)
+}
+
+// The body is hashed where it stands, and not copied.
+fn digest_of(front: &[u8], body: &[u8]) -> [u8; 16]
+    ensures { result ≡ md5 (front.now ++ body.now ++ codes "]") }
+{
+    let mut hasher = Md5::new();
+    hasher.update(front);
+    hasher.update(body);
+    hasher.update(b"]");
+    hasher.finalize()
+}
+
+// The revision whose hash is the digest, in lower-case digits.
+fn hashed(generation: u16, digest: &[u8; 16]) -> RevId
+    requires { 1 ≤ generation }
+    ensures { with_hash generation (encode_lower digest.now) ≡ Some result }
+{
+    let mut digits = [0u8; 32];
+    encode_to_slice(digest.as_slice(), &mut digits).unwrap();
+    RevId::from_parts(generation, &digits).unwrap()
 }

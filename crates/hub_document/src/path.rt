@@ -105,6 +105,7 @@ impl Path {
     pub fn copy(&self, alloc: Global) -> Result<Path, AllocError>
         ensures { IfOk result (λ p. p ≡ self.now) }
     {
-        Err(AllocError)
+        let revisions = Vec::from_slice(alloc, self.revisions.as_slice())?;
+        Ok(Path { revisions })
     }
 }

@@ -1,7 +1,8 @@
 //! Revision ids.
 
-ghost use Rattle.std.specs.Prelude.{◌≡◌, ◌≤◌, ◌-◌, ◌<◌, ◌^◌, ◌++◌, length, replicate, option_map, IfSome, IfNone, OnOk, OnErr};
+ghost use Rattle.std.specs.Prelude.{◌≡◌, ◌≤◌, ◌-◌, ◌<◌, ◌^◌, ◌++◌, length, take, replicate, option_map, IfSome, IfNone, OnOk, OnErr};
 ghost use Rattle.std.specs.List.{list_all};
+ghost use Rattle.json.specs.Print.{quoted};
 ghost use Rattle.hub_model.specs.Revision.{IsRevision, text_of, is_hash_byte as is_letter, is_same as is_same_revision};
 ghost use Rattle.hub_document.specs.RevisionLaws.{TextsRead, ReadsAreTexts};
 ghost use Rattle.hub_document.specs.RevisionText.{number_of, is_hash as is_hash_text, with_hash, revision_of};
@@ -147,6 +148,7 @@ impl RevId {
     pub fn print(&self, out: &mut Vec<u8>) -> Result<(), AllocError>
         ensures ok { OnOk result (out.new.items ≡ out.old.items ++ text_of self.now) }
         ensures err { OnErr result (out.new.items ≡ out.old.items) }
+        ensures good { IsRevision self.now }
     {
         let mut buffer = Buffer::new();
         let number = buffer.format(self.number).as_bytes();
@@ -155,6 +157,31 @@ impl RevId {
         out.extend_from_slice(number)?;
         out.push(b'-')?;
         out.extend_from_slice(hash)
+    }
+
+    /// Writes its text as a JSON string behind what the vector holds. After an error what was held
+    /// still stands in front, and a part of the string may stand behind it.
+    pub(crate) fn print_quoted(&self, out: &mut Vec<u8>) -> Result<(), AllocError>
+        ensures ok { OnOk result (out.new.items ≡ out.old.items ++ quoted (text_of self.now)) }
+        ensures front { take (length out.old.items) out.new.items ≡ out.old.items }
+    {
+        out.extend_from_slice(b"\"")?;
+        self.print(out)?;
+        out.extend_from_slice(b"\"")?;
+        Ok(())
+    }
+
+    /// Writes its hash as a JSON string behind what the vector holds. After an error it is as with
+    /// `print_quoted`.
+    pub(crate) fn print_hash(&self, out: &mut Vec<u8>) -> Result<(), AllocError>
+        ensures ok { OnOk result (out.new.items ≡ out.old.items ++ quoted self.now.hash) }
+        ensures front { take (length out.old.items) out.new.items ≡ out.old.items }
+    {
+        let hash = &self.bytes[..self.len as usize];
+        out.extend_from_slice(b"\"")?;
+        out.extend_from_slice(hash)?;
+        out.extend_from_slice(b"\"")?;
+        Ok(())
     }
 }
 

@@ -1,0 +1,12 @@
+use Rattle.hub_document.proofs.WriteLemmas.{quoted_text, three_parts}
+use Rattle.hub_document.proofs.revision.RevId.print_quoted.Goals as goal
+
+pub returns-clause-ok : goal.returns-clause-ok
+returns-clause-ok c =
+    rw (
+      quoted_text c.args.self.now c.print.ensures.good,
+      c.in_ok-extend_from_slice-2.ensures.items,
+      c.in_ok-print.ensures.ok,
+      c.in_ok-extend_from_slice.ensures.items,
+    )
+    (three_parts c.args.out.now.items _ _ _)
