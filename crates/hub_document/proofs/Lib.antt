@@ -1,4 +1,5 @@
 pub mod MadeLemmas
+pub mod PartLemmas
 mod PathLemmas
 mod PlaceLemmas
 mod RevisionLemmas

@@ -1,6 +1,7 @@
 -- The texts that are written part by part.
-use Rattle.std.proofs.Common.{◌≡◌, ℕ, suc, ◌+◌, ◌%◌, ◌<◌, ◌≤◌, ◌^◌, List, [], ◌∷◌, ◌++◌, All, IsTrue, refl, sym, ap, ◌∙◌, arith, append_assoc, append-nil, decimal, Result, Ok, Err, OnOk}
+use Rattle.std.proofs.Common.{◌≡◌, ℕ, suc, ◌+◌, ◌%◌, ◌<◌, ◌≤◌, ◌^◌, List, [], ◌∷◌, ◌++◌, length, take, All, IsTrue, refl, sym, ap, ◌∙◌, arith, append_assoc, append-nil, decimal, Result, Ok, Err, OnOk}
 use Rattle.std.proofs.lemmas.Bool.Decides.{nat_tests}
+use Rattle.std.proofs.lemmas.Grind.{common_steps}
 use Rattle.std.proofs.lemmas.Fmt.{decimal_by_steps}
 use Rattle.json.specs.Token.{Token, string}
 use Rattle.json.specs.Print.{escape, escape_byte, quoted, print, print_from}
@@ -82,3 +83,7 @@ three_parts o a b c = append_assoc (o ++ a) b c ∙ append_assoc o a (b ++ c)
 
 pub four_parts : (o a b c d : List ℕ) → (((o ++ a) ++ b) ++ c) ++ d ≡ o ++ (a ++ (b ++ (c ++ d)))
 four_parts o a b c d = append_assoc ((o ++ a) ++ b) c d ∙ three_parts o a b (c ++ d)
+
+-- what stands at the front of a front stands at the front
+pub front-front : (old mid new more : List ℕ) → mid ≡ old ++ more → take (length mid) new ≡ mid → take (length old) new ≡ old
+front-front old mid new more e h = grind (arith, common_steps, e, h, ap length e, ap (take (length old)) h)

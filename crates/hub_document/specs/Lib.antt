@@ -6,6 +6,7 @@ pub mod Fields
 pub mod Histories
 pub mod Ids
 pub mod Inside
+pub mod Joined
 pub mod Limited
 pub mod Lines
 pub mod Local
@@ -15,3 +16,4 @@ pub mod Read
 pub mod RevisionLaws
 pub mod RevisionText
 pub mod SpecialMembers
+pub mod SpecialText

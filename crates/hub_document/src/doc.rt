@@ -1,13 +1,14 @@
 //! Documents.
 
-ghost use Rattle.std.specs.Prelude.{◌≡◌, ◌⊎◌, ◌++◌, IfOk, IfErr, OnOk, OnErr, Ok, Err, option_map};
+ghost use Rattle.std.specs.Prelude.{◌≡◌, ◌++◌, length, take, IfOk, OnOk, OnErr};
 ghost use Rattle.hub_document.specs.DocText.{doc_text};
-ghost use Rattle.hub_document.specs.Put.{put_in};
+ghost use Rattle.hub_document.specs.SpecialText.{special_text};
 
 use crate::body::Body;
 use crate::doc_id::DocId;
 use crate::path::Path;
 use crate::revision::RevId;
+use crate::text::{put_deleted, put_head, put_path, put_rest, put_rev};
 use std::alloc::{AllocError, Global};
 use thiserror::Error;
 
@@ -28,23 +29,6 @@ pub struct Doc {
 }
 
 impl Doc {
-    /// The document that a JSON text is under the id that a request names, or the first fault. The
-    /// leaf that it edits may be named by the request too, by `rev`; an edit that was not made here
-    /// (`new_edits` is false) is a bad member. It costs the text's length.
-    pub fn read_put(
-        alloc: Global,
-        id: &str,
-        rev: Option<&str>,
-        new_edits: bool,
-        bytes: &[u8],
-    ) -> Result<Doc, DocFault>
-        ensures ok { IfOk result (λ d. put_in id.now (option_map (λ s. s.now) rev.entry) new_edits bytes.now ≡ Ok d) }
-        ensures err { IfErr result (λ e. (e ≡ DocFault.NoMemory)
-            ⊎ (put_in id.now (option_map (λ s. s.now) rev.entry) new_edits bytes.now ≡ Err e)) }
-    {
-        Err(DocFault::NoMemory)
-    }
-
     /// Writes the document behind what the vector holds: `_rev` where a revision is named,
     /// `_deleted` where it is deleted, `_revisions` where it has a path. Where that needs more memory
     /// than there is, the vector stays as it was. It costs the text's length.
@@ -52,7 +36,14 @@ impl Doc {
         ensures ok { OnOk result (out.new.items ≡ out.old.items ++ doc_text self.now) }
         ensures err { OnErr result (out.new.items ≡ out.old.items) }
     {
-        Err(AllocError)
+        let held = out.len();
+        match put_doc(out, self) {
+            Ok(()) => Ok(()),
+            Err(refused) => {
+                out.truncate(held);
+                Err(refused)
+            }
+        }
     }
 
     /// A copy. It costs the lengths of the id, the path and the body.
@@ -70,6 +61,27 @@ impl Doc {
             body,
         })
     }
+}
+
+// The members that are not its own.
+fn put_special(out: &mut Vec<u8>, doc: &Doc) -> Result<(), AllocError>
+    ensures ok { OnOk result (out.new.items ≡ out.old.items ++ special_text doc.now) }
+    ensures front { take (length out.old.items) out.new.items ≡ out.old.items }
+{
+    put_head(out, doc.id.as_str())?;
+    put_rev(out, &doc.rev)?;
+    put_deleted(out, doc.deleted)?;
+    put_path(out, &doc.path)?;
+    Ok(())
+}
+
+fn put_doc(out: &mut Vec<u8>, doc: &Doc) -> Result<(), AllocError>
+    ensures ok { OnOk result (out.new.items ≡ out.old.items ++ doc_text doc.now) }
+    ensures front { take (length out.old.items) out.new.items ≡ out.old.items }
+{
+    put_special(out, doc)?;
+    put_rest(out, &doc.body)?;
+    Ok(())
 }
 
 fn copied_path(alloc: Global, path: &Option<Path>) -> Result<Option<Path>, AllocError>

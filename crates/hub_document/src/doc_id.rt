@@ -1,7 +1,9 @@
 //! The ids of documents.
 
-ghost use Rattle.std.specs.Prelude.{◌≡◌, true, IfOk, IfSome, option_map};
+ghost use Rattle.std.specs.Prelude.{◌≡◌, true, codes, IfOk, IfSome, option_map};
 ghost use Rattle.serde_json.specs.View.{view};
+ghost use Rattle.serde_json.specs.Find.{get};
+ghost use Rattle.hub_document.specs.Local.{is_named_so as is_named_as};
 ghost use Rattle.hub_document.specs.Ids.{IsDocId, is_id as is_id_text, id_of as id_in, short_id};
 
 use serde_json::Value;
@@ -64,7 +66,7 @@ impl DocId {
     }
 }
 
-fn is_id(text: &str) -> bool
+pub(crate) fn is_id(text: &str) -> bool
     ensures { result ≡ is_id_text text.now }
 {
     let bytes = text.as_bytes();
@@ -75,6 +77,19 @@ fn is_id(text: &str) -> bool
         return true;
     }
     bytes[1..].starts_with(b"design/") && bytes.len() > 8
+}
+
+/// Whether `_id` is absent or this one.
+pub(crate) fn is_named_so(id: &str, value: &Value) -> bool
+    ensures { result ≡ is_named_as id.now (get (codes "_id") (view value.now)) }
+{
+    let Some(named) = value.get("_id") else {
+        return true;
+    };
+    match named.as_str() {
+        Some(text) => id == text,
+        None => false,
+    }
 }
 
 /// The text of `_id`, where it is an id of any length.

@@ -13,6 +13,7 @@ mod members;
 mod numbers;
 mod open_revs;
 mod path;
+mod put;
 mod read;
 mod revision;
 mod revisions;

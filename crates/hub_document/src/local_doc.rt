@@ -1,11 +1,18 @@
 //! Local documents.
 
-ghost use Rattle.std.specs.Prelude.{◌≡◌, ◌⊎◌, ◌++◌, IfOk, IfErr, OnOk, OnErr, Ok, Err, string_bytes};
+ghost use Rattle.std.specs.Prelude.{◌≡◌, ◌⊎◌, ◌++◌, length, take, IfOk, IfErr, OnOk, OnErr, Ok, Err, string_bytes};
 ghost use Rattle.hub_document.specs.DocText.{local_text};
-ghost use Rattle.hub_document.specs.Local.{local_in};
+ghost use Rattle.serde_json.specs.View.{view, members_view};
+ghost use Rattle.hub_document.specs.Local.{IsLocalId, is_local_id as is_local, local_of, local_in};
 
-use crate::body::Body;
+use crate::body::{Body, body_of};
 use crate::doc::DocFault;
+use crate::doc_id::is_named_so;
+use crate::members::{are_good_members, is_deleted};
+use crate::numbers::members_have_float;
+use crate::read::read_value;
+use crate::text::{put_count, put_head, put_rest};
+use serde_json::{Map, Value};
 use std::alloc::{AllocError, Global};
 use std::marker::Model;
 
@@ -28,6 +35,14 @@ impl Model for LocalId {
 }
 
 impl LocalId {
+    fn copied(alloc: Global, text: &str) -> Result<LocalId, AllocError>
+        requires { IsLocalId text.now }
+        ensures { IfOk result (λ i. i ≡ text.now) }
+    {
+        let text = String::from_str(alloc, text)?;
+        Ok(LocalId { text })
+    }
+
     /// The id's text. Constant time.
     pub fn as_str(&self) -> &str
         ensures { result.now ≡ self.now }
@@ -43,6 +58,13 @@ impl LocalId {
     }
 }
 
+fn is_local_id(text: &str) -> bool
+    ensures { result ≡ is_local text.now }
+{
+    let bytes = text.as_bytes();
+    bytes.starts_with(b"_local/") && bytes.len() > 7
+}
+
 /// A local document as a writer brings it: it has no revisions, and no feed shows it.
 #[derive(Debug, Drop)]
 pub struct LocalDoc {
@@ -52,6 +74,34 @@ pub struct LocalDoc {
     pub body: Body,
 }
 
+// The local document that an object is.
+fn local_from(
+    alloc: Global,
+    id: &str,
+    value: &Value,
+    members: &Map<String, Value>,
+) -> Result<LocalDoc, DocFault>
+    ensures ok { IfOk result (λ d. local_of id.now (view value.now) (members_view members.now.entries) ≡ Ok d) }
+    ensures err { IfErr result (λ e. (e ≡ DocFault.NoMemory)
+        ⊎ (local_of id.now (view value.now) (members_view members.now.entries) ≡ Err e)) }
+{
+    if members_have_float(members) {
+        return Err(DocFault::BadNumber);
+    }
+    if !is_local_id(id) || !is_named_so(id, value) {
+        return Err(DocFault::BadId);
+    }
+    if !are_good_members(members) || is_deleted(value) {
+        return Err(DocFault::BadMember);
+    }
+    if id.len() > 512 {
+        return Err(DocFault::TooLong);
+    }
+    let id = LocalId::copied(alloc, id)?;
+    let body = body_of(alloc, members)?;
+    Ok(LocalDoc { id, body })
+}
+
 impl LocalDoc {
     /// The local document that a JSON text is under the id that the request names, or the first
     /// fault. Its `_rev` is not looked at. It costs the text's length.
@@ -59,8 +109,22 @@ impl LocalDoc {
         ensures ok { IfOk result (λ d. local_in id.now bytes.now ≡ Ok d) }
         ensures err { IfErr result (λ e. (e ≡ DocFault.NoMemory) ⊎ (local_in id.now bytes.now ≡ Err e)) }
     {
-        Err(DocFault::NoMemory)
+        let value = read_value(alloc, bytes)?;
+        let Some(members) = value.as_object() else {
+            return Err(DocFault::NotObject);
+        };
+        local_from(alloc, id, &value, members)
     }
+}
+
+fn put_local(out: &mut Vec<u8>, id: &str, count: u64, body: &Body) -> Result<(), AllocError>
+    ensures ok { OnOk result (out.new.items ≡ out.old.items ++ local_text id.now count body.now) }
+    ensures front { take (length out.old.items) out.new.items ≡ out.old.items }
+{
+    put_head(out, id)?;
+    put_count(out, count)?;
+    put_rest(out, body)?;
+    Ok(())
 }
 
 /// Writes a local document behind what the vector holds: `count` says how often it was written, and
@@ -69,5 +133,12 @@ pub fn write_local(out: &mut Vec<u8>, id: &str, count: u64, body: &Body) -> Resu
     ensures ok { OnOk result (out.new.items ≡ out.old.items ++ local_text id.now count body.now) }
     ensures err { OnErr result (out.new.items ≡ out.old.items) }
 {
-    Err(AllocError)
+    let held = out.len();
+    match put_local(out, id, count, body) {
+        Ok(()) => Ok(()),
+        Err(refused) => {
+            out.truncate(held);
+            Err(refused)
+        }
+    }
 }

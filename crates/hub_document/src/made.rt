@@ -15,24 +15,6 @@ use hex::encode_to_slice;
 use md5::{Digest, Md5};
 use std::alloc::{AllocError, Global};
 
-/// The revision of an edit that is made here: its generation is one above its parent's, and its hash
-/// the MD5 (RFC 1321) of `[deleted,parent,id,body]`, in 32 lower-case digits (own). It costs the
-/// body's length.
-pub fn rev_of_edit(
-    alloc: Global,
-    deleted: bool,
-    parent: Option<RevId>,
-    id: &DocId,
-    body: &Body,
-) -> Result<RevId, AllocError>
-    requires { generation_in parent < 65535 }
-    ensures { IfOk result (λ r. r ≡ made (record { id = id.now; rev = parent; deleted = deleted; body = body.now }) parent) }
-{
-    let front = draft_front(alloc, deleted, parent, id.as_str())?;
-    let digest = digest_of(front.as_slice(), body.as_bytes());
-    Ok(hashed(generation_of(&parent) + 1, &digest))
-}
-
 fn generation_of(parent: &Option<RevId>) -> u16
     ensures { result ≡ generation_in parent.now }
 {
@@ -94,4 +76,22 @@ fn hashed(generation: u16, digest: &[u8; 16]) -> RevId
     let mut digits = [0u8; 32];
     encode_to_slice(digest.as_slice(), &mut digits).unwrap();
     RevId::from_parts(generation, &digits).unwrap()
+}
+
+/// The revision of an edit that is made here: its generation is one above its parent's, and its hash
+/// the MD5 (RFC 1321) of `[deleted,parent,id,body]`, in 32 lower-case digits (own). It costs the
+/// body's length.
+pub fn rev_of_edit(
+    alloc: Global,
+    deleted: bool,
+    parent: Option<RevId>,
+    id: &DocId,
+    body: &Body,
+) -> Result<RevId, AllocError>
+    requires { generation_in parent < 65535 }
+    ensures { IfOk result (λ r. r ≡ made (record { id = id.now; rev = parent; deleted = deleted; body = body.now }) parent) }
+{
+    let front = draft_front(alloc, deleted, parent, id.as_str())?;
+    let digest = digest_of(front.as_slice(), body.as_bytes());
+    Ok(hashed(generation_of(&parent) + 1, &digest))
 }

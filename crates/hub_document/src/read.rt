@@ -40,8 +40,8 @@ fn history_of(
     Ok(Some((Some(head), Some(path))))
 }
 
-// The rest, where the head and the path are known.
-fn with_path(
+/// The rest, where the head and the path are known.
+pub(crate) fn with_path(
     alloc: Global,
     value: &Value,
     members: &Map<String, Value>,

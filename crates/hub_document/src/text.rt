@@ -2,7 +2,13 @@
 
 ghost use Rattle.std.specs.Prelude.{◌≡◌, ◌++◌, length, take, OnOk};
 ghost use Rattle.json.specs.Print.{quoted};
+ghost use Rattle.hub_document.specs.DocText.{rev_member, deleted_member, history_member, history_text, inside};
+ghost use Rattle.hub_document.specs.Joined.{after_commas, head_text, ids_text, start_text, count_text, rest_text};
 
+use crate::body::Body;
+use crate::path::Path;
+use crate::revision::RevId;
+use itoa::Buffer;
 use json::Writer;
 use std::alloc::AllocError;
 use std::mem;
@@ -19,4 +25,122 @@ pub(crate) fn put_quoted(out: &mut Vec<u8>, text: &str) -> Result<(), AllocError
     let done = writer.string(text);
     *out = writer.into_inner();
     done
+}
+
+// The brace and the id.
+pub(crate) fn put_head(out: &mut Vec<u8>, id: &str) -> Result<(), AllocError>
+    ensures ok { OnOk result (out.new.items ≡ out.old.items ++ head_text id.now) }
+    ensures front { take (length out.old.items) out.new.items ≡ out.old.items }
+{
+    out.extend_from_slice(b"{\"_id\":")?;
+    put_quoted(out, id)?;
+    Ok(())
+}
+
+pub(crate) fn put_rev(out: &mut Vec<u8>, rev: &Option<RevId>) -> Result<(), AllocError>
+    ensures ok { OnOk result (out.new.items ≡ out.old.items ++ after_commas (rev_member rev.now)) }
+    ensures front { take (length out.old.items) out.new.items ≡ out.old.items }
+{
+    let Some(rev) = rev else {
+        return Ok(());
+    };
+    out.extend_from_slice(b",\"_rev\":")?;
+    rev.print_quoted(out)?;
+    Ok(())
+}
+
+pub(crate) fn put_deleted(out: &mut Vec<u8>, deleted: bool) -> Result<(), AllocError>
+    ensures ok { OnOk result (out.new.items ≡ out.old.items ++ after_commas (deleted_member deleted)) }
+    ensures front { take (length out.old.items) out.new.items ≡ out.old.items }
+{
+    if deleted {
+        out.extend_from_slice(b",\"_deleted\":true")?;
+    }
+    Ok(())
+}
+
+// The hashes, each a string.
+fn put_hashes(out: &mut Vec<u8>, revisions: &[RevId]) -> Result<(), AllocError>
+    ensures ok { OnOk result (out.new.items ≡ out.old.items ++ ids_text revisions.now) }
+    ensures front { take (length out.old.items) out.new.items ≡ out.old.items }
+{
+    let Some((first, rest)) = revisions.split_first() else {
+        return Ok(());
+    };
+    first.print_hash(out)?;
+    for rev in rest {
+        out.extend_from_slice(b",")?;
+        rev.print_hash(out)?;
+    }
+    Ok(())
+}
+
+fn put_start(out: &mut Vec<u8>, generation: u16) -> Result<(), AllocError>
+    ensures ok { OnOk result (out.new.items ≡ out.old.items ++ start_text generation) }
+    ensures front { take (length out.old.items) out.new.items ≡ out.old.items }
+{
+    let mut number = Buffer::new();
+    out.extend_from_slice(b"{\"start\":")?;
+    out.extend_from_slice(number.format(generation).as_bytes())?;
+    out.extend_from_slice(b",\"ids\":[")?;
+    Ok(())
+}
+
+fn put_history(out: &mut Vec<u8>, path: &Path) -> Result<(), AllocError>
+    ensures ok { OnOk result (out.new.items ≡ out.old.items ++ history_text path.now) }
+    ensures front { take (length out.old.items) out.new.items ≡ out.old.items }
+{
+    put_start(out, path.head().generation())?;
+    put_hashes(out, path.revisions())?;
+    out.extend_from_slice(b"]}")?;
+    Ok(())
+}
+
+pub(crate) fn put_path(out: &mut Vec<u8>, path: &Option<Path>) -> Result<(), AllocError>
+    ensures ok { OnOk result (out.new.items ≡ out.old.items ++ after_commas (history_member path.now)) }
+    ensures front { take (length out.old.items) out.new.items ≡ out.old.items }
+{
+    let Some(path) = path else {
+        return Ok(());
+    };
+    out.extend_from_slice(b",\"_revisions\":")?;
+    put_history(out, path)?;
+    Ok(())
+}
+
+// What stands between the braces of an object.
+fn inside_of(text: &[u8]) -> &[u8]
+    ensures { result.now ≡ inside text.now }
+{
+    match text {
+        [_, inside @ .., _] => inside,
+        _ => &[],
+    }
+}
+
+// A body's own members, and the brace. The text is copied as it stands.
+pub(crate) fn put_rest(out: &mut Vec<u8>, body: &Body) -> Result<(), AllocError>
+    ensures ok { OnOk result (out.new.items ≡ out.old.items ++ rest_text body.now) }
+    ensures front { take (length out.old.items) out.new.items ≡ out.old.items }
+{
+    let inside = inside_of(body.as_bytes());
+    if inside.is_empty() {
+        return out.extend_from_slice(b"}");
+    }
+    out.extend_from_slice(b",")?;
+    out.extend_from_slice(inside)?;
+    out.extend_from_slice(b"}")?;
+    Ok(())
+}
+
+// The `_rev` of a local document.
+pub(crate) fn put_count(out: &mut Vec<u8>, count: u64) -> Result<(), AllocError>
+    ensures ok { OnOk result (out.new.items ≡ out.old.items ++ count_text count) }
+    ensures front { take (length out.old.items) out.new.items ≡ out.old.items }
+{
+    let mut number = Buffer::new();
+    out.extend_from_slice(b",\"_rev\":\"0-")?;
+    out.extend_from_slice(number.format(count).as_bytes())?;
+    out.extend_from_slice(b"\"")?;
+    Ok(())
 }

@@ -1,0 +1,15 @@
+use Rattle.hub_document.proofs.PartLemmas.{count_is}
+use Rattle.hub_document.proofs.WriteLemmas.{three_parts}
+use Rattle.hub_document.proofs.text.put_count.Goals as goal
+
+pub returns-clause-ok : goal.returns-clause-ok
+returns-clause-ok c =
+    rw (
+      count_is c.args.count c.ranges.count.fits,
+      c.in_ok-extend_from_slice-3.ensures.items,
+      c.in_ok-extend_from_slice-2.ensures.items,
+      c.as_bytes.ensures.value,
+      c.format.ensures.text,
+      c.in_ok-extend_from_slice.ensures.items,
+    )
+    (three_parts c.args.out.now.items _ _ _)

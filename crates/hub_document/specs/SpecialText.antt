@@ -1,0 +1,9 @@
+-- The front of a document's text (own).
+use Rattle.std.specs.Prelude.{ℕ, List, ◌++◌}
+use Rattle.hub_document.specs.DocText.{rev_member, deleted_member, history_member}
+use Rattle.hub_document.specs.Joined.{after_commas, head_text}
+use Rattle.hub_document.specs.declared.doc.Doc.{Doc}
+
+-- the members that are not its own, as they are written one after the other
+abbrev pub special_text : Doc → List ℕ
+special_text d = head_text d.id ++ (after_commas (rev_member d.rev) ++ (after_commas (deleted_member d.deleted) ++ after_commas (history_member d.path)))
