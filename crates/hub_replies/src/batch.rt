@@ -32,7 +32,6 @@ fn put_id(out: &mut Vec<u8>, element: &Value) -> Result<(), AllocError>
 }
 
 // Appends the members that say why an element is refused, and the brace that closes them.
-#[tactic(auto, unfolding(crate::specs::Bulk::reason_members))]
 fn put_reason(out: &mut Vec<u8>, refusal: Refusal) -> Result<(), AllocError>
     ensures { OnOk result (out.new.items ≡ out.old.items ++ reason_members refusal) }
 {
@@ -44,7 +43,6 @@ fn put_reason(out: &mut Vec<u8>, refusal: Refusal) -> Result<(), AllocError>
 }
 
 // Appends an element that is stored.
-#[tactic(auto, unfolding(crate::specs::Bodies::edit_text))]
 fn put_stored(out: &mut Vec<u8>, element: &Value, rev: &RevId) -> Result<(), AllocError>
     ensures { OnOk result (out.new.items ≡ out.old.items ++ edit_text (id_text (id_in (view element.now))) (text_of rev.now)) }
 {
@@ -80,7 +78,6 @@ fn put_reply(out: &mut Vec<u8>, element: &Value, reply: &BatchReply) -> Result<(
 /// that has a reply, in order, and nothing of the others. The id is `null` where an element's `_id`
 /// is no text. Elements behind the last reply have none. It costs the text's length, and looking for
 /// the elements' ids.
-#[tactic(auto, unfolding(crate::specs::Bulk::batch_body, crate::specs::Bodies::list_text))]
 pub fn batch_body(
     alloc: Global,
     elements: &[Value],

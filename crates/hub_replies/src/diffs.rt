@@ -10,7 +10,6 @@ use hub_http::put_quoted;
 use std::alloc::{AllocError, Global};
 
 // Appends the list of some revisions.
-#[tactic(auto, unfolding(crate::specs::Bodies::revisions_text, crate::specs::Bodies::list_text))]
 fn put_revisions(out: &mut Vec<u8>, revs: &[RevId]) -> Result<(), AllocError>
     ensures { OnOk result (out.new.items ≡ out.old.items ++ revisions_text revs.now) }
 {
@@ -38,7 +37,6 @@ fn put_ancestors(out: &mut Vec<u8>, revs: &[RevId]) -> Result<(), AllocError>
 }
 
 // Appends the member of a document that misses revisions.
-#[tactic(auto, unfolding(crate::specs::Bodies::diff_text))]
 fn put_diff(out: &mut Vec<u8>, diff: &Diff) -> Result<(), AllocError>
     ensures { OnOk result (out.new.items ≡ out.old.items ++ diff_text diff.now) }
 {
@@ -52,7 +50,6 @@ fn put_diff(out: &mut Vec<u8>, diff: &Diff) -> Result<(), AllocError>
 /// What each document misses, in the order given (CouchDB API reference, `POST /{db}/_revs_diff`);
 /// `possible_ancestors` is left out where there is none. An id that is given twice stands there
 /// twice. It costs the text's length.
-#[tactic(auto, unfolding(crate::specs::Bodies::diffs_body))]
 pub fn diffs_body(alloc: Global, diffs: &[Diff]) -> Result<Vec<u8>, AllocError>
     ensures { IfOk result (λ t. t.items ≡ diffs_body diffs.now) }
 {

@@ -53,7 +53,6 @@ fn put_open_rev(out: &mut Vec<u8>, rev: &OpenRev) -> Result<(), AllocError>
 /// The revisions of a document that were asked for, in order (CouchDB API reference,
 /// `GET /{db}/{docid}?open_revs=..`). Each is written straight into the body: it costs the text's
 /// length.
-#[tactic(auto, unfolding(crate::specs::Bodies::open_revs_body, crate::specs::Bodies::list_text))]
 pub fn open_revs_body(alloc: Global, revs: &[OpenRev]) -> Result<Vec<u8>, AllocError>
     ensures { IfOk result (λ t. t.items ≡ open_revs_body revs.now) }
 {

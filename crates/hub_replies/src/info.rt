@@ -10,7 +10,6 @@ use std::alloc::{AllocError, Global};
 
 /// What the database of this name says of itself (CouchDB API reference, `GET /{db}`). It costs the
 /// text's length.
-#[tactic(auto, unfolding(crate::specs::Bodies::info_body))]
 pub fn info_body(alloc: Global, name: &str, info: &Info) -> Result<Vec<u8>, AllocError>
     ensures { IfOk result (λ t. t.items ≡ info_body name.now info.now) }
 {
