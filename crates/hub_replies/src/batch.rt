@@ -1,11 +1,14 @@
 //! The answer to a batch of documents.
 
-ghost use Rattle.std.specs.Prelude.{◌≡◌, IfOk};
-ghost use Rattle.serde_json.specs.View.{items_view};
-ghost use Rattle.hub_replies.specs.Bulk.{batch_body};
+ghost use Rattle.std.specs.Prelude.{◌≡◌, ◌++◌, IfOk, OnOk};
+ghost use Rattle.serde_json.specs.View.{view, items_view};
+ghost use Rattle.hub_model.specs.Revision.{text_of};
+ghost use Rattle.hub_replies.specs.Bodies.{edit_text};
+ghost use Rattle.hub_replies.specs.Bulk.{id_in, id_text, reason_members, refused_text, reply_text, batch_body};
 
+use crate::texts::{put_comma, put_revision};
 use hub_document::RevId;
-use hub_http::Refusal;
+use hub_http::{Refusal, put_quoted};
 use serde_json::Value;
 use std::alloc::{AllocError, Global};
 
@@ -16,6 +19,59 @@ pub enum BatchReply {
     Stored(RevId),
     /// It is refused.
     Refused(Refusal),
+}
+
+// Appends the id that an element names, `null` where it is no text.
+fn put_id(out: &mut Vec<u8>, element: &Value) -> Result<(), AllocError>
+    ensures { OnOk result (out.new.items ≡ out.old.items ++ id_text (id_in (view element.now))) }
+{
+    match element.get("_id").and_then(Value::as_str) {
+        Some(id) => put_quoted(out, id),
+        None => out.extend_from_slice(b"null"),
+    }
+}
+
+// Appends the members that say why an element is refused, and the brace that closes them.
+fn put_reason(out: &mut Vec<u8>, refusal: Refusal) -> Result<(), AllocError>
+    ensures { OnOk result (out.new.items ≡ out.old.items ++ reason_members refusal) }
+{
+    out.extend_from_slice(b",\"error\":\"")?;
+    out.extend_from_slice(refusal.error().as_bytes())?;
+    out.extend_from_slice(b"\",\"reason\":\"")?;
+    out.extend_from_slice(refusal.reason().as_bytes())?;
+    Ok(out.extend_from_slice(b"\"}")?)
+}
+
+// Appends an element that is stored.
+fn put_stored(out: &mut Vec<u8>, element: &Value, rev: &RevId) -> Result<(), AllocError>
+    ensures { OnOk result (out.new.items ≡ out.old.items ++ edit_text (id_text (id_in (view element.now))) (text_of rev.now)) }
+{
+    out.extend_from_slice(b"{\"ok\":true,\"id\":")?;
+    put_id(out, element)?;
+    out.extend_from_slice(b",\"rev\":")?;
+    put_revision(out, rev)?;
+    Ok(out.push(b'}')?)
+}
+
+// Appends an element that is refused.
+#[tactic(auto, unfolding(crate::specs::Bulk::refused_text))]
+fn put_refused(out: &mut Vec<u8>, element: &Value, refusal: Refusal) -> Result<(), AllocError>
+    ensures { OnOk result (out.new.items ≡ out.old.items ++ refused_text (id_in (view element.now)) refusal) }
+{
+    out.extend_from_slice(b"{\"id\":")?;
+    put_id(out, element)?;
+    put_reason(out, refusal)
+}
+
+// Appends what the answer says of an element.
+#[tactic(auto, unfolding(crate::specs::Bulk::reply_text))]
+fn put_reply(out: &mut Vec<u8>, element: &Value, reply: &BatchReply) -> Result<(), AllocError>
+    ensures { OnOk result (out.new.items ≡ out.old.items ++ reply_text (id_in (view element.now)) reply.now) }
+{
+    match reply {
+        BatchReply::Stored(rev) => put_stored(out, element, rev),
+        BatchReply::Refused(refusal) => put_refused(out, element, *refusal),
+    }
 }
 
 /// What became of the elements of a batch (CouchDB API reference, `POST /{db}/_bulk_docs`): of each
@@ -29,5 +85,21 @@ pub fn batch_body(
 ) -> Result<Vec<u8>, AllocError>
     ensures { IfOk result (λ t. t.items ≡ batch_body (items_view elements.now) replies.now) }
 {
-    Err(AllocError)
+    let mut text = Vec::from_slice(alloc, b"[")?;
+    let mut later = false;
+    let mut left = replies;
+    for element in elements {
+        let [first, rest @ ..] = left else {
+            continue;
+        };
+        left = rest;
+        let Some(reply) = first else {
+            continue;
+        };
+        put_comma(&mut text, later)?;
+        put_reply(&mut text, element, reply)?;
+        later = true;
+    }
+    text.extend_from_slice(b"]\n")?;
+    Ok(text)
 }

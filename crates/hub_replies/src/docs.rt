@@ -1,26 +1,53 @@
 //! Documents and revisions that were asked for.
 
-ghost use Rattle.std.specs.Prelude.{◌≡◌, IfOk};
-ghost use Rattle.hub_replies.specs.Bodies.{doc_body, local_doc_body, open_revs_body};
+ghost use Rattle.std.specs.Prelude.{◌≡◌, ◌++◌, IfOk, OnOk};
+ghost use Rattle.hub_replies.specs.Bodies.{doc_body, local_doc_body, open_rev_text, open_revs_body};
 
+use crate::texts::{put_comma, put_revision};
 use hub_database::{Local, OpenRev};
-use hub_document::Doc;
+use hub_document::{Doc, write_local};
 use std::alloc::{AllocError, Global};
 
 /// A document (CouchDB API reference, `GET /{db}/{docid}`). It is written straight into the body,
 /// and costs the text's length.
+#[tactic(auto, unfolding(crate::specs::Bodies::doc_body))]
 pub fn doc_body(alloc: Global, doc: &Doc) -> Result<Vec<u8>, AllocError>
     ensures { IfOk result (λ t. t.items ≡ doc_body doc.now) }
 {
-    Err(AllocError)
+    let mut text = Vec::new(alloc);
+    doc.write(&mut text)?;
+    text.push(b'\n')?;
+    Ok(text)
 }
 
 /// The local document of this id, `_local/` included (CouchDB API reference,
 /// `GET /{db}/_local/{docid}`). It is written straight into the body, and costs the text's length.
+#[tactic(auto, unfolding(crate::specs::Bodies::local_doc_body))]
 pub fn local_doc_body(alloc: Global, id: &str, local: &Local) -> Result<Vec<u8>, AllocError>
     ensures { IfOk result (λ t. t.items ≡ local_doc_body id.now local.now.count local.now.body) }
 {
-    Err(AllocError)
+    let mut text = Vec::new(alloc);
+    write_local(&mut text, id, local.count, &local.body)?;
+    text.push(b'\n')?;
+    Ok(text)
+}
+
+// Appends a revision that was asked for.
+#[tactic(auto, unfolding(crate::specs::Bodies::open_rev_text))]
+fn put_open_rev(out: &mut Vec<u8>, rev: &OpenRev) -> Result<(), AllocError>
+    ensures { OnOk result (out.new.items ≡ out.old.items ++ open_rev_text rev.now) }
+{
+    match rev {
+        OpenRev::Found(doc) => {
+            out.extend_from_slice(b"{\"ok\":")?;
+            doc.write(out)?;
+        }
+        OpenRev::Missing(rev) => {
+            out.extend_from_slice(b"{\"missing\":")?;
+            put_revision(out, rev)?;
+        }
+    }
+    Ok(out.push(b'}')?)
 }
 
 /// The revisions of a document that were asked for, in order (CouchDB API reference,
@@ -29,5 +56,13 @@ pub fn local_doc_body(alloc: Global, id: &str, local: &Local) -> Result<Vec<u8>,
 pub fn open_revs_body(alloc: Global, revs: &[OpenRev]) -> Result<Vec<u8>, AllocError>
     ensures { IfOk result (λ t. t.items ≡ open_revs_body revs.now) }
 {
-    Err(AllocError)
+    let mut text = Vec::from_slice(alloc, b"[")?;
+    let mut later = false;
+    for rev in revs {
+        put_comma(&mut text, later)?;
+        put_open_rev(&mut text, rev)?;
+        later = true;
+    }
+    text.extend_from_slice(b"]\n")?;
+    Ok(text)
 }

@@ -4,6 +4,8 @@ ghost use Rattle.std.specs.Prelude.{◌≡◌, IfOk};
 ghost use Rattle.hub_replies.specs.Bodies.{info_body};
 
 use hub_database::Info;
+use hub_http::put_quoted;
+use itoa::Buffer;
 use std::alloc::{AllocError, Global};
 
 /// What the database of this name says of itself (CouchDB API reference, `GET /{db}`). It costs the
@@ -11,5 +13,15 @@ use std::alloc::{AllocError, Global};
 pub fn info_body(alloc: Global, name: &str, info: &Info) -> Result<Vec<u8>, AllocError>
     ensures { IfOk result (λ t. t.items ≡ info_body name.now info.now) }
 {
-    Err(AllocError)
+    let mut number = Buffer::new();
+    let mut text = Vec::from_slice(alloc, b"{\"db_name\":")?;
+    put_quoted(&mut text, name)?;
+    text.extend_from_slice(b",\"doc_count\":")?;
+    text.extend_from_slice(number.format(info.doc_count).as_bytes())?;
+    text.extend_from_slice(b",\"doc_del_count\":")?;
+    text.extend_from_slice(number.format(info.doc_del_count).as_bytes())?;
+    text.extend_from_slice(b",\"update_seq\":")?;
+    text.extend_from_slice(number.format(info.update_seq).as_bytes())?;
+    text.extend_from_slice(b",\"instance_start_time\":\"0\"}\n")?;
+    Ok(text)
 }

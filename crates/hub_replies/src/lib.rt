@@ -7,6 +7,9 @@ mod docs;
 mod edits;
 mod fixed;
 mod info;
+#[cfg(test)]
+mod tests;
+mod texts;
 
 pub use batch::{BatchReply, batch_body};
 pub use diffs::diffs_body;

@@ -1,0 +1,12 @@
+use Rattle.hub_document.proofs.WriteLemmas.{quoted_text, three_parts}
+use Rattle.hub_replies.proofs.texts.put_revision.Goals as goal
+
+pub returns : goal.returns
+returns c =
+    rw (
+      quoted_text c.args.rev.now c.in_ok-print.ensures.good,
+      c.in_ok-push-2.ensures.items,
+      c.in_ok-print.ensures.ok,
+      c.in_ok-push.ensures.items,
+    )
+    (three_parts c.args.out.now.items _ _ _)
