@@ -17,9 +17,11 @@ use Rattle.std.proofs.lemmas.List.Sums.{length-filter}
 use Rattle.std.proofs.lemmas.Option.{none-some}
 use Rattle.hub_index.specs.Rows.{IsIndex, seq_of, moved, is_within, next_after, count_after}
 
+-- equal options have equal values
 pub same_Some : {X : Type 0} (a b : X) → Some a ≡ Some b → a ≡ b
 same_Some a b q = cc
 
+-- a list whose pairs are related: its first element to each later one, and the later ones among themselves
 module _ {X : Type 0} (R : X → X → Type 0) (x : X) (xs : List X) (pairs : AllPairs R (x ∷ xs)) where
   pub of_head : All (R x) xs
   of_head k d l = pairs 0 (suc k) d (omega arith) (omega arith)
@@ -28,6 +30,7 @@ module _ {X : Type 0} (R : X → X → Type 0) (x : X) (xs : List X) (pairs : Al
   of_tail i j d l m = pairs (suc i) (suc j) d (omega arith) (omega arith)
 
 module _ {X : Type 0} (p : X → Bool) where
+  -- where no element passes, none is found
   pub find_nothing : (xs : List X) → All (λ x. p x ≡ false) xs → find p xs ≡ None
   find_nothing [] all = refl
   find_nothing (y ∷ xs) all = rw (all 0 y (omega arith)) (find_nothing xs (All-tail (λ x. p x ≡ false) y xs all))
