@@ -35,7 +35,7 @@ impl Model for Database {
 fn info(alloc: Global, name: &str, state: &DbState) -> Result<Vec<u8>, Refusal>
     ensures { Reads 200 (says_info name.now state.now) result }
 {
-    let info = state.info()?;
+    let info = state.info();
     Ok(info_body(alloc, name, &info)?)
 }
 

@@ -131,7 +131,7 @@ fn refuse_unnamed(winner: Option<Winner>) -> Refusal
 fn delete_leaf(alloc: Global, state: &mut DbState, id: &str, rev: RevId) -> Result<Vec<u8>, Refusal>
     ensures { Writes 200 state.old (deletes_leaf state.old (short_id id.now) rev (winner_in state.old id.now)) result state.new }
 {
-    let winner = state.winner(id)?;
+    let winner = state.winner(id);
     let Some(id) = DocId::read(alloc, id)? else {
         return Err(Refusal::Missing);
     };
@@ -161,7 +161,7 @@ pub(crate) fn delete(
 {
     let DocParams { rev, .. } = DocParams::read(alloc, query)?;
     let Some(text) = rev else {
-        return Err(refuse_unnamed(state.winner(id)?));
+        return Err(refuse_unnamed(state.winner(id)));
     };
     match RevId::read(text.as_str()) {
         Some(rev) => delete_leaf(alloc, state, id, rev),
