@@ -1,0 +1,55 @@
+//! The documents that a subscriber lists.
+
+ghost use Rattle.std.specs.Prelude.{ℕ, List, ◌≡◌, map, string_bytes, IfOk};
+ghost use Rattle.hub_filter.specs.Listed.{is_listed};
+
+use std::alloc::{AllocError, Global};
+use std::marker::Model;
+
+/// The ids that a subscriber lists (`doc_ids` of `_changes`), seen as a list of their bytes. An id
+/// may be there twice.
+#[derive(Debug, Drop)]
+pub struct DocIds {
+    sorted: Vec<String>,
+}
+
+impl Model for DocIds {
+    ghost use Rattle.std.specs.Prelude.{List, ℕ, map, string_bytes, IsSorted};
+    ghost use Rattle.std.specs.String.{string_cmp};
+
+    ghost Value = { List (List ℕ) };
+
+    ghost view = { λ a. map string_bytes a.sorted.items };
+
+    ghost invariant = { λ a. IsSorted string_cmp a.sorted.items };
+}
+
+impl DocIds {
+    /// The listed ids, sorted in place. It takes no memory, and a count of comparisons that is the
+    /// number of ids times its logarithm.
+    pub fn new(ids: Vec<String>) -> DocIds
+        ensures { (id : List ℕ) → is_listed id result ≡ is_listed id (map string_bytes ids.items) }
+    {
+        let mut sorted = ids;
+        sorted.sort_unstable();
+        DocIds { sorted }
+    }
+
+    /// Whether the id is listed. A binary search: it compares the id with as many ids as the
+    /// logarithm of their number.
+    pub fn contains(&self, id: &str) -> bool
+        ensures { result ≡ is_listed id.now self.now }
+    {
+        self.sorted
+            .binary_search_by(|listed| listed.as_str().cmp(id))
+            .is_ok()
+    }
+
+    /// A copy. It costs the length of the ids.
+    pub fn copy(&self, alloc: Global) -> Result<DocIds, AllocError>
+        ensures { IfOk result (λ ids. ids ≡ self.now) }
+    {
+        let sorted = self.sorted.to_vec(alloc)?;
+        Ok(DocIds { sorted })
+    }
+}

@@ -1,0 +1,44 @@
+//! The filters of a feed.
+
+ghost use Rattle.std.specs.Prelude.{◌≡◌, IfOk};
+ghost use Rattle.hub_model.specs.Filter.{passes};
+ghost use Rattle.hub_filter.specs.Shown.{filter_of};
+
+use crate::DocIds;
+use std::alloc::{AllocError, Global};
+
+/// Which documents a feed shows.
+#[derive(Debug, Drop)]
+pub enum Filter {
+    /// Every document.
+    All,
+    /// Those that are listed (`filter=_doc_ids`).
+    DocIds(DocIds),
+    /// Design documents (`filter=_design`): those whose id begins with `_design/`.
+    Design,
+}
+
+impl Filter {
+    /// Whether the document with this id is shown. It takes no memory. Constant time, but for
+    /// listed ids, where it costs what `DocIds::contains` does.
+    pub fn passes(&self, id: &str) -> bool
+        ensures { result ≡ passes (filter_of self.now) id.now }
+    {
+        match self {
+            Filter::All => true,
+            Filter::DocIds(ids) => ids.contains(id),
+            Filter::Design => id.as_bytes().starts_with(b"_design/"),
+        }
+    }
+
+    /// A copy. It costs the length of the listed ids.
+    pub fn copy(&self, alloc: Global) -> Result<Filter, AllocError>
+        ensures { IfOk result (λ filter. filter_of filter ≡ filter_of self.now) }
+    {
+        match self {
+            Filter::All => Ok(Filter::All),
+            Filter::DocIds(ids) => Ok(Filter::DocIds(ids.copy(alloc)?)),
+            Filter::Design => Ok(Filter::Design),
+        }
+    }
+}

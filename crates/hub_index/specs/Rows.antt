@@ -1,0 +1,30 @@
+-- The rows of a feed: sequences, each with the number of the document whose latest edit stands there (CouchDB API reference, _changes).
+use Rattle.std.specs.Prelude.{◌≢◌, ℕ, ◌<◌, List, [], ◌∷◌, ◌++◌, Bool, not, ◌&&◌, nat_eq, nat_lt, nat_le, Option, Some, None, option_map, find, filter, count_by}
+use Rattle.std.specs.List.{All, AllPairs}
+
+-- of two rows the earlier has the lower sequence, and another document; sequences begin at 1
+pub record IsIndex (rows : List (ℕ × ℕ)) : Type 0 where
+  pub rising : AllPairs (λ (a b : ℕ × ℕ). a.0 < b.0) rows
+  pub once : AllPairs (λ (a b : ℕ × ℕ). a.1 ≢ b.1) rows
+  pub positive : All (λ (r : ℕ × ℕ). 0 < r.0) rows
+
+-- the sequence of a document
+abbrev pub seq_of : ℕ → List (ℕ × ℕ) → Option ℕ
+seq_of document rows = option_map (λ (r : ℕ × ℕ). r.0) (find (λ (r : ℕ × ℕ). nat_eq r.1 document) rows)
+
+-- the rows of the other documents, and then one of this document
+abbrev pub moved : List (ℕ × ℕ) → ℕ → ℕ → List (ℕ × ℕ)
+moved rows document seq = filter (λ (r : ℕ × ℕ). not (nat_eq r.1 document)) rows ++ (seq, document) ∷ []
+
+-- whether a sequence lies above the place, and not above the bound
+abbrev pub is_within : ℕ → Option ℕ → ℕ → Bool
+is_within place None seq = nat_lt place seq
+is_within place (Some bound) seq = nat_lt place seq && nat_le seq bound
+
+-- the first row that does
+abbrev pub next_after : List (ℕ × ℕ) → ℕ → Option ℕ → Option (ℕ × ℕ)
+next_after rows place bound = find (λ (r : ℕ × ℕ). is_within place bound r.0) rows
+
+-- how many rows lie above the place
+abbrev pub count_after : List (ℕ × ℕ) → ℕ → ℕ
+count_after rows place = count_by (λ (r : ℕ × ℕ). nat_lt place r.0) rows
