@@ -1,2 +1,3 @@
 pub mod DocParams
+pub mod Encoded
 pub mod Query

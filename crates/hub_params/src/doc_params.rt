@@ -1,8 +1,12 @@
 //! The parameters of a document's routes.
 
-ghost use Rattle.std.specs.Prelude.{◌≡◌, IfOk};
-ghost use Rattle.hub_params.specs.DocParams.{doc_asked};
+ghost use Rattle.std.specs.Prelude.{◌≡◌, IfOk, codes, option_map, string_bytes};
+ghost use Rattle.hub_params.specs.DocParams.{doc_asked, is_value};
+ghost use Rattle.hub_params.specs.Encoded.{text_in};
+ghost use Rattle.hub_params.specs.Query.{value_of};
 
+use crate::query::{decoded, later};
+use form_urlencoded::{decode, raw_pairs};
 use std::alloc::{AllocError, Global};
 use std::marker::Model;
 
@@ -34,6 +38,74 @@ impl DocParams {
     pub fn read(alloc: Global, query: &[u8]) -> Result<DocParams, AllocError>
         ensures { IfOk result (λ p. p ≡ doc_asked query.now) }
     {
-        Err(AllocError)
+        let values = DocValues::read(alloc, query)?;
+        let rev = text(alloc, values.rev)?;
+        let open_revs = text(alloc, values.open_revs)?;
+        let revs = is_text(alloc, values.revs, "true")?;
+        let keeps_revs = is_text(alloc, values.new_edits, "false")?;
+        Ok(DocParams {
+            rev,
+            open_revs,
+            revs,
+            new_edits: !keeps_revs,
+        })
+    }
+}
+
+// The last value of each name that is read, not decoded yet.
+#[derive(Clone, Copy)]
+struct DocValues<'q> {
+    rev: Option<&'q [u8]>,
+    open_revs: Option<&'q [u8]>,
+    revs: Option<&'q [u8]>,
+    new_edits: Option<&'q [u8]>,
+}
+
+impl<'q> DocValues<'q> {
+    #[tactic(auto, using(crate::proofs::QueryLemmas::last_with_step, crate::proofs::QueryLemmas::last_with_all))]
+    fn read(alloc: Global, query: &'q [u8]) -> Result<DocValues<'q>, AllocError>
+        ensures rev { IfOk result (λ v. text_in v.rev ≡ value_of (codes "rev") query.now) }
+        ensures open_revs { IfOk result (λ v. text_in v.open_revs ≡ value_of (codes "open_revs") query.now) }
+        ensures revs { IfOk result (λ v. text_in v.revs ≡ value_of (codes "revs") query.now) }
+        ensures new_edits { IfOk result (λ v. text_in v.new_edits ≡ value_of (codes "new_edits") query.now) }
+    {
+        let mut rev = None;
+        let mut open_revs = None;
+        let mut revs = None;
+        let mut new_edits = None;
+        for (encoded, value) in raw_pairs(query) {
+            let decoded_name = decode(alloc, encoded)?;
+            let name = decoded_name.as_str();
+            rev = later("rev", name, value, rev);
+            open_revs = later("open_revs", name, value, open_revs);
+            revs = later("revs", name, value, revs);
+            new_edits = later("new_edits", name, value, new_edits);
+        }
+        Ok(DocValues {
+            rev,
+            open_revs,
+            revs,
+            new_edits,
+        })
+    }
+}
+
+// A value as text of its own.
+fn text(alloc: Global, value: Option<&[u8]>) -> Result<Option<String>, AllocError>
+    ensures { IfOk result (λ t. option_map string_bytes t ≡ text_in value.entry) }
+{
+    match decoded(alloc, value)? {
+        None => Ok(None),
+        Some(borrowed) => Ok(Some(borrowed.into_owned(alloc)?)),
+    }
+}
+
+// Whether there is a value, and it is this text.
+fn is_text(alloc: Global, value: Option<&[u8]>, wanted: &str) -> Result<bool, AllocError>
+    ensures { IfOk result (λ b. b ≡ is_value wanted.now (text_in value.entry)) }
+{
+    match decoded(alloc, value)? {
+        None => Ok(false),
+        Some(found) => Ok(found.as_str() == wanted),
     }
 }

@@ -1,0 +1,38 @@
+//! The values that a query gives its names.
+
+ghost use Rattle.std.specs.Prelude.{◌≡◌, IfOk, Some, None, option_map, if◌then◌else◌};
+ghost use Rattle.std.specs.Option.{option_or};
+ghost use Rattle.std.specs.Str.{bytes_eq};
+ghost use Rattle.std.specs.Cow.{cow_str_bytes};
+ghost use Rattle.hub_params.specs.Encoded.{text_of, text_in};
+
+use form_urlencoded::decode;
+use std::alloc::{AllocError, Global};
+use std::borrow::CowStr;
+
+/// The value of the wanted name after one more pair: this value where the pair has that name, and
+/// else the one before. Values are not decoded yet, and the pair's name is.
+pub(crate) fn later<'q>(
+    wanted: &str,
+    name: &str,
+    value: &'q [u8],
+    before: Option<&'q [u8]>,
+) -> Option<&'q [u8]>
+    ensures { text_in result
+        ≡ option_or (if bytes_eq name.now wanted.now then Some (text_of value.entry) else None) (text_in before.entry) }
+{
+    if name == wanted { Some(value) } else { before }
+}
+
+/// The text of a value. It borrows the query where there is nothing to decode.
+pub(crate) fn decoded<'q>(
+    alloc: Global,
+    value: Option<&'q [u8]>,
+) -> Result<Option<CowStr<'q>>, AllocError>
+    ensures { IfOk result (λ text. option_map cow_str_bytes text ≡ text_in value.entry) }
+{
+    match value {
+        None => Ok(None),
+        Some(encoded) => Ok(Some(decode(alloc, encoded)?)),
+    }
+}
