@@ -6,3 +6,4 @@ pub mod FiledLemmas
 pub mod StoreLemmas
 pub mod RowLemmas
 pub mod InfoLemmas
+pub mod LocalLemmas

@@ -7,6 +7,10 @@ mod database;
 mod document;
 mod entry;
 mod local;
+#[cfg(test)]
+mod local_tests;
+#[cfg(test)]
+mod made_tests;
 mod reads;
 mod store;
 #[cfg(test)]
