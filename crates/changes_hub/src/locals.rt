@@ -16,7 +16,7 @@ use std::alloc::Global;
 pub(crate) fn get(alloc: Global, state: &DbState, id: &str) -> Result<Vec<u8>, Refusal>
     ensures { Reads 200 (says_local (local_of state.now.locals id.now)) result }
 {
-    match state.local_get(id)? {
+    match state.local_get(id) {
         Some(local) => Ok(local_doc_body(alloc, id, local)?),
         None => Err(Refusal::Missing),
     }

@@ -20,7 +20,7 @@ abbrev any_of : List Edit → Bool
 any_of [] = false
 any_of (e ∷ es) = true
 
-text_turned : (a b : List ℕ) → bytes_eq a b ≡ bytes_eq b a
+pub text_turned : (a b : List ℕ) → bytes_eq a b ≡ bytes_eq b a
 text_turned a b = elim (same_text a b) [ inl e ↦ text_same a b e ∙ sym (text_same b a (sym e)) | inr n ↦ text_apart a b n ∙ sym (text_apart b a (λ e. n (sym e))) ]
 
 -- a document is edited where it has an edit

@@ -9,3 +9,4 @@ pub mod ShownLemmas
 pub mod EntryLemmas
 pub mod MissingLemmas
 pub mod InfoLemmas
+pub mod LocalLemmas

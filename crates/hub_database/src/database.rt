@@ -82,8 +82,8 @@ impl DbState {
     /// them (CouchDB API reference, `_bulk_docs`). There a document that has no history is refused as
     /// one that contradicts. The call fails only where the list of replies finds no memory; where it
     /// runs out at a document, the batch stops there, and the documents before it stay stored. Each
-    /// document costs a look in the map of ids, and its path's length times the number of its
-    /// document's edits.
+    /// document costs a look in the map of ids, what `RevTree::look_extend` or `RevTree::look_merge`
+    /// does, and what `RevTree::best` does.
     pub fn write_edits(&mut self, docs: Vec<Doc>, new_edits: bool) -> Result<Batch, DbFault>
         ensures ok { IfOk result (λ batch. writes new_edits self.old.limits.journal self.old.journal (take (length batch.replies) docs.items) ≡ record { outcomes = batch.replies; journal = self.new.journal }) }
         ensures whole { IfOk result (λ batch. batch.stopped ≡ false → length batch.replies ≡ length docs.items) }
@@ -114,8 +114,8 @@ impl DbState {
     /// Stores one edit whose revision is made here, and says that revision (CouchDB API reference,
     /// PUT and DELETE of a document). Of these the first refuses it: no leaf is named or chosen
     /// (`Conflict`), the leaf has the last generation (`GenerationLimit`), the made revision is known
-    /// (`Conflict`), the journal is full (`SequenceFull`). It costs a look in the map of ids, and
-    /// what `RevTree::look_extend` does.
+    /// (`Conflict`), the journal is full (`SequenceFull`). It costs a look in the map of ids, what
+    /// `RevTree::look_extend` does, and what `RevTree::best` does.
     pub fn write_one(&mut self, doc: Doc) -> Result<RevId, DbFault>
         ensures ok { IfOk result (λ rev. makes self.old.limits.journal self.old.journal (draft_of doc) ≡ record { outcome = Stored rev; journal = self.new.journal }) }
         ensures limits { self.new.limits ≡ self.old.limits }

@@ -9,6 +9,10 @@ mod document;
 mod entries;
 mod entry;
 mod local;
+#[cfg(test)]
+mod local_tests;
+#[cfg(test)]
+mod made_tests;
 mod open;
 #[cfg(test)]
 mod read_tests;

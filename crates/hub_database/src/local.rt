@@ -1,13 +1,16 @@
 //! Local documents.
 
-ghost use Rattle.std.specs.Prelude.{◌≡◌, ◌⊎◌, ◌≤◌, ◌^◌, option_map, IfOk, IfErr};
+ghost use Rattle.std.specs.Prelude.{◌≡◌, ◌⊎◌, ◌≤◌, ◌^◌, option_map, IfSome, IfNone, IfOk, IfErr, OnOk, OnErr};
 ghost use Rattle.hub_model.specs.declared.outcomes.Fault.TheVariants.{SequenceFull};
-ghost use Rattle.hub_database.specs.Locals.{local_of, put_local, written};
+ghost use Rattle.hub_database.specs.Kept.{kept};
+ghost use Rattle.hub_database.specs.Locals.{local_of, next_count, put_local, written};
 
 use crate::batch::DbFault;
 use crate::database::DbState;
-use hub_document::{Body, LocalDoc};
+use hub_document::{Body, LocalDoc, LocalId};
+use hub_model::Fault;
 use std::alloc::AllocError;
+use std::collections::BTreeMap;
 
 /// A local document that is kept: no feed shows it, and no replication copies it (CouchDB API
 /// reference, local documents).
@@ -19,16 +22,43 @@ pub struct Local {
     pub body: Body,
 }
 
+// The local document of this id.
+fn local_in<'a>(locals: &'a BTreeMap<String, Local>, id: &str) -> Option<&'a Local>
+    ensures { option_map (λ l. record { id = id.now; count = l.now.count; body = l.now.body }) result ≡ local_of (kept locals.now) id.now }
+{
+    locals.get(id)
+}
+
+// How often the local document of this id will have been written, with one more; None past 2^64 - 1.
+fn count_after(locals: &BTreeMap<String, Local>, id: &str) -> Option<u64>
+    ensures some { IfSome result (λ count. count ≡ next_count (local_of (kept locals.now) id.now)) }
+    ensures none { IfNone result (2 ^ 64 ≤ next_count (local_of (kept locals.now) id.now)) }
+{
+    match local_in(locals, id) {
+        Some(local) => local.count.checked_add(1),
+        None => Some(1),
+    }
+}
+
+// Puts a local document in the place of the one of its id, if there is one.
+fn put(locals: &mut BTreeMap<String, Local>, id: LocalId, local: Local) -> Result<(), AllocError>
+    ensures ok { OnOk result (kept locals.new ≡ put_local (record { id = id; count = local.count; body = local.body }) (kept locals.old)) }
+    ensures err { OnErr result (kept locals.new ≡ kept locals.old) }
+{
+    locals.insert(id.into_string(), local)?;
+    Ok(())
+}
+
 impl DbState {
     /// The local document of this id. A look in the map of local documents.
-    pub fn local_get(&self, id: &str) -> Result<Option<&Local>, AllocError>
-        ensures { IfOk result (λ found. option_map (λ l. record { id = id.now; count = l.now.count; body = l.now.body }) found ≡ local_of self.now.locals id.now) }
+    pub fn local_get(&self, id: &str) -> Option<&Local>
+        ensures { option_map (λ l. record { id = id.now; count = l.now.count; body = l.now.body }) result ≡ local_of self.now.locals id.now }
     {
-        Err(AllocError)
+        local_in(&self.locals, id)
     }
 
     /// Stores a local document in place of the one of its id, and says how often it was written. At
-    /// the last count, 2^64 - 1, it is refused as a full sequence. A look in the map of local
+    /// the last count, 2^64 - 1, it is refused as a full sequence. Two looks in the map of local
     /// documents.
     pub fn local_put(&mut self, doc: LocalDoc) -> Result<u64, DbFault>
         ensures ok { IfOk result (λ count. (count ≡ (written self.old.locals doc).count)
@@ -36,6 +66,11 @@ impl DbState {
         ensures err { IfErr result (λ e. (self.new ≡ self.old)
             × ((e ≡ DbFault.NoMemory) ⊎ ((e ≡ DbFault.Refused SequenceFull) × (2 ^ 64 ≤ (written self.old.locals doc).count)))) }
     {
-        Err(DbFault::NoMemory)
+        let LocalDoc { id, body } = doc;
+        let Some(count) = count_after(&self.locals, id.as_str()) else {
+            return Err(DbFault::Refused(Fault::SequenceFull));
+        };
+        put(&mut self.locals, id, Local { count, body })?;
+        Ok(count)
     }
 }
