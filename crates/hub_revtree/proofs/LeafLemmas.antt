@@ -1,6 +1,6 @@
 -- The first of the leaves, one branch more at a time.
 use Rattle.std.proofs.Common.{◌≡◌, ℕ, ap₂, suc, ◌+◌, ◌≤◌, List, [], ◌∷◌, ◌++◌, length, Bool, true, false, ap, refl, sym, ◌∙◌, subst, append_assoc, inl, inr, arith}
-use Rattle.std.specs.Prelude.{Option, Some, slice_get, drop, if◌then◌else◌, map, insert, not, nat_lt, position, unwrap_or}
+use Rattle.std.specs.Prelude.{Option, Some, None, slice_get, drop, if◌then◌else◌, map, insert, not, nat_lt, position, unwrap_or}
 use Rattle.std.specs.List.{list_any, position_or_len}
 use Rattle.std.proofs.lemmas.Bool.{cases_Bool, ltb-false}
 use Rattle.std.proofs.lemmas.List.Sums.{prefix_len-le-length}
@@ -12,7 +12,7 @@ use Rattle.hub_model.specs.Leaves.{Leaf, is_behind_head, with_leaf, leaves_among
 use Rattle.hub_revtree.specs.declared.leaf.Winner.{Winner}
 use Rattle.hub_revtree.specs.declared.branch.Branch.{Branch}
 use Rattle.hub_revtree.specs.Branch.{edit_of, edits_in}
-use Rattle.hub_revtree.specs.Winner.{winner_of, better_of, is_above, put_in, winners_of}
+use Rattle.hub_revtree.specs.Winner.{winner_of, better_of, is_better_than, is_above, put_in, winners_of}
 use Rattle.hub_revtree.proofs.BranchLemmas.{any_map}
 
 abbrev one : Leaf → Winner
@@ -42,6 +42,26 @@ with_path es e (x ∷ older) r ls h false is =
 pub one_more : (all some : List Branch) (branch : Branch) (r : Revision) → slice_get branch.path 0 ≡ Some r → (b : Bool) → list_any (λ c. is_behind_head r (edit_of c)) all ≡ b
     → best_of all (branch ∷ some) ≡ (if b then best_of all some else Some (better_of (record { rev = r; deleted = branch.deleted }) (best_of all some)))
 one_more all some branch r h b is = with_path (edits_in all) (edit_of branch) branch.path r (leaves_among (edits_in all) (edits_in some)) h b (any_map (is_behind_head r) edit_of all ∙ is)
+
+-- a head that is not above the best of the branches after it changes nothing
+pub passed_over : (all some : List Branch) (branch : Branch) (r : Revision) (best : Option Winner) → slice_get branch.path 0 ≡ Some r → best_of all some ≡ best → is_better_than (record { rev = r; deleted = branch.deleted }) best ≡ false
+    → best_of all (branch ∷ some) ≡ best
+passed_over all some branch r None h same low = absurd (cc)
+passed_over all some branch r (Some w) h same low =
+    one_more all some branch r h (list_any (λ c. is_behind_head r (edit_of c)) all) refl ∙ from (list_any (λ c. is_behind_head r (edit_of c)) all)
+  where
+    kept : Some (better_of (record { rev = r; deleted = branch.deleted }) (best_of all some)) ≡ Some w
+    kept = rw (same, low) refl
+
+    from : (b : Bool) → (if b then best_of all some else Some (better_of (record { rev = r; deleted = branch.deleted }) (best_of all some))) ≡ Some w
+    from true = same
+    from false = kept
+
+-- and one that is, and stands behind none, is the best
+pub passed_by : (all some : List Branch) (branch : Branch) (r : Revision) (best : Option Winner) → slice_get branch.path 0 ≡ Some r → list_any (λ c. is_behind_head r (edit_of c)) all ≡ false → best_of all some ≡ best
+    → is_better_than (record { rev = r; deleted = branch.deleted }) best ≡ true → best_of all (branch ∷ some) ≡ Some (record { rev = r; deleted = branch.deleted })
+passed_by all some branch r None h leaf same high = one_more all some branch r h false leaf ∙ rw same refl
+passed_by all some branch r (Some w) h leaf same high = one_more all some branch r h false leaf ∙ rw (same, high) refl
 
 -- going through a list from its end
 pub turn : {A : Type 0} (xs front back : List A) (x : A) → front ++ x ∷ [] ≡ back → back ++ drop (length back) xs ≡ xs → (front ++ drop (length front) xs ≡ xs) × (drop (length front) xs ≡ x ∷ drop (length back) xs)

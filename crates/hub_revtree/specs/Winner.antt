@@ -1,5 +1,5 @@
 -- The first of some leaves (CouchDB API reference, document revisions and conflicts).
-use Rattle.std.specs.Prelude.{List, [], ◌∷◌, map, insert, Bool, Option, Some, None, if◌then◌else◌}
+use Rattle.std.specs.Prelude.{List, [], ◌∷◌, map, insert, Bool, true, Option, Some, None, if◌then◌else◌}
 use Rattle.std.specs.List.{position_or_len}
 use Rattle.std.specs.Ordering.{is_gt}
 use Rattle.hub_model.specs.Leaves.{Leaf, leaf_cmp}
@@ -9,6 +9,11 @@ use Rattle.hub_revtree.specs.declared.leaf.Winner.{Winner}
 abbrev pub winner_of : List Leaf → Option Winner
 winner_of [] = None
 winner_of (leaf ∷ others) = Some (record { rev = leaf.rev; deleted = leaf.edit.deleted })
+
+-- whether a leaf is above the best of the others, if there are any
+abbrev pub is_better_than : Winner → Option Winner → Bool
+is_better_than leaf None = true
+is_better_than leaf (Some best) = is_gt (leaf_cmp leaf.deleted leaf.rev best.deleted best.rev)
 
 -- the better of a leaf and the best of the others, if there are any
 abbrev pub better_of : Winner → Option Winner → Winner

@@ -4,7 +4,7 @@ ghost use Rattle.std.specs.Prelude.{◌≡◌, map, position, IfOk, OnOk};
 ghost use Rattle.hub_model.specs.Revision.{revision_cmp};
 ghost use Rattle.hub_model.specs.Leaves.{leaf_cmp, leaves_among, best_first};
 ghost use Rattle.hub_revtree.specs.Branch.{edits_in};
-ghost use Rattle.hub_revtree.specs.Winner.{winner_of, better_of, is_above, put_in, winners_of};
+ghost use Rattle.hub_revtree.specs.Winner.{winner_of, is_better_than, is_above, put_in, winners_of};
 
 use crate::branch::{Branch, is_behind};
 use hub_document::RevId;
@@ -39,28 +39,34 @@ fn leaf_order(leaf: &Winner, other: &Winner) -> Ordering
     }
 }
 
-// The better of a leaf and the best so far.
-fn better(leaf: Winner, best: Option<Winner>) -> Winner
-    ensures { result ≡ better_of leaf best }
+// Whether a leaf is above the best so far.
+fn is_better(leaf: &Winner, best: &Option<Winner>) -> bool
+    ensures { result ≡ is_better_than leaf.now best.now }
 {
     match best {
-        Some(best) if !leaf_order(&leaf, &best).is_gt() => best,
-        _ => leaf,
+        Some(best) => leaf_order(leaf, best).is_gt(),
+        None => true,
     }
 }
 
-/// The best of the branches' heads that stand behind no head. Each head is looked for in each
-/// branch.
+/// The best of the branches' heads that stand behind no head. The newest comes first, and a head is
+/// looked for in each branch only where it would be the best so far: so a line of edits costs one
+/// look a branch.
 pub(crate) fn best_leaf(branches: &[Branch]) -> Option<Winner>
     ensures { result ≡ winner_of (best_first (leaves_among (edits_in branches.now) (edits_in branches.now))) }
 {
     let mut best = None;
     for branch in branches.iter().rev() {
         let rev = branch.path.head();
-        if !is_behind(branches, &rev) {
-            let deleted = branch.deleted;
-            best = Some(better(Winner { rev, deleted }, best));
+        let deleted = branch.deleted;
+        let leaf = Winner { rev, deleted };
+        if !is_better(&leaf, &best) {
+            continue;
         }
+        if is_behind(branches, &rev) {
+            continue;
+        }
+        best = Some(leaf);
     }
     best
 }
