@@ -2,7 +2,7 @@
 
 use super::{leaves_of, merge, texts_of};
 use crate::{Merged, RevTree};
-use hub_document::{Body, Path, RevId};
+use hub_document::RevId;
 use std::alloc::Global;
 use std::test::Fail;
 
