@@ -1,69 +1,54 @@
-use crate::{Doc, Limits, RevId, Revisions};
+use super::tables::shown;
+use crate::{Doc, Limits, Path, RevId, Revisions};
 use std::alloc::Global;
 use std::test::Fail;
 
 const FULL: &str =
     r#"{"b":[1,{"d":-2,"c":"\u00e9\n"}],"_id":"x","_rev":"2-c","_revisions":{"start":2,"ids":["c","a"]},"_deleted":true,"a":null,"_conflicts":[],"":true}"#;
 
-const FULL_BODY: &str = "{\"\":true,\"a\":null,\"b\":[1,{\"c\":\"é\\n\",\"d\":-2}]}";
-
-fn printed(alloc: Global, rev: Option<RevId>) -> Result<Vec<u8>, Fail> {
-    let mut out = Vec::new(alloc);
-    if let Some(rev) = rev {
-        rev.print(&mut out)?;
-    }
-    Ok(out)
+// Whether a text is read as what is shown.
+fn is_read(alloc: Global, text: &str, new_edits: bool, expected: &str) -> Result<bool, Fail> {
+    let doc = Doc::read(alloc, text.as_bytes(), new_edits)?;
+    Ok(shown(alloc, &doc)?.as_slice() == expected.as_bytes())
 }
 
 #[test]
 fn contents(rt: HostRuntime) -> Result<(), Fail> {
     let alloc = rt.alloc();
-    let cases = [
-        (FULL, false, "x", "2-c", true, FULL_BODY),
-        (FULL, true, "x", "2-c", true, FULL_BODY),
-        (r#"{"_id":"_design/x"}"#, true, "_design/x", "", false, "{}"),
-        (
-            r#"{"_id":"a","_rev":"1-a"}"#,
-            false,
-            "a",
-            "1-a",
-            false,
-            "{}",
-        ),
+    let elsewhere = "x 2-c deleted path {\"\":true,\"a\":null,\"b\":[1,{\"c\":\"é\\n\",\"d\":-2}]}";
+    let here = "x 2-c deleted {\"\":true,\"a\":null,\"b\":[1,{\"c\":\"é\\n\",\"d\":-2}]}";
+    let found = [
+        is_read(alloc, FULL, false, elsewhere)?,
+        is_read(alloc, FULL, true, here)?,
+        is_read(alloc, r#"{"_id":"_design/x"}"#, true, "_design/x - {}")?,
+        is_read(alloc, r#"{"_id":"a","_rev":"1-a"}"#, false, "a 1-a path {}")?,
     ];
-    for (text, new_edits, id, rev, deleted, body) in cases {
-        let doc = Doc::read(alloc, text.as_bytes(), new_edits)?;
-        assert_eq!(rt; doc.id.copy(alloc)?.as_str(), id);
-        let written = printed(alloc, doc.rev)?;
-        assert_eq!(rt; written.as_slice(), rev.as_bytes());
-        assert_eq!(rt; doc.path.is_none(), new_edits);
-        assert_eq!(rt; doc.deleted, deleted);
-        assert_eq!(rt; doc.body.as_bytes(), body.as_bytes());
-    }
+    assert_eq!(rt; found, [true, true, true, true]);
     Ok(())
+}
+
+// Whether the path names the revision, and what stands behind it.
+fn is_in(path: &Path, text: &str, named: bool, behind: &str) -> bool {
+    match RevId::read(text) {
+        Some(rev) => path.names(&rev) == named && path.behind(&rev) == RevId::read(behind),
+        None => false,
+    }
 }
 
 #[test]
 fn a_path(rt: HostRuntime) -> Result<(), Fail> {
-    let alloc = rt.alloc();
-    let doc = Doc::read(alloc, FULL.as_bytes(), false)?;
+    let doc = Doc::read(rt.alloc(), FULL.as_bytes(), false)?;
     let path = doc.path.expect(&rt, "a path");
-    let head = printed(alloc, Some(path.head()))?;
-    assert_eq!(rt; head.as_slice(), "2-c".as_bytes());
-    assert_eq!(rt; path.revisions().len(), 2);
-    let cases = [
-        ("2-c", true, "1-a"),
-        ("1-a", true, ""),
-        ("1-c", false, ""),
-        ("2-a", false, ""),
-        ("3-c", false, ""),
+    let found = [
+        is_in(&path, "2-c", true, "1-a"),
+        is_in(&path, "1-a", true, ""),
+        is_in(&path, "1-c", false, ""),
+        is_in(&path, "2-a", false, ""),
+        is_in(&path, "3-c", false, ""),
+        RevId::read("2-c") == Some(path.head()),
+        path.revisions().len() == 2,
     ];
-    for (text, named, behind) in cases {
-        let rev = RevId::read(text).expect(&rt, "a revision");
-        assert_eq!(rt; path.names(&rev), named, "{text}");
-        let written = printed(alloc, path.behind(&rev))?;
-        assert_eq!(rt; written.as_slice(), behind.as_bytes(), "{text}");
-    }
+    assert_eq!(rt; found, [true; 7]);
     Ok(())
 }
 

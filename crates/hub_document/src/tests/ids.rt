@@ -1,26 +1,32 @@
 use crate::DocId;
+use std::alloc::Global;
 use std::test::Fail;
 
-#[test]
-fn texts_that_are_ids(rt: HostRuntime) -> Result<(), Fail> {
-    let alloc = rt.alloc();
-    for text in ["a", "a_", "_design/x", "é", "\n", "a/b"] {
-        let id = DocId::read(alloc, text)?.expect(&rt, "an id");
-        assert_eq!(rt; id.as_str(), text);
+// The first text of a line that is an id, or is none, against what is expected.
+fn wrong(alloc: Global, table: &'static str, good: bool) -> Result<Option<&'static str>, Fail> {
+    for text in table.split(' ') {
+        let id = DocId::read(alloc, text)?;
+        if id.is_some_and(|id| id.as_str() == text) != good {
+            return Ok(Some(text));
+        }
     }
-    for text in ["", "_", "_x", "_design", "_design/", "_local/x"] {
-        assert!(rt; DocId::read(alloc, text)?.is_none(), "{text}");
-    }
-    Ok(())
+    Ok(None)
+}
+
+fn is_id_of_length(alloc: Global, length: usize) -> Result<bool, Fail> {
+    let text = "i".repeat(alloc, length)?;
+    Ok(DocId::read(alloc, text.as_str())?.is_some())
 }
 
 #[test]
-fn lengths(rt: HostRuntime) -> Result<(), Fail> {
+fn texts(rt: HostRuntime) -> Result<(), Fail> {
     let alloc = rt.alloc();
-    for (length, expected) in [(512usize, true), (513, false)] {
-        let text = "i".repeat(alloc, length)?;
-        let id = DocId::read(alloc, text.as_str())?;
-        assert_eq!(rt; id.is_some(), expected, "{length}");
-    }
+    let found = [
+        wrong(alloc, "a a_ _design/x é \n a/b", true)?,
+        wrong(alloc, " _ _x _design _design/ _local/x", false)?,
+    ];
+    assert_eq!(rt; found, [None, None]);
+    let lengths = [is_id_of_length(alloc, 512)?, is_id_of_length(alloc, 513)?];
+    assert_eq!(rt; lengths, [true, false]);
     Ok(())
 }

@@ -1,100 +1,107 @@
-use crate::DocFault::{BadId, BadMember, BadNumber, NotJson, NotObject, TooLong};
+use super::tables::{fault_name, parts};
 use crate::{Body, LocalDoc, write_local};
+use std::alloc::Global;
 use std::test::Fail;
+
+const CONTENTS: &str = r#"{} | {}
+{"_id":"_local/x","b":1,"a":[]} | {"a":[],"b":1}
+{"_rev":"0-7","v":1} | {"v":1}
+{"_rev":7} | {}
+{"_rev":null} | {}
+{"_deleted":false} | {}
+{"_revisions":1,"_attachments":{}} | {}"#;
+
+// Whether a text is read as this body under the id.
+fn is_read(alloc: Global, id: &str, text: &str, expected: &str) -> Result<bool, Fail> {
+    let doc = LocalDoc::read(alloc, id, text.as_bytes())?;
+    Ok(
+        doc.body.as_bytes() == expected.as_bytes()
+            && doc.id.as_str() == id
+            && doc.id.into_string().as_str() == id,
+    )
+}
 
 #[test]
 fn contents(rt: HostRuntime) -> Result<(), Fail> {
-    let alloc = rt.alloc();
-    let cases = [
-        ("{}", "{}"),
-        (r#"{"_id":"_local/x","b":1,"a":[]}"#, r#"{"a":[],"b":1}"#),
-        (r#"{"_rev":"0-7","v":1}"#, r#"{"v":1}"#),
-        (r#"{"_rev":7}"#, "{}"),
-        (r#"{"_rev":null}"#, "{}"),
-        (r#"{"_deleted":false}"#, "{}"),
-        (r#"{"_revisions":1,"_attachments":{}}"#, "{}"),
-    ];
-    for (text, expected) in cases {
-        let doc = LocalDoc::read(alloc, "_local/x", text.as_bytes())?;
-        assert_eq!(rt; doc.body.as_bytes(), expected.as_bytes(), "{text}");
-        assert_eq!(rt; doc.id.as_str(), "_local/x");
-        assert_eq!(rt; doc.id.into_string().as_str(), "_local/x");
+    for line in CONTENTS.lines() {
+        let (text, expected) = parts(line);
+        assert!(rt; is_read(rt.alloc(), "_local/x", text, expected)?, "{line}");
     }
     Ok(())
+}
+
+// Of several faults the first is told.
+const FAULTS: &str = r#"_local/x | { | NotJson
+_local/x | [] | NotObject
+_local/x | {"v":1.5} | BadNumber
+x | {} | BadId
+ | {} | BadId
+_local | {} | BadId
+_local/ | {} | BadId
+_design/x | {} | BadId
+_local/x | {"_id":"_local/y"} | BadId
+_local/x | {"_id":"x"} | BadId
+_local/x | {"_id":7} | BadId
+_local/x | {"_deleted":true} | BadMember
+_local/x | {"_deleted":1} | BadMember
+_local/x | {"_x":1} | BadMember
+x | { | NotJson
+x | [1.5] | NotObject
+x | {"v":1.5} | BadNumber
+x | {"_deleted":true} | BadId"#;
+
+fn fault(alloc: Global, id: &str, text: &str) -> &'static str {
+    fault_name(LocalDoc::read(alloc, id, text.as_bytes()).err())
+}
+
+// The first case with another fault.
+fn wrong(alloc: Global) -> Option<&'static str> {
+    for line in FAULTS.lines() {
+        let (id, case) = parts(line);
+        let (text, expected) = parts(case);
+        if fault(alloc, id, text) != expected {
+            return Some(line);
+        }
+    }
+    None
 }
 
 #[test]
 fn faults(rt: HostRuntime) -> Result<(), Fail> {
-    let cases = [
-        ("_local/x", "{", NotJson),
-        ("_local/x", "[]", NotObject),
-        ("_local/x", r#"{"v":1.5}"#, BadNumber),
-        ("x", "{}", BadId),
-        ("", "{}", BadId),
-        ("_local", "{}", BadId),
-        ("_local/", "{}", BadId),
-        ("_design/x", "{}", BadId),
-        ("_local/x", r#"{"_id":"_local/y"}"#, BadId),
-        ("_local/x", r#"{"_id":"x"}"#, BadId),
-        ("_local/x", r#"{"_id":7}"#, BadId),
-        ("_local/x", r#"{"_deleted":true}"#, BadMember),
-        ("_local/x", r#"{"_deleted":1}"#, BadMember),
-        ("_local/x", r#"{"_x":1}"#, BadMember),
-    ];
-    for (id, text, expected) in cases {
-        let found = LocalDoc::read(rt.alloc(), id, text.as_bytes()).err();
-        assert_eq!(rt; found, Some(expected), "{id} {text}");
-    }
+    assert_eq!(rt; wrong(rt.alloc()), None);
     Ok(())
 }
 
-#[test]
-fn the_first_of_two_faults(rt: HostRuntime) -> Result<(), Fail> {
-    let cases = [
-        ("x", "{", NotJson),
-        ("x", "[1.5]", NotObject),
-        ("x", r#"{"v":1.5}"#, BadNumber),
-        ("x", r#"{"_deleted":true}"#, BadId),
-    ];
-    for (id, text, expected) in cases {
-        let found = LocalDoc::read(rt.alloc(), id, text.as_bytes()).err();
-        assert_eq!(rt; found, Some(expected), "{id} {text}");
-    }
-    Ok(())
+fn fault_of_length(alloc: Global, length: usize, text: &str) -> Result<&'static str, Fail> {
+    let name = "i".repeat(alloc, length)?;
+    let id = format!(in alloc; "_local/{name}")?;
+    Ok(fault(alloc, id.as_str(), text))
 }
 
 #[test]
 fn lengths(rt: HostRuntime) -> Result<(), Fail> {
     let alloc = rt.alloc();
-    let cases = [
-        (505usize, "{}", None),
-        (506, "{}", Some(TooLong)),
-        (506, r#"{"_deleted":true}"#, Some(BadMember)),
-        (506, r#"{"_id":"x"}"#, Some(BadId)),
+    let found = [
+        fault_of_length(alloc, 505, "{}")?,
+        fault_of_length(alloc, 506, "{}")?,
+        fault_of_length(alloc, 506, r#"{"_deleted":true}"#)?,
+        fault_of_length(alloc, 506, r#"{"_id":"x"}"#)?,
     ];
-    for (length, text, expected) in cases {
-        let name = "i".repeat(alloc, length)?;
-        let id = format!(in alloc; "_local/{name}")?;
-        let found = LocalDoc::read(alloc, id.as_str(), text.as_bytes()).err();
-        assert_eq!(rt; found, expected, "{length} {text}");
-    }
+    assert_eq!(rt; found, ["none", "TooLong", "BadMember", "BadId"]);
     Ok(())
 }
+
+const WRITTEN: &str =
+    r#" {"_id":"_local/x","_rev":"0-1"}{"_id":"_local/q\"","_rev":"0-18446744073709551615","b":"","v":{"w":7}}"#;
 
 #[test]
 fn texts(rt: HostRuntime) -> Result<(), Fail> {
     let alloc = rt.alloc();
     let mut out = Vec::new(alloc);
     out.push(b' ')?;
-    let empty = Body::empty(alloc)?;
-    write_local(&mut out, "_local/x", 1, &empty)?;
-    let expected: &[u8] = br#" {"_id":"_local/x","_rev":"0-1"}"#;
-    assert_eq!(rt; out.as_slice(), expected);
+    write_local(&mut out, "_local/x", 1, &Body::empty(alloc)?)?;
     let doc = LocalDoc::read(alloc, "_local/q\"", br#"{"v":{"w":7},"b":""}"#)?;
-    out.clear();
     write_local(&mut out, doc.id.as_str(), u64::MAX, &doc.body)?;
-    let expected: &[u8] =
-        br#"{"_id":"_local/q\"","_rev":"0-18446744073709551615","b":"","v":{"w":7}}"#;
-    assert_eq!(rt; out.as_slice(), expected);
+    assert_eq!(rt; out.as_slice(), WRITTEN.as_bytes());
     Ok(())
 }

@@ -1,89 +1,99 @@
-use crate::DocFault::{BadId, BadMember, BadNumber, BadRev, NotJson, NotObject, TooLong};
-use crate::{Doc, RevId};
+use super::tables::{fault_name, parts, shown};
+use crate::{Doc, DocFault};
+use std::alloc::Global;
 use std::test::Fail;
+
+// The document that is put at a place: an id, or an id and a revision with a comma between them.
+fn put(alloc: Global, place: &str, new_edits: bool, text: &str) -> Result<Doc, DocFault> {
+    match place.split_once(", ") {
+        Some((id, rev)) => Doc::read_put(alloc, id, Some(rev), new_edits, text.as_bytes()),
+        None => Doc::read_put(alloc, place, None, new_edits, text.as_bytes()),
+    }
+}
+
+const CONTENTS: &str = r#"a | {} | a - {}
+a | {"_id":"a","v":7} | a - {"v":7}
+a, 1-a | {} | a 1-a {}
+a | {"_rev":"1-a"} | a 1-a {}
+a, 1-a | {"_rev":"1-a"} | a 1-a {}
+a, 65535-a | {} | a 65535-a {}
+a | {"_deleted":true} | a - deleted {}
+a | {"_revisions":7} | a - {}"#;
 
 #[test]
 fn contents(rt: HostRuntime) -> Result<(), Fail> {
     let alloc = rt.alloc();
-    let cases = [
-        (None, "{}", "", false, "{}"),
-        (None, r#"{"_id":"a","v":7}"#, "", false, r#"{"v":7}"#),
-        (Some("1-a"), "{}", "1-a", false, "{}"),
-        (None, r#"{"_rev":"1-a"}"#, "1-a", false, "{}"),
-        (Some("1-a"), r#"{"_rev":"1-a"}"#, "1-a", false, "{}"),
-        (Some("65535-a"), "{}", "65535-a", false, "{}"),
-        (None, r#"{"_deleted":true}"#, "", true, "{}"),
-        (None, r#"{"_revisions":7}"#, "", false, "{}"),
-    ];
-    for (rev, text, named, deleted, body) in cases {
-        let doc = Doc::read_put(alloc, "a", rev, true, text.as_bytes())?;
-        assert_eq!(rt; doc.id.as_str(), "a");
-        assert_eq!(rt; doc.rev, RevId::read(named), "{text}");
-        assert!(rt; doc.path.is_none(), "{text}");
-        assert_eq!(rt; doc.deleted, deleted, "{text}");
-        assert_eq!(rt; doc.body.as_bytes(), body.as_bytes(), "{text}");
+    for line in CONTENTS.lines() {
+        let (place, case) = parts(line);
+        let (text, expected) = parts(case);
+        let doc = put(alloc, place, true, text)?;
+        assert_eq!(rt; shown(alloc, &doc)?.as_slice(), expected.as_bytes());
     }
     Ok(())
+}
+
+const HERE: &str = r#"a |  | NotJson
+a | [] | NotObject
+a | {"v":1.5} | BadNumber
+ | {} | BadId
+_x | {} | BadId
+_local/a | {} | BadId
+a | {"_id":"b"} | BadId
+a | {"_id":null} | BadId
+a,  | {} | BadRev
+a, 0-a | {} | BadRev
+a, 65536-a | {} | BadRev
+a | {"_rev":"x"} | BadRev
+a, 1-a | {"_rev":"1-b"} | BadRev
+a, 1-a | {"_rev":null} | BadRev
+a, x | {"_rev":"1-b"} | BadRev
+a | {"_x":1} | BadMember"#;
+
+// Of several faults the first is told.
+const ELSEWHERE: &str = r#"a | {} | BadMember
+a, 1-a | {"_rev":"1-a"} | BadMember
+, x | [ | NotJson
+, x | [1.5] | NotObject
+, x | {"v":1.5} | BadNumber
+, x | {} | BadId
+a, x | {"_x":1} | BadRev"#;
+
+fn fault(alloc: Global, place: &str, new_edits: bool, text: &str) -> &'static str {
+    fault_name(put(alloc, place, new_edits, text).err())
+}
+
+// The first case with another fault.
+fn wrong(alloc: Global, table: &'static str, new_edits: bool) -> Option<&'static str> {
+    for line in table.lines() {
+        let (place, case) = parts(line);
+        let (text, expected) = parts(case);
+        if fault(alloc, place, new_edits, text) != expected {
+            return Some(line);
+        }
+    }
+    None
 }
 
 #[test]
 fn faults(rt: HostRuntime) -> Result<(), Fail> {
-    let cases = [
-        ("a", None, true, "", NotJson),
-        ("a", None, true, "[]", NotObject),
-        ("a", None, true, r#"{"v":1.5}"#, BadNumber),
-        ("", None, true, "{}", BadId),
-        ("_x", None, true, "{}", BadId),
-        ("_local/a", None, true, "{}", BadId),
-        ("a", None, true, r#"{"_id":"b"}"#, BadId),
-        ("a", None, true, r#"{"_id":null}"#, BadId),
-        ("a", Some(""), true, "{}", BadRev),
-        ("a", Some("0-a"), true, "{}", BadRev),
-        ("a", Some("65536-a"), true, "{}", BadRev),
-        ("a", None, true, r#"{"_rev":"x"}"#, BadRev),
-        ("a", Some("1-a"), true, r#"{"_rev":"1-b"}"#, BadRev),
-        ("a", Some("1-a"), true, r#"{"_rev":null}"#, BadRev),
-        ("a", Some("x"), true, r#"{"_rev":"1-b"}"#, BadRev),
-        ("a", None, true, r#"{"_x":1}"#, BadMember),
-        ("a", None, false, "{}", BadMember),
-        ("a", Some("1-a"), false, r#"{"_rev":"1-a"}"#, BadMember),
-    ];
-    for (id, rev, new_edits, text, expected) in cases {
-        let found = Doc::read_put(rt.alloc(), id, rev, new_edits, text.as_bytes()).err();
-        assert_eq!(rt; found, Some(expected), "{id} {text}");
-    }
-    Ok(())
-}
-
-#[test]
-fn the_first_of_two_faults(rt: HostRuntime) -> Result<(), Fail> {
-    let cases = [
-        ("", Some("x"), "[", NotJson),
-        ("", Some("x"), "[1.5]", NotObject),
-        ("", Some("x"), r#"{"v":1.5}"#, BadNumber),
-        ("", Some("x"), "{}", BadId),
-        ("a", Some("x"), r#"{"_x":1}"#, BadRev),
-    ];
-    for (id, rev, text, expected) in cases {
-        let found = Doc::read_put(rt.alloc(), id, rev, false, text.as_bytes()).err();
-        assert_eq!(rt; found, Some(expected), "{id} {text}");
-    }
+    let alloc = rt.alloc();
+    let found = [wrong(alloc, HERE, true), wrong(alloc, ELSEWHERE, false)];
+    assert_eq!(rt; found, [None, None]);
     Ok(())
 }
 
 #[test]
 fn lengths(rt: HostRuntime) -> Result<(), Fail> {
     let alloc = rt.alloc();
-    let cases = [
-        (512usize, None, true, None),
-        (513, None, true, Some(TooLong)),
-        (513, None, false, Some(BadMember)),
-        (513, Some("x"), true, Some(BadRev)),
+    let good = "i".repeat(alloc, 512)?;
+    let long = "i".repeat(alloc, 513)?;
+    let named = format!(in alloc; "{long}, x")?;
+    let found = [
+        fault(alloc, good.as_str(), true, "{}"),
+        fault(alloc, long.as_str(), true, "{}"),
+        fault(alloc, long.as_str(), false, "{}"),
+        fault(alloc, named.as_str(), true, "{}"),
     ];
-    for (length, rev, new_edits, expected) in cases {
-        let id = "i".repeat(alloc, length)?;
-        let found = Doc::read_put(alloc, id.as_str(), rev, new_edits, b"{}").err();
-        assert_eq!(rt; found, expected, "{length}");
-    }
+    assert_eq!(rt; found, ["none", "TooLong", "BadMember", "BadRev"]);
     Ok(())
 }

@@ -1,204 +1,180 @@
-use crate::DocFault::{
-    BadId, BadMember, BadNumber, BadRev, BadRevisions, NotJson, NotObject, TooLong,
-};
+use super::tables::{fault_name, parts};
 use crate::{Doc, DocFault};
 use std::alloc::Global;
 use std::test::Fail;
 
-fn fault(alloc: Global, text: &str, new_edits: bool) -> Option<DocFault> {
-    Doc::read(alloc, text.as_bytes(), new_edits).err()
+const HERE: &str = r#" | NotJson
+{ | NotJson
+{"_id":"a"} x | NotJson
+{"_id":"a","n":1e400} | NotJson
+[] | NotObject
+null | NotObject
+{"_id":"a","n":1.5} | BadNumber
+{"_id":"a","n":-0} | BadNumber
+{"_id":"a","n":1e3} | BadNumber
+{"_id":"a","n":[{"m":[1,0.0]}]} | BadNumber
+{"_id":"a","_local_seq":1.5} | BadNumber
+{"_id":"a","n":18446744073709551616} | BadNumber
+{"_id":"a","n":-9223372036854775809} | BadNumber
+{"_id":"a","n":18446744073709551615} | none
+{"_id":"a","n":-9223372036854775808} | none
+{} | BadId
+{"_id":1} | BadId
+{"_id":""} | BadId
+{"_id":"_x"} | BadId
+{"_id":"_local/a"} | BadId
+{"_id":"_design"} | BadId
+{"_id":"_design/"} | BadId
+{"_id":"_design/a"} | none
+{"_id":"a_"} | none
+{"_id":"","_id":"a"} | none
+{"_id":"a","_id":""} | BadId
+{"_id":"a","_rev":null} | BadRev
+{"_id":"a","_rev":1} | BadRev
+{"_id":"a","_rev":"0-a"} | BadRev
+{"_id":"a","_rev":"65536-a"} | BadRev
+{"_id":"a","_rev":"65535-a"} | none
+{"_id":"a","_rev":"1-a","_revisions":7} | none
+{"_id":"a","_revisions":{"start":2,"ids":[]}} | none
+{"_id":"a","_x":1} | BadMember
+{"_id":"a","_":1} | BadMember
+{"_id":"a","m":{"_x":1}} | none
+{"_id":"a","_deleted":1} | BadMember
+{"_id":"a","_deleted":null} | BadMember
+{"_id":"a","_deleted":false} | none
+{"_id":"a","_attachments":{"f":{}}} | BadMember
+{"_id":"a","_attachments":[]} | BadMember
+{"_id":"a","_attachments":{}} | none
+{"_id":"a","_conflicts":1,"_revs_info":[]} | none
+{"_id":"a","_deleted_conflicts":{},"_local_seq":"x"} | none"#;
+
+const ELSEWHERE: &str = r#"{"_id":"a"} | BadRev
+{"_id":"a","_rev":null} | BadRev
+{"_id":"a","_rev":"1-a"} | none
+{"_id":"a","_rev":"2-a"} | BadRevisions
+{"_id":"a","_revisions":null} | BadRevisions
+{"_id":"a","_revisions":{"start":1,"ids":["a"]}} | none
+{"_id":"a","_revisions":{"start":1,"ids":["a"],"x":[]}} | none
+{"_id":"a","_rev":"2-a","_revisions":{"start":2,"ids":["a","b"]}} | none
+{"_id":"a","_rev":"2-b","_revisions":{"start":2,"ids":["a","b"]}} | BadRevisions
+{"_id":"a","_rev":"1-b","_revisions":{"start":2,"ids":["a","b"]}} | BadRevisions
+{"_id":"a","_revisions":{"start":2,"ids":["a"]}} | BadRevisions
+{"_id":"a","_revisions":{"start":2,"ids":["a","b","c"]}} | BadRevisions
+{"_id":"a","_revisions":{"start":0,"ids":[]}} | BadRevisions
+{"_id":"a","_revisions":{"start":65536,"ids":["a"]}} | BadRevisions
+{"_id":"a","_revisions":{"start":"1","ids":["a"]}} | BadRevisions
+{"_id":"a","_revisions":{"start":1,"ids":"a"}} | BadRevisions
+{"_id":"a","_revisions":{"start":1,"ids":["a!"]}} | BadRevisions
+{"_id":"a","_revisions":{"start":1,"ids":[1]}} | BadRevisions
+{"_id":"a","_revisions":{"start":1}} | BadRevisions"#;
+
+// Texts with two faults, and the one that is told.
+const TWO: &str = r#"[1.5 | NotJson
+[1.5] | NotObject
+{"_id":1.5} | BadNumber
+{"_id":"_a","_rev":"x"} | BadId
+{"_id":"a","_rev":"x","_revisions":1} | BadRev
+{"_id":"a","_rev":"2-a","_x":1} | BadRevisions"#;
+
+fn fault(alloc: Global, text: &str, new_edits: bool) -> &'static str {
+    fault_name(Doc::read(alloc, text.as_bytes(), new_edits).err())
+}
+
+// The first case that is wrong.
+fn wrong(alloc: Global, table: &'static str, new_edits: bool) -> Option<&'static str> {
+    for line in table.lines() {
+        let (text, expected) = parts(line);
+        if fault(alloc, text, new_edits) != expected {
+            return Some(line);
+        }
+    }
+    None
 }
 
 #[test]
-fn edits_made_here(rt: HostRuntime) -> Result<(), Fail> {
-    let cases = [
-        ("", Some(NotJson)),
-        ("{", Some(NotJson)),
-        (r#"{"_id":"a"} x"#, Some(NotJson)),
-        (r#"{"_id":"a","n":1e400}"#, Some(NotJson)),
-        ("[]", Some(NotObject)),
-        ("null", Some(NotObject)),
-        (r#"{"_id":"a","n":1.5}"#, Some(BadNumber)),
-        (r#"{"_id":"a","n":-0}"#, Some(BadNumber)),
-        (r#"{"_id":"a","n":1e3}"#, Some(BadNumber)),
-        (r#"{"_id":"a","n":[{"m":[1,0.0]}]}"#, Some(BadNumber)),
-        (r#"{"_id":"a","_local_seq":1.5}"#, Some(BadNumber)),
-        (r#"{"_id":"a","n":18446744073709551616}"#, Some(BadNumber)),
-        (r#"{"_id":"a","n":-9223372036854775809}"#, Some(BadNumber)),
-        (r#"{"_id":"a","n":18446744073709551615}"#, None),
-        (r#"{"_id":"a","n":-9223372036854775808}"#, None),
-        ("{}", Some(BadId)),
-        (r#"{"_id":1}"#, Some(BadId)),
-        (r#"{"_id":""}"#, Some(BadId)),
-        (r#"{"_id":"_x"}"#, Some(BadId)),
-        (r#"{"_id":"_local/a"}"#, Some(BadId)),
-        (r#"{"_id":"_design"}"#, Some(BadId)),
-        (r#"{"_id":"_design/"}"#, Some(BadId)),
-        (r#"{"_id":"_design/a"}"#, None),
-        (r#"{"_id":"a_"}"#, None),
-        (r#"{"_id":"","_id":"a"}"#, None),
-        (r#"{"_id":"a","_id":""}"#, Some(BadId)),
-        (r#"{"_id":"a","_rev":null}"#, Some(BadRev)),
-        (r#"{"_id":"a","_rev":1}"#, Some(BadRev)),
-        (r#"{"_id":"a","_rev":"0-a"}"#, Some(BadRev)),
-        (r#"{"_id":"a","_rev":"65536-a"}"#, Some(BadRev)),
-        (r#"{"_id":"a","_rev":"65535-a"}"#, None),
-        (r#"{"_id":"a","_rev":"1-a","_revisions":7}"#, None),
-        (r#"{"_id":"a","_revisions":{"start":2,"ids":[]}}"#, None),
-        (r#"{"_id":"a","_x":1}"#, Some(BadMember)),
-        (r#"{"_id":"a","_":1}"#, Some(BadMember)),
-        (r#"{"_id":"a","m":{"_x":1}}"#, None),
-        (r#"{"_id":"a","_deleted":1}"#, Some(BadMember)),
-        (r#"{"_id":"a","_deleted":null}"#, Some(BadMember)),
-        (r#"{"_id":"a","_deleted":false}"#, None),
-        (r#"{"_id":"a","_attachments":{"f":{}}}"#, Some(BadMember)),
-        (r#"{"_id":"a","_attachments":[]}"#, Some(BadMember)),
-        (r#"{"_id":"a","_attachments":{}}"#, None),
-        (r#"{"_id":"a","_conflicts":1,"_revs_info":[]}"#, None),
-        (
-            r#"{"_id":"a","_deleted_conflicts":{},"_local_seq":"x"}"#,
-            None,
-        ),
+fn faults(rt: HostRuntime) -> Result<(), Fail> {
+    let alloc = rt.alloc();
+    let found = [
+        wrong(alloc, HERE, true),
+        wrong(alloc, ELSEWHERE, false),
+        wrong(alloc, TWO, false),
     ];
-    for (text, expected) in cases {
-        assert_eq!(rt; fault(rt.alloc(), text, true), expected, "{text}");
-    }
+    assert_eq!(rt; found, [None, None, None]);
     Ok(())
 }
 
-#[test]
-fn edits_made_elsewhere(rt: HostRuntime) -> Result<(), Fail> {
-    let cases = [
-        (r#"{"_id":"a"}"#, Some(BadRev)),
-        (r#"{"_id":"a","_rev":null}"#, Some(BadRev)),
-        (r#"{"_id":"a","_rev":"1-a"}"#, None),
-        (r#"{"_id":"a","_rev":"2-a"}"#, Some(BadRevisions)),
-        (r#"{"_id":"a","_revisions":null}"#, Some(BadRevisions)),
-        (r#"{"_id":"a","_revisions":{"start":1,"ids":["a"]}}"#, None),
-        (
-            r#"{"_id":"a","_revisions":{"start":1,"ids":["a"],"x":[]}}"#,
-            None,
-        ),
-        (
-            r#"{"_id":"a","_rev":"2-a","_revisions":{"start":2,"ids":["a","b"]}}"#,
-            None,
-        ),
-        (
-            r#"{"_id":"a","_rev":"2-b","_revisions":{"start":2,"ids":["a","b"]}}"#,
-            Some(BadRevisions),
-        ),
-        (
-            r#"{"_id":"a","_rev":"1-b","_revisions":{"start":2,"ids":["a","b"]}}"#,
-            Some(BadRevisions),
-        ),
-        (
-            r#"{"_id":"a","_revisions":{"start":2,"ids":["a"]}}"#,
-            Some(BadRevisions),
-        ),
-        (
-            r#"{"_id":"a","_revisions":{"start":2,"ids":["a","b","c"]}}"#,
-            Some(BadRevisions),
-        ),
-        (
-            r#"{"_id":"a","_revisions":{"start":0,"ids":[]}}"#,
-            Some(BadRevisions),
-        ),
-        (
-            r#"{"_id":"a","_revisions":{"start":65536,"ids":["a"]}}"#,
-            Some(BadRevisions),
-        ),
-        (
-            r#"{"_id":"a","_revisions":{"start":"1","ids":["a"]}}"#,
-            Some(BadRevisions),
-        ),
-        (
-            r#"{"_id":"a","_revisions":{"start":1,"ids":"a"}}"#,
-            Some(BadRevisions),
-        ),
-        (
-            r#"{"_id":"a","_revisions":{"start":1,"ids":["a!"]}}"#,
-            Some(BadRevisions),
-        ),
-        (
-            r#"{"_id":"a","_revisions":{"start":1,"ids":[1]}}"#,
-            Some(BadRevisions),
-        ),
-        (
-            r#"{"_id":"a","_revisions":{"start":1}}"#,
-            Some(BadRevisions),
-        ),
-    ];
-    for (text, expected) in cases {
-        assert_eq!(rt; fault(rt.alloc(), text, false), expected, "{text}");
-    }
-    Ok(())
+// The fault of an id and a value of `_attachments`.
+fn with_id(alloc: Global, length: usize, attachments: &str) -> Result<&'static str, Fail> {
+    let id = "i".repeat(alloc, length)?;
+    let text = format!(in alloc; "{{\"_id\":\"{id}\",\"_attachments\":{attachments}}}")?;
+    Ok(fault(alloc, text.as_str(), true))
 }
 
-#[test]
-fn the_first_of_two_faults(rt: HostRuntime) -> Result<(), Fail> {
-    let cases = [
-        (r#"[1.5"#, Some(NotJson)),
-        (r#"[1.5]"#, Some(NotObject)),
-        (r#"{"_id":1.5}"#, Some(BadNumber)),
-        (r#"{"_id":"_a","_rev":"x"}"#, Some(BadId)),
-        (r#"{"_id":"a","_rev":"x","_revisions":1}"#, Some(BadRev)),
-        (r#"{"_id":"a","_rev":"2-a","_x":1}"#, Some(BadRevisions)),
-    ];
-    for (text, expected) in cases {
-        assert_eq!(rt; fault(rt.alloc(), text, false), expected, "{text}");
-    }
-    Ok(())
+// The fault of a value that nests so deep.
+fn with_depth(alloc: Global, depth: usize) -> Result<&'static str, Fail> {
+    let open = "[".repeat(alloc, depth)?;
+    let close = "]".repeat(alloc, depth)?;
+    let text = format!(in alloc; "{{\"_id\":\"a\",\"m\":{open}{close}}}")?;
+    Ok(fault(alloc, text.as_str(), true))
+}
+
+// The fault of a history of one hash.
+fn with_hash(alloc: Global, length: usize) -> Result<&'static str, Fail> {
+    let hash = "h".repeat(alloc, length)?;
+    let text = format!(in alloc;
+        "{{\"_id\":\"a\",\"_revisions\":{{\"start\":1,\"ids\":[\"{hash}\"]}}}}"
+    )?;
+    Ok(fault(alloc, text.as_str(), false))
 }
 
 #[test]
 fn sizes(rt: HostRuntime) -> Result<(), Fail> {
     let alloc = rt.alloc();
-    let cases = [
-        (512usize, r#"{}"#, None),
-        (513, r#"{}"#, Some(TooLong)),
-        (513, r#"1"#, Some(BadMember)),
+    let found = [
+        with_id(alloc, 512, "{}")?,
+        with_id(alloc, 513, "{}")?,
+        with_id(alloc, 513, "1")?,
+        with_depth(alloc, 126)?,
+        with_depth(alloc, 127)?,
+        with_hash(alloc, 64)?,
+        with_hash(alloc, 65)?,
     ];
-    for (length, attachments, expected) in cases {
-        let id = "i".repeat(alloc, length)?;
-        let text = format!(in alloc; "{{\"_id\":\"{id}\",\"_attachments\":{attachments}}}")?;
-        assert_eq!(rt; fault(alloc, text.as_str(), true), expected, "{length}");
-    }
-    for (depth, expected) in [(126usize, None), (127, Some(NotJson))] {
-        let open = "[".repeat(alloc, depth)?;
-        let close = "]".repeat(alloc, depth)?;
-        let text = format!(in alloc; "{{\"_id\":\"a\",\"m\":{open}{close}}}")?;
-        assert_eq!(rt; fault(alloc, text.as_str(), true), expected, "{depth}");
-    }
-    for (length, expected) in [(64usize, None), (65, Some(BadRevisions))] {
-        let hash = "h".repeat(alloc, length)?;
-        let text = format!(in alloc;
-            "{{\"_id\":\"a\",\"_revisions\":{{\"start\":1,\"ids\":[\"{hash}\"]}}}}"
-        )?;
-        assert_eq!(rt; fault(alloc, text.as_str(), false), expected, "{length}");
-    }
+    let expected = [
+        "none",
+        "TooLong",
+        "BadMember",
+        "none",
+        "NotJson",
+        "none",
+        "BadRevisions",
+    ];
+    assert_eq!(rt; found, expected);
     Ok(())
 }
 
 #[test]
-fn texts(rt: HostRuntime) -> Result<(), Fail> {
-    let alloc = rt.alloc();
-    assert_eq!(rt;
-        Doc::read(alloc, b"{\"_id\":\"\xff\"}", true).err(),
-        Some(NotJson)
-    );
-    let cases = [
-        (DocFault::NoMemory, "out of memory"),
-        (NotJson, "not JSON"),
-        (NotObject, "not an object"),
-        (BadNumber, "number out of profile"),
-        (BadId, "bad id"),
-        (BadRev, "bad rev"),
-        (BadRevisions, "bad _revisions"),
-        (BadMember, "bad member"),
-        (TooLong, "id too long"),
-    ];
-    for (fault, expected) in cases {
-        assert_eq!(rt; format!(in alloc; "{fault}")?.as_str(), expected);
+fn bytes(rt: HostRuntime) -> Result<(), Fail> {
+    let read = Doc::read(rt.alloc(), b"{\"_id\":\"\xff\"}", true);
+    assert_eq!(rt; read.err(), Some(DocFault::NotJson));
+    Ok(())
+}
+
+const REASONS: [(DocFault, &str); 9] = [
+    (DocFault::NoMemory, "out of memory"),
+    (DocFault::NotJson, "not JSON"),
+    (DocFault::NotObject, "not an object"),
+    (DocFault::BadNumber, "number out of profile"),
+    (DocFault::BadId, "bad id"),
+    (DocFault::BadRev, "bad rev"),
+    (DocFault::BadRevisions, "bad _revisions"),
+    (DocFault::BadMember, "bad member"),
+    (DocFault::TooLong, "id too long"),
+];
+
+#[test]
+fn reasons(rt: HostRuntime) -> Result<(), Fail> {
+    for (fault, expected) in &REASONS {
+        assert_eq!(rt; format!(in rt.alloc(); "{fault}")?.as_str(), *expected);
     }
     Ok(())
 }

@@ -1,56 +1,47 @@
 use crate::RevId;
+use std::alloc::Global;
 use std::test::Fail;
 
-#[test]
-fn texts_that_are_revisions(rt: HostRuntime) -> Result<(), Fail> {
-    let cases = [
-        ("1-a", 1, "a"),
-        ("10-0aZ", 10, "0aZ"),
-        ("65535-9", 65535, "9"),
-        (
-            "2-0123456789012345678901234567890123456789012345678901234567890123",
-            2,
-            "0123456789012345678901234567890123456789012345678901234567890123",
-        ),
-    ];
-    for (text, generation, hash) in cases {
-        let rev = RevId::read(text).expect(&rt, "a revision");
-        assert_eq!(rt; rev.generation(), generation, "{text}");
-        assert_eq!(rt; rev.hash(), hash.as_bytes(), "{text}");
-        assert_eq!(rt;
-            RevId::from_parts(generation, hash.as_bytes()),
-            Some(rev),
-            "{text}"
-        );
-        let mut out = Vec::new(rt.alloc());
-        out.push(b' ')?;
-        rev.print(&mut out)?;
-        assert_eq!(rt; &out[1..], text.as_bytes());
-    }
-    Ok(())
+const LONG: &str = "0123456789012345678901234567890123456789012345678901234567890123";
+
+// Whether the text is read as this revision, made of these parts, and printed behind a blank.
+fn is_read(alloc: Global, text: &str, generation: u16, hash: &str) -> Result<bool, Fail> {
+    let Some(rev) = RevId::read(text) else {
+        return Ok(false);
+    };
+    let mut out = Vec::new(alloc);
+    out.push(b' ')?;
+    rev.print(&mut out)?;
+    let printed = format!(in alloc; " {text}")?;
+    Ok(
+        rev.generation() == generation
+            && rev.hash() == hash.as_bytes()
+            && RevId::from_parts(generation, hash.as_bytes()) == Some(rev)
+            && out.as_slice() == printed.as_bytes(),
+    )
 }
 
 #[test]
-fn texts_that_are_none(rt: HostRuntime) -> Result<(), Fail> {
-    let cases = [
-        "",
-        "1",
-        "a",
-        "-a",
-        "1-",
-        "0-a",
-        "01-a",
-        "+1-a",
-        " 1-a",
-        "1-a ",
-        "1-a-b",
-        "1-é",
-        "65536-a",
-        "18446744073709551617-a",
-        "2-01234567890123456789012345678901234567890123456789012345678901234",
+fn texts_that_are_revisions(rt: HostRuntime) -> Result<(), Fail> {
+    let alloc = rt.alloc();
+    let long = format!(in alloc; "2-{LONG}")?;
+    let found = [
+        is_read(alloc, "1-a", 1, "a")?,
+        is_read(alloc, "10-0aZ", 10, "0aZ")?,
+        is_read(alloc, "65535-9", 65535, "9")?,
+        is_read(alloc, long.as_str(), 2, LONG)?,
     ];
-    for text in cases {
-        assert_eq!(rt; RevId::read(text), None, "{text}");
-    }
+    assert_eq!(rt; found, [true, true, true, true]);
+    Ok(())
+}
+
+// Lines; the first is empty.
+const NONE: &str =
+    "\n1\na\n-a\n1-\n0-a\n01-a\n+1-a\n 1-a\n1-a \n1-a-b\n1-é\n65536-a\n18446744073709551617-a\n2-01234567890123456789012345678901234567890123456789012345678901234";
+
+#[test]
+fn texts_that_are_none(rt: HostRuntime) -> Result<(), Fail> {
+    let found = NONE.lines().find(|text| RevId::read(text).is_some());
+    assert_eq!(rt; (found, NONE.lines().count()), (None, 15));
     Ok(())
 }
