@@ -33,3 +33,7 @@ last_with_all wanted left = or_none (last_of wanted (decoded_of left))
     or_none : (a : Option (List ℕ)) → option_or a None ≡ a
     or_none None = refl
     or_none (Some x) = refl
+
+-- one more pair is read: what was kept, and what is kept now
+pub read_one : (wanted name value text : List ℕ) (left rest : List (List ℕ × List ℕ)) (kept next whole : Option (List ℕ)) → left ≡ (name, value) ∷ rest → text ≡ utf8_lossy (decode name) → next ≡ option_or (if bytes_eq text wanted then Some (utf8_lossy (decode value)) else None) kept → last_with wanted left kept ≡ whole → last_with wanted rest next ≡ whole
+read_one wanted name value text left rest kept next whole e t n h = rw (n, t, last_with_step wanted name value rest kept) (rw e at h)

@@ -1,3 +1,7 @@
 pub mod DocParams
 pub mod Encoded
+pub mod FeedParams
+pub mod FeedShown
+pub mod FeedValues
+pub mod ListedIds
 pub mod Query

@@ -2,8 +2,16 @@
 #![tactic(auto)]
 
 mod doc_params;
+mod feed_fault;
+mod feed_params;
+mod feed_stages;
+mod feed_texts;
+mod feed_values;
+mod listed_ids;
 mod query;
 #[cfg(test)]
 mod tests;
 
 pub use doc_params::DocParams;
+pub use feed_fault::ParamFault;
+pub use feed_params::FeedParams;

@@ -1,0 +1,51 @@
+//! Why parameters of a feed are none.
+
+use std::alloc::AllocError;
+use thiserror::Error;
+
+/// Why a query and a body are no parameters of a feed: the first of these, in this order.
+/// `NoMemory` may come in place of any. The texts are the reasons that a hub answers (own).
+#[derive(Clone, Copy, Debug, PartialEq, Eq, Error)]
+pub enum ParamFault {
+    /// A growth was refused.
+    #[error("out of memory")]
+    NoMemory,
+    /// `since` is neither a number below 2^64 nor `now`.
+    #[error("bad since")]
+    BadSince,
+    /// `limit` is no number below 2^64.
+    #[error("bad limit")]
+    BadLimit,
+    /// `style` is neither `main_only` nor `all_docs`.
+    #[error("bad style")]
+    BadStyle,
+    /// `feed` is none of `normal`, `longpoll` and `continuous`.
+    #[error("bad feed")]
+    BadFeed,
+    /// `filter` is neither `_doc_ids` nor `_design`.
+    #[error("bad filter")]
+    BadFilter,
+    /// Listed documents are asked for, and no list of texts says which; or the body is no object.
+    #[error("bad doc_ids")]
+    BadDocIds,
+    /// `heartbeat` or `timeout` is no number in its range, nor a word that stands for one.
+    #[error("bad heartbeat")]
+    BadHeartbeat,
+    /// `descending` is `true`, and the feed does not end at once.
+    #[error("descending needs feed=normal")]
+    DescendingMode,
+    /// `descending` or `include_docs` is neither `true` nor `false`.
+    #[error("bad flag")]
+    BadFlag,
+}
+
+impl From<AllocError> for ParamFault {
+    ghost use Rattle.std.specs.Prelude.{◌≡◌};
+    ghost use Rattle.hub_params.specs.declared.feed_fault.ParamFault.TheVariants.{NoMemory};
+
+    ghost from_gives = { λ _ e. e ≡ NoMemory };
+
+    fn from(_refused: AllocError) -> ParamFault {
+        ParamFault::NoMemory
+    }
+}

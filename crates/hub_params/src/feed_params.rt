@@ -1,0 +1,84 @@
+//! The parameters of a changes feed.
+
+ghost use Rattle.std.specs.Prelude.{◌≡◌, ◌⊎◌, IfOk, IfErr, Ok, Err};
+ghost use Rattle.hub_params.specs.FeedParams.{FeedAsked, feed_asked, AsksTheSame};
+ghost use Rattle.hub_params.specs.FeedShown.{params_asked};
+
+use crate::feed_fault::ParamFault;
+use crate::feed_stages::{filter_of_kind, flags_of, kind_of, rows_of, waits_of};
+use crate::feed_texts::FeedTexts;
+use hub_filter::Filter;
+use hub_model::{Mode, Since, Style};
+use std::alloc::{AllocError, Global};
+
+/// What the query and the body of a changes feed ask for (CouchDB API reference, `_changes`).
+#[derive(Debug, Drop)]
+pub struct FeedParams {
+    /// How long the feed lasts (`feed`).
+    pub mode: Mode,
+    /// Where it begins (`since`).
+    pub since: Since,
+    /// How many rows it shows at most (`limit`), at least one; none: no end.
+    pub limit: Option<u64>,
+    /// Whether the newest row comes first.
+    pub descending: bool,
+    /// Which revisions a row lists (`style`).
+    pub style: Style,
+    /// Whether rows bring their documents.
+    pub include_docs: bool,
+    /// Which documents are shown (`filter`, `doc_ids`).
+    pub filter: Filter,
+    /// The milliseconds between heartbeats, at least one, if there are any.
+    pub heartbeat: Option<u64>,
+    /// The milliseconds that it waits for a row, 60,000 at most.
+    pub timeout: u64,
+}
+
+impl FeedParams {
+    /// The parameters that a query and a body give, or the first fault in them. Names and values
+    /// are compared decoded, of a repeated name the last value counts, and unknown names are
+    /// ignored. The body is read only with `filter=_doc_ids`. It costs the length of both, and the
+    /// sorting of listed ids.
+    pub fn read(alloc: Global, query: &[u8], body: &[u8]) -> Result<FeedParams, ParamFault>
+        ensures ok { IfOk result (λ p. (asked : FeedAsked)
+            × (feed_asked query.now body.now ≡ Ok asked) × AsksTheSame (params_asked p) asked) }
+        ensures err { IfErr result (λ e. (e ≡ ParamFault.NoMemory)
+            ⊎ (feed_asked query.now body.now ≡ Err e)) }
+    {
+        let texts = FeedTexts::read(alloc, query)?;
+        let rows = rows_of(alloc, texts.since, texts.limit, texts.style)?;
+        let kind = kind_of(alloc, texts.feed, texts.filter)?;
+        let filter = filter_of_kind(alloc, texts.doc_ids, body, kind.shown)?;
+        let waits = waits_of(alloc, texts.heartbeat, texts.timeout)?;
+        let flags = flags_of(alloc, kind.mode, texts.descending, texts.include_docs)?;
+        Ok(FeedParams {
+            mode: kind.mode,
+            since: rows.since,
+            limit: rows.limit,
+            descending: flags.descending,
+            style: rows.style,
+            include_docs: flags.include_docs,
+            filter,
+            heartbeat: waits.heartbeat,
+            timeout: waits.timeout,
+        })
+    }
+
+    /// A copy. It costs the length of the listed ids.
+    pub fn copy(&self, alloc: Global) -> Result<FeedParams, AllocError>
+        ensures { IfOk result (λ p. params_asked p ≡ params_asked self.now) }
+    {
+        let filter = self.filter.copy(alloc)?;
+        Ok(FeedParams {
+            mode: self.mode,
+            since: self.since,
+            limit: self.limit,
+            descending: self.descending,
+            style: self.style,
+            include_docs: self.include_docs,
+            filter,
+            heartbeat: self.heartbeat,
+            timeout: self.timeout,
+        })
+    }
+}

@@ -1,0 +1,204 @@
+//! The parameters of a feed in the order of their faults.
+
+ghost use Rattle.std.specs.Prelude.{◌≡◌, ◌⊎◌, IfOk, IfErr, Ok, Err, codes, option_map};
+ghost use Rattle.std.specs.Cow.{cow_str_bytes};
+ghost use Rattle.hub_model.specs.Filter.{Filter as ModelFilter};
+ghost use Rattle.hub_filter.specs.Shown.{filter_of};
+ghost use Rattle.hub_params.specs.Encoded.{text_in};
+ghost use Rattle.hub_params.specs.DocParams.{is_value};
+ghost use Rattle.hub_params.specs.FeedParams.{rows_in, kind_in, filter_in, waits_in, is_normal, flags_in, ShowTheSame};
+
+use crate::feed_fault::ParamFault;
+use crate::feed_values::{
+    Shown, flag_of, heartbeat_of, limit_of, mode_of, shown_of, since_of, style_of, timeout_of,
+};
+use crate::listed_ids::ids_of;
+use crate::query::decoded;
+use hub_filter::{DocIds, Filter};
+use hub_model::{Mode, Since, Style};
+use std::alloc::Global;
+use std::borrow::CowStr;
+
+/// Which rows are asked for, and how many.
+#[derive(Clone, Copy)]
+pub(crate) struct Rows {
+    pub(crate) since: Since,
+    pub(crate) limit: Option<u64>,
+    pub(crate) style: Style,
+}
+
+/// How long the feed lasts, and which documents it shows.
+#[derive(Clone, Copy)]
+pub(crate) struct Kind {
+    pub(crate) mode: Mode,
+    pub(crate) shown: Shown,
+}
+
+/// How long it waits, in milliseconds.
+#[derive(Clone, Copy)]
+pub(crate) struct Waits {
+    pub(crate) heartbeat: Option<u64>,
+    pub(crate) timeout: u64,
+}
+
+/// The flags.
+#[derive(Clone, Copy)]
+pub(crate) struct Flags {
+    pub(crate) descending: bool,
+    pub(crate) include_docs: bool,
+}
+
+// The text, where there is one.
+fn lent<'t>(text: &'t Option<CowStr<'_>>) -> Option<&'t str>
+    ensures { option_map (λ s. s.now) result ≡ option_map cow_str_bytes text.now }
+{
+    match text {
+        Some(found) => Some(found.as_str()),
+        None => None,
+    }
+}
+
+/// `since`, `limit` and `style`.
+pub(crate) fn rows_of(
+    alloc: Global,
+    since: Option<&[u8]>,
+    limit: Option<&[u8]>,
+    style: Option<&[u8]>,
+) -> Result<Rows, ParamFault>
+    ensures ok { IfOk result (λ r. rows_in (text_in since.entry) (text_in limit.entry) (text_in style.entry) ≡ Ok r) }
+    ensures err { IfErr result (λ e. (e ≡ ParamFault.NoMemory)
+        ⊎ (rows_in (text_in since.entry) (text_in limit.entry) (text_in style.entry) ≡ Err e)) }
+{
+    let since_text = decoded(alloc, since)?;
+    let limit_text = decoded(alloc, limit)?;
+    let style_text = decoded(alloc, style)?;
+    let Some(since) = since_of(lent(&since_text)) else {
+        return Err(ParamFault::BadSince);
+    };
+    let Some(limit) = limit_of(lent(&limit_text)) else {
+        return Err(ParamFault::BadLimit);
+    };
+    let Some(style) = style_of(lent(&style_text)) else {
+        return Err(ParamFault::BadStyle);
+    };
+    Ok(Rows {
+        since,
+        limit,
+        style,
+    })
+}
+
+/// `feed` and `filter`.
+pub(crate) fn kind_of(
+    alloc: Global,
+    feed: Option<&[u8]>,
+    filter: Option<&[u8]>,
+) -> Result<Kind, ParamFault>
+    ensures ok { IfOk result (λ k. kind_in (text_in feed.entry) (text_in filter.entry) ≡ Ok k) }
+    ensures err { IfErr result (λ e. (e ≡ ParamFault.NoMemory)
+        ⊎ (kind_in (text_in feed.entry) (text_in filter.entry) ≡ Err e)) }
+{
+    let feed_text = decoded(alloc, feed)?;
+    let filter_text = decoded(alloc, filter)?;
+    let Some(mode) = mode_of(lent(&feed_text)) else {
+        return Err(ParamFault::BadFeed);
+    };
+    let Some(shown) = shown_of(lent(&filter_text)) else {
+        return Err(ParamFault::BadFilter);
+    };
+    Ok(Kind { mode, shown })
+}
+
+/// The filter. Ids (`doc_ids`) and the body are read only where listed documents are shown.
+pub(crate) fn filter_of_kind(
+    alloc: Global,
+    ids: Option<&[u8]>,
+    body: &[u8],
+    shown: Shown,
+) -> Result<Filter, ParamFault>
+    ensures ok { IfOk result (λ f. (g : ModelFilter)
+        × (filter_in (text_in ids.entry) body.now shown ≡ Ok g) × ShowTheSame (filter_of f) g) }
+    ensures err { IfErr result (λ e. (e ≡ ParamFault.NoMemory)
+        ⊎ (filter_in (text_in ids.entry) body.now shown ≡ Err e)) }
+{
+    match shown {
+        Shown::All => Ok(Filter::All),
+        Shown::Designs => Ok(Filter::Design),
+        Shown::Listed => {
+            let ids_text = decoded(alloc, ids)?;
+            let listed = ids_of(alloc, lent(&ids_text), body)?;
+            Ok(Filter::DocIds(DocIds::new(listed)))
+        }
+    }
+}
+
+/// `heartbeat` and `timeout`.
+pub(crate) fn waits_of(
+    alloc: Global,
+    heartbeat: Option<&[u8]>,
+    timeout: Option<&[u8]>,
+) -> Result<Waits, ParamFault>
+    ensures ok { IfOk result (λ w. waits_in (text_in heartbeat.entry) (text_in timeout.entry) ≡ Ok w) }
+    ensures err { IfErr result (λ e. (e ≡ ParamFault.NoMemory)
+        ⊎ (waits_in (text_in heartbeat.entry) (text_in timeout.entry) ≡ Err e)) }
+{
+    let heartbeat_text = decoded(alloc, heartbeat)?;
+    let timeout_text = decoded(alloc, timeout)?;
+    let Some(heartbeat) = heartbeat_of(lent(&heartbeat_text)) else {
+        return Err(ParamFault::BadHeartbeat);
+    };
+    let Some(timeout) = timeout_of(lent(&timeout_text)) else {
+        return Err(ParamFault::BadHeartbeat);
+    };
+    Ok(Waits { heartbeat, timeout })
+}
+
+// Whether there is a value, and it is `true`.
+fn is_true(value: Option<&str>) -> bool
+    ensures { result ≡ is_value (codes "true") (option_map (λ s. s.now) value.entry) }
+{
+    match value {
+        Some(text) => text == "true",
+        None => false,
+    }
+}
+
+// Whether the feed ends at once.
+fn ends_at_once(mode: Mode) -> bool
+    ensures { result ≡ is_normal mode }
+{
+    match mode {
+        Mode::Normal => true,
+        Mode::Longpoll => false,
+        Mode::Continuous => false,
+    }
+}
+
+/// `descending` and `include_docs`.
+pub(crate) fn flags_of(
+    alloc: Global,
+    mode: Mode,
+    descending: Option<&[u8]>,
+    include_docs: Option<&[u8]>,
+) -> Result<Flags, ParamFault>
+    ensures ok { IfOk result (λ f. flags_in mode (text_in descending.entry) (text_in include_docs.entry) ≡ Ok f) }
+    ensures err { IfErr result (λ e. (e ≡ ParamFault.NoMemory)
+        ⊎ (flags_in mode (text_in descending.entry) (text_in include_docs.entry) ≡ Err e)) }
+{
+    let descending_text = decoded(alloc, descending)?;
+    let docs_text = decoded(alloc, include_docs)?;
+    let descending_value = lent(&descending_text);
+    if is_true(descending_value) && !ends_at_once(mode) {
+        return Err(ParamFault::DescendingMode);
+    }
+    let Some(descending) = flag_of(descending_value) else {
+        return Err(ParamFault::BadFlag);
+    };
+    let Some(include_docs) = flag_of(lent(&docs_text)) else {
+        return Err(ParamFault::BadFlag);
+    };
+    Ok(Flags {
+        descending,
+        include_docs,
+    })
+}
