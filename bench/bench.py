@@ -1,0 +1,258 @@
+#!/usr/bin/env python3
+"""What the hub costs, and how the cost grows.
+
+    python3 bench/bench.py [--small] [--no-callgrind]
+
+builds the proved hub (./hub does it), makes its own requests, runs them through `changes_hub stdin`,
+prints a table, and writes the figures beside it, to bench/out/figures.json. Only Python's standard
+library is used; valgrind, where it is there, counts instructions for one small case. No figure is
+asserted anywhere: a figure is read.
+
+Each case is a list of requests. A case that reads has a setup, which is run alone too, and what is
+told is the difference. Times are processor times of the hub, user and system, since they are steadier
+than the clock on a machine that does other work; the fastest of several runs counts.
+"""
+
+import argparse
+import hashlib
+import json
+import math
+import os
+import re
+import resource
+import shutil
+import subprocess
+import sys
+import tempfile
+
+TOP = os.path.dirname(os.path.dirname(os.path.abspath(__file__)))
+HUB = os.path.join(TOP, "crates", "changes_hub", "out", "changes_hub")
+FIGURES = os.path.join(TOP, "bench", "out", "figures.json")
+
+MAKE = b"PUT /d HTTP/1.1\r\n\r\n"
+FEED = b"GET /d/_changes HTTP/1.1\r\n\r\n"
+
+
+def request(line, body):
+    """A request with a body."""
+    return b"%s HTTP/1.1\r\nContent-Length: %d\r\n\r\n%s" % (line.encode(), len(body), body)
+
+
+def members(number, size):
+    """About this many bytes of members."""
+    text = hashlib.sha256(str(number).encode()).hexdigest()
+    return {"number": number, "text": (text * (size // 64 + 1))[: max(0, size - 40)]}
+
+
+def compact(value):
+    return json.dumps(value, separators=(",", ":"), sort_keys=True).encode()
+
+
+def revision(parent, ident, body, deleted=False):
+    """The revision that the hub makes for an edit."""
+    text = compact([deleted, parent, ident])[:-1] + b"," + body + b"]"
+    generation = 1 if parent is None else int(parent.split("-")[0]) + 1
+    return "%d-%s" % (generation, hashlib.md5(text).hexdigest())
+
+
+def documents(count, size):
+    """Documents with their revisions, as another database made them."""
+    for number in range(count):
+        doc = {"_id": "doc%07d" % number, "_rev": "1-%032x" % number}
+        doc.update(members(number, size))
+        yield doc
+
+
+def batches(count, size):
+    """The documents in batches of 1,000."""
+    docs = list(documents(count, size))
+    parts = [MAKE]
+    for at in range(0, count, 1000):
+        body = compact({"docs": docs[at : at + 1000], "new_edits": False})
+        parts.append(request("POST /d/_bulk_docs", body))
+    return b"".join(parts)
+
+
+def puts(count, size):
+    """The documents one by one, the requests behind one another."""
+    parts = [MAKE]
+    for number in range(count):
+        parts.append(request("PUT /d/doc%07d" % number, compact(members(number, size))))
+    return b"".join(parts)
+
+
+def gets(count):
+    return b"".join(b"GET /d/doc%07d HTTP/1.1\r\n\r\n" % number for number in range(count))
+
+
+def diffs(count):
+    """1,000 ids, of which half miss a revision."""
+    asked = {}
+    for at in range(1000):
+        number = at * count // 1000
+        asked["doc%07d" % number] = ["1-%032x" % number if at % 2 else "2-x"]
+    return request("POST /d/_revs_diff", compact(asked))
+
+
+def line(count):
+    """A document that is edited again and again, each edit on the one before."""
+    parts = [MAKE]
+    rev = None
+    for number in range(count):
+        body = compact({"v": number})
+        target = "PUT /d/doc" + ("" if rev is None else "?rev=" + rev)
+        parts.append(request(target, body))
+        rev = revision(rev, "doc", body)
+    return b"".join(parts)
+
+
+def leaves(count):
+    """A document with this many leaves, in one batch."""
+    docs = [
+        {"_id": "doc", "_revisions": {"start": 2, "ids": ["%032x" % n, "a"]}, "v": n}
+        for n in range(count)
+    ]
+    return MAKE + request("POST /d/_bulk_docs", compact({"docs": docs, "new_edits": False}))
+
+
+def run(data, repeat):
+    """The fastest run: seconds of the processor, bytes written, and peak memory in bytes."""
+    best = None
+    with tempfile.TemporaryDirectory() as folder:
+        source = os.path.join(folder, "requests")
+        target = os.path.join(folder, "answers")
+        with open(source, "wb") as file:
+            file.write(data)
+        for _ in range(repeat):
+            with open(source, "rb") as stdin, open(target, "wb") as stdout:
+                child = subprocess.Popen([HUB, "stdin"], stdin=stdin, stdout=stdout)
+                _, status, usage = os.wait4(child.pid, 0)
+            if status != 0:
+                sys.exit("the hub ended with status %d" % status)
+            seconds = usage.ru_utime + usage.ru_stime
+            if best is None or seconds < best[0]:
+                best = (seconds, os.path.getsize(target), usage.ru_maxrss * 1024)
+    return best
+
+
+def measure(name, size, count, setup, asked, repeat):
+    """One line of the table."""
+    before = (0.0, 0, 0) if setup is None else run(setup, repeat)
+    whole = (setup or b"") + asked
+    after = run(whole, repeat)
+    seconds = max(after[0] - before[0], 1e-4)
+    entry = {
+        "case": name,
+        "documents": size,
+        "counted": count,
+        "seconds": round(seconds, 4),
+        "per_second": round(count / seconds),
+        "in_mb_per_second": round(len(asked) / seconds / 1e6, 2),
+        "out_mb_per_second": round((after[1] - before[1]) / seconds / 1e6, 2),
+        "peak_bytes_per_document": round(after[2] / max(size, 1)),
+        "text_bytes_per_document": round(len(setup or asked) / max(size, 1)),
+    }
+    print(
+        "%-28s %9d %10d %9.3f s %10d /s %8.1f %8.1f %9d"
+        % (
+            name,
+            size,
+            count,
+            seconds,
+            entry["per_second"],
+            entry["in_mb_per_second"],
+            entry["out_mb_per_second"],
+            entry["peak_bytes_per_document"],
+        ),
+        flush=True,
+    )
+    return entry
+
+
+def growth(entries):
+    """Of each case the exponent between its smallest and its greatest size: 1.0 is linear."""
+    found = {}
+    for name in sorted({entry["case"] for entry in entries}):
+        row = sorted((e["counted"], e["seconds"]) for e in entries if e["case"] == name)
+        if len(row) > 1 and row[0][0] < row[-1][0]:
+            found[name] = round(
+                math.log(row[-1][1] / row[0][1]) / math.log(row[-1][0] / row[0][0]), 2
+            )
+    return found
+
+
+def instructions():
+    """Instructions of a small case, which repeat where times do not."""
+    if shutil.which("valgrind") is None:
+        return None
+    with tempfile.TemporaryDirectory() as folder:
+        source = os.path.join(folder, "requests")
+        with open(source, "wb") as file:
+            file.write(batches(1000, 100) + FEED)
+        command = [
+            "valgrind",
+            "--tool=callgrind",
+            "--callgrind-out-file=" + os.path.join(folder, "profile"),
+            HUB,
+            "stdin",
+        ]
+        with open(source, "rb") as stdin:
+            done = subprocess.run(command, stdin=stdin, capture_output=True)
+    told = re.search(rb"Collected : (\d+)", done.stderr)
+    return int(told.group(1)) if told else None
+
+
+def build():
+    """Proves and builds the hub, where it is not built yet."""
+    done = subprocess.run([os.path.join(TOP, "hub"), "stdin"], stdin=subprocess.DEVNULL)
+    if done.returncode != 0 or not os.path.exists(HUB):
+        sys.exit("the hub was not built")
+
+
+def main():
+    parser = argparse.ArgumentParser(description=__doc__.split("\n\n")[0])
+    parser.add_argument("--small", action="store_true", help="up to 10,000 documents")
+    parser.add_argument("--no-callgrind", action="store_true", help="count no instructions")
+    options = parser.parse_args()
+    build()
+    resource.setrlimit(resource.RLIMIT_CORE, (0, 0))
+    sizes = [1000, 10000] if options.small else [1000, 10000, 100000]
+    print(
+        "%-28s %9s %10s %11s %13s %8s %8s %9s"
+        % ("case", "documents", "counted", "time", "rate", "MB/s in", "MB/s out", "B/doc")
+    )
+    entries = []
+    for size in sizes:
+        repeat = 3 if size < 100000 else 2
+        stored = batches(size, 100)
+        entries += [
+            measure("replicated batches", size, size, None, stored, repeat),
+            measure("pipelined PUTs", size, size, None, puts(size, 100), repeat),
+            measure("normal feed", size, size, stored, FEED, repeat),
+            measure("pipelined GETs", size, size, stored, gets(size), repeat),
+            measure("missing of 1,000 ids", size, 1000, stored, diffs(size), repeat),
+        ]
+    large = batches(1000, 10000)
+    entries += [
+        measure("replicated batches, 10 kB", 1000, 1000, None, large, 3),
+        measure("normal feed, 10 kB", 1000, 1000, large, FEED, 3),
+    ]
+    for count in [500, 1000, 2000]:
+        entries.append(measure("one line of edits", 1, count, None, line(count), 1))
+    for count in [125, 250, 500]:
+        entries.append(measure("leaves of one document", 1, count, None, leaves(count), 1))
+    exponents = growth(entries)
+    print("\nexponents of growth (1.0 is linear):")
+    for name, exponent in exponents.items():
+        print("  %-28s %5.2f" % (name, exponent))
+    counted = None if options.no_callgrind else instructions()
+    if counted is not None:
+        print("\ninstructions, 1,000 documents stored and fed: %d" % counted)
+    os.makedirs(os.path.dirname(FIGURES), exist_ok=True)
+    with open(FIGURES, "w") as file:
+        json.dump({"cases": entries, "exponents": exponents, "instructions": counted}, file, indent=1)
+        file.write("\n")
+
+
+if __name__ == "__main__":
+    main()
