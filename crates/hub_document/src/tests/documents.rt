@@ -1,54 +1,71 @@
-use super::tables::shown;
-use crate::{Doc, Limits, Path, RevId, Revisions};
+use super::tables::{is_shown, parts};
+use crate::{Doc, DocFault, Limits, RevId, Revisions};
 use std::alloc::Global;
 use std::test::Fail;
 
 const FULL: &str =
     r#"{"b":[1,{"d":-2,"c":"\u00e9\n"}],"_id":"x","_rev":"2-c","_revisions":{"start":2,"ids":["c","a"]},"_deleted":true,"a":null,"_conflicts":[],"":true}"#;
 
-// Whether a text is read as what is shown.
-fn is_read(alloc: Global, text: &str, new_edits: bool, expected: &str) -> Result<bool, Fail> {
+// Whether a text is read as this document.
+fn is_read(alloc: Global, text: &str, new_edits: bool, expected: &str) -> Result<bool, DocFault> {
     let doc = Doc::read(alloc, text.as_bytes(), new_edits)?;
-    Ok(shown(alloc, &doc)?.as_slice() == expected.as_bytes())
+    Ok(is_shown(&doc, expected))
 }
 
 #[test]
 fn contents(rt: HostRuntime) -> Result<(), Fail> {
     let alloc = rt.alloc();
-    let elsewhere = "x 2-c deleted path {\"\":true,\"a\":null,\"b\":[1,{\"c\":\"é\\n\",\"d\":-2}]}";
-    let here = "x 2-c deleted {\"\":true,\"a\":null,\"b\":[1,{\"c\":\"é\\n\",\"d\":-2}]}";
+    let elsewhere = r#"x | 2-c | deleted path | {"":true,"a":null,"b":[1,{"c":"é\n","d":-2}]}"#;
+    let here = r#"x | 2-c | deleted | {"":true,"a":null,"b":[1,{"c":"é\n","d":-2}]}"#;
     let found = [
-        is_read(alloc, FULL, false, elsewhere)?,
-        is_read(alloc, FULL, true, here)?,
-        is_read(alloc, r#"{"_id":"_design/x"}"#, true, "_design/x - {}")?,
-        is_read(alloc, r#"{"_id":"a","_rev":"1-a"}"#, false, "a 1-a path {}")?,
+        is_read(alloc, FULL, false, elsewhere),
+        is_read(alloc, FULL, true, here),
+        is_read(
+            alloc,
+            r#"{"_id":"_design/x"}"#,
+            true,
+            "_design/x |  |  | {}",
+        ),
+        is_read(
+            alloc,
+            r#"{"_id":"a","_rev":"1-a"}"#,
+            false,
+            "a | 1-a | path | {}",
+        ),
     ];
-    assert_eq!(rt; found, [true, true, true, true]);
+    assert_eq!(rt; found, [Ok(true), Ok(true), Ok(true), Ok(true)]);
     Ok(())
 }
 
-// Whether the path names the revision, and what stands behind it.
-fn is_in(path: &Path, text: &str, named: bool, behind: &str) -> bool {
-    match RevId::read(text) {
-        Some(rev) => path.names(&rev) == named && path.behind(&rev) == RevId::read(behind),
-        None => false,
+// Revisions, whether the path has them, and what stands behind them.
+const PATH: &str = "2-c | in | 1-a
+1-a | in | none
+1-c | out | none
+2-a | out | none
+3-c | out | none";
+
+// Whether the document's path is 2-c, 1-a.
+fn is_path(doc: &Doc) -> bool {
+    let Some(path) = &doc.path else {
+        return false;
+    };
+    for line in PATH.lines() {
+        let (text, rest) = parts(line);
+        let (place, behind) = parts(rest);
+        let Some(rev) = RevId::read(text) else {
+            return false;
+        };
+        if path.names(&rev) != (place == "in") || path.behind(&rev) != RevId::read(behind) {
+            return false;
+        }
     }
+    Some(path.head()) == RevId::read("2-c") && path.revisions().len() == 2
 }
 
 #[test]
 fn a_path(rt: HostRuntime) -> Result<(), Fail> {
     let doc = Doc::read(rt.alloc(), FULL.as_bytes(), false)?;
-    let path = doc.path.expect(&rt, "a path");
-    let found = [
-        is_in(&path, "2-c", true, "1-a"),
-        is_in(&path, "1-a", true, ""),
-        is_in(&path, "1-c", false, ""),
-        is_in(&path, "2-a", false, ""),
-        is_in(&path, "3-c", false, ""),
-        RevId::read("2-c") == Some(path.head()),
-        path.revisions().len() == 2,
-    ];
-    assert_eq!(rt; found, [true; 7]);
+    assert!(rt; is_path(&doc));
     Ok(())
 }
 

@@ -1,6 +1,6 @@
 use super::tables::{fault_name, parts};
-use crate::{Body, LocalDoc, write_local};
-use std::alloc::Global;
+use crate::{Body, DocFault, LocalDoc, write_local};
+use std::alloc::{AllocError, Global};
 use std::test::Fail;
 
 const CONTENTS: &str = r#"{} | {}
@@ -12,21 +12,29 @@ const CONTENTS: &str = r#"{} | {}
 {"_revisions":1,"_attachments":{}} | {}"#;
 
 // Whether a text is read as this body under the id.
-fn is_read(alloc: Global, id: &str, text: &str, expected: &str) -> Result<bool, Fail> {
-    let doc = LocalDoc::read(alloc, id, text.as_bytes())?;
+fn is_read(alloc: Global, text: &str, expected: &str) -> Result<bool, DocFault> {
+    let doc = LocalDoc::read(alloc, "_local/x", text.as_bytes())?;
     Ok(
         doc.body.as_bytes() == expected.as_bytes()
-            && doc.id.as_str() == id
-            && doc.id.into_string().as_str() == id,
+            && doc.id.as_str() == "_local/x"
+            && doc.id.into_string().as_str() == "_local/x",
     )
+}
+
+// The first case that is read as another body.
+fn other(alloc: Global) -> Result<Option<&'static str>, DocFault> {
+    for line in CONTENTS.lines() {
+        let (text, expected) = parts(line);
+        if !is_read(alloc, text, expected)? {
+            return Ok(Some(line));
+        }
+    }
+    Ok(None)
 }
 
 #[test]
 fn contents(rt: HostRuntime) -> Result<(), Fail> {
-    for line in CONTENTS.lines() {
-        let (text, expected) = parts(line);
-        assert!(rt; is_read(rt.alloc(), "_local/x", text, expected)?, "{line}");
-    }
+    assert_eq!(rt; other(rt.alloc()), Ok(None));
     Ok(())
 }
 
@@ -72,7 +80,7 @@ fn faults(rt: HostRuntime) -> Result<(), Fail> {
     Ok(())
 }
 
-fn fault_of_length(alloc: Global, length: usize, text: &str) -> Result<&'static str, Fail> {
+fn fault_of_length(alloc: Global, length: usize, text: &str) -> Result<&'static str, AllocError> {
     let name = "i".repeat(alloc, length)?;
     let id = format!(in alloc; "_local/{name}")?;
     Ok(fault(alloc, id.as_str(), text))
@@ -82,26 +90,47 @@ fn fault_of_length(alloc: Global, length: usize, text: &str) -> Result<&'static 
 fn lengths(rt: HostRuntime) -> Result<(), Fail> {
     let alloc = rt.alloc();
     let found = [
-        fault_of_length(alloc, 505, "{}")?,
-        fault_of_length(alloc, 506, "{}")?,
-        fault_of_length(alloc, 506, r#"{"_deleted":true}"#)?,
-        fault_of_length(alloc, 506, r#"{"_id":"x"}"#)?,
+        fault_of_length(alloc, 505, "{}"),
+        fault_of_length(alloc, 506, "{}"),
+        fault_of_length(alloc, 506, r#"{"_deleted":true}"#),
+        fault_of_length(alloc, 506, r#"{"_id":"x"}"#),
     ];
-    assert_eq!(rt; found, ["none", "TooLong", "BadMember", "BadId"]);
+    let expected = [Ok("none"), Ok("TooLong"), Ok("BadMember"), Ok("BadId")];
+    assert_eq!(rt; found, expected);
     Ok(())
 }
 
-const WRITTEN: &str =
-    r#" {"_id":"_local/x","_rev":"0-1"}{"_id":"_local/q\"","_rev":"0-18446744073709551615","b":"","v":{"w":7}}"#;
+const EMPTY: &str = r#" {"_id":"_local/x","_rev":"0-1"}"#;
+
+const LARGE: &str = r#" {"_id":"_local/q\"","_rev":"0-18446744073709551615","b":"","v":{"w":7}}"#;
+
+// Whether this is what is written behind a blank.
+fn is_written(
+    alloc: Global,
+    id: &str,
+    count: u64,
+    body: &Body,
+    expected: &str,
+) -> Result<bool, AllocError> {
+    let mut out = Vec::from_slice(alloc, b" ")?;
+    write_local(&mut out, id, count, body)?;
+    Ok(out.as_slice() == expected.as_bytes())
+}
 
 #[test]
-fn texts(rt: HostRuntime) -> Result<(), Fail> {
+fn the_text_of_an_empty_document(rt: HostRuntime) -> Result<(), Fail> {
     let alloc = rt.alloc();
-    let mut out = Vec::new(alloc);
-    out.push(b' ')?;
-    write_local(&mut out, "_local/x", 1, &Body::empty(alloc)?)?;
+    let body = Body::empty(alloc)?;
+    let found = is_written(alloc, "_local/x", 1, &body, EMPTY);
+    assert_eq!(rt; found, Ok(true));
+    Ok(())
+}
+
+#[test]
+fn the_text_of_a_document(rt: HostRuntime) -> Result<(), Fail> {
+    let alloc = rt.alloc();
     let doc = LocalDoc::read(alloc, "_local/q\"", br#"{"v":{"w":7},"b":""}"#)?;
-    write_local(&mut out, doc.id.as_str(), u64::MAX, &doc.body)?;
-    assert_eq!(rt; out.as_slice(), WRITTEN.as_bytes());
+    let found = is_written(alloc, doc.id.as_str(), u64::MAX, &doc.body, LARGE);
+    assert_eq!(rt; found, Ok(true));
     Ok(())
 }

@@ -1,6 +1,6 @@
 use super::tables::{fault_name, parts};
 use crate::{Doc, DocFault};
-use std::alloc::Global;
+use std::alloc::{AllocError, Global};
 use std::test::Fail;
 
 const HERE: &str = r#" | NotJson
@@ -104,14 +104,14 @@ fn faults(rt: HostRuntime) -> Result<(), Fail> {
 }
 
 // The fault of an id and a value of `_attachments`.
-fn with_id(alloc: Global, length: usize, attachments: &str) -> Result<&'static str, Fail> {
+fn with_id(alloc: Global, length: usize, attachments: &str) -> Result<&'static str, AllocError> {
     let id = "i".repeat(alloc, length)?;
     let text = format!(in alloc; "{{\"_id\":\"{id}\",\"_attachments\":{attachments}}}")?;
     Ok(fault(alloc, text.as_str(), true))
 }
 
 // The fault of a value that nests so deep.
-fn with_depth(alloc: Global, depth: usize) -> Result<&'static str, Fail> {
+fn with_depth(alloc: Global, depth: usize) -> Result<&'static str, AllocError> {
     let open = "[".repeat(alloc, depth)?;
     let close = "]".repeat(alloc, depth)?;
     let text = format!(in alloc; "{{\"_id\":\"a\",\"m\":{open}{close}}}")?;
@@ -119,7 +119,7 @@ fn with_depth(alloc: Global, depth: usize) -> Result<&'static str, Fail> {
 }
 
 // The fault of a history of one hash.
-fn with_hash(alloc: Global, length: usize) -> Result<&'static str, Fail> {
+fn with_hash(alloc: Global, length: usize) -> Result<&'static str, AllocError> {
     let hash = "h".repeat(alloc, length)?;
     let text = format!(in alloc;
         "{{\"_id\":\"a\",\"_revisions\":{{\"start\":1,\"ids\":[\"{hash}\"]}}}}"
@@ -131,22 +131,22 @@ fn with_hash(alloc: Global, length: usize) -> Result<&'static str, Fail> {
 fn sizes(rt: HostRuntime) -> Result<(), Fail> {
     let alloc = rt.alloc();
     let found = [
-        with_id(alloc, 512, "{}")?,
-        with_id(alloc, 513, "{}")?,
-        with_id(alloc, 513, "1")?,
-        with_depth(alloc, 126)?,
-        with_depth(alloc, 127)?,
-        with_hash(alloc, 64)?,
-        with_hash(alloc, 65)?,
+        with_id(alloc, 512, "{}"),
+        with_id(alloc, 513, "{}"),
+        with_id(alloc, 513, "1"),
+        with_depth(alloc, 126),
+        with_depth(alloc, 127),
+        with_hash(alloc, 64),
+        with_hash(alloc, 65),
     ];
     let expected = [
-        "none",
-        "TooLong",
-        "BadMember",
-        "none",
-        "NotJson",
-        "none",
-        "BadRevisions",
+        Ok("none"),
+        Ok("TooLong"),
+        Ok("BadMember"),
+        Ok("none"),
+        Ok("NotJson"),
+        Ok("none"),
+        Ok("BadRevisions"),
     ];
     assert_eq!(rt; found, expected);
     Ok(())

@@ -1,7 +1,6 @@
 //! Tables of cases: a case a line, and bars between its parts.
 
-use crate::{Doc, DocFault};
-use std::alloc::{AllocError, Global};
+use crate::{Doc, DocFault, RevId};
 
 /// What stands before the first bar and what stands behind it.
 pub fn parts(line: &str) -> (&str, &str) {
@@ -24,22 +23,16 @@ pub fn fault_name(fault: Option<DocFault>) -> &'static str {
     }
 }
 
-/// All that a document holds: `ID REV [deleted] [path] BODY`, with a dash for no revision.
-pub fn shown(alloc: Global, doc: &Doc) -> Result<Vec<u8>, AllocError> {
-    let mut out = Vec::new(alloc);
-    out.extend_from_slice(doc.id.as_str().as_bytes())?;
-    out.push(b' ')?;
-    match &doc.rev {
-        Some(rev) => rev.print(&mut out)?,
-        None => out.push(b'-')?,
-    }
-    if doc.deleted {
-        out.extend_from_slice(b" deleted")?;
-    }
-    if doc.path.is_some() {
-        out.extend_from_slice(b" path")?;
-    }
-    out.push(b' ')?;
-    out.extend_from_slice(doc.body.as_bytes())?;
-    Ok(out)
+/// Whether the document is this: `ID | REV | MARKS | BODY`, where REV is empty for no revision, and
+/// MARKS are `deleted` and `path`.
+pub fn is_shown(doc: &Doc, expected: &str) -> bool {
+    let (id, rest) = parts(expected);
+    let (rev, rest) = parts(rest);
+    let (marks, body) = parts(rest);
+    doc.id.as_str() == id
+        && doc.rev.is_none() == rev.is_empty()
+        && doc.rev == RevId::read(rev)
+        && doc.deleted == marks.contains("deleted")
+        && doc.path.is_some() == marks.contains("path")
+        && doc.body.as_bytes() == body.as_bytes()
 }

@@ -1,5 +1,5 @@
 use super::tables::{fault_name, parts};
-use crate::Doc;
+use crate::{Doc, DocFault};
 use std::alloc::Global;
 use std::test::Fail;
 
@@ -15,7 +15,7 @@ const READ: &str = r#"{"_id":"a","s":"\u00e9"} | {"s":"é"}
 const CONTROL: &str = "{\"_id\":\"a\",\"s\":\"\\u007f\\u001f\"} | {\"s\":\"\u{7f}\\u001f\"}";
 
 // The first case whose body is another one.
-fn other(alloc: Global, table: &'static str) -> Result<Option<&'static str>, Fail> {
+fn other(alloc: Global, table: &'static str) -> Result<Option<&'static str>, DocFault> {
     for line in table.lines() {
         let (text, expected) = parts(line);
         let doc = Doc::read(alloc, text.as_bytes(), true)?;
@@ -28,8 +28,8 @@ fn other(alloc: Global, table: &'static str) -> Result<Option<&'static str>, Fai
 
 #[test]
 fn values_that_are_read(rt: HostRuntime) -> Result<(), Fail> {
-    let found = [other(rt.alloc(), READ)?, other(rt.alloc(), CONTROL)?];
-    assert_eq!(rt; found, [None, None]);
+    let found = [other(rt.alloc(), READ), other(rt.alloc(), CONTROL)];
+    assert_eq!(rt; found, [Ok(None), Ok(None)]);
     Ok(())
 }
 

@@ -1,6 +1,6 @@
 use super::tables::parts;
-use crate::{Body, Doc};
-use std::alloc::Global;
+use crate::{Body, Doc, DocFault};
+use std::alloc::{AllocError, Global};
 use std::test::Fail;
 
 // What is read, and what is written.
@@ -17,11 +17,11 @@ const ELSEWHERE: &str =
 {"_id":"a","_deleted":true,"v":1,"_revisions":{"ids":["c","b","a"],"start":3}} | {"_id":"a","_rev":"3-c","_deleted":true,"_revisions":{"start":3,"ids":["c","b","a"]},"v":1}"#;
 
 // Whether this is what is written of the document behind a blank, and of a copy.
-fn is_written(alloc: Global, doc: &Doc, expected: &str) -> Result<bool, Fail> {
-    let mut out = Vec::new(alloc);
-    out.push(b' ')?;
+fn is_written(alloc: Global, doc: &Doc, expected: &str) -> Result<bool, AllocError> {
+    let mut out = Vec::from_slice(alloc, b" ")?;
     doc.write(&mut out)?;
-    doc.copy(alloc)?.write(&mut out)?;
+    let copy = doc.copy(alloc)?;
+    copy.write(&mut out)?;
     let twice = format!(in alloc; " {expected}{expected}")?;
     Ok(out.as_slice() == twice.as_bytes())
 }
@@ -30,7 +30,7 @@ fn other(
     alloc: Global,
     table: &'static str,
     new_edits: bool,
-) -> Result<Option<&'static str>, Fail> {
+) -> Result<Option<&'static str>, DocFault> {
     for line in table.lines() {
         let (text, expected) = parts(line);
         let doc = Doc::read(alloc, text.as_bytes(), new_edits)?;
@@ -44,13 +44,13 @@ fn other(
 #[test]
 fn texts(rt: HostRuntime) -> Result<(), Fail> {
     let alloc = rt.alloc();
-    let found = [other(alloc, HERE, true)?, other(alloc, ELSEWHERE, false)?];
-    assert_eq!(rt; found, [None, None]);
+    let found = [other(alloc, HERE, true), other(alloc, ELSEWHERE, false)];
+    assert_eq!(rt; found, [Ok(None), Ok(None)]);
     Ok(())
 }
 
 // Whether the copies of the document's body and path are like them.
-fn are_copied(alloc: Global, doc: &Doc) -> Result<bool, Fail> {
+fn are_copied(alloc: Global, doc: &Doc) -> Result<bool, AllocError> {
     let body = doc.body.copy(alloc)?;
     let Some(path) = &doc.path else {
         return Ok(false);
