@@ -616,16 +616,23 @@ fn documents_that_are_refused(rt: HostRuntime) -> Result<(), Fail> {
     Ok(())
 }
 
+/// A text of this many letters.
+fn letters(alloc: Global, count: usize) -> Result<String, AllocError> {
+    let mut text = String::new(alloc);
+    for _ in 0..count {
+        text.push('a')?;
+    }
+    Ok(text)
+}
+
 /// Ids at the limit: one byte more is refused where it would be stored, and unknown where it is asked for.
 #[test]
 fn long_ids(rt: HostRuntime) -> Result<(), Fail> {
     let alloc = rt.alloc();
-    let mut long = String::new(alloc);
-    for _ in 0..513 {
-        long.push('a')?;
-    }
+    let long = letters(alloc, 513)?;
+    let short = letters(alloc, 506)?;
     let id = long.as_str();
-    let local = &id[..506];
+    let local = short.as_str();
     let lines = [
         format!(in alloc; "PUT /d/{id}")?,
         format!(in alloc; "GET /d/{id}")?,
