@@ -6,6 +6,9 @@ pub mod Walk
 pub mod Current
 pub mod Row
 pub mod Filter
+pub mod Feed
+pub mod Hand
+pub mod Descending
 pub mod Outcome
 pub mod Draft
 pub mod Missing

@@ -7,13 +7,13 @@ use Rattle.hub_model.specs.Journal.{Edit}
 use Rattle.hub_model.specs.Leaves.{Leaf, leaves_of, revisions_of}
 use Rattle.hub_model.specs.Current.{Current, current}
 
--- seen is how many edits there were when the row was made
+-- a row; seen is how many edits there were when it was made
 pub record ChangeRow : Type 0 where
   pub seq : ℕ
   pub id : List ℕ
   pub changes : List Revision
   pub deleted : Bool
-  pub doc : Option Edit
+  pub doc : Option (List ℕ)  -- the members of the winner's document: its id, revision and mark are the row's
   pub seen : ℕ
 
 -- of leaves best first, the revisions that a row lists
@@ -26,11 +26,11 @@ abbrev pub is_deleted : List Leaf → Bool
 is_deleted [] = false
 is_deleted (winner ∷ others) = winner.edit.deleted
 
--- the winner's document, where it is asked for
-abbrev pub doc_of : Bool → List Leaf → Option Edit
+-- the members of the winner's document, where they are asked for
+abbrev pub doc_of : Bool → List Leaf → Option (List ℕ)
 doc_of false leaves = None
 doc_of true [] = None
-doc_of true (winner ∷ others) = Some winner.edit
+doc_of true (winner ∷ others) = Some winner.edit.body
 
 -- a current row as it is shown while J is the journal
 abbrev pub row_of : List Edit → Style → Bool → Current → ChangeRow
