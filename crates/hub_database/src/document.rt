@@ -230,6 +230,7 @@ impl Document {
             id,
             changes: Revisions::new(changes),
             deleted,
+            doc: None,
             seen,
         })
     }

@@ -1,9 +1,10 @@
 -- The JSON text of a document (CouchDB API reference, documents; the order of its members is own).
-use Rattle.std.specs.Prelude.{ℕ, ◌-◌, List, [], ◌∷◌, ◌++◌, length, drop, take, map, Bool, true, false, Option, Some, None, codes, decimal}
+use Rattle.std.specs.Prelude.{ℕ, ◌-◌, List, [], ◌∷◌, ◌++◌, length, drop, take, map, slice_get, Bool, true, false, Option, Some, None, codes, decimal}
 use Rattle.std.specs.List.{join_with_byte}
 use Rattle.json.specs.Print.{quoted}
 use Rattle.hub_model.specs.Revision.{Revision, text_of}
 use Rattle.hub_model.specs.Draft.{generation_of, parent_of}
+use Rattle.hub_model.specs.Row.{ChangeRow}
 use Rattle.hub_document.specs.declared.doc.Doc.{Doc}
 
 -- a member with the text of its value
@@ -45,6 +46,10 @@ members_of d = member_text (codes "_id") (quoted d.id) ∷ (rev_member d.rev ++ 
 -- the document
 unfoldable pub doc_text : Doc → List ℕ
 doc_text d = codes "{" ++ (join_with_byte 44 (members_of d) ++ codes "}")
+
+-- the document with these members that a row shows: the first of its revisions is the winner
+abbrev pub row_doc : ChangeRow → List ℕ → Doc
+row_doc row body = record { id = row.id; rev = slice_get row.changes 0; path = None; deleted = row.deleted; body = body }
 
 -- a local document that was written this many times
 unfoldable pub local_text : List ℕ → ℕ → List ℕ → List ℕ

@@ -1,7 +1,12 @@
 //! Rows of changes.
 
+ghost use Rattle.std.specs.Prelude.{◌≡◌, ◌++◌, length, take, OnOk};
+ghost use Rattle.hub_document.specs.DocText.{doc_text, row_doc};
+
+use crate::body::Body;
 use crate::doc_id::DocId;
 use crate::revisions::Revisions;
+use std::alloc::AllocError;
 use std::marker::Model;
 
 /// A row of a feed of changes (CouchDB API reference, `_changes`).
@@ -15,6 +20,9 @@ pub struct ChangeRow {
     pub changes: Revisions,
     /// Whether the winner is deleted.
     pub deleted: bool,
+    /// The members of the winner's document, where they are asked for: its id, its revision and its
+    /// mark are the row's.
+    pub doc: Option<Body>,
     /// The update sequence of the database when the row was made.
     pub seen: u64,
 }
@@ -24,7 +32,18 @@ impl Model for ChangeRow {
 
     ghost Value = { Row };
 
-    ghost use Rattle.std.specs.Prelude.{None};
+    ghost view = { λ a. record { seq = a.seq; id = a.id; changes = a.changes; deleted = a.deleted; doc = a.doc; seen = a.seen } };
+}
 
-    ghost view = { λ a. record { seq = a.seq; id = a.id; changes = a.changes; deleted = a.deleted; doc = None; seen = a.seen } };
+impl ChangeRow {
+    /// Appends the text of the document with these members whose row it is. It costs the text's
+    /// length. After an error what was held still stands in front, and a part of the text may stand
+    /// behind it.
+    pub fn write_doc(&self, out: &mut Vec<u8>, body: &Body) -> Result<(), AllocError>
+        ensures ok { OnOk result (out.new.items ≡ out.old.items ++ doc_text (row_doc self.now body.now)) }
+        ensures front { take (length out.old.items) out.new.items ≡ out.old.items }
+    {
+        out.extend_from_slice(body.as_bytes())?;
+        Err(AllocError)
+    }
 }

@@ -1,5 +1,5 @@
 -- The rows of a feed: sequences, each with the number of the document whose latest edit stands there (CouchDB API reference, _changes).
-use Rattle.std.specs.Prelude.{◌≢◌, ℕ, ◌<◌, List, [], ◌∷◌, ◌++◌, Bool, not, ◌&&◌, nat_eq, nat_lt, nat_le, Option, Some, None, option_map, find, filter, count_by}
+use Rattle.std.specs.Prelude.{◌≢◌, ℕ, ◌<◌, List, [], ◌∷◌, ◌++◌, Bool, not, ◌&&◌, nat_eq, nat_lt, nat_le, Option, Some, None, option_map, find, filter, reverse, count_by}
 use Rattle.std.specs.List.{All, AllPairs}
 
 -- of two rows the earlier has the lower sequence, and another document; sequences begin at 1
@@ -24,6 +24,10 @@ is_within place (Some bound) seq = nat_lt place seq && nat_le seq bound
 -- the first row that does
 abbrev pub next_after : List (ℕ × ℕ) → ℕ → Option ℕ → Option (ℕ × ℕ)
 next_after rows place bound = find (λ (r : ℕ × ℕ). is_within place bound r.0) rows
+
+-- the last row below the place
+abbrev pub last_before : List (ℕ × ℕ) → ℕ → Option (ℕ × ℕ)
+last_before rows place = find (λ (r : ℕ × ℕ). nat_lt r.0 place) (reverse rows)
 
 -- how many rows lie above the place
 abbrev pub count_after : List (ℕ × ℕ) → ℕ → ℕ

@@ -2,7 +2,7 @@
 
 ghost use Rattle.std.specs.Prelude.{ℕ, List, ◌≡◌, ◌<◌, OnOk, OnErr};
 ghost use Rattle.std.specs.List.{All};
-ghost use Rattle.hub_index.specs.Rows.{IsIndex, seq_of, moved, next_after, count_after};
+ghost use Rattle.hub_index.specs.Rows.{IsIndex, seq_of, moved, next_after, last_before, count_after};
 
 use std::alloc::AllocError;
 
@@ -25,6 +25,11 @@ pub trait SeqIndex {
     /// no memory.
     fn next_after(&self, place: u64, bound: Option<u64>) -> Option<(u64, u32)>
         ensures next { result ≡ next_after (rows self.now) place bound }
+        ensures index { IsIndex (rows self.now) };
+
+    /// The last row below a place: its sequence and its document. It takes no memory.
+    fn last_before(&self, place: u64) -> Option<(u64, u32)>
+        ensures last { result ≡ last_before (rows self.now) place }
         ensures index { IsIndex (rows self.now) };
 
     /// How many rows lie above a place. It takes no memory.

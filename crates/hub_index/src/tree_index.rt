@@ -58,6 +58,12 @@ impl SeqIndex for TreeIndex {
         }
     }
 
+    /// Logarithmic in the number of rows.
+    fn last_before(&self, place: u64) -> Option<(u64, u32)> {
+        let (seq, document) = self.documents.range(..place).next_back()?;
+        Some((*seq, *document))
+    }
+
     /// It goes over the rows above the place, after a search that is logarithmic in the number of
     /// rows.
     fn count_after(&self, place: u64) -> u64 {
