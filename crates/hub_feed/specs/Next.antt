@@ -1,0 +1,28 @@
+-- What a feed answers that has this due (CouchDB API reference, _changes).
+use Rattle.std.specs.Prelude.{ℕ, List, ⊤}
+use Rattle.hub_model.specs.Current.{Current, pending}
+use Rattle.hub_model.specs.Feed.{Feed, Due, DueRow, DueEnd, DueNothing, DueGone, after_nothing}
+use Rattle.hub_model.specs.declared.feeds.Item.TheVariants.{Row, End}
+use Rattle.hub_feed.specs.declared.next.Next.{Next}
+use Rattle.hub_feed.specs.declared.next.Next.TheVariants.{Give, Nothing, Gone}
+
+-- of these current rows, each shown so
+abbrev pub next_of : {R : Type 0} → (Current → R) → List Current → Due → Next R
+next_of show rows (DueRow c) = Give (Row (show c))
+next_of show rows (DueEnd last_seq) = Give (End last_seq (pending rows last_seq))
+next_of show rows DueNothing = Nothing
+next_of show rows DueGone = Gone
+
+-- the feed behind that answer, while there are len edits: only one that has nothing to hand moves
+abbrev pub after_next : Feed → Due → ℕ → Feed
+after_next f (DueRow c) len = f
+after_next f (DueEnd last_seq) len = f
+after_next f DueNothing len = after_nothing f len
+after_next f DueGone len = f
+
+-- a row is due
+abbrev pub IsRowDue : Due → Type 0
+IsRowDue (DueRow c) = ⊤
+IsRowDue (DueEnd last_seq) = ⊥
+IsRowDue DueNothing = ⊥
+IsRowDue DueGone = ⊥

@@ -1,0 +1,234 @@
+//! A feed's state.
+
+ghost use Rattle.std.specs.Prelude.{◌≡◌, ◌≤◌, option_map, find, Some, IfOk, OnErr};
+ghost use Rattle.hub_model.specs.Feed.{begin, due, is_in_reach, bound_of, since_of, bound_after, status_after, after_due, after_row, beat_due, expire, end, waits};
+ghost use Rattle.hub_model.specs.Hand.{item_of};
+ghost use Rattle.hub_model.specs.declared.feeds.Item.TheVariants.{End};
+ghost use Rattle.hub_model.specs.Current.{pending};
+ghost use Rattle.hub_params.specs.FeedModel.{params_of};
+ghost use Rattle.hub_feed.specs.Next.{next_of, after_next, IsRowDue};
+ghost use Rattle.hub_feed.specs.Shown.{status_of};
+
+use crate::next::Next;
+use crate::source::Source;
+use hub_model::{Item, Mode, Since};
+use hub_params::FeedParams;
+use std::alloc::AllocError;
+use std::marker::Model;
+
+/// How far a feed is in its life. A finished feed has no state.
+#[derive(Clone, Copy, Debug, PartialEq, Eq)]
+pub(crate) enum Status {
+    /// It may hand rows.
+    Open,
+    /// Its end is all that is left to hand.
+    Ending,
+    /// Its end was handed.
+    Ended,
+}
+
+/// A feed that was opened, over whatever it follows (CouchDB API reference, `_changes`).
+#[derive(Debug, Drop)]
+pub struct FeedState {
+    params: FeedParams,
+    /// It shows what lies above this sequence.
+    since: u64,
+    /// And, where there is one, not above this.
+    bound: Option<u64>,
+    /// It has shown what passes, up to this sequence.
+    place: u64,
+    /// How many rows it has handed.
+    rows: u64,
+    status: Status,
+}
+
+impl Model for FeedState {
+    ghost use Rattle.std.specs.Prelude.{◌+◌, ◌≤◌, IfSome};
+    ghost use Rattle.hub_model.specs.Feed.{Feed};
+
+    ghost Value = { Feed };
+
+    ghost use Rattle.hub_params.specs.FeedModel.{params_of};
+    ghost use Rattle.hub_feed.specs.Shown.{status_of};
+
+    ghost view = { λ f. record { params = params_of f.params; since = f.since; bound = f.bound; place = f.place; rows = f.rows; status = status_of f.status } };
+
+    ghost invariant = { λ f. (f.since + f.rows ≤ f.place) × IfSome f.bound (λ bound. f.place ≤ bound) };
+}
+
+// What a feed begins after, while there are `length` edits.
+fn since_of(since: Since, length: u64) -> u64
+    ensures { result ≡ since_of since length }
+{
+    match since {
+        Since::From(seq) => seq.min(length),
+        Since::Now => length,
+    }
+}
+
+// Where a feed stops, while there are `length` edits.
+fn bound_of(mode: Mode, length: u64) -> Option<u64>
+    ensures { result ≡ bound_of mode length }
+{
+    match mode {
+        Mode::Normal => Some(length),
+        Mode::Longpoll => None,
+        Mode::Continuous => None,
+    }
+}
+
+// Whether such a feed waits for edits to come.
+fn waits(mode: Mode) -> bool
+    ensures { result ≡ waits mode }
+{
+    match mode {
+        Mode::Normal => false,
+        Mode::Longpoll => true,
+        Mode::Continuous => true,
+    }
+}
+
+// The bound of a feed after a row, while there are `length` edits.
+fn bound_after(mode: Mode, bound: Option<u64>, length: u64) -> Option<u64>
+    ensures { result ≡ bound_after mode bound length }
+{
+    match mode {
+        Mode::Normal => bound,
+        Mode::Longpoll => bound.or(Some(length)),
+        Mode::Continuous => bound,
+    }
+}
+
+// Whether a feed that has handed so many rows may hand more.
+fn status_after(limit: Option<u64>, rows: u64) -> Status
+    ensures { status_of result ≡ status_after limit rows }
+{
+    match limit {
+        Some(limit) if limit <= rows => Status::Ending,
+        _ => Status::Open,
+    }
+}
+
+// The end of a feed at a place.
+fn end_at<S: Source>(source: &S, place: u64) -> Item<S::Row>
+    ensures { result ≡ End place (pending (S.current source.now) place) }
+{
+    Item::End {
+        last_seq: place,
+        pending: source.count_after(place),
+    }
+}
+
+impl FeedState {
+    /// A feed that is opened while there are `length` edits. Constant time.
+    pub fn begin(params: FeedParams, length: u64) -> FeedState
+        ensures { result ≡ begin (params_of params) length }
+    {
+        let since = since_of(params.since, length);
+        let bound = bound_of(params.mode, length);
+        FeedState {
+            params,
+            since,
+            bound,
+            place: since,
+            rows: 0,
+            status: Status::Open,
+        }
+    }
+
+    // The sequence of the first row in reach. One step of the source for each row that does not
+    // pass, and one more.
+    fn first_in_reach<S: Source>(&self, source: &S) -> Option<u64>
+        ensures { result ≡ option_map (λ c. c.seq) (find (is_in_reach self.now) (S.current source.now)) }
+    {
+        let mut place = self.place;
+        for _ in self.place..source.length() {
+            let (seq, id) = source.next_after(place, self.bound)?;
+            if self.params.filter.passes(id) {
+                return Some(seq);
+            }
+            place = seq;
+        }
+        None
+    }
+
+    // What an open feed has to hand.
+    fn next_of_open<S: Source>(&mut self, source: &S) -> Result<Next<S::Row>, AllocError> {
+        if let Some(seq) = self.first_in_reach(source) {
+            let row = source.row(seq, self.params.style, self.params.include_docs)?;
+            return Ok(Next::Give(Item::Row(row)));
+        }
+        match self.bound {
+            Some(bound) => Ok(Next::Give(end_at(source, bound))),
+            None => {
+                self.place = source.length();
+                Ok(Next::Nothing)
+            }
+        }
+    }
+
+    /// What the feed has to hand now, of the source that it was opened on. An item is made and
+    /// nothing changes: `accept_item` goes on. A feed that has nothing to hand goes to the source's
+    /// length. Only a row takes memory. It costs a step of the source for each row that does not
+    /// pass, one more, and what the row costs; an end costs the count of the rows above it.
+    pub fn next_item<S: Source>(&mut self, source: &S) -> Result<Next<S::Row>, AllocError>
+        requires reached { self.old.place ≤ S.length source.now }
+        ensures ok { IfOk result (λ next. next ≡ next_of (S.shown source.now self.old.params.style self.old.params.include_docs) (S.current source.now) (due (S.current source.now) self.old)) }
+        ensures new { IfOk result (λ next. self.new ≡ after_next self.old (due (S.current source.now) self.old) (S.length source.now)) }
+        ensures err { OnErr result ((self.new ≡ self.old) × IsRowDue (due (S.current source.now) self.old)) }
+    {
+        match self.status {
+            Status::Open => self.next_of_open(source),
+            Status::Ending => Ok(Next::Give(end_at(source, self.place))),
+            Status::Ended => Ok(Next::Gone),
+        }
+    }
+
+    // The feed goes on behind a row.
+    fn accept_row(&mut self, seq: u64, length: u64) {
+        self.place = seq;
+        self.rows += 1;
+        self.bound = bound_after(self.params.mode, self.bound, length);
+        self.status = status_after(self.params.limit, self.rows);
+    }
+
+    /// Goes on behind the item that `next_item` gives now. It takes no memory, and constant time.
+    pub fn accept_item<S: Source>(&mut self, source: &S, item: &Item<S::Row>)
+        requires due { item_of (S.shown source.now self.old.params.style self.old.params.include_docs) (S.current source.now) (due (S.current source.now) self.old) ≡ Some item.now }
+        ensures { self.new ≡ after_due self.old (due (S.current source.now) self.old) (S.length source.now) }
+    {
+        match item {
+            Item::Row(row) => self.accept_row(S::seq(row), source.length()),
+            Item::Beat => {}
+            Item::End { last_seq, .. } => {
+                self.place = *last_seq;
+                self.status = Status::Ended;
+            }
+        }
+    }
+
+    /// Whether a heartbeat may be handed: one was asked for, and the feed is open and waits.
+    pub fn beat_due(&self) -> bool
+        ensures { result ≡ beat_due self.now }
+    {
+        self.status == Status::Open && waits(self.params.mode) && self.params.heartbeat.is_some()
+    }
+
+    /// Its time without an item is over: an open feed that waits is ending.
+    pub fn expire(&mut self)
+        ensures { self.new ≡ expire self.old }
+    {
+        if self.status == Status::Open && waits(self.params.mode) {
+            self.status = Status::Ending;
+        }
+    }
+
+    /// What it follows is deleted: an open feed is ending.
+    pub fn end(&mut self)
+        ensures { self.new ≡ end self.old }
+    {
+        if self.status == Status::Open {
+            self.status = Status::Ending;
+        }
+    }
+}

@@ -1,0 +1,13 @@
+//! Feeds over any source: what a feed hands next, and the feed after it (CouchDB API reference,
+//! `_changes` and `_db_updates`).
+#![tactic(auto)]
+
+mod feed;
+mod next;
+mod source;
+#[cfg(test)]
+mod tests;
+
+pub use feed::FeedState;
+pub use next::Next;
+pub use source::Source;

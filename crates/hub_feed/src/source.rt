@@ -1,0 +1,59 @@
+//! What feeds follow.
+
+ghost use Rattle.std.specs.Prelude.{◌≡◌, ◌<◌, ◌≤◌, ℕ, List, Bool, Contains, option_map, IfOk};
+ghost use Rattle.std.specs.List.{AllPairs};
+ghost use Rattle.hub_model.specs.Current.{Current, pending};
+ghost use Rattle.hub_model.specs.declared.feeds.Style.{Style as Listing};
+ghost use Rattle.hub_feed.specs.Reach.{first_within};
+
+use hub_model::Style;
+use std::alloc::AllocError;
+
+/// What a feed follows: edits, numbered from 1, of which each current one has a row.
+pub trait Source {
+    /// A row as it is handed.
+    type Row;
+
+    /// How many edits there are.
+    ghost length: { Self → ℕ };
+
+    /// The current rows.
+    ghost current: { Self → List Current };
+
+    /// A current row as it is shown now, in a style, with its document or without.
+    ghost shown: { Self → Listing → Bool → Current → Self.Row };
+
+    /// The sequence of a row that is shown.
+    ghost seq_of: { Self.Row → ℕ };
+
+    /// How many edits there are.
+    fn length(&self) -> u64
+        ensures { result ≡ length self.now };
+
+    /// The first current row above a place and not above the bound, if there is one: its sequence
+    /// and its id. It takes no memory.
+    fn next_after(&self, place: u64, bound: Option<u64>) -> Option<(u64, &str)>
+        ensures { option_map (λ p. record { seq = p.0; id = p.1.now }) result ≡ first_within place bound (current self.now) };
+
+    /// How many current rows lie above a place. It takes no memory.
+    fn count_after(&self, place: u64) -> u64
+        ensures { result ≡ pending (current self.now) place };
+
+    /// The current row of this sequence, as it is shown now.
+    fn row(&self, seq: u64, style: Style, include_docs: bool) -> Result<Self::Row, AllocError>
+        requires { (c : Current) × Contains (current self.now) c × (c.seq ≡ seq) }
+        ensures { IfOk result (λ r. (c : Current) → Contains (current self.now) c → c.seq ≡ seq → r ≡ shown self.now style include_docs c) };
+
+    /// The sequence of a row.
+    fn seq(row: &Self::Row) -> u64
+        ensures { result ≡ seq_of row.now };
+
+    /// The rows rise.
+    ghost rise: { (s : Self) → AllPairs (λ (c d : Current). c.seq < d.seq) (current s) };
+
+    /// Each is one of the edits.
+    ghost within: { (s : Self) (c : Current) → Contains (current s) c → c.seq ≤ length s };
+
+    /// A row that is shown has the sequence of its own.
+    ghost keeps: { (s : Self) (style : Listing) (include_docs : Bool) (c : Current) → seq_of (shown s style include_docs c) ≡ c.seq };
+}

@@ -1,0 +1,1 @@
+//! Feeds over a plain list of rows.
