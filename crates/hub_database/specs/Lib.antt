@@ -1,5 +1,6 @@
 pub mod Database
 pub mod Edits
+pub mod Feeds
 pub mod Filed
 pub mod Found
 pub mod Kept

@@ -36,10 +36,11 @@ impl Model for DbState {
 
     ghost Value = { Database };
 
+    ghost use Rattle.std.specs.Prelude.{[]};
     ghost use Rattle.hub_database.specs.Kept.{kept};
     ghost use Rattle.hub_database.specs.Store.{IsStore, IsCounted, edits_of_store};
 
-    ghost view = { λ a. record { journal = edits_of_store a.store; locals = kept a.locals; limits = a.store.limits } };
+    ghost view = { λ a. record { journal = edits_of_store a.store; locals = kept a.locals; feeds = []; next_feed = 0; limits = a.store.limits } };
 
     ghost invariant = { λ a. IsStore a.store × IsCounted a.store };
 }
@@ -60,6 +61,8 @@ impl DbState {
     pub fn new(alloc: Global, limits: Limits) -> DbState
         ensures journal { result.journal ≡ [] }
         ensures locals { result.locals ≡ [] }
+        ensures feeds { result.feeds ≡ [] }
+        ensures numbers { result.next_feed ≡ 0 }
         ensures limits { result.limits ≡ limits }
     {
         DbState {
@@ -88,8 +91,7 @@ impl DbState {
         ensures ok { IfOk result (λ batch. writes new_edits self.old.limits.journal self.old.journal (take (length batch.replies) docs.items) ≡ record { outcomes = batch.replies; journal = self.new.journal }) }
         ensures whole { IfOk result (λ batch. batch.stopped ≡ false → length batch.replies ≡ length docs.items) }
         ensures stopped { IfOk result (λ batch. IsTrue batch.stopped → length batch.replies < length docs.items) }
-        ensures limits { self.new.limits ≡ self.old.limits }
-        ensures locals { self.new.locals ≡ self.old.locals }
+        ensures rest { self.new ≡ record self.old { journal = self.new.journal } }
         ensures err { IfErr result (λ e. (e ≡ DbFault.NoMemory) × (self.new ≡ self.old)) }
     {
         let mut list = Vec::new(self.store.alloc);
@@ -118,8 +120,7 @@ impl DbState {
     /// `RevTree::look_extend` does, and what `RevTree::best` does.
     pub fn write_one(&mut self, doc: Doc) -> Result<RevId, DbFault>
         ensures ok { IfOk result (λ rev. makes self.old.limits.journal self.old.journal (draft_of doc) ≡ record { outcome = Stored rev; journal = self.new.journal }) }
-        ensures limits { self.new.limits ≡ self.old.limits }
-        ensures locals { self.new.locals ≡ self.old.locals }
+        ensures rest { self.new ≡ record self.old { journal = self.new.journal } }
         ensures err { IfErr result (λ e. (self.new ≡ self.old) × ((e ≡ DbFault.NoMemory)
             ⊎ ((fault : Fault) × (e ≡ DbFault.Refused fault) × (makes self.old.limits.journal self.old.journal (draft_of doc) ≡ refuses self.old.journal fault)))) }
     {

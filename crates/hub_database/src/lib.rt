@@ -4,10 +4,12 @@
 mod answers;
 mod batch;
 mod database;
+mod descending;
 mod diff;
 mod document;
 mod entries;
 mod entry;
+mod feeds;
 mod local;
 #[cfg(test)]
 mod local_tests;
@@ -24,4 +26,6 @@ mod tests;
 pub use answers::{Diff, Info, Lookup, OpenRev};
 pub use batch::{Batch, DbFault, Replies};
 pub use database::DbState;
+pub use descending::Descending;
+pub use feeds::{FeedId, OpenFault};
 pub use local::Local;

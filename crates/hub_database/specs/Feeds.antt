@@ -1,0 +1,57 @@
+-- The feeds of a database (CouchDB API reference, _changes; how many there may be is own).
+use Rattle.std.specs.Prelude.{ℕ, ◌+◌, ◌-◌, ◌^◌, List, [], ◌∷◌, ◌++◌, length, map, filter, find, not, Bool, ◌||◌, nat_le, nat_eq, if◌then◌else◌, Option, Some, None, option_map, option_and_then}
+use Rattle.hub_model.specs.Current.{current}
+use Rattle.hub_model.specs.Feed.{Feed, Params, begin, due, after_due}
+use Rattle.hub_model.specs.Hand.{change_due}
+use Rattle.hub_model.specs.Journal.{Edit}
+use Rattle.hub_model.specs.Row.{ChangeRow, row_of}
+use Rattle.hub_model.specs.declared.feeds.Item.{Item}
+use Rattle.hub_feed.specs.Next.{next_of, after_next}
+use Rattle.hub_feed.specs.declared.next.Next.{Next}
+use Rattle.hub_feed.specs.declared.next.Next.TheVariants.{Gone}
+use Rattle.hub_database.specs.Database.{Database}
+
+-- the feed of this number, if there is one
+abbrev pub feed_in : ℕ → List (ℕ × Feed) → Option Feed
+feed_in id feeds = option_map (λ (p : ℕ × Feed). p.1) (find (λ (p : ℕ × Feed). nat_eq p.0 id) feeds)
+
+-- the feeds, that of this number changed so
+abbrev pub changed : ℕ → (Feed → Feed) → List (ℕ × Feed) → List (ℕ × Feed)
+changed id change feeds = map (λ (p : ℕ × Feed). if nat_eq p.0 id then (p.0, change p.1) else p) feeds
+
+-- the feeds but for that of this number
+abbrev pub without : ℕ → List (ℕ × Feed) → List (ℕ × Feed)
+without id feeds = filter (λ (p : ℕ × Feed). not (nat_eq p.0 id)) feeds
+
+-- whether there is no room for one more feed, or no number: none is given twice
+abbrev pub is_full : Database → Bool
+is_full db = nat_le db.limits.feeds (length db.feeds) || nat_le (2 ^ 64 - 1) db.next_feed
+
+-- the database with one feed more
+abbrev pub opened : Database → Params → Database
+opened db params = record db { feeds = db.feeds ++ (db.next_feed, begin params (length db.journal)) ∷ []; next_feed = db.next_feed + 1 }
+
+-- the item that is due to a feed, if there is one
+abbrev pub item_due : Database → ℕ → Option (Item ChangeRow)
+item_due db id = option_and_then (change_due db.journal) (feed_in id db.feeds)
+
+-- what a feed of a journal answers
+abbrev pub answer_of : List Edit → Option Feed → Next ChangeRow
+answer_of J None = Gone
+answer_of J (Some f) = next_of (row_of J f.params.style f.params.include_docs) (current J) (due (current J) f)
+
+-- what the feed of this number answers
+abbrev pub answered : Database → ℕ → Next ChangeRow
+answered db id = answer_of db.journal (feed_in id db.feeds)
+
+-- the database behind that answer
+abbrev pub looked_at : Database → ℕ → Database
+looked_at db id = record db { feeds = changed id (λ f. after_next f (due (current db.journal) f) (length db.journal)) db.feeds }
+
+-- the database once the item that is due to the feed was handed
+abbrev pub handed : Database → ℕ → Database
+handed db id = record db { feeds = changed id (λ f. after_due f (due (current db.journal) f) (length db.journal)) db.feeds }
+
+-- the database once the feed is finished
+abbrev pub finished : Database → ℕ → Database
+finished db id = record db { feeds = without id db.feeds }
