@@ -11,18 +11,11 @@ use hub_feed::Next;
 use hub_model::Item;
 use hub_params::FeedParams;
 use std::alloc::AllocError;
-use std::marker::Model;
 
 /// The number of a feed of a database. None is given twice.
 #[derive(Clone, Copy, Debug, PartialEq, Eq)]
-pub struct FeedId(u64);
-
-impl Model for FeedId {
-    ghost use Rattle.std.specs.Prelude.{ℕ};
-
-    ghost Value = { ℕ };
-
-    ghost view = { λ a. a.0 };
+pub struct FeedId {
+    pub(crate) number: u64,
 }
 
 /// Why no feed is opened.
@@ -38,7 +31,7 @@ impl DbState {
     /// Opens a feed, which stays until it is finished. `descending` is not looked at. It costs a
     /// search among the feeds.
     pub fn open_feed(&mut self, params: FeedParams) -> Result<FeedId, OpenFault>
-        ensures ok { IfOk result (λ id. (id ≡ self.old.next_feed) × (is_full self.old ≡ false) × (self.new ≡ opened self.old (params_of params))) }
+        ensures ok { IfOk result (λ id. (id.number ≡ self.old.next_feed) × (is_full self.old ≡ false) × (self.new ≡ opened self.old (params_of params))) }
         ensures err { IfErr result (λ e. (self.new ≡ self.old) × ((e ≡ OpenFault.NoMemory) ⊎ ((e ≡ OpenFault.TooManyFeeds) × (is_full self.old ≡ true)))) }
     {
         let _params = params;
@@ -49,7 +42,7 @@ impl DbState {
     /// feed that has nothing to hand goes to the journal's length. It costs a search among the feeds
     /// and what `FeedState::next_item` does.
     pub fn next_item(&mut self, feed: FeedId) -> Result<Next<ChangeRow>, AllocError>
-        ensures ok { IfOk result (λ next. (next ≡ answered self.old feed) × (self.new ≡ looked_at self.old feed)) }
+        ensures ok { IfOk result (λ next. (next ≡ answered self.old feed.number) × (self.new ≡ looked_at self.old feed.number)) }
         ensures err { OnErr result (self.new ≡ self.old) }
     {
         let _feed = feed;
@@ -59,8 +52,8 @@ impl DbState {
     /// Goes on behind the item that `next_item` gives now. It takes no memory, and costs a search
     /// among the feeds.
     pub fn accept_item(&mut self, feed: FeedId, item: &Item<ChangeRow>)
-        requires due { item_due self.old feed ≡ Some item.now }
-        ensures { self.new ≡ handed self.old feed }
+        requires due { item_due self.old feed.number ≡ Some item.now }
+        ensures { self.new ≡ handed self.old feed.number }
     {
         let _unaccepted = (feed, item);
     }
@@ -68,7 +61,7 @@ impl DbState {
     /// Forgets a feed, if there is one of this number. It takes no memory, and costs a search among
     /// the feeds.
     pub fn finish(&mut self, feed: FeedId)
-        ensures { self.new ≡ finished self.old feed }
+        ensures { self.new ≡ finished self.old feed.number }
     {
         let _feed = feed;
     }
