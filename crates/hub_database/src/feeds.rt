@@ -55,7 +55,8 @@ impl DbState {
         requires due { item_due self.old feed.number ≡ Some item.now }
         ensures { self.new ≡ handed self.old feed.number }
     {
-        let _unaccepted = (feed, item);
+        let _feed = feed;
+        let _item = item;
     }
 
     /// Forgets a feed, if there is one of this number. It takes no memory, and costs a search among
