@@ -1,5 +1,6 @@
 pub mod DocParams
 pub mod Encoded
+pub mod FeedModel
 pub mod FeedParams
 pub mod FeedShown
 pub mod FeedValues
