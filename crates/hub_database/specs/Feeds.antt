@@ -1,14 +1,14 @@
 -- The feeds of a database (CouchDB API reference, _changes; how many there may be is own).
 use Rattle.std.specs.Prelude.{ℕ, ◌+◌, ◌-◌, ◌^◌, List, [], ◌∷◌, ◌++◌, length, map, filter, find, not, Bool, ◌||◌, nat_le, nat_eq, if◌then◌else◌, Option, Some, None, option_map, option_and_then}
 use Rattle.hub_model.specs.Current.{current}
-use Rattle.hub_model.specs.Feed.{Feed, Params, begin, due, after_due}
+use Rattle.hub_model.specs.Feed.{Feed, Params, begin, due, after_due, after_nothing}
 use Rattle.hub_model.specs.Hand.{change_due}
 use Rattle.hub_model.specs.Journal.{Edit}
 use Rattle.hub_model.specs.Row.{ChangeRow, row_of}
 use Rattle.hub_model.specs.declared.feeds.Item.{Item}
-use Rattle.hub_feed.specs.Next.{next_of, after_next}
+use Rattle.hub_feed.specs.Next.{next_of}
 use Rattle.hub_feed.specs.declared.next.Next.{Next}
-use Rattle.hub_feed.specs.declared.next.Next.TheVariants.{Gone}
+use Rattle.hub_feed.specs.declared.next.Next.TheVariants.{Give, Nothing, Gone}
 use Rattle.hub_database.specs.Database.{Database}
 
 -- the feed of this number, if there is one
@@ -44,9 +44,11 @@ answer_of J (Some f) = next_of (row_of J f.params.style f.params.include_docs) (
 abbrev pub answered : Database → ℕ → Next ChangeRow
 answered db id = answer_of db.journal (feed_in id db.feeds)
 
--- the database behind that answer
-abbrev pub looked_at : Database → ℕ → Database
-looked_at db id = record db { feeds = changed id (λ f. after_next f (due (current db.journal) f) (length db.journal)) db.feeds }
+-- the database behind such an answer: only a feed that has nothing to hand moves, to the journal's length
+abbrev pub behind_answer : Database → ℕ → Next ChangeRow → Database
+behind_answer db id (Give item) = db
+behind_answer db id Nothing = record db { feeds = changed id (λ f. after_nothing f (length db.journal)) db.feeds }
+behind_answer db id Gone = db
 
 -- the database once the item that is due to the feed was handed
 abbrev pub handed : Database → ℕ → Database

@@ -3,7 +3,7 @@
 ghost use Rattle.std.specs.Prelude.{◌≡◌, ◌⊎◌, Some, true, false, IfOk, IfErr, OnErr};
 ghost use Rattle.hub_feed.specs.Next.{IsRowDue};
 ghost use Rattle.hub_params.specs.FeedModel.{params_of};
-ghost use Rattle.hub_database.specs.Feeds.{is_full, opened, item_due, answered, looked_at, handed, finished};
+ghost use Rattle.hub_database.specs.Feeds.{is_full, opened, item_due, answered, behind_answer, handed, finished};
 
 use crate::database::DbState;
 use hub_document::ChangeRow;
@@ -42,7 +42,7 @@ impl DbState {
     /// feed that has nothing to hand goes to the journal's length. It costs a search among the feeds
     /// and what `FeedState::next_item` does.
     pub fn next_item(&mut self, feed: FeedId) -> Result<Next<ChangeRow>, AllocError>
-        ensures ok { IfOk result (λ next. (next ≡ answered self.old feed.number) × (self.new ≡ looked_at self.old feed.number)) }
+        ensures ok { IfOk result (λ next. (next ≡ answered self.old feed.number) × (self.new ≡ behind_answer self.old feed.number next)) }
         ensures err { OnErr result (self.new ≡ self.old) }
     {
         let _feed = feed;
