@@ -6,6 +6,7 @@ ghost use Rattle.hub_document.specs.DocText.{doc_text, row_doc};
 use crate::body::Body;
 use crate::doc_id::DocId;
 use crate::revisions::Revisions;
+use crate::text::{put_deleted, put_head, put_rest, put_rev};
 use std::alloc::AllocError;
 use std::marker::Model;
 
@@ -43,7 +44,11 @@ impl ChangeRow {
         ensures ok { OnOk result (out.new.items ≡ out.old.items ++ doc_text (row_doc self.now body.now)) }
         ensures front { take (length out.old.items) out.new.items ≡ out.old.items }
     {
-        out.extend_from_slice(body.as_bytes())?;
-        Err(AllocError)
+        let winner = self.changes.as_slice().first().copied();
+        put_head(out, self.id.as_str())?;
+        put_rev(out, &winner)?;
+        put_deleted(out, self.deleted)?;
+        put_rest(out, body)?;
+        Ok(())
     }
 }

@@ -2,8 +2,11 @@
 use Rattle.std.proofs.Common.{◌≡◌, ℕ, List, ◌++◌, length, take, ap, ◌∙◌, append_assoc, arith}
 use Rattle.std.proofs.lemmas.Grind.{common_steps}
 
+pub three_parts : (o a b c : List ℕ) → ((o ++ a) ++ b) ++ c ≡ o ++ (a ++ (b ++ c))
+three_parts o a b c = append_assoc (o ++ a) b c ∙ append_assoc o a (b ++ c)
+
 pub four_parts : (o a b c d : List ℕ) → (((o ++ a) ++ b) ++ c) ++ d ≡ o ++ (a ++ (b ++ (c ++ d)))
-four_parts o a b c d = append_assoc ((o ++ a) ++ b) c d ∙ append_assoc (o ++ a) b (c ++ d) ∙ append_assoc o a (b ++ (c ++ d))
+four_parts o a b c d = append_assoc ((o ++ a) ++ b) c d ∙ three_parts o a b (c ++ d)
 
 pub five_parts : (o a b c d e : List ℕ) → ((((o ++ a) ++ b) ++ c) ++ d) ++ e ≡ o ++ (a ++ (b ++ (c ++ (d ++ e))))
 five_parts o a b c d e = append_assoc (((o ++ a) ++ b) ++ c) d e ∙ four_parts o a b c (d ++ e)

@@ -1,5 +1,5 @@
 -- The texts of a feed (CouchDB API reference, _changes; own for what stands between the rows).
-use Rattle.std.specs.Prelude.{ℕ, zero, suc, List, [], ◌++◌, Bool, true, false, map, codes, decimal}
+use Rattle.std.specs.Prelude.{ℕ, zero, suc, List, [], ◌++◌, Bool, true, false, Option, Some, None, map, codes, decimal}
 use Rattle.std.specs.List.{join_with_byte}
 use Rattle.json.specs.Print.{quoted}
 use Rattle.hub_model.specs.Revision.{Revision, text_of}
@@ -8,6 +8,7 @@ use Rattle.hub_model.specs.declared.feeds.Mode.{Mode}
 use Rattle.hub_model.specs.declared.feeds.Mode.TheVariants.{Continuous}
 use Rattle.hub_model.specs.declared.feeds.Item.{Item}
 use Rattle.hub_model.specs.declared.feeds.Item.TheVariants.{Row, Beat, End}
+use Rattle.hub_document.specs.DocText.{doc_text, row_doc}
 
 -- a revision that a row lists
 unfoldable pub revision_text : Revision → List ℕ
@@ -17,18 +18,27 @@ revision_text r = codes "{\"rev\":" ++ (quoted (text_of r) ++ codes "}")
 unfoldable pub revisions_text : List Revision → List ℕ
 revisions_text rs = join_with_byte 44 (map revision_text rs)
 
--- the end of a row, with the member that marks a deleted document
-unfoldable pub row_end : Bool → List ℕ
-row_end false = codes "]}"
-row_end true = codes "],\"deleted\":true}"
+-- the member that marks a deleted document, behind the bracket that closes the revisions
+unfoldable pub row_mark : Bool → List ℕ
+row_mark false = codes "]"
+row_mark true = codes "],\"deleted\":true"
+
+-- the member of the document, where the row brings its members
+unfoldable pub doc_member : ChangeRow → Option (List ℕ) → List ℕ
+doc_member row None = []
+doc_member row (Some body) = codes ",\"doc\":" ++ doc_text (row_doc row body)
+
+-- the end of a row
+unfoldable pub row_end : ChangeRow → List ℕ
+row_end row = row_mark row.deleted ++ (doc_member row row.doc ++ codes "}")
 
 -- the members at the head of a row
 unfoldable pub row_head : ℕ → List ℕ → List ℕ
 row_head seq id = codes "{\"seq\":" ++ (decimal seq ++ (codes ",\"id\":" ++ quoted id))
 
--- a row as a JSON object; its document is not written
+-- a row as a JSON object
 unfoldable pub row_text : ChangeRow → List ℕ
-row_text row = row_head row.seq row.id ++ (codes ",\"changes\":[" ++ (revisions_text row.changes ++ row_end row.deleted))
+row_text row = row_head row.seq row.id ++ (codes ",\"changes\":[" ++ (revisions_text row.changes ++ row_end row))
 
 -- what stands before a row, of which so many came before it
 unfoldable pub before_row : Mode → ℕ → List ℕ

@@ -2,7 +2,7 @@
 
 ghost use Rattle.std.specs.Prelude.{◌≡◌, ◌++◌, length, take, OnOk};
 ghost use Rattle.json.specs.Print.{quoted};
-ghost use Rattle.hub_http.specs.Items.{revision_text, revisions_text, row_end, row_head, row_text, before_row, after_row, before_end, end_text, item_text, feed_head};
+ghost use Rattle.hub_http.specs.Items.{revision_text, revisions_text, row_mark, doc_member, row_end, row_head, row_text, before_row, after_row, before_end, end_text, item_text, feed_head};
 
 use hub_document::{ChangeRow, RevId};
 use hub_model::{Item, Mode};
@@ -64,11 +64,33 @@ fn put_row_head(out: &mut Vec<u8>, seq: u64, id: &str) -> Result<(), AllocError>
     Ok(())
 }
 
-#[tactic(auto, unfolding(crate::specs::Items::row_end))]
-fn row_end(deleted: bool) -> &'static str
-    ensures { result.now ≡ row_end deleted }
+#[tactic(auto, unfolding(crate::specs::Items::row_mark))]
+fn row_mark(deleted: bool) -> &'static str
+    ensures { result.now ≡ row_mark deleted }
 {
-    if deleted { "],\"deleted\":true}" } else { "]}" }
+    if deleted { "],\"deleted\":true" } else { "]" }
+}
+
+fn put_doc(out: &mut Vec<u8>, row: &ChangeRow) -> Result<(), AllocError>
+    ensures ok { OnOk result (out.new.items ≡ out.old.items ++ doc_member row.now row.now.doc) }
+    ensures front { take (length out.old.items) out.new.items ≡ out.old.items }
+{
+    let Some(body) = &row.doc else {
+        return Ok(());
+    };
+    out.extend_from_slice(b",\"doc\":")?;
+    row.write_doc(out, body)?;
+    Ok(())
+}
+
+fn put_row_end(out: &mut Vec<u8>, row: &ChangeRow) -> Result<(), AllocError>
+    ensures ok { OnOk result (out.new.items ≡ out.old.items ++ row_end row.now) }
+    ensures front { take (length out.old.items) out.new.items ≡ out.old.items }
+{
+    out.extend_from_slice(row_mark(row.deleted).as_bytes())?;
+    put_doc(out, row)?;
+    out.extend_from_slice(b"}")?;
+    Ok(())
 }
 
 fn put_row(out: &mut Vec<u8>, row: &ChangeRow) -> Result<(), AllocError>
@@ -78,7 +100,7 @@ fn put_row(out: &mut Vec<u8>, row: &ChangeRow) -> Result<(), AllocError>
     put_row_head(out, row.seq, row.id.as_str())?;
     out.extend_from_slice(b",\"changes\":[")?;
     put_revisions(out, row.changes.as_slice())?;
-    out.extend_from_slice(row_end(row.deleted).as_bytes())?;
+    put_row_end(out, row)?;
     Ok(())
 }
 

@@ -299,7 +299,25 @@ fn row(
         id: doc.id,
         changes: Revisions::new(changes),
         deleted,
+        doc: None,
         seen: seq,
+    }))
+}
+
+// The row of a document that it brings.
+fn row_with_doc(alloc: Global, text: &str, deleted: bool) -> Result<Item<ChangeRow>, Fail> {
+    let doc = Doc::read(alloc, text.as_bytes(), true)?;
+    let mut changes = Vec::new(alloc);
+    if let Some(rev) = doc.rev {
+        changes.push(rev)?;
+    }
+    Ok(Item::Row(ChangeRow {
+        seq: 7,
+        id: doc.id,
+        changes: Revisions::new(changes),
+        deleted,
+        doc: Some(doc.body),
+        seen: 7,
     }))
 }
 
@@ -382,5 +400,24 @@ fn items(rt: HostRuntime) -> Result<(), Fail> {
     }
     assert_eq!(rt; feed_head(Mode::Longpoll), "{\"results\":[\n");
     assert_eq!(rt; feed_head(Mode::Continuous), "");
+    Ok(())
+}
+
+#[test]
+fn rows_with_documents(rt: HostRuntime) -> Result<(), Fail> {
+    let alloc = rt.alloc();
+    let here = row_with_doc(alloc, r#"{"_id":"a","_rev":"1-x","v":7}"#, false)?;
+    let deleted = row_with_doc(alloc, r#"{"_id":"b","_rev":"2-y"}"#, true)?;
+    let first =
+        r#"{"seq":7,"id":"a","changes":[{"rev":"1-x"}],"doc":{"_id":"a","_rev":"1-x","v":7}}"#;
+    let second =
+        r#"{"seq":7,"id":"b","changes":[{"rev":"2-y"}],"deleted":true,"doc":{"_id":"b","_rev":"2-y","_deleted":true}}"#;
+    for (item, text) in [(here, first), (deleted, second)] {
+        let whole = text_of(alloc, Mode::Normal, 0, &item)?;
+        assert_eq!(rt; whole.as_slice(), text.as_bytes());
+        let line = text_of(alloc, Mode::Continuous, 4, &item)?;
+        let expected = format!(in alloc; "{text}\n")?;
+        assert_eq!(rt; line.as_slice(), expected.as_bytes());
+    }
     Ok(())
 }

@@ -27,7 +27,7 @@ pub enum Route {
         /// The name of the database.
         db: String,
     },
-    /// `GET /{db}/_changes`
+    /// `GET /{db}/_changes`, `POST /{db}/_changes`
     Changes {
         /// The name of the database.
         db: String,

@@ -28,7 +28,7 @@ const SERVER: [(&str, &[u8], bool, &str); 16] = [
     ("BREW", b"*", NO_LENGTH, "missing"),
 ];
 
-const DATABASES: [(&str, &[u8], bool, &str); 53] = [
+const DATABASES: [(&str, &[u8], bool, &str); 54] = [
     ("GET", b"/d", NO_LENGTH, "get d"),
     ("GET", b"/d/", NO_LENGTH, "get d"),
     ("HEAD", b"/d", NO_LENGTH, "get d"),
@@ -74,8 +74,14 @@ const DATABASES: [(&str, &[u8], bool, &str); 53] = [
     ("HEAD", b"/d/_changes", NO_LENGTH, "method not allowed"),
     ("PUT", b"/d/_changes", NO_LENGTH, "method not allowed"),
     ("DELETE", b"/d/_changes", NO_LENGTH, "method not allowed"),
-    ("POST", b"/d/_changes", WITH_LENGTH, "missing"),
-    ("POST", b"/%ff/_changes", WITH_LENGTH, "missing"),
+    ("POST", b"/d/_changes", WITH_LENGTH, "changes d ?"),
+    (
+        "POST",
+        b"/d/_changes?since=1",
+        NO_LENGTH,
+        "changes d ?since=1",
+    ),
+    ("POST", b"/%ff/_changes", WITH_LENGTH, "bad name"),
     ("GET", b"/%ff/_changes", NO_LENGTH, "bad name"),
     ("GET", b"/d/_changes/", NO_LENGTH, "missing"),
     ("POST", b"/d/_revs_diff", WITH_LENGTH, "diff d"),

@@ -36,6 +36,7 @@ fn row(alloc: Global, seq: u64, doc: &str, rev: &str, deleted: bool) -> Option<I
         id: doc.id,
         changes: Revisions::new(revs),
         deleted,
+        doc: None,
         seen: 2,
     }))
 }

@@ -6,10 +6,8 @@ pub returns-clause-ok : goal.returns-clause-ok
 unfolding row_text
 returns-clause-ok c =
     rw (
+      c.in_ok-put_row_end.ensures.ok,
       ← c.row.view_is,
-      c.in_ok-extend_from_slice-2.ensures.items,
-      c.as_bytes.ensures.value,
-      c.row_end.ensures,
       c.in_ok-put_revisions.ensures.ok,
       c.as_slice.ensures,
       c.in_ok-extend_from_slice.ensures.items,

@@ -1,0 +1,17 @@
+use Rattle.std.proofs.Common.{◌≡◌, ℕ, List, [], ◌++◌, sym, ap, ◌∙◌, append-nil}
+use Rattle.hub_document.proofs.PartLemmas.{doc_written}
+use Rattle.hub_document.proofs.WriteLemmas.{three_parts}
+use Rattle.hub_document.proofs.change_row.ChangeRow.write_doc.Goals as goal
+
+-- the parts before the document's own members, where there is no history
+front_written : (held a b new h r d : List ℕ) → a ≡ held ++ h → b ≡ a ++ r → new ≡ b ++ d → new ≡ held ++ (h ++ (r ++ (d ++ [])))
+front_written held a b new h r d head rev deleted =
+    deleted ∙ ap (λ l. l ++ d) (rev ∙ ap (λ l. l ++ r) head) ∙ three_parts held h r d ∙ ap (λ l. held ++ (h ++ (r ++ l))) (sym (append-nil d))
+
+pub returns-clause-ok : goal.returns-clause-ok
+returns-clause-ok c =
+    rw (← c.self.view_is)
+    (doc_written c.args.out.now.items _ _ _
+    (front_written c.args.out.now.items _ _ _ _ _ _ (rw c.as_str.ensures.value at c.in_ok-put_head.ensures.ok)
+    (rw (c.copied-winner.ensures, c.first.ensures.value, c.as_slice.ensures) at c.in_ok-put_rev.ensures.ok) c.in_ok-put_deleted.ensures.ok)
+    c.in_ok-put_rest.ensures.ok)
