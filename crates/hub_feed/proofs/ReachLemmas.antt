@@ -26,7 +26,7 @@ find_nothing p (d ∷ rows) none =
       | inr t ↦ rw t (find_nothing p rows (λ c h. none c (contains_there d c rows h)))
     ]
 
--- the rows behind the first are above it, and rise
+-- where rows rise, those behind the first are above it, and rise
 above_first : (d : Current) (rows : List Current) → AllPairs (λ (a b : Current). a.seq < b.seq) (d ∷ rows) → (c : Current) → Contains rows c → d.seq < c.seq
 above_first d rows rise c (k, l, e) = subst (λ (x : Current). d.seq < x.seq) e (rise 0 (suc k) c (omega arith) (omega arith))
 
@@ -41,6 +41,7 @@ and_assoc : (x y z : Bool) → (x && (y && z)) ≡ ((x && y) && z)
 and_assoc true y z = refl
 and_assoc false y z = refl
 
+-- in reach is ahead and passing
 reach_is : (f : Feed) (c : Current) → is_in_reach f c ≡ (is_ahead f c && passes f.params.filter c.id)
 reach_is f c = and_assoc (nat_lt f.place c.seq) (is_within f.bound c.seq) (passes f.params.filter c.id)
 
@@ -61,21 +62,21 @@ found_in_reach f (d ∷ rows) c e t =
       | inr n ↦ rw r (rw n (found_in_reach f rows c (e ∙ rw n refl) t))
     ]
 
--- a row that is not passed any more
+-- a row that is not above the place is not in reach
 below_place : (f : Feed) (c : Current) → c.seq ≤ f.place → is_in_reach f c ≡ false
 below_place f c h = elim (cases_Bool (nat_lt f.place c.seq)) [
   | inl t ↦ absurd (let i : f.place < c.seq = ltb-true f.place c.seq t in omega arith)
   | inr t ↦ rw t refl
 ]
 
--- of a row above both, two places are the same
+-- a row above two places is in reach of both or of neither
 same_above : (f : Feed) (seq : ℕ) (c : Current) → f.place < c.seq → seq < c.seq → is_in_reach f c ≡ is_in_reach (record f { place = seq }) c
 same_above f seq c low high =
     let a : nat_lt f.place c.seq ≡ true = lt-ltb f.place c.seq low in
     let b : nat_lt seq c.seq ≡ true = lt-ltb seq c.seq high in
     cc
 
--- a first row that is not passed on leaves what is behind it
+-- going on behind a first row that does not pass finds the same
 behind_first : (f : Feed) (d : Current) (rows : List Current) → AllPairs (λ (a b : Current). a.seq < b.seq) (d ∷ rows) → is_ahead f d ≡ true → passes f.params.filter d.id ≡ false → find (is_in_reach f) (d ∷ rows) ≡ find (is_in_reach (record f { place = d.seq })) (d ∷ rows)
 behind_first f d rows rise y stays =
     let behind : Feed = record f { place = d.seq } in
@@ -85,7 +86,7 @@ behind_first f d rows rise y stays =
     let later : find (is_in_reach f) rows ≡ find (is_in_reach behind) rows = find_same (is_in_reach f) (is_in_reach behind) rows (λ c h. let above = above_first d rows rise c h in same_above f d.seq c (omega arith) above) in
     rw before (rw after later)
 
--- and otherwise nothing is lost by going on behind it
+-- going on behind the first row ahead finds the same, if that row does not pass
 pub reach_behind : (f : Feed) (rows : List Current) (c : Current) → AllPairs (λ (a b : Current). a.seq < b.seq) rows → Some c ≡ first_within f.place f.bound rows → passes f.params.filter c.id ≡ false → find (is_in_reach f) rows ≡ find (is_in_reach (record f { place = c.seq })) rows
 reach_behind f [] c rise e stays = refl
 reach_behind f (d ∷ rows) c rise e stays =

@@ -1,4 +1,4 @@
--- The rows of a plain list of edits rise, and each is one of the edits.
+-- The rows of a plain list of edits rise, and each is one of the edits (own).
 use Rattle.std.proofs.Common.{◌≡◌, ℕ, ◌+◌, ◌<◌, ◌≤◌, List, [], ◌∷◌, length, get_or, Bor, Option, Some, None, Contains, AllPairs, All, inl, inr, ap, arith}
 use Rattle.std.proofs.lemmas.List.Kept.{AllPairs-cons}
 use Rattle.std.proofs.lemmas.List.Elements.{Contains-get_or}
@@ -6,7 +6,7 @@ use Rattle.hub_model.specs.Current.{Current}
 use Rattle.hub_model.proofs.Lists.{contains_none, contains_cases}
 use Rattle.hub_feed.specs.Edits.{rows_of}
 
--- a row's sequence is the number of its edit
+-- a row's sequence is the number of one of the edits
 rows_between : (n : ℕ) (edits : List (Option (Bor (List ℕ)))) (c : Current) → Contains (rows_of n edits) c → (n ≤ c.seq) × (c.seq < n + length edits)
 rows_between n [] c h = absurd (contains_none c h)
 rows_between n (None ∷ edits) c h = let i = rows_between (n + 1) edits c h in (omega arith, omega arith)
@@ -16,9 +16,11 @@ rows_between n (Some id ∷ edits) c h =
       | inr m ↦ let i : (n + 1 ≤ c.seq) × (c.seq < n + 1 + length edits) = rows_between (n + 1) edits c m in (omega arith, omega arith)
     ]
 
+-- none is above the number of edits
 pub rows_within : (edits : List (Option (Bor (List ℕ)))) (c : Current) → Contains (rows_of 1 edits) c → c.seq ≤ length edits
 rows_within edits c h = let i = rows_between 1 edits c h in omega arith
 
+-- each is above those before it
 pub rows_rise : (n : ℕ) (edits : List (Option (Bor (List ℕ)))) → AllPairs (λ (c d : Current). c.seq < d.seq) (rows_of n edits)
 rows_rise n [] = λ i j d below inside. absurd (omega arith)
 rows_rise n (None ∷ edits) = rows_rise (n + 1) edits
