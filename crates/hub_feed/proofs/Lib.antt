@@ -1,0 +1,3 @@
+pub mod DueLemmas
+pub mod EditsLemmas
+pub mod ReachLemmas

@@ -1,3 +1,5 @@
+pub mod Edits
+pub mod EditsLaws
 pub mod Next
 pub mod Reach
 pub mod Shown
