@@ -53,7 +53,7 @@ impl Body {
 }
 
 /// The body that an object's own members make. Each is written into the one text, so that it costs
-/// the text's length.
+/// the text's length. It is kept without room to grow.
 pub(crate) fn body_of(alloc: Global, members: &Map<String, Value>) -> Result<Body, AllocError>
     requires { members_have_float (members_view members.now.entries) ≡ false }
     ensures { IfOk result (λ b. b ≡ body_text (members_view members.now.entries)) }
@@ -67,6 +67,7 @@ pub(crate) fn body_of(alloc: Global, members: &Map<String, Value>) -> Result<Bod
         }
     }
     out.end_object()?;
-    let text = out.into_inner();
+    let mut text = out.into_inner();
+    text.shrink_to_fit();
     Ok(Body { text })
 }

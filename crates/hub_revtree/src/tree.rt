@@ -1,6 +1,6 @@
 //! The tree of a document's revisions.
 
-ghost use Rattle.std.specs.Prelude.{Bool, ◌≡◌, ◌≤◌, ◌++◌, ◌∷◌, ◌↔◌, [], length, slice_get, IsTrue, IsSome, IsNone, IfSome, IfNone, IfOk, OnErr, option_map, None, Some};
+ghost use Rattle.std.specs.Prelude.{Bool, ◌≡◌, ◌≤◌, ◌++◌, ◌∷◌, ◌↔◌, [], length, slice_get, IsTrue, IsSome, IsNone, IfSome, IfNone, IfOk, OnOk, OnErr, option_map, None, Some};
 ghost use Rattle.hub_model.specs.Journal.{IsKnown, IsAcceptable, head_of};
 ghost use Rattle.hub_model.specs.Leaves.{IsMarked, IsWinner, leaves_of, revisions_of};
 ghost use Rattle.hub_revtree.specs.Branch.{edits_in};
@@ -83,6 +83,18 @@ impl RevTree {
         *self.branches.allocator()
     }
 
+    // Makes room for one more edit: exactly for the first, since most documents have one.
+    fn make_room(&mut self) -> Result<(), AllocError>
+        ensures edits { self.new.edits ≡ self.old.edits }
+        ensures room { OnOk result (65535 ≤ self.new.room) }
+    {
+        if self.branches.is_empty() {
+            self.branches.try_reserve_exact(1)
+        } else {
+            self.branches.try_reserve(1)
+        }
+    }
+
     // The edit, with memory for it.
     pub(crate) fn made_ready(
         &mut self,
@@ -97,7 +109,7 @@ impl RevTree {
         // A path has no more revisions than its head's generation, so that one place has room for it.
         let head = path.head();
         let _revisions_at_most = head.generation();
-        self.branches.try_reserve(1)?;
+        self.make_room()?;
         let branch = Branch {
             path,
             deleted,
