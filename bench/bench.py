@@ -42,7 +42,8 @@ print(status, usage.ru_utime + usage.ru_stime, usage.ru_maxrss)
 """
 
 MAKE = b"PUT /d HTTP/1.1\r\n\r\n"
-FEED = b"GET /d/_changes HTTP/1.1\r\n\r\n"
+# How often a short feed is asked for.
+TIMES = 1000
 
 
 def request(line, body):
@@ -91,6 +92,17 @@ def puts(count, size):
     for number in range(count):
         parts.append(request("PUT /d/doc%07d" % number, compact(members(number, size))))
     return b"".join(parts)
+
+
+def feed(query=""):
+    """A feed with this query."""
+    return ("GET /d/_changes%s HTTP/1.1\r\n\r\n" % query).encode()
+
+
+def listed(count):
+    """A feed of 1,000 listed ids."""
+    ids = ["doc%07d" % (at * count // 1000) for at in range(1000)]
+    return request("POST /d/_changes?filter=_doc_ids", compact({"doc_ids": ids}))
 
 
 def gets(count):
@@ -182,15 +194,58 @@ def measure(name, size, count, setup, asked, repeat):
 
 
 def growth(entries):
-    """Of each case the exponent between its smallest and its greatest size: 1.0 is linear."""
+    """Of each case the exponent of its time between its smallest and its greatest size: 1.0 is
+    linear in what is counted, or in the documents where the count stays."""
     found = {}
     for name in sorted({entry["case"] for entry in entries}):
-        row = sorted((e["counted"], e["seconds"]) for e in entries if e["case"] == name)
-        if len(row) > 1 and row[0][0] < row[-1][0]:
-            found[name] = round(
-                math.log(row[-1][1] / row[0][1]) / math.log(row[-1][0] / row[0][0]), 2
-            )
+        row = [e for e in entries if e["case"] == name]
+        by = "counted" if len({e["counted"] for e in row}) > 1 else "documents"
+        row.sort(key=lambda e: e[by])
+        if row[0][by] < row[-1][by]:
+            times = row[-1]["seconds"] / row[0]["seconds"]
+            found[name] = round(math.log(times) / math.log(row[-1][by] / row[0][by]), 2)
     return found
+
+
+def ratios(entries):
+    """The aims that are ratios within one run."""
+    told = {}
+    for size in sorted({entry["documents"] for entry in entries}):
+        of = {e["case"]: e for e in entries if e["documents"] == size}
+        if "empty feeds" in of:
+            near = of["feeds from ten below the end"]["seconds"] / of["empty feeds"]["seconds"]
+            told["feed from near the end to an empty one, %d documents" % size] = round(near, 2)
+        if "replicated batches" in of:
+            entry = of["replicated batches"]
+            memory = entry["peak_bytes_per_document"] / entry["text_bytes_per_document"]
+            told["memory of a document to its text, %d documents" % size] = round(memory, 2)
+    return told
+
+
+def speed_of_cat(size):
+    """The speed at which the bytes of a feed of everything pass through `cat` and a pipe, in MB/s."""
+    with tempfile.TemporaryDirectory() as folder:
+        source = os.path.join(folder, "requests")
+        target = os.path.join(folder, "answers")
+        with open(source, "wb") as file:
+            file.write(batches(size, 100) + feed())
+        with open(source, "rb") as stdin, open(target, "wb") as stdout:
+            subprocess.run([HUB, "stdin"], stdin=stdin, stdout=stdout, check=True)
+        before = os.times()
+        for _ in range(10):
+            with open(target, "rb") as stdin:
+                first = subprocess.Popen(["cat"], stdin=stdin, stdout=subprocess.PIPE)
+                subprocess.run(["cat"], stdin=first.stdout, stdout=subprocess.DEVNULL, check=True)
+                first.stdout.close()
+                first.wait()
+        after = os.times()
+        seconds = (
+            after.children_user
+            + after.children_system
+            - before.children_user
+            - before.children_system
+        )
+        return round(10 * os.path.getsize(target) / max(seconds, 1e-3) / 1e6)
 
 
 def instructions():
@@ -200,7 +255,7 @@ def instructions():
     with tempfile.TemporaryDirectory() as folder:
         source = os.path.join(folder, "requests")
         with open(source, "wb") as file:
-            file.write(batches(1000, 100) + FEED)
+            file.write(batches(1000, 100) + feed())
         command = [
             "valgrind",
             "--tool=callgrind",
@@ -239,14 +294,26 @@ def main():
         entries += [
             measure("replicated batches", size, size, None, stored, repeat),
             measure("pipelined PUTs", size, size, None, puts(size, 100), repeat),
-            measure("normal feed", size, size, stored, FEED, repeat),
+            measure("normal feed", size, size, stored, feed(), repeat),
+            measure("feed with documents", size, size, stored, feed("?include_docs=true"), repeat),
+            measure("descending feed", size, size, stored, feed("?descending=true"), repeat),
+            measure("empty feeds", size, TIMES, stored, feed("?since=now") * TIMES, repeat),
+            measure(
+                "feeds from ten below the end",
+                size,
+                TIMES,
+                stored,
+                feed("?since=%d" % (size - 10)) * TIMES,
+                repeat,
+            ),
+            measure("feed of 1,000 listed ids", size, 1000, stored, listed(size), repeat),
             measure("pipelined GETs", size, size, stored, gets(size), repeat),
             measure("missing of 1,000 ids", size, 1000, stored, diffs(size), repeat),
         ]
     large = batches(1000, 10000, 500)
     entries += [
         measure("replicated batches, 10 kB", 1000, 1000, None, large, 3),
-        measure("normal feed, 10 kB", 1000, 1000, large, FEED, 3),
+        measure("feed with documents, 10 kB", 1000, 1000, large, feed("?include_docs=true"), 3),
     ]
     for count in [1250, 2500, 5000]:
         entries.append(measure("one line of edits", 1, count, None, line(count), 1))
@@ -256,12 +323,25 @@ def main():
     print("\nexponents of growth (1.0 is linear):")
     for name, exponent in exponents.items():
         print("  %-28s %5.2f" % (name, exponent))
+    aims = ratios(entries)
+    cat = speed_of_cat(sizes[-1])
+    print("\nratios:")
+    for name, ratio in aims.items():
+        print("  %-56s %5.2f" % (name, ratio))
+    print("\nthe text of the greatest feed passes through cat and a pipe at %d MB/s" % cat)
     counted = None if options.no_callgrind else instructions()
     if counted is not None:
         print("\ninstructions, 1,000 documents stored and fed: %d" % counted)
     os.makedirs(os.path.dirname(FIGURES), exist_ok=True)
     with open(FIGURES, "w") as file:
-        json.dump({"cases": entries, "exponents": exponents, "instructions": counted}, file, indent=1)
+        figures = {
+            "cases": entries,
+            "exponents": exponents,
+            "ratios": aims,
+            "cat_mb_per_second": cat,
+            "instructions": counted,
+        }
+        json.dump(figures, file, indent=1)
         file.write("\n")
 
 
