@@ -1,0 +1,4 @@
+pub mod Answering
+pub mod StaysLegal
+pub mod Kept
+pub mod Theorem

@@ -1,0 +1,6 @@
+pub mod World
+pub mod Event
+pub mod Step
+pub mod Handed
+pub mod Answer
+pub mod Laws
