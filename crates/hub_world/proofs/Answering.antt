@@ -128,7 +128,7 @@ is_only_answer w new Delete Nothing m = from_same (answer w Delete) (answered No
 is_only_answer w new Delete DatabaseDeleted m = from_same (answer w Delete) (answered DatabaseDeleted w) _ new (rw m.0 refl) refl m.1
 is_only_answer w new Delete _ m = absurd m
 
-runs : (w : World) (events : List Event) → Run w events (replies_to w events) (after w events)
+pub runs : (w : World) (events : List Event) → Run w events (replies_to w events) (after w events)
 runs w [] = refl
 runs w (event ∷ events) = ((answer w event).world, is_answered w event, runs (answer w event).world events)
 

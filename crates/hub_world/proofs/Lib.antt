@@ -1,4 +1,5 @@
 pub mod Answering
-pub mod StaysLegal
+pub mod Journals
 pub mod Kept
 pub mod Theorem
+pub mod Faithful

@@ -4,3 +4,4 @@ pub mod Step
 pub mod Handed
 pub mod Answer
 pub mod Laws
+pub mod Headline

@@ -3,6 +3,15 @@
 #![tactic(auto)]
 
 ghost use Rattle.hub_world.specs.Laws.{IsAnswered, IsOnlyAnswer, RunsOnce, StaysLegal, KeepsFitting, HandsRightly, TakesInOrder, HoldsTheRest};
+ghost use Rattle.hub_world.specs.Headline.{Headline};
+
+/// Over every list of events, what a feed's connection has taken is a prefix of what the feed handed
+/// out: rows in strictly rising sequence, each its document's current row at its step, each passing
+/// the filter, none above last_seq, nothing after the end, and every current passing row between
+/// since and the feed's place among them.
+pub fn headline()
+    ensures { Headline }
+{}
 
 /// Each event has exactly one answer, and each list of events one run.
 pub fn answers()
