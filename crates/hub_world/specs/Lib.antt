@@ -5,3 +5,4 @@ pub mod Handed
 pub mod Answer
 pub mod Laws
 pub mod Headline
+pub mod Worked

@@ -4,6 +4,7 @@
 
 ghost use Rattle.hub_world.specs.Laws.{IsAnswered, IsOnlyAnswer, RunsOnce, StaysLegal, KeepsFitting, HandsRightly, TakesInOrder, HoldsTheRest};
 ghost use Rattle.hub_world.specs.Headline.{Headline};
+ghost use Rattle.hub_world.specs.Worked.{AgainIsLater, StylesList, BoundHolds, LaneFills, TakesAFront, LongpollWaits, TimeEnds, WritesAnswer, BeatsAreAsked, DeletionEnds, LimitCountsRows, FeedsAreCounted};
 
 /// Over every list of events, what a feed's connection has taken is a prefix of what the feed handed
 /// out: rows in strictly rising sequence, each its document's current row at its step, each passing
@@ -36,4 +37,20 @@ pub fn hands_and_takes()
     ensures rightly { HandsRightly }
     ensures in_order { TakesInOrder }
     ensures held { HoldsTheRest }
+{}
+
+/// What the definitions say of some small databases.
+pub fn worked_runs()
+    ensures again { AgainIsLater }
+    ensures styles { StylesList }
+    ensures bound { BoundHolds }
+    ensures lane { LaneFills }
+    ensures front { TakesAFront }
+    ensures longpoll { LongpollWaits }
+    ensures time { TimeEnds }
+    ensures writes { WritesAnswer }
+    ensures beats { BeatsAreAsked }
+    ensures deletion { DeletionEnds }
+    ensures limit { LimitCountsRows }
+    ensures feeds { FeedsAreCounted }
 {}
