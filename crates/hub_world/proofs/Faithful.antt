@@ -25,7 +25,7 @@ use Rattle.hub_model.proofs.Shown.{current_is}
 use Rattle.hub_model.proofs.Sorted.{all_from}
 use Rattle.hub_world.proofs.Answering.{is_answered, runs}
 use Rattle.hub_world.proofs.Journals.{run_adds}
-use Rattle.hub_world.proofs.Theorem.{takes_in_order, hands_rightly}
+use Rattle.hub_world.proofs.Lanes.{takes_in_order, hands_rightly}
 
 -- an End among the items names the place
 ends_place : (place : ℕ) (items : List ChangeItem) (last n : ℕ) → EndsAt place items → Contains items (End last n) → last ≡ place

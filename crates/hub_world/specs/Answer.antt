@@ -14,7 +14,7 @@ pub record Answer : Type 0 where
   pub reply : Reply
   pub world : World
 
--- these two
+-- this reply, and this world after it
 abbrev pub answered : Reply → World → Answer
 answered reply w = record { reply = reply; world = w }
 

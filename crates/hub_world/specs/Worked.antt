@@ -16,7 +16,7 @@ use Rattle.hub_model.specs.declared.feeds.Style.TheVariants.{MainOnly, AllDocs}
 use Rattle.hub_model.specs.declared.outcomes.Fault.TheVariants.{Deleted, Contradicts, Conflict}
 use Rattle.hub_model.specs.declared.outcomes.Outcome.TheVariants.{Stored, Known, Refused}
 use Rattle.hub_world.specs.World.{Limits, World, empty}
-use Rattle.hub_world.specs.Event.{Write, Interactive, Begin, Hand, Heartbeat, Expire, Take, Finish, Delete, Outcomes, Opened, TooManyFeeds, DatabaseDeleted, Pushed, Full, Nothing, Gone, Took, Left}
+use Rattle.hub_world.specs.Event.{Event, Write, Interactive, Begin, Hand, Heartbeat, Expire, Take, Finish, Delete, Outcomes, Opened, TooManyFeeds, DatabaseDeleted, Pushed, Full, Nothing, Gone, Took, Left}
 use Rattle.hub_world.specs.Answer.{replies_to, after}
 use Rattle.hub_world.specs.Headline.{handed_out, taken_off}
 
@@ -93,10 +93,14 @@ abbrev pub LaneFills : Type 0
 LaneFills = replies_to three (Begin (asks Continuous (From 0) None Everything) ∷ Hand 0 ∷ Hand 0 ∷ Hand 0 ∷ Take 0 ∷ Hand 0 ∷ [])
     ≡ Opened 0 ∷ Pushed (third 1) ∷ Pushed (third 2) ∷ Full ∷ Took (Some (third 1)) ∷ Pushed (third 3) ∷ []
 
--- what a finished feed had in its lane is never taken
+-- a feed hands out three rows, and is finished when one was taken
+abbrev pub left_early : List Event
+left_early = Write eight ∷ Begin (asks Normal (From 5) None Everything) ∷ Hand 0 ∷ Hand 0 ∷ Take 0 ∷ Hand 0 ∷ Finish 0 ∷ Take 0 ∷ []
+
+-- what is in the lane of a finished feed is never taken
 abbrev pub TakesAFront : Type 0
-TakesAFront = (taken_off roomy (Write eight ∷ Begin (asks Normal (From 5) None Everything) ∷ Hand 0 ∷ Hand 0 ∷ Take 0 ∷ Hand 0 ∷ Finish 0 ∷ Take 0 ∷ []) 0 ≡ row 6 (6 ∷ []) (rev 1 (codes "a")) 8 ∷ [])
-    × (handed_out roomy (Write eight ∷ Begin (asks Normal (From 5) None Everything) ∷ Hand 0 ∷ Hand 0 ∷ Take 0 ∷ Hand 0 ∷ Finish 0 ∷ Take 0 ∷ []) 0 ≡ row 6 (6 ∷ []) (rev 1 (codes "a")) 8 ∷ row 7 (7 ∷ []) (rev 1 (codes "a")) 8 ∷ row 8 (8 ∷ []) (rev 1 (codes "a")) 8 ∷ [])
+TakesAFront = (handed_out roomy left_early 0 ≡ row 6 (6 ∷ []) (rev 1 (codes "a")) 8 ∷ row 7 (7 ∷ []) (rev 1 (codes "a")) 8 ∷ row 8 (8 ∷ []) (rev 1 (codes "a")) 8 ∷ [])
+    × (taken_off roomy left_early 0 ≡ row 6 (6 ∷ []) (rev 1 (codes "a")) 8 ∷ [])
 
 -- a longpoll feed for design documents waits for one, and then ends
 abbrev pub LongpollWaits : Type 0
@@ -120,7 +124,8 @@ asks_beats mode = record { mode = mode; since = From 0; limit = None; style = Ma
 
 -- a feed that waits hands heartbeats where it asks for them, while its lane has room
 abbrev pub BeatsAreAsked : Type 0
-BeatsAreAsked = (replies_to three (Begin (asks_beats Continuous) ∷ Heartbeat 0 ∷ Heartbeat 0 ∷ Heartbeat 0 ∷ Hand 0 ∷ Finish 0 ∷ Take 0 ∷ Hand 0 ∷ []) ≡ Opened 0 ∷ Pushed Beat ∷ Pushed Beat ∷ Full ∷ Full ∷ Left (Beat ∷ Beat ∷ []) ∷ Took None ∷ Gone ∷ [])
+BeatsAreAsked = (replies_to three (Begin (asks_beats Continuous) ∷ Heartbeat 0 ∷ Heartbeat 0 ∷ Heartbeat 0 ∷ Hand 0 ∷ Finish 0 ∷ Take 0 ∷ Hand 0 ∷ [])
+    ≡ Opened 0 ∷ Pushed Beat ∷ Pushed Beat ∷ Full ∷ Full ∷ Left (Beat ∷ Beat ∷ []) ∷ Took None ∷ Gone ∷ [])
     × (replies_to three (Begin (asks_beats Normal) ∷ Heartbeat 0 ∷ []) ≡ Opened 0 ∷ Nothing ∷ [])
     × (replies_to three (Begin (asks Continuous (From 0) None Everything) ∷ Heartbeat 0 ∷ Heartbeat 7 ∷ []) ≡ Opened 0 ∷ Nothing ∷ Nothing ∷ [])
 
@@ -135,4 +140,5 @@ LimitCountsRows = replies_to three (Begin (asks Normal (From 0) (Some 0) (DocIds
 
 -- one feed more than there may be is refused until one is finished; no number is given twice
 abbrev pub FeedsAreCounted : Type 0
-FeedsAreCounted = replies_to three (Begin (asks Continuous Now None Everything) ∷ Begin (asks Continuous Now None Everything) ∷ Finish 0 ∷ Begin (asks Continuous Now None Everything) ∷ []) ≡ Opened 0 ∷ TooManyFeeds ∷ Left [] ∷ Opened 1 ∷ []
+FeedsAreCounted = replies_to three (Begin (asks Continuous Now None Everything) ∷ Begin (asks Continuous Now None Everything) ∷ Finish 0 ∷ Begin (asks Continuous Now None Everything) ∷ [])
+    ≡ Opened 0 ∷ TooManyFeeds ∷ Left [] ∷ Opened 1 ∷ []

@@ -1,4 +1,4 @@
-use Rattle.hub_world.proofs.Theorem.{takes_in_order, holds_the_rest, hands_rightly}
+use Rattle.hub_world.proofs.Lanes.{takes_in_order, holds_the_rest, hands_rightly}
 use Rattle.hub_world.proofs.hands_and_takes.Goals as goal
 
 pub returns-clause-in_order : goal.returns-clause-in_order
