@@ -12,3 +12,7 @@ pub mod Writes
 pub mod Drafts
 pub mod Laws
 pub mod WorkedRows
+pub mod Due
+pub mod Items
+pub mod Right
+pub mod Fitting

@@ -8,8 +8,11 @@ pub mod Row
 pub mod Filter
 pub mod Feed
 pub mod Hand
+pub mod RightlyHanded
 pub mod Descending
 pub mod Outcome
 pub mod Draft
 pub mod Missing
 pub mod Laws
+pub mod FeedLaws
+pub mod WorkedFeeds

@@ -4,6 +4,8 @@
 #![tactic(auto)]
 
 ghost use Rattle.hub_model.specs.Laws.{KnownIsTested, HistoryIsTested, AcceptableIsTested, LeavesAreListed, LeavesHaveEdits, WinnerIsFirst, LineIsWalk, ShownIsRight, NoneIsShown, RowsAreCurrent, RowsRise, MergesTake, MergesTakeAll, MergesStayLegal, DraftsStayLegal, DraftsExtend, DraftsTake, KnownHasLeaf, MissingIsUnknown};
+ghost use Rattle.hub_model.specs.FeedLaws.{OpenedFits, GrownFits, HandedFits, WaitingFits, BeatFits, ExpiredFits, EndedFits, FinishedFits};
+ghost use Rattle.hub_model.specs.WorkedFeeds.{FallsAfterTwo, FallsAfterAll, FallsOnce};
 
 mod feeds;
 mod outcomes;
@@ -49,4 +51,24 @@ pub fn storing()
     ensures drafted { DraftsStayLegal }
     ensures extended { DraftsExtend }
     ensures drafts { DraftsTake }
+{}
+
+/// What a feed has handed fits it, from its opening on, whatever happens to it and to its journal.
+/// So the list of its items is rightly handed at any moment.
+pub fn feeds_fit()
+    ensures opened { OpenedFits }
+    ensures grown { GrownFits }
+    ensures handed { HandedFits }
+    ensures waiting { WaitingFits }
+    ensures beat { BeatFits }
+    ensures expired { ExpiredFits }
+    ensures ended { EndedFits }
+    ensures finished { FinishedFits }
+{}
+
+/// What the definition of a descending feed says of a small journal.
+pub fn worked_feeds()
+    ensures two { FallsAfterTwo }
+    ensures all { FallsAfterAll }
+    ensures once { FallsOnce }
 {}

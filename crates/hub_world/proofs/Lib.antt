@@ -1,0 +1,5 @@
+pub mod Answering
+pub mod Journals
+pub mod Kept
+pub mod Lanes
+pub mod Faithful

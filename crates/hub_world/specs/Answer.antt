@@ -1,0 +1,74 @@
+-- The answer to each event and the world after it, computed (own; feeds by CouchDB API reference, _changes).
+use Rattle.std.specs.Prelude.{ℕ, List, [], ◌∷◌, length, map, true, if◌then◌else◌, Option, Some, None, slice_get, nat_lt, nat_le}
+use Rattle.hub_model.specs.Current.{current, pending}
+use Rattle.hub_model.specs.Feed.{Params, Feed, Due, DueRow, DueEnd, DueNothing, DueGone, after_row, after_end, after_nothing, beat_due}
+use Rattle.hub_model.specs.Hand.{due_in}
+use Rattle.hub_model.specs.RightlyHanded.{ChangeItem}
+use Rattle.hub_model.specs.Row.{row_of}
+use Rattle.hub_model.specs.declared.feeds.Item.TheVariants.{Row, Beat, End}
+use Rattle.hub_world.specs.World.{World, Subscription, open_feeds, subscription, with_subscription, lane_of, merged, drafted, with_feed, pushed, expired, took, finished, ended}
+use Rattle.hub_world.specs.Event.{Event, Write, Interactive, Begin, Hand, Heartbeat, Expire, Take, Finish, Delete, Reply, Outcomes, Opened, TooManyFeeds, DatabaseDeleted, Pushed, Full, Nothing, Gone, Took, Left}
+
+-- a reply, and the world after it
+pub record Answer : Type 0 where
+  pub reply : Reply
+  pub world : World
+
+-- this reply, and this world after it
+abbrev pub answered : Reply → World → Answer
+answered reply w = record { reply = reply; world = w }
+
+-- an item is pushed where there is room, and the feed goes on so
+abbrev pub push : World → ℕ → Subscription → Feed → ChangeItem → Answer
+push w f s feed item =
+    if nat_lt (length s.lane) w.limits.lane
+    then answered (Pushed item) (with_subscription w f (pushed s feed item))
+    else answered Full w
+
+-- a Hand to a feed to which this is due
+abbrev pub hand_due : World → ℕ → Subscription → Due → Answer
+hand_due w f s (DueRow c) = push w f s (after_row s.feed c.seq (length w.journal)) (Row (row_of w.journal s.feed.params.style s.feed.params.include_docs c))
+hand_due w f s (DueEnd last_seq) = push w f s (after_end s.feed last_seq) (End last_seq (pending (current w.journal) last_seq))
+hand_due w f s DueNothing = answered Nothing (with_subscription w f (record s { feed = after_nothing s.feed (length w.journal) }))
+hand_due w f s DueGone = answered Gone w
+
+-- a Hand
+abbrev pub hand : World → ℕ → Option Subscription → Answer
+hand w f None = answered Gone w
+hand w f (Some s) = hand_due w f s (due_in w.journal s.feed)
+
+-- a Heartbeat
+abbrev pub beat : World → ℕ → Option Subscription → Answer
+beat w f None = answered Nothing w
+beat w f (Some s) = if beat_due s.feed then push w f s s.feed Beat else answered Nothing w
+
+-- a Begin
+abbrev pub opened : World → Params → Answer
+opened w params =
+    if w.deleted then answered DatabaseDeleted w
+    else if nat_le w.limits.feeds (open_feeds w) then answered TooManyFeeds w
+    else answered (Opened (length w.feeds)) (with_feed w params)
+
+-- what an event answers, and the world after it
+abbrev pub answer : World → Event → Answer
+answer w (Write edits) = answered (Outcomes (merged w edits).outcomes) (record w { journal = (merged w edits).journal })
+answer w (Interactive drafts) = answered (Outcomes (drafted w drafts).outcomes) (record w { journal = (drafted w drafts).journal })
+answer w (Begin params) = opened w params
+answer w (Hand f) = hand w f (subscription w f)
+answer w (Heartbeat f) = beat w f (subscription w f)
+answer w (Expire f) = answered Nothing (expired (subscription w f) f w)
+answer w (Take f) = answered (Took (slice_get (lane_of (subscription w f)) 0)) (took (subscription w f) f w)
+answer w (Finish f) = answered (Left (lane_of (subscription w f))) (finished (subscription w f) f w)
+answer w Delete =
+    if w.deleted then answered DatabaseDeleted w
+    else answered Nothing (record w { deleted = true; feeds = map ended w.feeds })
+
+-- the replies to events, one after the other
+abbrev pub replies_to : World → List Event → List Reply
+replies_to w [] = []
+replies_to w (event ∷ events) = (answer w event).reply ∷ replies_to (answer w event).world events
+
+-- the world after events
+abbrev pub after : World → List Event → World
+after w [] = w
+after w (event ∷ events) = after (answer w event).world events

@@ -1,0 +1,103 @@
+-- A database with its feeds and their lanes, and what happens to them (own; feeds by CouchDB API reference, _changes).
+use Rattle.std.specs.Prelude.{◌≡◌, ℕ, ◌<◌, List, [], ◌∷◌, ◌++◌, length, drop, Bool, true, false, not, Option, Some, None, slice_get, slice_set, count_by}
+use Rattle.hub_model.specs.Draft.{Draft, makes}
+use Rattle.hub_model.specs.Feed.{Params, Status, Open, Ending, Ended, Finished, Feed, Due, DueGone, begin, beat_due, expire, end, finish}
+use Rattle.hub_model.specs.Hand.{due_in}
+use Rattle.hub_model.specs.Journal.{Edit}
+use Rattle.hub_model.specs.Outcome.{StoresAll, stores_all, merges}
+use Rattle.hub_model.specs.RightlyHanded.{ChangeItem}
+
+-- how much there may be at most
+pub record Limits : Type 0 where
+  pub journal : ℕ
+  pub feeds : ℕ  -- feeds that are not finished
+  pub lane : ℕ  -- items that a lane holds
+
+-- a feed, and its lane: what it handed that was not taken yet
+pub record Subscription : Type 0 where
+  pub feed : Feed
+  pub lane : List ChangeItem
+
+-- a database; a feed's number is its place in `feeds`, from 0, and finished feeds stay there
+pub record World : Type 0 where
+  pub limits : Limits
+  pub journal : List Edit
+  pub deleted : Bool
+  pub feeds : List Subscription
+
+-- a database with no edits and no feeds
+abbrev pub empty : Limits → World
+empty limits = record { limits = limits; journal = []; deleted = false; feeds = [] }
+
+-- whether its subscriber is gone
+abbrev pub is_finished : Status → Bool
+is_finished Open = false
+is_finished Ending = false
+is_finished Ended = false
+is_finished Finished = true
+
+-- how many feeds are not finished
+abbrev pub open_feeds : World → ℕ
+open_feeds w = count_by (λ s. not (is_finished s.feed.status)) w.feeds
+
+-- feed f, where there is one
+abbrev pub subscription : World → ℕ → Option Subscription
+subscription w f = slice_get w.feeds f
+
+-- the world with this in the place of feed f
+abbrev pub with_subscription : World → ℕ → Subscription → World
+with_subscription w f s = record w { feeds = slice_set w.feeds f s }
+
+-- what is due to it: nothing any more where there is none
+abbrev pub due_of : World → Option Subscription → Due
+due_of w None = DueGone
+due_of w (Some s) = due_in w.journal s.feed
+
+-- whether a heartbeat may be handed
+abbrev pub is_beat_due : Option Subscription → Bool
+is_beat_due None = false
+is_beat_due (Some s) = beat_due s.feed
+
+-- what was handed and not taken
+abbrev pub lane_of : Option Subscription → List ChangeItem
+lane_of None = []
+lane_of (Some s) = s.lane
+
+-- edits with their histories are written
+abbrev pub merged : World → List Edit → StoresAll
+merged w edits = stores_all (merges w.limits.journal) w.deleted w.journal edits
+
+-- drafts are written
+abbrev pub drafted : World → List Draft → StoresAll
+drafted w drafts = stores_all (makes w.limits.journal) w.deleted w.journal drafts
+
+-- one feed more, with an empty lane
+abbrev pub with_feed : World → Params → World
+with_feed w params = record w { feeds = w.feeds ++ record { feed = begin params (length w.journal); lane = [] } ∷ [] }
+
+-- the item goes into the lane, and the feed goes on so
+abbrev pub pushed : Subscription → Feed → ChangeItem → Subscription
+pushed s feed item = record { feed = feed; lane = s.lane ++ item ∷ [] }
+
+-- there is room in the lane of f, and new is the world with the item in it
+abbrev pub Pushes : World → ℕ → Subscription → Feed → ChangeItem → World → Type 0
+Pushes old f s feed item new = (length s.lane < old.limits.lane) × (new ≡ with_subscription old f (pushed s feed item))
+
+-- its time is over
+abbrev pub expired : Option Subscription → ℕ → World → World
+expired None f w = w
+expired (Some s) f w = with_subscription w f (record s { feed = expire s.feed })
+
+-- the front item is taken
+abbrev pub took : Option Subscription → ℕ → World → World
+took None f w = w
+took (Some s) f w = with_subscription w f (record s { lane = drop 1 s.lane })
+
+-- its subscriber is gone, and its lane is empty
+abbrev pub finished : Option Subscription → ℕ → World → World
+finished None f w = w
+finished (Some s) f w = with_subscription w f (record { feed = finish s.feed; lane = [] })
+
+-- its database is deleted
+abbrev pub ended : Subscription → Subscription
+ended s = record s { feed = end s.feed }
