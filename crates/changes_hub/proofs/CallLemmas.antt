@@ -1,6 +1,6 @@
 -- What becomes of a call on a database, and of the hub then.
-use Rattle.std.proofs.Common.{◌≡◌, ℕ, List, length, take, Option, Some, refl, sym, ap, ◌∙◌, subst, set, slice_get, get_or, arith, ◌⊎◌, inl, inr}
-use Rattle.std.specs.Prelude.{find, Vec, Result, Ok, Err}
+use Rattle.std.proofs.Common.{◌≡◌, ℕ, List, length, take, Option, Some, refl, sym, ap, ◌∙◌, subst, set, slice_get, get_or, arith, inl, inr}
+use Rattle.std.specs.Prelude.{unwrap_or, Vec, Result, Ok, Err}
 use Rattle.std.specs.declared.alloc.Global.{Global}
 use Rattle.std.proofs.lemmas.List.{take_all}
 use Rattle.hub_model.specs.Revision.{Revision}
@@ -13,10 +13,11 @@ use Rattle.hub_database.specs.Edits.{writes}
 use Rattle.hub_http.specs.declared.refusal.Refusal.{Refusal}
 use Rattle.hub_session.specs.declared.service.Answer.{Answer}
 use Rattle.changes_hub.specs.Bulk.{Batch, batch_in, readings, read_docs}
-use Rattle.changes_hub.specs.Calls as call
-use Rattle.changes_hub.specs.Calls.{Feed, Said, Body, Refusing, Step, HasFront, reads, stores, calls}
+use Rattle.changes_hub.specs.Calls.{HasFront, stores, calls}
+use Rattle.changes_hub.specs.Said.{Said, Body, Step, reads}
+use Rattle.changes_hub.specs.declared.databases.Sent.{Sent}
 use Rattle.changes_hub.specs.Came.{Responds, Reads, Writes, Stores, Begins, CameOut, CameAt, Goes, IsFound, HasStored, with_status}
-use Rattle.changes_hub.specs.Hub.{Hub, Named, StandsAt, MayLeave, MayLeaveBy, Says, after_call, feed_after, stored_at, with_state, calls_at, calls_on}
+use Rattle.changes_hub.specs.Hub.{Hub, Named, MayLeave, MayLeaveBy, Says, after_call, feed_after, place_of, stored_at, with_state, calls_at}
 use Rattle.changes_hub.specs.declared.call.Call.{Call}
 use Rattle.changes_hub.specs.declared.call.Call.TheVariants.{BulkDocs}
 use Rattle.changes_hub.specs.declared.response.Response.{Response}
@@ -59,7 +60,7 @@ whole_front b old new docs outcomes same s =
 -- ---- the hub
 
 -- the database that stood at a place was x, and is y now
-pub put_back : (h : Hub) (list : List Named) (feed : Option Feed) (limits : Limits) (at : ℕ) (x y d : Named) → record { databases = list; feed = feed; limits = limits } ≡ h → slice_get h.databases at ≡ Some d → x ≡ get_or list at x → y.name ≡ x.name
+pub put_back : (h : Hub) (list : List Named) (feed : Option Sent) (limits : Limits) (at : ℕ) (x y d : Named) → record { databases = list; feed = feed; limits = limits } ≡ h → slice_get h.databases at ≡ Some d → x ≡ get_or list at x → y.name ≡ x.name
     → (d ≡ x) × (record { databases = set list at y; feed = feed; limits = limits } ≡ record h { databases = set h.databases at (record d { state = y.state }) })
 put_back h list feed limits at x y d view there is name =
     let there' : slice_get list at ≡ Some d = ap (λ (k : Hub). slice_get k.databases at) view ∙ there in
@@ -79,13 +80,15 @@ module _ (h : Hub) (name : List ℕ) (c : Call) (body : List ℕ) (at : ℕ) (fo
   mid_is new mid e = e ∙ ap (λ ds. record h { databases = ds }) (changed_at h name at d new found.1)
 
   pub call_ok : (response : Response) (answer : Answer) (mid final : Hub) → CameAt c body h at (Ok response) mid
-      → ((said : Said) → Responds response said → Says answer said × (final ≡ record mid { feed = feed_after mid.feed said }))
+      → ((said : Said) → Responds response said → Says answer said × (final ≡ record mid { feed = feed_after mid.feed at said }))
       → Goes (calls_at h name c body) (MayLeaveBy h name c body) (Ok answer) final
   call_ok response answer mid final came respond =
       let (new, (says, state), changed) = came d found.1.there in
       let (said, last) = respond step.said says in
       let hub : mid ≡ stored_at h name step.state = mid_is new mid changed ∙ ap (stored_at h name) state in
-      let whole : final ≡ after_call h name step.said step.state = last ∙ ap (λ (k : Hub). record k { feed = feed_after k.feed step.said }) hub in
+      let place : at ≡ place_of h name = sym (ap (λ o. unwrap_or o 0) found.1.first) in
+      let whole : final ≡ after_call h name step.said step.state = last ∙ (ap (λ (k : Hub). record k { feed = feed_after k.feed at step.said }) hub
+      ∙ ap (λ n. record h { databases = with_state name step.state h.databases; feed = feed_after h.feed n step.said }) place) in
       rw (found.3 c body) (said, whole)
 
   pub call_err : (e : Refusal) (mid : Hub) → CameAt c body h at (Err e) mid → Goes (calls_at h name c body) (MayLeaveBy h name c body) (Err e) mid

@@ -1,4 +1,7 @@
 pub mod PlaceLemmas
 pub mod CallLemmas
-pub mod FeedLemmas
 pub mod SessionLemmas
+pub mod HandLemmas
+pub mod RisingLemmas
+pub mod DueLemmas
+pub mod FeedLemmas

@@ -1,15 +1,11 @@
 -- What a database answers to a call (CouchDB API reference: documents, local documents, _bulk_docs, _revs_diff, _changes; own for the order of refusals).
-use Rattle.std.specs.Prelude.{◌≡◌, ℕ, ◌^◌, List, [], ◌∷◌, length, map, take, Bool, true, false, if◌then◌else◌, nat_le, codes, string_bytes, Option, Some, None, Result, Ok, Err}
+use Rattle.std.specs.Prelude.{◌≡◌, ℕ, ◌^◌, List, [], ◌∷◌, take, Bool, true, if◌then◌else◌, nat_le, codes, string_bytes, Option, Some, None, Result, Ok, Err}
 use Rattle.hub_model.specs.Revision.{Revision}
-use Rattle.hub_model.specs.Journal.{Edit}
 use Rattle.hub_model.specs.Leaves.{leaves_of}
-use Rattle.hub_model.specs.Current.{current}
-use Rattle.hub_model.specs.Row.{ChangeRow, row_of}
 use Rattle.hub_model.specs.Draft.{makes}
 use Rattle.hub_model.specs.Missing.{Asked, diffs}
 use Rattle.hub_model.specs.declared.outcomes.Outcome.{Outcome}
 use Rattle.hub_model.specs.declared.outcomes.Outcome.TheVariants.{Stored, Known, Refused}
-use Rattle.hub_model.specs.declared.feeds.Style.TheVariants.{MainOnly}
 use Rattle.hub_document.specs.Asking.{asked_in, open_revs_in}
 use Rattle.hub_document.specs.Ids.{short_id}
 use Rattle.hub_document.specs.Local.{local_in}
@@ -33,33 +29,16 @@ use Rattle.hub_revtree.specs.Winner.{winner_of}
 use Rattle.hub_revtree.specs.declared.leaf.Winner.{Winner}
 use Rattle.hub_http.specs.Refusals.{of_doc_fault, of_fault}
 use Rattle.hub_http.specs.declared.refusal.Refusal.{Refusal}
-use Rattle.hub_http.specs.declared.refusal.Refusal.TheVariants.{NotJson, BadRev, Conflict, SequenceFull, Missing, DocDeleted, BadFlag}
+use Rattle.hub_http.specs.declared.refusal.Refusal.TheVariants.{BadRev, Conflict, SequenceFull, Missing, DocDeleted}
 use Rattle.hub_params.specs.DocParams.{DocAsked, doc_asked}
+use Rattle.hub_params.specs.FeedParams.{feed_asked}
 use Rattle.hub_replies.specs.Bodies.{info_body, edit_body, local_edit_body, doc_body, local_doc_body, open_revs_body, diffs_body, commit_body}
 use Rattle.hub_replies.specs.Bulk.{batch_body}
 use Rattle.changes_hub.specs.Bulk.{Batch, batch_in, readings, read_docs, faults_of, replies_of}
+use Rattle.changes_hub.specs.Feeds.{begins}
+use Rattle.changes_hub.specs.Said.{Said, Body, Refusing, Step, reads}
 use Rattle.changes_hub.specs.declared.call.Call.{Call}
 use Rattle.changes_hub.specs.declared.call.Call.TheVariants as call
-
--- a feed that is being sent: the rows that are left, and the sequence at its end
-pub record Feed : Type 0 where
-  pub rows : List ChangeRow
-  pub last_seq : ℕ
-
--- what a call is answered
-pub data Said : Type 0 where
-  Body : (status : ℕ) (body : List ℕ) → Said
-  Refusing : (refusal : Refusal) → Said
-  Feeding : (feed : Feed) → Said
-
--- an answer, with the database after it
-pub record Step : Type 0 where
-  pub said : Said
-  pub state : Database
-
--- an answer that changes nothing
-abbrev pub reads : Database → Said → Step
-reads db said = record { said = said; state = db }
 
 -- what a database says of itself
 abbrev pub says_info : List ℕ → Database → Said
@@ -187,24 +166,13 @@ pub record HasFront (db : Database) (batch : Batch) (new : Database) : Type 0 wh
   pub count : ℕ
   pub front : new ≡ record db { journal = (writes batch.new_edits db.limits.journal db.journal (take count (read_docs (readings batch.new_edits batch.docs)))).journal }
 
--- ---- feeds
-
--- the current rows of a journal, rising, as they are shown
-abbrev pub feed_of : List Edit → Feed
-feed_of journal = record { rows = map (row_of journal MainOnly false) (current journal); last_seq = length journal }
-
--- a feed; for now a query is refused
-abbrev pub begins : Database → List ℕ → Said
-begins db [] = Feeding (feed_of db.journal)
-begins db (b ∷ query) = Refusing BadFlag
-
 -- ---- calls
 
 -- what a database of this name answers to a call with this body, and the database after it
 abbrev pub calls : Call → List ℕ → List ℕ → Database → Step
 calls call.Info name body db = reads db (says_info name db)
 calls call.BulkDocs name body db = stores db (batch_in body)
-calls (call.Changes query) name body db = reads db (begins db query.items)
+calls (call.Changes query) name body db = begins db (feed_asked query.items body)
 calls call.RevsDiff name body db = reads db (says_diffs db (asked_by body))
 calls call.FullCommit name body db = reads db says_commit
 calls (call.GetDocument id query) name body db = reads db (gets_doc db (string_bytes id) (doc_asked query.items))

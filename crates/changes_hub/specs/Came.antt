@@ -1,15 +1,20 @@
 -- How the calls of a database come out in the program (own).
-use Rattle.std.specs.Prelude.{◌≡◌, ◌⊎◌, ℕ, List, take, find, set, slice_get, Bool, Vec, Option, Some, Result, Ok, Err}
+use Rattle.std.specs.Prelude.{◌≡◌, ◌⊎◌, ℕ, List, take, find, set, slice_get, Bool, Vec, Option, Some, None, Result, Ok, Err}
 use Rattle.hub_model.specs.Revision.{Revision}
 use Rattle.hub_model.specs.declared.outcomes.Outcome.{Outcome}
 use Rattle.hub_document.specs.declared.doc.Doc.{Doc}
 use Rattle.std.specs.declared.alloc.Global.{Global}
 use Rattle.hub_database.specs.Database.{Database}
 use Rattle.hub_database.specs.Edits.{writes}
+use Rattle.hub_database.specs.Feeds.{item_due, finished}
+use Rattle.hub_model.specs.Row.{ChangeRow}
+use Rattle.hub_model.specs.declared.feeds.Item.{Item}
+use Rattle.changes_hub.specs.Feeds.{behind}
 use Rattle.hub_http.specs.declared.refusal.Refusal.{Refusal}
 use Rattle.hub_http.specs.declared.refusal.Refusal.TheVariants.{NoMemory}
 use Rattle.changes_hub.specs.Bulk.{Batch}
-use Rattle.changes_hub.specs.Calls.{Said, Body, Refusing, Feeding, Step, stores, HasFront}
+use Rattle.changes_hub.specs.Calls.{stores, HasFront}
+use Rattle.changes_hub.specs.Said.{Said, Body, Refusing, Feeding, Step}
 use Rattle.hub_session.specs.declared.service.Answer.{Answer}
 use Rattle.changes_hub.specs.Calls.{calls}
 use Rattle.changes_hub.specs.Hub as hub
@@ -65,6 +70,10 @@ with_status status (Err e) = Err e
 abbrev pub Begins : Said → Result Response Refusal → Type 0
 Begins said (Ok r) = Responds r said
 Begins said (Err e) = (e ≡ NoMemory) ⊎ (said ≡ Refusing e)
+
+-- a feed handed this item, or none for want of memory, and left the database new
+abbrev pub Hands : Database → ℕ → Option (Item ChangeRow) → Database → Type 0
+Hands old id item new = ((item ≡ item_due old id) × (new ≡ behind old id item)) ⊎ ((item ≡ None) × (new ≡ finished old id))
 
 -- ---- the hub
 

@@ -1,16 +1,16 @@
 -- A hub's databases, and what it answers to a request (CouchDB API reference, the server and its databases; own for the order of refusals).
-use Rattle.std.specs.Prelude.{◌≡◌, ◌⊎◌, ℕ, List, [], ◌∷◌, ◌++◌, length, find, slice_get, Bool, Option, Some, None, Result, Ok, Err, if◌then◌else◌, nat_le, string_bytes}
+use Rattle.std.specs.Prelude.{◌≡◌, ◌⊎◌, ℕ, List, [], ◌∷◌, ◌++◌, length, find, set, slice_get, unwrap_or, option_map, Bool, Option, Some, None, Result, Ok, Err, if◌then◌else◌, nat_le, string_bytes}
 use Rattle.std.specs.List.{list_any, position_from}
 use Rattle.std.specs.Str.{bytes_eq}
 use Rattle.hub_model.specs.Row.{ChangeRow}
 use Rattle.hub_model.specs.declared.feeds.Mode.TheVariants.{Normal}
 use Rattle.hub_model.specs.declared.feeds.Item.{Item}
-use Rattle.hub_model.specs.declared.feeds.Item.TheVariants.{Row, End}
+use Rattle.hub_model.specs.Descending.{Descending}
 use Rattle.hub_document.specs.declared.limits.Limits.{Limits}
 use Rattle.hub_database.specs.Database.{Database}
+use Rattle.hub_database.specs.Feeds.{item_due}
 use Rattle.hub_http.specs.Stream.{Asked}
 use Rattle.hub_http.specs.declared.reply.Reply.TheVariants.{Done, Refused}
-use Rattle.hub_http.specs.declared.refusal.Refusal.{Refusal}
 use Rattle.hub_http.specs.declared.refusal.Refusal.TheVariants.{NoMemory, BadName, Exists, TooMany, Absent}
 use Rattle.hub_replies.specs.Bodies.{welcome_body, ok_body}
 use Rattle.hub_routes.specs.Routes.{GoesTo}
@@ -20,8 +20,12 @@ use Rattle.hub_routes.specs.declared.route.RouteFault.{RouteFault}
 use Rattle.hub_session.specs.declared.service.Answer.{Answer}
 use Rattle.hub_session.specs.declared.service.Answer.TheVariants.{Whole, Stream}
 use Rattle.changes_hub.specs.Bulk.{Batch, batch_in}
-use Rattle.changes_hub.specs.Calls as call
-use Rattle.changes_hub.specs.Calls.{Feed, Said, Body, Refusing, Feeding, calls, HasFront}
+use Rattle.changes_hub.specs.Calls.{calls, HasFront}
+use Rattle.changes_hub.specs.Feeds.{next_listed, behind, is_end}
+use Rattle.changes_hub.specs.Said.{Said, Body, Refusing, Feeding}
+use Rattle.changes_hub.specs.declared.databases.Sent.{Sent}
+use Rattle.changes_hub.specs.declared.response.Feed.{Feed}
+use Rattle.changes_hub.specs.declared.response.Feed.TheVariants.{Listed, Followed}
 use Rattle.changes_hub.specs.Names.{is_name}
 use Rattle.changes_hub.specs.Targets.{target_of}
 use Rattle.changes_hub.specs.declared.call.Call.{Call}
@@ -34,10 +38,10 @@ pub record Named : Type 0 where
   pub name : List ℕ
   pub state : Database
 
--- a hub: its databases in the order in which they were made, and the feed that was asked for last, up to its end
+-- a hub
 pub record Hub : Type 0 where
-  pub databases : List Named
-  pub feed : Option Feed
+  pub databases : List Named  -- in the order in which they were made
+  pub feed : Option Sent  -- that which was asked for last, with the place of its database, up to its end
   pub limits : Limits
 
 -- whether a database has this name
@@ -61,7 +65,7 @@ greets h = says h (Body 200 welcome_body)
 
 -- a database without edits
 abbrev pub empty : List ℕ → Limits → Named
-empty name limits = record { name = name; state = record { journal = []; locals = []; limits = limits } }
+empty name limits = record { name = name; state = record { journal = []; locals = []; feeds = []; next_feed = 0; limits = limits } }
 
 -- the hub with one more
 abbrev pub with_database : Hub → List ℕ → Hub
@@ -87,15 +91,19 @@ with_state name state (d ∷ ds) = if has_name name d then record d { state = st
 abbrev pub stored_at : Hub → List ℕ → Database → Hub
 stored_at h name state = record h { databases = with_state name state h.databases }
 
--- the feed that is being sent after this answer
-abbrev pub feed_after : Option Feed → Said → Option Feed
-feed_after feed (Body status body) = feed
-feed_after feed (Refusing refusal) = feed
-feed_after feed (Feeding begun) = Some begun
+-- the place of the first database of a name
+abbrev pub place_of : Hub → List ℕ → ℕ
+place_of h name = unwrap_or (position_from (has_name name) 0 h.databases) 0
+
+-- the feed that is being sent after this answer of the database at the place
+abbrev pub feed_after : Option Sent → ℕ → Said → Option Sent
+feed_after feed at (Body status body) = feed
+feed_after feed at (Refusing refusal) = feed
+feed_after feed at (Feeding begun) = Some (record { at = at; feed = begun })
 
 -- the hub after a call that came out so on the database of the name
 abbrev pub after_call : Hub → List ℕ → Said → Database → Hub
-after_call h name said state = record h { databases = with_state name state h.databases; feed = feed_after h.feed said }
+after_call h name said state = record h { databases = with_state name state h.databases; feed = feed_after h.feed (place_of h name) said }
 
 -- a call on the database that was found
 abbrev pub calls_on : Hub → List ℕ → Call → List ℕ → Option Named → Step
@@ -166,16 +174,56 @@ HubAnswers h asked answer k =
     × (IsStep answer (goes h asked.body route) k
     ⊎ (Says answer (Refusing NoMemory) × MayLeaveTo h asked.body route k))
 
--- the next item of a feed with these rows left, and what is left of the feed then
-abbrev pub next_item : ℕ → List ChangeRow → Item ChangeRow × Option Feed
-next_item last_seq [] = (End last_seq 0, None)
-next_item last_seq (row ∷ rows) = (Row row, Some (record { rows = rows; last_seq = last_seq }))
+-- ---- the items of a feed
 
--- the same of the feed of a hub, if there is one
-abbrev pub goes_on : Option Feed → Option (Item ChangeRow) × Option Feed
-goes_on None = (None, None)
-goes_on (Some feed) = (Some (next_item feed.last_seq feed.rows).0, (next_item feed.last_seq feed.rows).1)
+-- an item that is handed, if one is, with the hub after it
+pub record Given : Type 0 where
+  pub item : Option (Item ChangeRow)
+  pub hub : Hub
+
+-- the hub without a feed that is being sent
+abbrev pub unsent : Hub → Hub
+unsent h = record h { feed = None }
+
+-- what is left of an answer that was made at once goes on
+abbrev pub gives_listed : Hub → ℕ → Item ChangeRow × Option Descending → Given
+gives_listed h at next = record { item = Some next.0; hub = record h { feed = option_map (λ left. record { at = at; feed = Listed left }) next.1 } }
+
+-- the feed that is being sent after an item of it
+abbrev pub sent_after : Sent → Option (Item ChangeRow) → Option Sent
+sent_after sent None = None
+sent_after sent (Some item) = if is_end item then None else Some sent
+
+-- a feed of a database hands this
+abbrev pub hands : Hub → ℕ → ℕ → Named → Option (Item ChangeRow) → Given
+hands h at id d item = record { item = item; hub = record h { databases = set h.databases at (record d { state = behind d.state id item }); feed = sent_after (record { at = at; feed = Followed (record { number = id }) }) item } }
+
+-- a feed of the database at a place goes on
+abbrev pub gives_followed : Hub → ℕ → ℕ → Option Named → Given
+gives_followed h at id None = record { item = None; hub = unsent h }
+gives_followed h at id (Some d) = hands h at id d (item_due d.state id)
+
+-- and stops for want of memory
+abbrev pub stops_followed : Hub → ℕ → ℕ → Option Named → Given
+stops_followed h at id None = record { item = None; hub = unsent h }
+stops_followed h at id (Some d) = hands h at id d None
+
+-- a feed goes on
+abbrev pub gives_of : Hub → ℕ → Feed → Given
+gives_of h at (Listed left) = gives_listed h at (next_listed left)
+gives_of h at (Followed id) = gives_followed h at id.number (slice_get h.databases at)
+
+-- and stops for want of memory, which only a feed of a database does
+abbrev pub stops_of : Hub → ℕ → Feed → Given
+stops_of h at (Listed left) = gives_listed h at (next_listed left)
+stops_of h at (Followed id) = stops_followed h at id.number (slice_get h.databases at)
+
+-- by the feed that is being sent, if there is one
+abbrev pub by_feed : (Hub → ℕ → Feed → Given) → Hub → Option Sent → Given
+by_feed goes h None = record { item = None; hub = h }
+by_feed goes h (Some sent) = goes h sent.at sent.feed
 
 -- from the hub h a feed goes on with this item, or stops, and leaves the hub k
 abbrev pub HubGives : Hub → Option (Item ChangeRow) → Hub → Type 0
-HubGives h item k = (item ≡ (goes_on h.feed).0) × (k ≡ record h { feed = (goes_on h.feed).1 })
+HubGives h item k =
+    (record { item = item; hub = k } ≡ by_feed gives_of h h.feed) ⊎ (record { item = item; hub = k } ≡ by_feed stops_of h h.feed)

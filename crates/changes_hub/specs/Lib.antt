@@ -1,7 +1,9 @@
 pub mod Bulk
 pub mod Calls
 pub mod Came
+pub mod Feeds
 pub mod Hub
 pub mod Laws
 pub mod Names
+pub mod Said
 pub mod Targets

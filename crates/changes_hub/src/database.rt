@@ -1,16 +1,18 @@
 //! A database by its name, and its answers to calls.
 
 ghost use Rattle.std.specs.Prelude.{◌≡◌};
-ghost use Rattle.changes_hub.specs.Calls.{calls, begins, says_info, says_commit};
-ghost use Rattle.changes_hub.specs.Came.{Begins, Reads, CameOut, with_status};
+ghost use Rattle.changes_hub.specs.Calls.{calls, says_info, says_commit};
+ghost use Rattle.changes_hub.specs.Came.{Reads, CameOut, Hands, with_status};
 ghost use Rattle.changes_hub.specs.Hub.{MayLeave, has_name};
 
 use crate::call::Call;
-use crate::response::{Feed, Response};
-use crate::{bulk, diff, documents, locals};
+use crate::response::Response;
+use crate::{bulk, diff, documents, feeds, locals};
 use http::StatusCode;
-use hub_database::DbState;
+use hub_database::{DbState, FeedId};
+use hub_document::ChangeRow;
 use hub_http::Refusal;
+use hub_model::Item;
 use hub_replies::{commit_body, info_body};
 use std::alloc::Global;
 use std::marker::Model;
@@ -46,17 +48,6 @@ fn commit(alloc: Global) -> Result<Vec<u8>, Refusal>
     Ok(Vec::from_slice(alloc, commit_body())?)
 }
 
-// Begins a feed.
-fn begin_feed(state: &DbState, query: &[u8]) -> Result<Response, Refusal>
-    ensures { Begins (begins state.now query.now) result }
-{
-    if query.is_empty() {
-        Ok(Response::Feed(Feed::of(state)?))
-    } else {
-        Err(Refusal::BadFlag)
-    }
-}
-
 // A body with this status, or a refusal.
 fn with_status(status: StatusCode, body: Result<Vec<u8>, Refusal>) -> Result<Response, Refusal>
     ensures { result ≡ with_status status body }
@@ -80,7 +71,7 @@ fn answer(
     match call {
         Call::Info => with_status(StatusCode::OK, info(alloc, name, state)),
         Call::BulkDocs => with_status(StatusCode::CREATED, bulk::store(alloc, state, body)),
-        Call::Changes(query) => begin_feed(state, query.as_slice()),
+        Call::Changes(query) => feeds::begin(alloc, state, query.as_slice(), body),
         Call::RevsDiff => with_status(StatusCode::OK, diff::revs_diff(alloc, state, body)),
         Call::FullCommit => with_status(StatusCode::CREATED, commit(alloc)),
         Call::GetDocument(id, query) => with_status(
@@ -122,5 +113,13 @@ impl Database {
         ensures name { self.new.name ≡ self.old.name }
     {
         answer(alloc, self.name.as_str(), &mut self.state, call, body)
+    }
+
+    /// What its feed hands next.
+    pub(crate) fn hand(&mut self, feed: FeedId) -> Option<Item<ChangeRow>>
+        ensures hands { Hands self.old.state feed.number result self.new.state }
+        ensures name { self.new.name ≡ self.old.name }
+    {
+        feeds::hand(&mut self.state, feed)
     }
 }

@@ -1,23 +1,25 @@
 //! The databases of a hub, and its answers to requests.
 
-ghost use Rattle.std.specs.Prelude.{◌≡◌, ◌<◌, ℕ, List, Result, None, IfOk, IfErr, OnOk, OnErr, [], length, nat_le, string_bytes};
+ghost use Rattle.std.specs.Prelude.{◌≡◌, ◌<◌, ◌⊎◌, slice_get, Some, ℕ, List, Result, None, IfOk, IfErr, OnOk, OnErr, [], length, nat_le, string_bytes};
 ghost use Rattle.std.specs.List.{list_any, position_from};
 ghost use Rattle.hub_http.specs.Stream.{asked_by};
 ghost use Rattle.hub_routes.specs.Routes.{GoesTo};
 ghost use Rattle.hub_routes.specs.declared.route.Route.{Route};
 ghost use Rattle.hub_routes.specs.declared.route.RouteFault.{RouteFault};
-ghost use Rattle.changes_hub.specs.Calls.{Said, Refusing};
+ghost use Rattle.changes_hub.specs.Said.{Said, Refusing};
 ghost use Rattle.changes_hub.specs.Came.{Responds, Goes, IsSame, IsFound, CameAt};
-ghost use Rattle.changes_hub.specs.Hub.{HubAnswers, HubGives, MayLeaveBy, MayLeaveAt, MayLeaveTo, Says, has_name, says, greets, creates, calls_at, goes, goes_to, with_database, feed_after};
+ghost use Rattle.changes_hub.specs.Hub.{HubAnswers, HubGives, MayLeaveBy, MayLeaveAt, MayLeaveTo, Says, has_name, says, greets, creates, calls_at, goes, goes_to, with_database, feed_after, by_feed, gives_of, stops_of, gives_listed, gives_followed, stops_followed, unsent, place_of};
 ghost use Rattle.changes_hub.specs.declared.call.Call.{Call};
-ghost use Rattle.changes_hub.specs.Laws.{CompleteFeedIsWhole};
+ghost use Rattle.changes_hub.specs.Feeds.{next_listed};
+ghost use Rattle.changes_hub.specs.Laws.{CompleteFeedIsWhole, CompleteListIsWhole};
 
 use crate::call::{Call, Target, target_of};
 use crate::database::Database;
+use crate::feeds::is_end;
 use crate::name::is_name;
-use crate::response::{Feed, Response};
+use crate::response::{Feed, Listed, Response};
 use http::StatusCode;
-use hub_database::DbState;
+use hub_database::{DbState, FeedId};
 use hub_document::{ChangeRow, Item, Limits, Mode};
 use hub_http::{Refusal, Reply, Request};
 use hub_replies::{ok_body, welcome_body};
@@ -25,6 +27,14 @@ use hub_routes::Routes;
 use hub_session::{Answer, Service};
 use std::alloc::{AllocError, Global};
 use std::marker::Model;
+
+/// A feed that is being sent.
+#[derive(Drop)]
+pub(crate) struct Sent {
+    /// The place of its database.
+    at: usize,
+    feed: Feed,
+}
 
 /// The databases of a hub. It answers one request at a time.
 #[derive(Drop)]
@@ -35,7 +45,7 @@ pub struct Databases {
     /// In the order in which they were made.
     list: Vec<Database>,
     /// The feed that was asked for last, until its end was handed.
-    feed: Option<Feed>,
+    feed: Option<Sent>,
 }
 
 impl Model for Databases {
@@ -147,14 +157,14 @@ impl Databases {
         self.list[at].answer(self.alloc, call, body)
     }
 
-    /// The answer that a response is: a feed is kept until it was sent.
-    fn respond(&mut self, response: Response) -> Answer
-        ensures { (said : Said) → Responds response said → Says result said × (self.new ≡ record self.old { feed = feed_after self.old.feed said }) }
+    /// The answer that a response of the database at this place is: a feed is kept until it was sent.
+    fn respond(&mut self, at: usize, response: Response) -> Answer
+        ensures { (said : Said) → Responds response said → Says result said × (self.new ≡ record self.old { feed = feed_after self.old.feed at said }) }
     {
         match response {
             Response::Body(status, body) => Answer::Whole(Reply::Done { status, body }),
             Response::Feed(feed) => {
-                self.feed = Some(feed);
+                self.feed = Some(Sent { at, feed });
                 Answer::Stream(Mode::Normal)
             }
         }
@@ -169,9 +179,41 @@ impl Databases {
             Err(refusal) => return Err(refusal),
         };
         match self.call_at(at, call, body) {
-            Ok(response) => Ok(self.respond(response)),
+            Ok(response) => Ok(self.respond(at, response)),
             Err(refusal) => Err(refusal),
         }
+    }
+
+    /// The next item of an answer that was made at once.
+    fn give_listed(&mut self, at: usize, listed: Listed) -> Item<ChangeRow>
+        ensures { record { item = Some result; hub = self.new } ≡ gives_listed self.old at (next_listed listed) }
+    {
+        let (item, left) = listed.next();
+        self.feed = match left {
+            Some(left) => Some(Sent {
+                at,
+                feed: Feed::Listed(left),
+            }),
+            None => None,
+        };
+        item
+    }
+
+    /// The next item of a feed of the database at this place.
+    fn give_followed(&mut self, at: usize, id: FeedId) -> Option<Item<ChangeRow>>
+        ensures { (record { item = result; hub = self.new } ≡ gives_followed self.old at id.number (slice_get self.old.databases at))
+            ⊎ (record { item = result; hub = self.new } ≡ stops_followed self.old at id.number (slice_get self.old.databases at)) }
+    {
+        self.feed = None;
+        let database = self.list.get_mut(at)?;
+        let item = database.hand(id)?;
+        if !is_end(&item) {
+            self.feed = Some(Sent {
+                at,
+                feed: Feed::Followed(id),
+            });
+        }
+        Some(item)
     }
 
     /// The answer to a request that asks for this.
@@ -210,22 +252,18 @@ impl Service for Databases {
     }
 
     fn item(&mut self) -> Option<Item<ChangeRow>> {
-        let mut feed = self.feed.take()?;
-        match feed.rows.next() {
-            Some(row) => {
-                self.feed = Some(feed);
-                Some(Item::Row(row))
-            }
-            None => Some(Item::End {
-                last_seq: feed.last_seq,
-                pending: 0,
-            }),
+        let Sent { at, feed } = self.feed.take()?;
+        match feed {
+            Feed::Listed(listed) => Some(self.give_listed(at, listed)),
+            Feed::Followed(id) => self.give_followed(at, id),
         }
     }
 }
 
-/// A feed that came to its end showed each current row of its database's journal once, rising, as it
-/// stood when the feed began, and then the journal's length and what lies above it.
+/// A feed that came to its end showed, once and rising, each row that it was asked for, as its
+/// database stood when the feed began, and then where it ends and how many rows lie above. An answer
+/// that goes downwards showed its rows and its end.
 pub fn complete_feeds()
-    ensures { CompleteFeedIsWhole }
+    ensures followed { CompleteFeedIsWhole }
+    ensures listed { CompleteListIsWhole }
 {}

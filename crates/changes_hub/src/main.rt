@@ -11,6 +11,9 @@ mod diff;
 #[cfg(test)]
 mod document_tests;
 mod documents;
+#[cfg(test)]
+mod feed_tests;
+mod feeds;
 mod locals;
 mod name;
 mod response;

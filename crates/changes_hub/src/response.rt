@@ -1,31 +1,40 @@
 //! What a database responds to a call.
 
-ghost use Rattle.std.specs.Prelude.{◌≡◌, ◌⊎◌, IfOk, IfErr};
-ghost use Rattle.changes_hub.specs.Calls.{feed_of};
+ghost use Rattle.std.specs.Prelude.{◌≡◌};
+ghost use Rattle.changes_hub.specs.Feeds.{next_listed};
 
 use http::StatusCode;
-use hub_database::DbState;
+use hub_database::{Descending, FeedId};
 use hub_document::ChangeRow;
-use std::alloc::AllocError;
+use hub_model::Item;
 use std::marker::Model;
 use std::vec::IntoIter;
 
-/// A feed that is being sent.
+/// What is left of an answer that was made at once.
 #[derive(Drop)]
-pub(crate) struct Feed {
+pub(crate) struct Listed {
     /// The rows that were not handed yet.
-    pub(crate) rows: IntoIter<ChangeRow>,
-    /// The sequence at the end.
-    pub(crate) last_seq: u64,
+    rows: IntoIter<ChangeRow>,
+    last_seq: u64,
+    pending: u64,
 }
 
-impl Model for Feed {
+impl Model for Listed {
     ghost use Rattle.std.specs.Vec.Iter.{into_iter_items};
-    ghost use Rattle.changes_hub.specs.Calls.{Feed as Fed};
+    ghost use Rattle.hub_model.specs.Descending.{Descending as Answer};
 
-    ghost Value = { Fed };
+    ghost Value = { Answer };
 
-    ghost view = { λ a. record { rows = into_iter_items a.rows; last_seq = a.last_seq } };
+    ghost view = { λ a. record { rows = into_iter_items a.rows; last_seq = a.last_seq; pending = a.pending } };
+}
+
+/// A feed that is being sent.
+#[derive(Drop)]
+pub(crate) enum Feed {
+    /// What is left of an answer that was made at once.
+    Listed(Listed),
+    /// A feed of the database.
+    Followed(FeedId),
 }
 
 /// What a database responds where it refuses nothing.
@@ -37,15 +46,37 @@ pub(crate) enum Response {
     Feed(Feed),
 }
 
-impl Feed {
-    /// A feed of what a database holds: its rows are made at once.
-    pub(crate) fn of(state: &DbState) -> Result<Feed, AllocError>
-        ensures { IfOk result (λ f. f ≡ feed_of state.now.journal) }
+impl Listed {
+    /// An answer of which nothing was handed.
+    pub(crate) fn new(answer: Descending) -> Listed
+        ensures { result ≡ answer }
     {
-        let rows = state.rows()?;
-        Ok(Feed {
+        let Descending {
+            rows,
+            last_seq,
+            pending,
+        } = answer;
+        Listed {
             rows: rows.into_iter(),
-            last_seq: state.update_seq(),
-        })
+            last_seq,
+            pending,
+        }
+    }
+
+    /// Its next item, and what is left behind it, which is nothing behind the end.
+    pub(crate) fn next(mut self) -> (Item<ChangeRow>, Option<Listed>)
+        ensures { result ≡ next_listed self }
+    {
+        match self.rows.next() {
+            Some(row) => (Item::Row(row), Some(self)),
+            None => {
+                let Listed {
+                    last_seq,
+                    pending,
+                    ..
+                } = self;
+                (Item::End { last_seq, pending }, None)
+            }
+        }
     }
 }

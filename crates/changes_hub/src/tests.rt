@@ -187,11 +187,11 @@ fn refusals(rt: HostRuntime) -> Result<(), Fail> {
         ("DELETE /d", "", "404 Not Found", "not_found", "missing"),
         ("GET /d/a", "", "404 Not Found", "not_found", "missing"),
         (
-            "POST /d/_changes",
+            "POST /e/_changes",
             "",
             "404 Not Found",
             "not_found",
-            "missing",
+            "Database does not exist.",
         ),
         (
             "GET /e/_changes",
@@ -213,13 +213,6 @@ fn refusals(rt: HostRuntime) -> Result<(), Fail> {
             "405 Method Not Allowed",
             "method_not_allowed",
             "method not allowed",
-        ),
-        (
-            "GET /d/_changes?since=1",
-            "",
-            "400 Bad Request",
-            "bad_request",
-            "bad flag",
         ),
         (
             "POST /e/_bulk_docs",

@@ -1,4 +1,4 @@
-use Rattle.std.proofs.Common.{◌≡◌, inl, inr, refl}
+use Rattle.std.proofs.Common.{inl, inr, refl}
 use Rattle.changes_hub.proofs.CallLemmas.{writes_came}
 use Rattle.changes_hub.proofs.database.answer.Goals as goal
 

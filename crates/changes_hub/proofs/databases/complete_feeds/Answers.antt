@@ -1,5 +1,8 @@
-use Rattle.changes_hub.proofs.FeedLemmas.{complete_is_whole}
+use Rattle.changes_hub.proofs.FeedLemmas.{complete_feed, complete_list}
 use Rattle.changes_hub.proofs.databases.complete_feeds.Goals as goal
 
-pub returns : goal.returns
-returns c = complete_is_whole
+pub returns-clause-followed : goal.returns-clause-followed
+returns-clause-followed c = complete_feed
+
+pub returns-clause-listed : goal.returns-clause-listed
+returns-clause-listed c = complete_list

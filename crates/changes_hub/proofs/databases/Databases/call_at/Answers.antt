@@ -1,4 +1,4 @@
-use Rattle.std.proofs.Common.{◌≡◌, sym, subst}
+use Rattle.std.proofs.Common.{sym, subst}
 use Rattle.changes_hub.specs.Calls.{calls}
 use Rattle.changes_hub.specs.Came.{CameOut}
 use Rattle.changes_hub.specs.Hub.{Named, MayLeave}

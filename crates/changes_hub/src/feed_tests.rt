@@ -1,0 +1,313 @@
+//! The hub over bytes: feeds of changes.
+
+use crate::tests::{answered, request, whole};
+use hub_document::Limits;
+use std::alloc::{AllocError, Global};
+use std::test::Fail;
+
+/// A request line, its body, the rows that are shown, and the end.
+type Shown<'a> = (&'a str, &'a str, &'a [&'a str], &'a str);
+
+/// A chunk (RFC 9112, section 7.1).
+fn chunk(alloc: Global, text: &str) -> Result<String, AllocError> {
+    let len = text.len();
+    format!(in alloc; "{len:x}\r\n{text}\r\n")
+}
+
+/// The answer that shows these rows and this end, a chunk for each.
+fn feed(alloc: Global, rows: &[&str], end: &str) -> Result<String, AllocError> {
+    let mut out = String::from_str(
+        alloc,
+        "HTTP/1.1 200 OK\r\nContent-Type: application/json\r\nTransfer-Encoding: chunked\r\n\r\nd\r\n{\"results\":[\n\r\n",
+    )?;
+    let mut comma = "";
+    for row in rows {
+        let text = format!(in alloc; "{comma}{row}")?;
+        let sent = chunk(alloc, text.as_str())?;
+        out.push_str(sent.as_str())?;
+        comma = ",\n";
+    }
+    let text = format!(in alloc; "\n],\n{end}\n")?;
+    let sent = chunk(alloc, text.as_str())?;
+    out.push_str(sent.as_str())?;
+    out.push_str("0\r\n\r\n")?;
+    Ok(out)
+}
+
+/// Whether each request is answered so, over a database `d` with the documents of this batch, and
+/// with one feed at a time.
+fn are_shown(alloc: Global, batch: &str, table: &[Shown<'_>]) -> Result<bool, AllocError> {
+    let mut input = String::from_str(alloc, "PUT /d HTTP/1.1\r\n\r\n")?;
+    let mut expected = whole(alloc, "201 Created", "{\"ok\":true}")?;
+    let stored = request(alloc, "POST /d/_bulk_docs", batch)?;
+    input.push_str(stored.as_str())?;
+    let listed = whole(alloc, "201 Created", "[]")?;
+    expected.push_str(listed.as_str())?;
+    for (line, body, rows, end) in table {
+        let asked = request(alloc, line, body)?;
+        input.push_str(asked.as_str())?;
+        let shown = feed(alloc, rows, end)?;
+        expected.push_str(shown.as_str())?;
+    }
+    let mut limits = Limits::full();
+    limits.feeds = 1;
+    let (output, _) = answered(alloc, input.as_bytes(), limits)?;
+    Ok(output.as_slice() == expected.as_bytes())
+}
+
+/// A feed begins above `since`, and never above the update sequence.
+#[test]
+fn feeds_begin_above_since(rt: HostRuntime) -> Result<(), Fail> {
+    let batch =
+        "{\"docs\":[{\"_id\":\"a\",\"_rev\":\"1-a\"},{\"_id\":\"b\",\"_rev\":\"1-b\"},{\"_id\":\"a\",\"_revisions\":{\"start\":2,\"ids\":[\"c\",\"a\"]}}],\"new_edits\":false}";
+    let b = "{\"seq\":2,\"id\":\"b\",\"changes\":[{\"rev\":\"1-b\"}]}";
+    let a = "{\"seq\":3,\"id\":\"a\",\"changes\":[{\"rev\":\"2-c\"}]}";
+    let end = "\"last_seq\":3,\"pending\":0}";
+    let table: [Shown<'_>; 6] = [
+        ("GET /d/_changes", "", &[b, a], end),
+        ("GET /d/_changes?since=2", "", &[a], end),
+        ("GET /d/_changes?since=3", "", &[], end),
+        ("GET /d/_changes?since=99", "", &[], end),
+        ("GET /d/_changes?since=now", "", &[], end),
+        ("POST /d/_changes?since=1", "{}", &[b, a], end),
+    ];
+    assert!(rt; are_shown(rt.alloc(), batch, &table)?);
+    Ok(())
+}
+
+/// A row lists the winner, or every leaf, best first.
+#[test]
+fn rows_by_style(rt: HostRuntime) -> Result<(), Fail> {
+    let batch =
+        "{\"docs\":[{\"_id\":\"x\",\"_deleted\":true,\"_revisions\":{\"start\":2,\"ids\":[\"b\",\"q\"]}},{\"_id\":\"x\",\"_revisions\":{\"start\":2,\"ids\":[\"a\",\"q\"]}},{\"_id\":\"x\",\"_rev\":\"1-z\"}],\"new_edits\":false}";
+    let winner = "{\"seq\":3,\"id\":\"x\",\"changes\":[{\"rev\":\"2-a\"}]}";
+    let leaves =
+        "{\"seq\":3,\"id\":\"x\",\"changes\":[{\"rev\":\"2-a\"},{\"rev\":\"1-z\"},{\"rev\":\"2-b\"}]}";
+    let end = "\"last_seq\":3,\"pending\":0}";
+    let table: [Shown<'_>; 3] = [
+        ("GET /d/_changes?style=main_only", "", &[winner], end),
+        ("GET /d/_changes?style=all_docs", "", &[leaves], end),
+        (
+            "GET /d/_changes?style=all_docs&descending=true",
+            "",
+            &[leaves],
+            end,
+        ),
+    ];
+    assert!(rt; are_shown(rt.alloc(), batch, &table)?);
+    Ok(())
+}
+
+/// The limit counts the rows that pass the filter, 0 acts as 1, and the rows above the last one that
+/// is shown are pending.
+#[test]
+fn filters_and_limits(rt: HostRuntime) -> Result<(), Fail> {
+    let batch =
+        "{\"docs\":[{\"_id\":\"a\",\"_rev\":\"1-a\"},{\"_id\":\"b\",\"_rev\":\"1-b\"},{\"_id\":\"c\",\"_rev\":\"1-c\"},{\"_id\":\"_design/v\",\"_rev\":\"1-v\"}],\"new_edits\":false}";
+    let a = "{\"seq\":1,\"id\":\"a\",\"changes\":[{\"rev\":\"1-a\"}]}";
+    let b = "{\"seq\":2,\"id\":\"b\",\"changes\":[{\"rev\":\"1-b\"}]}";
+    let c = "{\"seq\":3,\"id\":\"c\",\"changes\":[{\"rev\":\"1-c\"}]}";
+    let v = "{\"seq\":4,\"id\":\"_design/v\",\"changes\":[{\"rev\":\"1-v\"}]}";
+    let at_two = "\"last_seq\":2,\"pending\":2}";
+    let at_four = "\"last_seq\":4,\"pending\":0}";
+    let table: [Shown<'_>; 9] = [
+        (
+            "GET /d/_changes?filter=_doc_ids&doc_ids=%5B%22c%22,%22b%22%5D&limit=1",
+            "",
+            &[b],
+            at_two,
+        ),
+        (
+            "GET /d/_changes?filter=_doc_ids&doc_ids=%5B%22c%22,%22b%22%5D&limit=0",
+            "",
+            &[b],
+            at_two,
+        ),
+        (
+            "POST /d/_changes?filter=_doc_ids&limit=1",
+            "{\"doc_ids\":[\"c\",\"b\"]}",
+            &[b],
+            at_two,
+        ),
+        (
+            "POST /d/_changes?filter=_doc_ids",
+            "{\"doc_ids\":[\"c\",\"b\",\"c\"]}",
+            &[b, c],
+            at_four,
+        ),
+        ("GET /d/_changes?filter=_design", "", &[v], at_four),
+        ("GET /d/_changes?limit=2", "", &[a, b], at_two),
+        (
+            "GET /d/_changes?limit=0&since=0&style=all_docs&x=1",
+            "",
+            &[a],
+            "\"last_seq\":1,\"pending\":3}",
+        ),
+        ("GET /d/_changes?limit=5", "", &[a, b, c, v], at_four),
+        (
+            "GET /d/_changes?filter=_design&descending=true",
+            "",
+            &[v],
+            at_four,
+        ),
+    ];
+    assert!(rt; are_shown(rt.alloc(), batch, &table)?);
+    Ok(())
+}
+
+/// A feed that goes downwards shows the newest first, and ends at the lowest row shown.
+#[test]
+fn descending_feeds(rt: HostRuntime) -> Result<(), Fail> {
+    let batch =
+        "{\"docs\":[{\"_id\":\"a\",\"_rev\":\"1-a\"},{\"_id\":\"b\",\"_rev\":\"1-b\"},{\"_id\":\"c\",\"_rev\":\"1-c\"},{\"_id\":\"a\",\"_revisions\":{\"start\":2,\"ids\":[\"d\",\"a\"]}},{\"_id\":\"a\",\"_revisions\":{\"start\":3,\"ids\":[\"e\",\"d\",\"a\"]}}],\"new_edits\":false}";
+    let b = "{\"seq\":2,\"id\":\"b\",\"changes\":[{\"rev\":\"1-b\"}]}";
+    let c = "{\"seq\":3,\"id\":\"c\",\"changes\":[{\"rev\":\"1-c\"}]}";
+    let a = "{\"seq\":5,\"id\":\"a\",\"changes\":[{\"rev\":\"3-e\"}]}";
+    let table: [Shown<'_>; 5] = [
+        (
+            "GET /d/_changes?descending=true&since=2",
+            "",
+            &[a, c],
+            "\"last_seq\":3,\"pending\":0}",
+        ),
+        (
+            "GET /d/_changes?descending=true",
+            "",
+            &[a, c, b],
+            "\"last_seq\":2,\"pending\":0}",
+        ),
+        (
+            "GET /d/_changes?descending=true&limit=1",
+            "",
+            &[a],
+            "\"last_seq\":5,\"pending\":2}",
+        ),
+        (
+            "GET /d/_changes?descending=true&since=9",
+            "",
+            &[],
+            "\"last_seq\":5,\"pending\":0}",
+        ),
+        (
+            "GET /d/_changes?descending=false&limit=1",
+            "",
+            &[b],
+            "\"last_seq\":2,\"pending\":2}",
+        ),
+    ];
+    assert!(rt; are_shown(rt.alloc(), batch, &table)?);
+    Ok(())
+}
+
+/// With `include_docs` a row brings the winner's document, also a deleted one's.
+#[test]
+fn rows_bring_documents(rt: HostRuntime) -> Result<(), Fail> {
+    let batch =
+        "{\"docs\":[{\"_id\":\"a\",\"_rev\":\"1-a\",\"v\":7,\"k\":[true]},{\"_id\":\"b\",\"_rev\":\"1-b\",\"_deleted\":true}],\"new_edits\":false}";
+    let a =
+        "{\"seq\":1,\"id\":\"a\",\"changes\":[{\"rev\":\"1-a\"}],\"doc\":{\"_id\":\"a\",\"_rev\":\"1-a\",\"k\":[true],\"v\":7}}";
+    let b =
+        "{\"seq\":2,\"id\":\"b\",\"changes\":[{\"rev\":\"1-b\"}],\"deleted\":true,\"doc\":{\"_id\":\"b\",\"_rev\":\"1-b\",\"_deleted\":true}}";
+    let plain = "{\"seq\":1,\"id\":\"a\",\"changes\":[{\"rev\":\"1-a\"}]}";
+    let deleted = "{\"seq\":2,\"id\":\"b\",\"changes\":[{\"rev\":\"1-b\"}],\"deleted\":true}";
+    let end = "\"last_seq\":2,\"pending\":0}";
+    let table: [Shown<'_>; 4] = [
+        ("GET /d/_changes?include_docs=true", "", &[a, b], end),
+        (
+            "GET /d/_changes?include_docs=false",
+            "",
+            &[plain, deleted],
+            end,
+        ),
+        (
+            "GET /d/_changes?include_docs=true&style=all_docs",
+            "",
+            &[a, b],
+            end,
+        ),
+        (
+            "GET /d/_changes?include_docs=true&descending=true",
+            "",
+            &[b, a],
+            "\"last_seq\":1,\"pending\":0}",
+        ),
+    ];
+    assert!(rt; are_shown(rt.alloc(), batch, &table)?);
+    Ok(())
+}
+
+/// A document that was put is shown with the revision that was made for it, and got so.
+#[test]
+fn a_put_document_is_shown(rt: HostRuntime) -> Result<(), Fail> {
+    let alloc = rt.alloc();
+    let put = request(alloc, "PUT /d/a", "{\"v\":7}")?;
+    let input = format!(in alloc;
+        "PUT /d HTTP/1.1\r\n\r\n{put}GET /d/_changes?include_docs=true HTTP/1.1\r\n\r\nGET /d/a HTTP/1.1\r\n\r\n"
+    )?;
+    let made = whole(alloc, "201 Created", "{\"ok\":true}")?;
+    let stored = whole(
+        alloc,
+        "201 Created",
+        "{\"ok\":true,\"id\":\"a\",\"rev\":\"1-91e3da135d1d0593e6703385cf55957a\"}",
+    )?;
+    let rows = [
+        "{\"seq\":1,\"id\":\"a\",\"changes\":[{\"rev\":\"1-91e3da135d1d0593e6703385cf55957a\"}],\"doc\":{\"_id\":\"a\",\"_rev\":\"1-91e3da135d1d0593e6703385cf55957a\",\"v\":7}}",
+    ];
+    let shown = feed(alloc, &rows, "\"last_seq\":1,\"pending\":0}")?;
+    let got = whole(
+        alloc,
+        "200 OK",
+        "{\"_id\":\"a\",\"_rev\":\"1-91e3da135d1d0593e6703385cf55957a\",\"v\":7}",
+    )?;
+    let expected = format!(in alloc; "{made}{stored}{shown}{got}")?;
+    let (output, _) = answered(alloc, input.as_bytes(), Limits::full())?;
+    assert_eq!(rt; output.as_slice(), expected.as_bytes());
+    Ok(())
+}
+
+/// Each fault of a query or a body has its refusal, the first of them; a feed that waits is not
+/// served yet.
+#[test]
+fn refused_feeds(rt: HostRuntime) -> Result<(), Fail> {
+    let alloc = rt.alloc();
+    let table = [
+        ("GET /d/_changes?since=x&limit=x", "", "bad since"),
+        (
+            "GET /d/_changes?since=18446744073709551616",
+            "",
+            "bad since",
+        ),
+        ("GET /d/_changes?limit=-1&style=x", "", "bad limit"),
+        ("GET /d/_changes?style=x&feed=x", "", "bad style"),
+        ("GET /d/_changes?feed=x&filter=x", "", "bad feed"),
+        ("GET /d/_changes?filter=x&heartbeat=x", "", "bad filter"),
+        ("GET /d/_changes?filter=_doc_ids", "", "bad doc_ids"),
+        ("POST /d/_changes?filter=_doc_ids", "[]", "bad doc_ids"),
+        (
+            "GET /d/_changes?heartbeat=0&descending=x",
+            "",
+            "bad heartbeat",
+        ),
+        (
+            "GET /d/_changes?descending=true&feed=continuous",
+            "",
+            "descending needs feed=normal",
+        ),
+        ("GET /d/_changes?descending=x", "", "bad flag"),
+        ("GET /d/_changes?include_docs=1", "", "bad flag"),
+        ("GET /d/_changes?feed=longpoll", "", "bad feed"),
+        ("GET /d/_changes?feed=continuous", "", "bad feed"),
+    ];
+    let mut input = String::from_str(alloc, "PUT /d HTTP/1.1\r\n\r\n")?;
+    let mut expected = whole(alloc, "201 Created", "{\"ok\":true}")?;
+    for (line, body, reason) in table {
+        let asked = request(alloc, line, body)?;
+        input.push_str(asked.as_str())?;
+        let text = format!(in alloc; "{{\"error\":\"bad_request\",\"reason\":\"{reason}\"}}")?;
+        let answer = whole(alloc, "400 Bad Request", text.as_str())?;
+        expected.push_str(answer.as_str())?;
+    }
+    let (output, _) = answered(alloc, input.as_bytes(), Limits::full())?;
+    assert_eq!(rt; output.as_slice(), expected.as_bytes());
+    Ok(())
+}
