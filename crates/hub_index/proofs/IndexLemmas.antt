@@ -1,21 +1,22 @@
 -- Lemmas on rows by sequence.
-use Rattle.std.proofs.Common.{◌≡◌, ◌≢◌, ℕ, suc, ◌<◌, ◌≤◌, List, [], ◌∷◌, ◌++◌, length, get_or, Bool, true, false, not, ◌&&◌, nat_eq, nat_lt, nat_le, Option, Some, None, find, filter, cond, sym, ◌∙◌, ap, refl, subst, inl, inr, arith}
+use Rattle.std.proofs.Common.{◌≡◌, ◌≢◌, ℕ, suc, ◌<◌, ◌≤◌, List, [], ◌∷◌, ◌++◌, length, get_or, Bool, true, false, not, ◌&&◌, nat_eq, nat_lt, nat_le, Option, Some, None, find, filter, reverse, cond, sym, ◌∙◌, ap, refl, subst, inl, inr, arith}
 use Rattle.std.specs.List.{All, AllPairs}
 use Rattle.std.specs.Map.{remove_entry}
 use Rattle.std.specs.BTreeMap.{insert_entry, is_at}
 use Rattle.std.specs.BTreeMap.Range.{range_contains, entries_between}
-use Rattle.std.specs.Ordering.{nat_cmp, is_eq, is_lt, match_ordering}
+use Rattle.std.specs.Ordering.{nat_cmp, is_eq, is_le, is_lt, match_ordering}
 use Rattle.std.specs.Cmp.{nat_cmp_is}
 use Rattle.std.specs.declared.cmp.Ordering.TheVariants.{Less, Equal, Greater}
 use Rattle.std.specs.declared.ops.Bound.TheVariants.{Excluded, Unbounded}
 use Rattle.std.proofs.Math.Bool.{and-false}
 use Rattle.std.proofs.lemmas.Bool.{cases_Bool, cases_order, both_ways, lt-ltb, le-ltb, le-leb, lt-leb, eqb-true, eq-eqb, false_from_ne_true}
-use Rattle.std.proofs.lemmas.List.Elements.{All-tail, All-filter, All-push, All-cons, All-nil}
+use Rattle.std.proofs.lemmas.List.{append-nil, reverse-append}
+use Rattle.std.proofs.lemmas.List.Elements.{All-tail, All-filter, All-push, All-cons, All-nil, filter-append}
 use Rattle.std.proofs.lemmas.List.Kept.{AllPairs-filter}
 use Rattle.std.proofs.lemmas.List.Quantifiers.{all_pairs_push}
 use Rattle.std.proofs.lemmas.List.Sums.{length-filter}
 use Rattle.std.proofs.lemmas.Option.{none-some}
-use Rattle.hub_index.specs.Rows.{IsIndex, seq_of, moved, is_within, next_after, count_after}
+use Rattle.hub_index.specs.Rows.{IsIndex, seq_of, moved, is_within, next_after, last_before, count_after}
 
 -- equal options have equal values
 pub same_Some : {X : Type 0} (a b : X) → Some a ≡ Some b → a ≡ b
@@ -72,6 +73,14 @@ module _ {X : Type 0} (p : X → Bool) where
         | inr f ↦ rw f (filter_passes xs)
       ]
 
+  pub filter_reverse : (xs : List X) → filter p (reverse xs) ≡ reverse (filter p xs)
+  filter_reverse [] = refl
+  filter_reverse (x ∷ xs) =
+      ap (filter p) (reverse-append (x ∷ []) xs) ∙ (filter-append p (reverse xs) (x ∷ []) ∙ elim (cases_Bool (p x)) [
+        | inl t ↦ rw (t, filter_reverse xs) (sym (reverse-append (x ∷ []) (filter p xs)))
+        | inr f ↦ rw (f, filter_reverse xs) (append-nil (reverse (filter p xs)))
+      ])
+
 module _ {X : Type 0} (p q : X → Bool) (same : (x : X) → p x ≡ q x) where
   pub filter_as : (xs : List X) → filter p xs ≡ filter q xs
   filter_as [] = refl
@@ -88,6 +97,29 @@ above_is place seq =
 
 pub above : (place : ℕ) (rows : List (ℕ × ℕ)) → entries_between nat_cmp (Excluded place) Unbounded rows ≡ filter (λ (r : ℕ × ℕ). nat_lt place r.0) rows
 above place rows = filter_as (λ (r : ℕ × ℕ). range_contains nat_cmp (Excluded place) Unbounded r.0) (λ (r : ℕ × ℕ). nat_lt place r.0) (λ r. above_is place r.0) rows
+
+-- the tree's test of what lies below a place
+below_is : (place seq : ℕ) → range_contains nat_cmp Unbounded (Excluded place) seq ≡ nat_lt seq place
+below_is place seq =
+    elim (cases_order place seq) [
+      | inl e ↦ ap (λ o. not (is_le o)) (sym (nat_cmp_is place seq Equal e)) ∙ sym (le-ltb seq place (omega (arith, e)))
+      | inr (inl l) ↦ ap (λ o. not (is_le o)) (sym (nat_cmp_is place seq Less l)) ∙ sym (le-ltb seq place (omega (arith, l)))
+      | inr (inr g) ↦ ap (λ o. not (is_le o)) (sym (nat_cmp_is place seq Greater g)) ∙ sym (lt-ltb seq place g)
+    ]
+
+pub below : (place : ℕ) (rows : List (ℕ × ℕ)) → entries_between nat_cmp Unbounded (Excluded place) rows ≡ filter (λ (r : ℕ × ℕ). nat_lt r.0 place) rows
+below place rows = filter_as (λ (r : ℕ × ℕ). range_contains nat_cmp Unbounded (Excluded place) r.0) (λ (r : ℕ × ℕ). nat_lt r.0 place) (λ r. below_is place r.0) rows
+
+-- what the rows below a place end with
+module _ (rows found : List (ℕ × ℕ)) (place : ℕ) (is : found ≡ entries_between nat_cmp Unbounded (Excluded place) rows) where
+  from_last : filter (λ (r : ℕ × ℕ). nat_lt r.0 place) (reverse rows) ≡ reverse found
+  from_last = filter_reverse (λ (r : ℕ × ℕ). nat_lt r.0 place) rows ∙ ap reverse (sym (is ∙ below place rows))
+
+  pub last_none : found ≡ [] → last_before rows place ≡ None
+  last_none e = find_no_first (λ (r : ℕ × ℕ). nat_lt r.0 place) (reverse rows) (from_last ∙ ap reverse e)
+
+  pub last_found : (front : List (ℕ × ℕ)) (r : ℕ × ℕ) → found ≡ front ++ r ∷ [] → last_before rows place ≡ Some r
+  last_found front r e = find_first (λ (r : ℕ × ℕ). nat_lt r.0 place) (reverse rows) r (reverse front) (from_last ∙ (ap reverse e ∙ reverse-append front (r ∷ [])))
 
 -- the first row above a place, where it is not above the bound
 module _ (place bound : ℕ) where

@@ -8,9 +8,13 @@ use crate::{SeqIndex, TreeIndex};
 use std::alloc::{AllocError, Global};
 use std::test::Fail;
 
-// The first row of any index.
+// The first row of any index, and the last.
 fn first_row<I: SeqIndex>(index: &I) -> Option<(u64, u32)> {
     index.next_after(0, None)
+}
+
+fn last_row<I: SeqIndex>(index: &I) -> Option<(u64, u32)> {
+    index.last_before(u64::MAX)
 }
 
 // Documents 7, 8 and 9 at the sequences 1, 2 and 3, of which the first was then moved to 4.
@@ -66,6 +70,24 @@ fn bounds_end_the_rows(rt: HostRuntime) -> Result<(), Fail> {
 }
 
 #[test]
+fn rows_come_from_the_end(rt: HostRuntime) -> Result<(), Fail> {
+    let index = four_moves(rt.alloc())?;
+    assert_eq!(rt; last_row(&index), Some((4, 7)));
+    for (place, wanted) in [
+        (0u64, None),
+        (1, None),
+        (2, None),
+        (3, Some((2u64, 8u32))),
+        (4, Some((3, 9))),
+        (5, Some((4, 7))),
+        (u64::MAX, Some((4, 7))),
+    ] {
+        assert_eq!(rt; index.last_before(place), wanted, "before {place}");
+    }
+    Ok(())
+}
+
+#[test]
 fn rows_above_are_counted(rt: HostRuntime) -> Result<(), Fail> {
     let index = four_moves(rt.alloc())?;
     for (place, wanted) in [(0u64, 3u64), (1, 3), (2, 2), (3, 1), (4, 0), (u64::MAX, 0)] {
@@ -79,6 +101,7 @@ fn an_empty_index_has_no_row(rt: HostRuntime) -> Result<(), Fail> {
     let index = TreeIndex::new(rt.alloc());
     assert_eq!(rt; first_row(&index), None);
     assert_eq!(rt; index.next_after(0, Some(9)), None);
+    assert_eq!(rt; index.last_before(9), None);
     assert_eq!(rt; index.count_after(0), 0);
     Ok(())
 }
