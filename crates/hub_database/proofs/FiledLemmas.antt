@@ -25,12 +25,12 @@ Was numbers documents id k edits = ((numbers id ≡ Some k) × ((d : Filed) × (
 
 module _ (limit : ℕ) (numbers : List ℕ → Option ℕ) (documents : List Filed) (entries : List Entry) (st : IsFiled limit numbers documents entries) (id : List ℕ) (k : ℕ) (edits : List Edit) (was : Was numbers documents id k edits) where
   -- the document at k has the id and the edits
-  at_k : (d : Filed) → slice_get documents k ≡ Some d → (d.id ≡ id) × (d.edits ≡ edits)
+  pub at_k : (d : Filed) → slice_get documents k ≡ Some d → (d.id ≡ id) × (d.edits ≡ edits)
   at_k d g = ⊎_elim
       (λ w. let f = st.found id k w.0 in (ap (λ (z : Filed). z.id) (same_Some d f.0 (sym g ∙ f.1)) ∙ f.2, ap (λ (z : Filed). z.edits) (same_Some d w.1.0 (sym g ∙ w.1.1)) ∙ w.1.2))
       (λ w. absurd (none-some d (sym w.1 ∙ g))) was
 
-  apart : (j : ℕ) (d : Filed) → slice_get documents j ≡ Some d → j ≢ k → d.id ≢ id
+  pub apart : (j : ℕ) (d : Filed) → slice_get documents j ≡ Some d → j ≢ k → d.id ≢ id
   apart j d g n e =
       let own : numbers id ≡ Some j = sym (ap numbers e) ∙ st.own j d g in
       ⊎_elim (λ w. n (same_Some j k (sym own ∙ w.0))) (λ w. none-some j (sym w.0 ∙ own)) was

@@ -3,6 +3,7 @@ pub mod CountLemmas
 pub mod NamedLemmas
 pub mod MergeLemmas
 pub mod FiledLemmas
+pub mod IndexedLemmas
 pub mod StoreLemmas
 pub mod RowLemmas
 pub mod ShownLemmas

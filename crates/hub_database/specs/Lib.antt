@@ -3,6 +3,7 @@ pub mod Edits
 pub mod Feeds
 pub mod Filed
 pub mod Found
+pub mod Indexed
 pub mod Kept
 pub mod Locals
 pub mod Looked

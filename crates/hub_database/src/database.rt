@@ -38,11 +38,11 @@ impl Model for DbState {
 
     ghost use Rattle.std.specs.Prelude.{[]};
     ghost use Rattle.hub_database.specs.Kept.{kept};
-    ghost use Rattle.hub_database.specs.Store.{IsStore, IsCounted, edits_of_store};
+    ghost use Rattle.hub_database.specs.Store.{IsStore, IsCounted, HasRows, edits_of_store};
 
     ghost view = { λ a. record { journal = edits_of_store a.store; locals = kept a.locals; feeds = []; next_feed = 0; limits = a.store.limits } };
 
-    ghost invariant = { λ a. IsStore a.store × IsCounted a.store };
+    ghost invariant = { λ a. IsStore a.store × IsCounted a.store × HasRows a.store };
 }
 
 // What a call answers whose edit came so. No edit that is made here was known before.

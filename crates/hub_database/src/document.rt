@@ -1,6 +1,8 @@
 //! One document of a database.
 
 ghost use Rattle.std.specs.Prelude.{[], ◌∷◌, ◌++◌, None, Some, ◌≡◌, ◌+◌, ◌<◌, ◌≤◌, ◌^◌, nat_le, length, take, vec_len, vec_capacity, IfOk, OnOk, OnErr};
+ghost use Rattle.std.specs.List.{All};
+ghost use Rattle.hub_index.specs.Rows.{seq_of};
 ghost use Rattle.hub_model.specs.Journal.{IsAcceptable, head_of};
 ghost use Rattle.hub_model.specs.Leaves.{leaves_of, revisions_of};
 ghost use Rattle.hub_model.specs.Row.{is_deleted};
@@ -11,6 +13,7 @@ ghost use Rattle.hub_database.specs.declared.document.Origin.TheVariants.{Elsewh
 
 use crate::entry::Entry;
 use hub_document::{Body, ChangeRow, DocId, Path, RevId, Revisions};
+use hub_index::{SeqIndex, TreeIndex};
 use hub_model::{Fault, Outcome};
 use hub_revtree::{EditFault, MergeFault, Ready, RevTree};
 use std::alloc::{AllocError, Global};
@@ -188,19 +191,22 @@ impl Document {
     }
 
     /// Stores one more edit of a document that is there, which has this number. It costs what `look`
-    /// does.
+    /// and `SeqIndex::move_to` do.
     pub(crate) fn extend(
         &mut self,
         journal: &mut Vec<Entry>,
+        index: &mut TreeIndex,
         number: u32,
         limit: u64,
         edit: Incoming,
     ) -> Result<Outcome<RevId>, AllocError>
         requires limit { limit < 2 ^ 32 }
         requires few { length self.old.tree.edits ≤ length journal.old.items }
+        requires own { seq_of number index.old ≡ Some self.old.latest }
+        requires above { All (λ r. r.0 < length journal.old.items + 1) index.old }
         ensures tree { IsRevTree self.old.tree.edits }
-        ensures extended { IfOk result (Extends (nat_le limit (length journal.old.items)) number edit (filed self.old) (filed self.new) journal.old.items journal.new.items) }
-        ensures err { OnErr result ((filed self.new ≡ filed self.old) × (journal.new.items ≡ journal.old.items)) }
+        ensures extended { IfOk result (Extends (nat_le limit (length journal.old.items)) number edit (filed self.old) (filed self.new) journal.old.items journal.new.items index.old index.new) }
+        ensures err { OnErr result ((filed self.new ≡ filed self.old) × (journal.new.items ≡ journal.old.items) × (index.new ≡ index.old)) }
     {
         let full = journal.len() as u64 >= limit;
         match look(&mut self.tree, &self.id, full, edit)? {
@@ -208,6 +214,8 @@ impl Document {
             Looked::Refused(fault) => Ok(Outcome::Refused(fault)),
             Looked::Ready(ready) => {
                 journal.try_reserve(1)?;
+                let latest = u64::from(self.latest);
+                index.move_to(number, Some(latest), journal.len() as u64 + 1)?;
                 Ok(Outcome::Stored(self.take(journal, number, ready)))
             }
         }

@@ -16,6 +16,7 @@ loop-doc-preserved c =
     record {
       state = c.in-Ok.ensures.state;
       counted = c.in-Ok.ensures.counted;
+      rows = c.in-Ok.ensures.rows;
       limits = c.in-Ok.ensures.limits ∙ i.limits;
       locals = i.locals;
       all = rw (c.push_reserved.ensures.items) all;

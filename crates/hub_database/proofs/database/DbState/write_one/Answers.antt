@@ -1,4 +1,4 @@
-use Rattle.std.proofs.Common.{◌≡◌, ◌∙◌, ◌⊎◌, ap, sym, subst, List}
+use Rattle.std.proofs.Common.{[], ◌≡◌, ◌∙◌, ◌⊎◌, ap, sym, subst, List}
 use Rattle.std.specs.Prelude.{IfErr, Result, Ok, Err}
 use Rattle.hub_model.specs.Journal.{Edit}
 use Rattle.hub_model.specs.Draft.{makes}
@@ -20,8 +20,8 @@ weaker (Err e) P Q f p = f e p
 pub returns-clause-err : goal.returns-clause-err
 returns-clause-err c =
     let J = edits_of_store c.self.inside.store in
-    let stays : edits_of_store c.write.new.self ≡ J → ◌≡◌ {A = Database} (record { journal = edits_of_store c.write.new.self; locals = kept c.self.inside.locals; limits = c.write.new.self.limits }) (record { journal = J; locals = kept c.self.inside.locals; limits = c.self.inside.store.limits }) =
-    λ e. ap (λ (j : List Edit). record { journal = j; locals = kept c.self.inside.locals; limits = c.write.new.self.limits }) e ∙ ap (λ (l : Limits). record { journal = J; locals = kept c.self.inside.locals; limits = l }) c.in_ok-outcome.ensures.limits in
-    subst (λ (z : Database). IfErr c.reply.result (λ e. (◌≡◌ {A = Database} (record { journal = edits_of_store c.write.new.self; locals = kept c.self.inside.locals; limits = c.write.new.self.limits }) z) × ((e ≡ NoMemory) ⊎ ((f : Fault) × (e ≡ Refused f) × (makes z.limits.journal z.journal (draft_of c.args.doc) ≡ refuses z.journal f))))) c.self.view_is
-    (subst (λ r. IfErr r (λ e. (◌≡◌ {A = Database} (record { journal = edits_of_store c.write.new.self; locals = kept c.self.inside.locals; limits = c.write.new.self.limits }) (record { journal = J; locals = kept c.self.inside.locals; limits = c.self.inside.store.limits })) × ((e ≡ NoMemory) ⊎ ((f : Fault) × (e ≡ Refused f) × (makes c.self.inside.store.limits.journal J (draft_of c.args.doc) ≡ refuses J f))))) (sym c.reply.ensures)
+    let stays : edits_of_store c.write.new.self ≡ J → ◌≡◌ {A = Database} (record { journal = edits_of_store c.write.new.self; locals = kept c.self.inside.locals; feeds = []; next_feed = 0; limits = c.write.new.self.limits }) (record { journal = J; locals = kept c.self.inside.locals; feeds = []; next_feed = 0; limits = c.self.inside.store.limits }) =
+    λ e. ap (λ (j : List Edit). record { journal = j; locals = kept c.self.inside.locals; feeds = []; next_feed = 0; limits = c.write.new.self.limits }) e ∙ ap (λ (l : Limits). record { journal = J; locals = kept c.self.inside.locals; feeds = []; next_feed = 0; limits = l }) c.in_ok-outcome.ensures.limits in
+    subst (λ (z : Database). IfErr c.reply.result (λ e. (◌≡◌ {A = Database} (record { journal = edits_of_store c.write.new.self; locals = kept c.self.inside.locals; feeds = []; next_feed = 0; limits = c.write.new.self.limits }) z) × ((e ≡ NoMemory) ⊎ ((f : Fault) × (e ≡ Refused f) × (makes z.limits.journal z.journal (draft_of c.args.doc) ≡ refuses z.journal f))))) c.self.view_is
+    (subst (λ r. IfErr r (λ e. (◌≡◌ {A = Database} (record { journal = edits_of_store c.write.new.self; locals = kept c.self.inside.locals; feeds = []; next_feed = 0; limits = c.write.new.self.limits }) (record { journal = J; locals = kept c.self.inside.locals; feeds = []; next_feed = 0; limits = c.self.inside.store.limits })) × ((e ≡ NoMemory) ⊎ ((f : Fault) × (e ≡ Refused f) × (makes c.self.inside.store.limits.journal J (draft_of c.args.doc) ≡ refuses J f))))) (sym c.reply.ensures)
     (weaker (reply_of c.in_ok-outcome.outcome) _ _ (λ e p. (stays p.0, p.1)) (made_reply c.self.inside.store.limits.journal J (draft_of c.args.doc) c.in_ok-outcome.outcome (edits_of_store c.write.new.self) c.in_ok-outcome.ensures.ok).1))
