@@ -1,7 +1,7 @@
 //! A feed's state.
 
-ghost use Rattle.std.specs.Prelude.{◌≡◌, ◌≤◌, option_map, find, Some, IfOk, OnErr};
-ghost use Rattle.hub_model.specs.Feed.{begin, due, is_in_reach, bound_of, since_of, bound_after, status_after, after_due, after_row, beat_due, expire, end, waits};
+ghost use Rattle.std.specs.Prelude.{◌≡◌, ◌<◌, ◌≤◌, option_map, find, Some, IfSome, IfOk, OnErr};
+ghost use Rattle.hub_model.specs.Feed.{Open, begin, due, is_in_reach, bound_of, since_of, bound_after, status_after, after_due, after_row, beat_due, expire, end, waits};
 ghost use Rattle.hub_model.specs.Hand.{item_of};
 ghost use Rattle.hub_model.specs.declared.feeds.Item.TheVariants.{End};
 ghost use Rattle.hub_model.specs.Current.{pending};
@@ -153,7 +153,13 @@ impl FeedState {
     }
 
     // What an open feed has to hand.
-    fn next_of_open<S: Source>(&mut self, source: &S) -> Result<Next<S::Row>, AllocError> {
+    fn next_of_open<S: Source>(&mut self, source: &S) -> Result<Next<S::Row>, AllocError>
+        requires open { self.old.status ≡ Open }
+        requires reached { self.old.place ≤ S.length source.now }
+        ensures ok { IfOk result (λ next. next ≡ next_of (S.shown source.now self.old.params.style self.old.params.include_docs) (S.current source.now) (due (S.current source.now) self.old)) }
+        ensures new { IfOk result (λ next. self.new ≡ after_next self.old (due (S.current source.now) self.old) (S.length source.now)) }
+        ensures err { OnErr result ((self.new ≡ self.old) × IsRowDue (due (S.current source.now) self.old)) }
+    {
         if let Some(seq) = self.first_in_reach(source) {
             let row = source.row(seq, self.params.style, self.params.include_docs)?;
             return Ok(Next::Give(Item::Row(row)));
@@ -185,7 +191,12 @@ impl FeedState {
     }
 
     // The feed goes on behind a row.
-    fn accept_row(&mut self, seq: u64, length: u64) {
+    fn accept_row(&mut self, seq: u64, length: u64)
+        requires above { self.old.place < seq }
+        requires within { seq ≤ length }
+        requires bound { IfSome self.old.bound (λ bound. seq ≤ bound) }
+        ensures { self.new ≡ after_row self.old seq length }
+    {
         self.place = seq;
         self.rows += 1;
         self.bound = bound_after(self.params.mode, self.bound, length);

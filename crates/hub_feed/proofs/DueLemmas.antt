@@ -1,0 +1,69 @@
+-- What follows where a row or an end is due.
+use Rattle.std.proofs.Common.{◌≡◌, ℕ, ◌<◌, ◌≤◌, List, true, ◌&&◌, nat_lt, refl, sym, ◌∙◌, ap, subst, Option, Some, None, IfSome, find, option_map, Contains}
+use Rattle.std.proofs.lemmas.Bool.{and_parts, ltb-true, leb-true}
+use Rattle.std.proofs.lemmas.Option.{same_Some, none-some}
+use Rattle.hub_model.specs.Current.{Current, pending}
+use Rattle.hub_model.specs.Feed.{Feed, Status, Open, Ending, Ended, Finished, Due, DueRow, DueEnd, DueNothing, DueGone, due, due_at, due_open, is_in_reach, is_within}
+use Rattle.hub_model.specs.Filter.{passes}
+use Rattle.hub_model.specs.Hand.{item_of}
+use Rattle.hub_model.specs.declared.feeds.Item.TheVariants.{Row, End}
+use Rattle.hub_model.proofs.Shown.{find_is}
+use Rattle.hub_feed.specs.Next.{next_of}
+use Rattle.hub_feed.specs.declared.next.Next.TheVariants.{Give}
+
+-- a sequence that is found is a row's
+pub row_found : (o : Option Current) (seq : ℕ) → Some seq ≡ option_map (λ (c : Current). c.seq) o → (c : Current) × (o ≡ Some c) × (c.seq ≡ seq)
+row_found None seq e = absurd (none-some seq (sym e))
+row_found (Some c) seq e = (c, refl, sym (same_Some seq c.seq e))
+
+-- an open feed with a row in reach has it due
+pub open_row : {R : Type 0} (show : Current → R) (rows : List Current) (f : Feed) (c : Current) → f.status ≡ Open → find (is_in_reach f) rows ≡ Some c → next_of show rows (due rows f) ≡ Give (Row (show c))
+open_row show rows f c waits found = rw waits (rw found refl)
+
+-- an ending feed has its end due
+pub ending_end : {R : Type 0} (show : Current → R) (rows : List Current) (f : Feed) → f.status ≡ Ending → next_of show rows (due rows f) ≡ Give (End f.place (pending rows f.place))
+ending_end show rows f ending = rw ending refl
+
+-- a row that is handed is shown of the row that is due
+item_row : {R : Type 0} (show : Current → R) (rows : List Current) (d : Due) (r : R) → item_of show rows d ≡ Some (Row r) → (c : Current) × (d ≡ DueRow c) × (r ≡ show c)
+item_row show rows (DueRow c) r e = (c, refl, cc)
+item_row show rows (DueEnd last_seq) r e = absurd (cc)
+item_row show rows DueNothing r e = absurd (cc)
+item_row show rows DueGone r e = absurd (cc)
+
+due_open_row : (o : Option Current) (bound : Option ℕ) (c : Current) → due_open o bound ≡ DueRow c → o ≡ Some c
+due_open_row (Some d) bound c e = cc
+due_open_row None (Some bound) c e = absurd (cc)
+due_open_row None None c e = absurd (cc)
+
+-- and the first in reach
+due_at_row : (status : Status) (rows : List Current) (f : Feed) (c : Current) → due_at status rows f ≡ DueRow c → find (is_in_reach f) rows ≡ Some c
+due_at_row Open rows f c e = due_open_row (find (is_in_reach f) rows) f.bound c e
+due_at_row Ending rows f c e = absurd (cc)
+due_at_row Ended rows f c e = absurd (cc)
+due_at_row Finished rows f c e = absurd (cc)
+
+row_handed : {R : Type 0} (show : Current → R) (rows : List Current) (f : Feed) (r : R) → item_of show rows (due rows f) ≡ Some (Row r) → (c : Current) × (find (is_in_reach f) rows ≡ Some c) × (r ≡ show c)
+row_handed show rows f r e =
+    let (c, d, s) = item_row show rows (due rows f) r e in
+    (c, due_at_row f.status rows f c d, s)
+
+-- a row in reach lies above the place and not above the bound
+within_bound : (bound : Option ℕ) (n : ℕ) → is_within bound n ≡ true → IfSome bound (λ b. n ≤ b)
+within_bound None n e = tt
+within_bound (Some b) n e = leb-true n b e
+
+reach_lies : (f : Feed) (c : Current) → is_in_reach f c ≡ true → (f.place < c.seq) × IfSome f.bound (λ b. c.seq ≤ b)
+reach_lies f c e =
+    let p = and_parts (nat_lt f.place c.seq) (is_within f.bound c.seq && passes f.params.filter c.id) e in
+    let q = and_parts (is_within f.bound c.seq) (passes f.params.filter c.id) p.1 in
+    (ltb-true f.place c.seq p.0, within_bound f.bound c.seq q.0)
+
+-- and so does a row that is handed, where rows that are shown keep their sequences
+pub handed_lies : {R : Type 0} (show : Current → R) (seq_of : R → ℕ) (rows : List Current) (len : ℕ) (f : Feed) (r : R) → ((c : Current) → seq_of (show c) ≡ c.seq) → ((c : Current) → Contains rows c → c.seq ≤ len) → item_of show rows (due rows f) ≡ Some (Row r) → (f.place < seq_of r) × (seq_of r ≤ len) × IfSome f.bound (λ b. seq_of r ≤ b)
+handed_lies show seq_of rows len f r keeps within e =
+    let (c, found, shown) = row_handed show rows f r e in
+    let here = find_is (is_in_reach f) rows c found in
+    let same : c.seq ≡ seq_of r = sym (ap seq_of shown ∙ keeps c) in
+    let lies = reach_lies f c here.0 in
+    subst (λ n. (f.place < n) × (n ≤ len) × IfSome f.bound (λ b. n ≤ b)) same (lies.0, within c here.1, lies.1)

@@ -1,0 +1,10 @@
+-- Looking from the place reached so far finds what looking from the feed's place does.
+use Rattle.std.proofs.Common.{◌≡◌, ◌≤◌, find}
+use Rattle.hub_model.specs.Feed.{is_in_reach}
+use Rattle.hub_feed.proofs.feed.FeedState.first_in_reach.Given as goal
+
+abbrev pub invariant-loop : goal.invariant-loop
+invariant-loop g l = record {
+  passed : l.counter ≤ l.place;
+  kept : find (is_in_reach l.self) (g.S.Source.current l.source) ≡ find (is_in_reach (record l.self { place = l.place })) (g.S.Source.current l.source);
+}
