@@ -1,13 +1,13 @@
 //! The documents that a subscriber lists.
 
 ghost use Rattle.std.specs.Prelude.{ℕ, List, ◌≡◌, map, string_bytes, IfOk};
-ghost use Rattle.hub_filter.specs.Listed.{is_listed};
+ghost use Rattle.hub_filter.specs.Listed.{is_listed, in_order};
 
 use std::alloc::{AllocError, Global};
 use std::marker::Model;
 
-/// The ids that a subscriber lists (`doc_ids` of `_changes`), seen as a list of their bytes. An id
-/// may be there twice.
+/// The ids that a subscriber lists (`doc_ids` of `_changes`), seen as the list of their bytes, in
+/// byte order. An id may be there twice.
 #[derive(Debug, Drop)]
 pub struct DocIds {
     sorted: Vec<String>,
@@ -28,7 +28,8 @@ impl DocIds {
     /// The listed ids, sorted in place. It takes no memory, and a count of comparisons that is the
     /// number of ids times its logarithm.
     pub fn new(ids: Vec<String>) -> DocIds
-        ensures { (id : List ℕ) → is_listed id result ≡ is_listed id (map string_bytes ids.items) }
+        ensures listed { (id : List ℕ) → is_listed id result ≡ is_listed id (map string_bytes ids.items) }
+        ensures order { result ≡ in_order (map string_bytes ids.items) }
     {
         let mut sorted = ids;
         sorted.sort_unstable();

@@ -1,5 +1,6 @@
 -- The stages of a feed's parameters, one after another.
 use Rattle.std.proofs.Common.{◌≡◌, ℕ, List, Option, Some, Result, Ok, refl}
+use Rattle.hub_filter.specs.Listed.{in_order}
 use Rattle.hub_model.specs.Filter.{Filter, DocIds}
 use Rattle.hub_model.specs.declared.feeds.Mode.{Mode}
 use Rattle.hub_params.specs.FeedParams.{FeedAsked, or_fault, or_stop, filter_in}
@@ -28,14 +29,14 @@ together rows kind filter waits flags = record {
 }
 
 -- the stages in their order
-abbrev pub in_order : Result Rows ParamFault → Result Kind ParamFault → (Shown → Result Filter ParamFault) → Result Waits ParamFault → (Mode → Result Flags ParamFault) → Result FeedAsked ParamFault
-in_order a b f w g =
+abbrev pub staged : Result Rows ParamFault → Result Kind ParamFault → (Shown → Result Filter ParamFault) → Result Waits ParamFault → (Mode → Result Flags ParamFault) → Result FeedAsked ParamFault
+staged a b f w g =
     or_stop a (λ rows. or_stop b (λ kind. or_stop (f kind.shown) (λ filter. or_stop w (λ waits. or_stop (g kind.mode) (λ flags.
     Ok (together rows kind filter waits flags))))))
 
 -- where each stage reads its part
-pub in_order_ok : (a : Result Rows ParamFault) (b : Result Kind ParamFault) (f : Shown → Result Filter ParamFault) (w : Result Waits ParamFault) (g : Mode → Result Flags ParamFault) (rows : Rows) (kind : Kind) (filter : Filter) (waits : Waits) (flags : Flags) → a ≡ Ok rows → b ≡ Ok kind → f kind.shown ≡ Ok filter → w ≡ Ok waits → g kind.mode ≡ Ok flags → in_order a b f w g ≡ Ok (together rows kind filter waits flags)
-in_order_ok a b f w g rows kind filter waits flags ea eb ef ew eg = rw (ea, eb, ef, ew, eg) refl
+pub staged_ok : (a : Result Rows ParamFault) (b : Result Kind ParamFault) (f : Shown → Result Filter ParamFault) (w : Result Waits ParamFault) (g : Mode → Result Flags ParamFault) (rows : Rows) (kind : Kind) (filter : Filter) (waits : Waits) (flags : Flags) → a ≡ Ok rows → b ≡ Ok kind → f kind.shown ≡ Ok filter → w ≡ Ok waits → g kind.mode ≡ Ok flags → staged a b f w g ≡ Ok (together rows kind filter waits flags)
+staged_ok a b f w g rows kind filter waits flags ea eb ef ew eg = rw (ea, eb, ef, ew, eg) refl
 
 -- a function of two and of three texts, at equal texts
 pub at_two : {R : Type 0} (f : Option (List ℕ) → Option (List ℕ) → R) (a a' b b' : Option (List ℕ)) (r : R) → a ≡ a' → b ≡ b' → f a b ≡ r → f a' b' ≡ r
@@ -45,8 +46,8 @@ pub at_three : {R : Type 0} (f : Option (List ℕ) → Option (List ℕ) → Opt
 at_three f a a' b b' d d' r e g k h = rw (e, g, k) at h
 
 -- listed documents are shown
-pub listed_gives : (ids : Option (List ℕ)) (body : List ℕ) (shown : Shown) (texts : List (List ℕ)) → shown ≡ Listed → ids_in ids body ≡ Some texts → filter_in ids body shown ≡ Ok (DocIds texts)
+pub listed_gives : (ids : Option (List ℕ)) (body : List ℕ) (shown : Shown) (texts : List (List ℕ)) → shown ≡ Listed → ids_in ids body ≡ Some texts → filter_in ids body shown ≡ Ok (DocIds (in_order texts))
 listed_gives ids body shown texts e f = rw e (gives (ids_in ids body) f)
   where
-    gives : (o : Option (List (List ℕ))) → o ≡ Some texts → or_fault o BadDocIds (λ ids. Ok (DocIds ids)) ≡ Ok (DocIds texts)
+    gives : (o : Option (List (List ℕ))) → o ≡ Some texts → or_fault o BadDocIds (λ ids. Ok (DocIds (in_order ids))) ≡ Ok (DocIds (in_order texts))
     gives o e = rw e refl

@@ -1,6 +1,7 @@
 -- The parameters of a changes feed, or the first fault in them (CouchDB API reference, _changes; the order of the faults is own).
-use Rattle.std.specs.Prelude.{◌≡◌, ℕ, List, codes, Bool, true, false, ◌&&◌, not, Option, Some, None, Result, Ok, Err}
-use Rattle.hub_model.specs.Filter.{Filter, Everything, DocIds, Design, passes}
+use Rattle.std.specs.Prelude.{ℕ, List, codes, Bool, true, false, ◌&&◌, not, Option, Some, None, Result, Ok, Err}
+use Rattle.hub_filter.specs.Listed.{in_order}
+use Rattle.hub_model.specs.Filter.{Filter, Everything, DocIds, Design}
 use Rattle.hub_model.specs.declared.feeds.Mode.{Mode}
 use Rattle.hub_model.specs.declared.feeds.Mode.TheVariants.{Normal, Longpoll, Continuous}
 use Rattle.hub_model.specs.declared.feeds.Style.{Style}
@@ -58,10 +59,10 @@ kind_in feed filter =
     or_fault (shown_in filter) BadFilter (λ shown.
     Ok (record { mode = mode; shown = shown })))
 
--- the filter, by `doc_ids` and the body: only listed documents need ids
+-- the filter, by `doc_ids` and the body: only listed documents need ids. They stand in byte order, which changes nothing of what is shown
 abbrev pub filter_in : Option (List ℕ) → List ℕ → Shown → Result Filter ParamFault
 filter_in ids body All = Ok Everything
-filter_in ids body Listed = or_fault (ids_in ids body) BadDocIds (λ ids. Ok (DocIds ids))
+filter_in ids body Listed = or_fault (ids_in ids body) BadDocIds (λ ids. Ok (DocIds (in_order ids)))
 filter_in ids body Designs = Ok Design
 
 -- `heartbeat`, `timeout`
@@ -104,13 +105,3 @@ feed_asked query body =
       heartbeat = waits.heartbeat;
       timeout = waits.timeout;
     }))))))
-
--- ---- parameters that ask the same
-
--- both show the same documents
-abbrev pub ShowTheSame : Filter → Filter → Type 0
-ShowTheSame f g = (id : List ℕ) → passes f id ≡ passes g id
-
--- both ask the same, but for the order and the repeats of listed ids
-abbrev pub AsksTheSame : FeedAsked → FeedAsked → Type 0
-AsksTheSame a b = (record a { filter = Everything } ≡ record b { filter = Everything }) × ShowTheSame a.filter b.filter

@@ -1,7 +1,7 @@
 //! The parameters of a changes feed.
 
 ghost use Rattle.std.specs.Prelude.{◌≡◌, ◌⊎◌, IfOk, IfErr, Ok, Err};
-ghost use Rattle.hub_params.specs.FeedParams.{FeedAsked, feed_asked, AsksTheSame};
+ghost use Rattle.hub_params.specs.FeedParams.{feed_asked};
 ghost use Rattle.hub_params.specs.FeedShown.{params_asked};
 
 use crate::feed_fault::ParamFault;
@@ -40,8 +40,7 @@ impl FeedParams {
     /// ignored. The body is read only with `filter=_doc_ids`. It costs the length of both, and the
     /// sorting of listed ids.
     pub fn read(alloc: Global, query: &[u8], body: &[u8]) -> Result<FeedParams, ParamFault>
-        ensures ok { IfOk result (λ p. (asked : FeedAsked)
-            × (feed_asked query.now body.now ≡ Ok asked) × AsksTheSame (params_asked p) asked) }
+        ensures ok { IfOk result (λ p. feed_asked query.now body.now ≡ Ok (params_asked p)) }
         ensures err { IfErr result (λ e. (e ≡ ParamFault.NoMemory)
             ⊎ (feed_asked query.now body.now ≡ Err e)) }
     {

@@ -2,11 +2,10 @@
 
 ghost use Rattle.std.specs.Prelude.{◌≡◌, ◌⊎◌, IfOk, IfErr, Ok, Err, codes, option_map};
 ghost use Rattle.std.specs.Cow.{cow_str_bytes};
-ghost use Rattle.hub_model.specs.Filter.{Filter as ModelFilter};
 ghost use Rattle.hub_filter.specs.Shown.{filter_of};
 ghost use Rattle.hub_params.specs.Encoded.{text_in};
 ghost use Rattle.hub_params.specs.DocParams.{is_value};
-ghost use Rattle.hub_params.specs.FeedParams.{rows_in, kind_in, filter_in, waits_in, is_normal, flags_in, ShowTheSame};
+ghost use Rattle.hub_params.specs.FeedParams.{rows_in, kind_in, filter_in, waits_in, is_normal, flags_in};
 
 use crate::feed_fault::ParamFault;
 use crate::feed_values::{
@@ -116,8 +115,7 @@ pub(crate) fn filter_of_kind(
     body: &[u8],
     shown: Shown,
 ) -> Result<Filter, ParamFault>
-    ensures ok { IfOk result (λ f. (g : ModelFilter)
-        × (filter_in (text_in ids.entry) body.now shown ≡ Ok g) × ShowTheSame (filter_of f) g) }
+    ensures ok { IfOk result (λ f. filter_in (text_in ids.entry) body.now shown ≡ Ok (filter_of f)) }
     ensures err { IfErr result (λ e. (e ≡ ParamFault.NoMemory)
         ⊎ (filter_in (text_in ids.entry) body.now shown ≡ Err e)) }
 {
