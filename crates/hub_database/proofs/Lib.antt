@@ -11,3 +11,5 @@ pub mod EntryLemmas
 pub mod MissingLemmas
 pub mod InfoLemmas
 pub mod LocalLemmas
+pub mod FeedLemmas
+pub mod FallingLemmas

@@ -1,7 +1,7 @@
 -- The feeds of a database (CouchDB API reference, _changes; how many there may be is own).
 use Rattle.std.specs.Prelude.{ℕ, ◌+◌, ◌-◌, ◌^◌, List, [], ◌∷◌, ◌++◌, length, map, filter, find, not, Bool, ◌||◌, nat_le, nat_eq, if◌then◌else◌, Option, Some, None, option_map, option_and_then}
 use Rattle.hub_model.specs.Current.{current}
-use Rattle.hub_model.specs.Feed.{Feed, Params, begin, due, after_due}
+use Rattle.hub_model.specs.Feed.{Feed, Params, Due, DueGone, begin, due, after_due}
 use Rattle.hub_model.specs.Hand.{change_due}
 use Rattle.hub_model.specs.Journal.{Edit}
 use Rattle.hub_model.specs.Row.{ChangeRow, row_of}
@@ -34,6 +34,14 @@ opened db params = record db { feeds = db.feeds ++ (db.next_feed, begin params (
 -- the item that is due to a feed, if there is one
 abbrev pub item_due : Database → ℕ → Option (Item ChangeRow)
 item_due db id = option_and_then (change_due db.journal) (feed_in id db.feeds)
+
+-- what is due to the feed of this number: nothing any more where there is none
+abbrev pub due_of : List Edit → Option Feed → Due
+due_of J None = DueGone
+due_of J (Some f) = due (current J) f
+
+abbrev pub due_to : Database → ℕ → Due
+due_to db id = due_of db.journal (feed_in id db.feeds)
 
 -- what a feed of a journal answers
 abbrev pub answer_of : List Edit → Option Feed → Next ChangeRow

@@ -1,10 +1,10 @@
 //! One document of a database.
 
-ghost use Rattle.std.specs.Prelude.{[], ◌∷◌, ◌++◌, None, Some, ◌≡◌, ◌+◌, ◌<◌, ◌≤◌, ◌^◌, nat_le, length, take, vec_len, vec_capacity, IfOk, OnOk, OnErr};
+ghost use Rattle.std.specs.Prelude.{[], ◌∷◌, ◌++◌, None, Some, ◌≡◌, ◌+◌, ◌<◌, ◌≤◌, ◌^◌, nat_le, length, vec_len, vec_capacity, IfOk, OnErr};
 ghost use Rattle.std.specs.List.{All};
 ghost use Rattle.hub_index.specs.Rows.{seq_of};
 ghost use Rattle.hub_model.specs.Journal.{IsAcceptable, head_of};
-ghost use Rattle.hub_model.specs.Leaves.{leaves_of, revisions_of};
+ghost use Rattle.hub_model.specs.Leaves.{leaves_of};
 ghost use Rattle.hub_model.specs.Row.{is_deleted};
 ghost use Rattle.hub_revtree.specs.Tree.{IsRevTree};
 ghost use Rattle.hub_database.specs.Looked.{IsStorable, HasRoom, look_from, look_at, unless_full, Extends};
@@ -12,7 +12,7 @@ ghost use Rattle.hub_database.specs.Store.{filed};
 ghost use Rattle.hub_database.specs.declared.document.Origin.TheVariants.{Elsewhere, Here};
 
 use crate::entry::Entry;
-use hub_document::{Body, ChangeRow, DocId, Path, RevId, Revisions};
+use hub_document::{Body, DocId, Path, RevId};
 use hub_index::{SeqIndex, TreeIndex};
 use hub_model::{Fault, Outcome};
 use hub_revtree::{EditFault, MergeFault, Ready, RevTree};
@@ -219,27 +219,5 @@ impl Document {
                 Ok(Outcome::Stored(self.take(journal, number, ready)))
             }
         }
-    }
-
-    /// The row of the document, at its latest edit. It costs what `RevTree::best` does.
-    pub(crate) fn row(&self, alloc: Global, seen: u64) -> Result<ChangeRow, AllocError>
-        ensures row { IfOk result (λ row. row ≡ record { seq = self.now.latest; id = self.now.id; changes = take 1 (revisions_of (leaves_of self.now.tree.edits [])); deleted = is_deleted (leaves_of self.now.tree.edits []); doc = None; seen = seen }) }
-        ensures tree { OnOk result (IsRevTree self.now.tree.edits) }
-    {
-        let mut changes = Vec::new(alloc);
-        let mut deleted = false;
-        if let Some(winner) = self.tree.best() {
-            changes.push(winner.rev)?;
-            deleted = winner.deleted;
-        }
-        let id = self.id.copy(alloc)?;
-        Ok(ChangeRow {
-            seq: u64::from(self.latest),
-            id,
-            changes: Revisions::new(changes),
-            deleted,
-            doc: None,
-            seen,
-        })
     }
 }

@@ -1,21 +1,18 @@
 //! Documents with their trees, and the journal.
 
-ghost use Rattle.std.specs.Prelude.{ℕ, List, [], false, ◌≡◌, ◌+◌, ◌<◌, ◌≤◌, ◌^◌, nat_le, length, map, string_bytes, IfOk, OnOk, OnErr};
+ghost use Rattle.std.specs.Prelude.{ℕ, List, [], false, ◌≡◌, ◌+◌, ◌<◌, ◌≤◌, ◌^◌, nat_le, length, string_bytes, IfOk, OnOk, OnErr};
 ghost use Rattle.std.specs.BTreeMap.{get_by_text};
 ghost use Rattle.std.specs.List.{All};
 ghost use Rattle.std.specs.Map.{update};
 ghost use Rattle.std.specs.Str.{bytes_eq};
 ghost use Rattle.hub_index.specs.Rows.{seq_of, moved};
-ghost use Rattle.hub_model.specs.Current.{current};
-ghost use Rattle.hub_model.specs.Row.{row_of};
-ghost use Rattle.hub_model.specs.declared.feeds.Style.TheVariants.{MainOnly};
 ghost use Rattle.hub_database.specs.Edits.{stores_doc};
 ghost use Rattle.hub_database.specs.Looked.{stores_edit};
 ghost use Rattle.hub_database.specs.Store.{IsStore, IsCounted, HasRows, IsSameStore, Inserts, edits_of_store, one_if};
 
 use crate::document::{Document, Incoming, Looked, Origin, look};
 use crate::entry::Entry;
-use hub_document::{ChangeRow, Doc, DocId, Limits, RevId};
+use hub_document::{Doc, DocId, Limits, RevId};
 use hub_index::{SeqIndex, TreeIndex};
 use hub_model::{Fault, Outcome};
 use std::alloc::{AllocError, Global};
@@ -213,23 +210,5 @@ impl Store {
                 body,
             },
         )
-    }
-
-    /// The rows of the documents, each at its latest edit, rising. It goes once through the journal,
-    /// and once through each tree.
-    pub(crate) fn rows(&self) -> Result<Vec<ChangeRow>, AllocError>
-        requires { IsStore self.now }
-        ensures { IfOk result (λ rows. rows.items ≡ map (row_of (edits_of_store self.now) MainOnly false) (current (edits_of_store self.now))) }
-    {
-        let seen = self.journal.len() as u64;
-        let mut rows = Vec::new(self.alloc);
-        for (at, entry) in self.journal.iter().enumerate() {
-            let document = &self.documents[entry.document as usize];
-            if document.latest as usize != at + 1 {
-                continue;
-            }
-            rows.push(document.row(self.alloc, seen)?)?;
-        }
-        Ok(rows)
     }
 }

@@ -2,8 +2,6 @@ use Rattle.std.proofs.Common.{◌≡◌, ◌∙◌, ◌+◌, ◌∷◌, ◌++◌
 use Rattle.std.specs.Map.{update}
 use Rattle.std.specs.Str.{bytes_eq}
 use Rattle.std.specs.BTreeMap.{get_by_text}
-use Rattle.std.specs.String.{string_bytes}
-use Rattle.std.proofs.lemmas.Map.Text.{btree_map_updates_text}
 use Rattle.std.proofs.lemmas.List.{map-append}
 use Rattle.hub_index.specs.Rows.{moved}
 use Rattle.hub_database.specs.Looked.{unless_full, look_at}
