@@ -1,23 +1,19 @@
 -- One more edit of a document, that is there or new: the journal has it at its end, and the documents stay in order.
-use Rattle.std.proofs.Common.{◌≡◌, ◌≢◌, ℕ, ◌+◌, ◌<◌, ◌≤◌, List, [], ◌∷◌, ◌++◌, length, true, false, ap, refl, sym, ◌∙◌, subst, arith, inl, inr, ◌⊎◌, ⊎_elim, not, ◌||◌}
-use Rattle.std.specs.Prelude.{Option, Some, None, slice_get, get_or, drop, map, nat_eq, if◌then◌else◌}
+use Rattle.std.proofs.Common.{◌≡◌, ◌≢◌, ℕ, ◌+◌, ◌<◌, ◌≤◌, List, [], ◌∷◌, ◌++◌, length, ap, refl, sym, ◌∙◌, subst, arith, inl, inr, ◌⊎◌, ⊎_elim}
+use Rattle.std.specs.Prelude.{Option, Some, None, slice_get, get_or, map, if◌then◌else◌}
 use Rattle.std.specs.Str.{bytes_eq}
-use Rattle.std.proofs.lemmas.Bool.{eq-eqb}
-use Rattle.std.proofs.lemmas.List.{get_or_append_left, get_or_push, map-append, append-nil, drop-append-le, length_push, length-map}
+use Rattle.std.proofs.lemmas.List.{get_or_append_left, get_or_push, map-append, append-nil, length_push, length-map}
 use Rattle.std.proofs.lemmas.List.Elements.{filter-append}
-use Rattle.std.proofs.lemmas.List.Folds.{list_any-append}
-use Rattle.std.proofs.Math.ListN.{drop_of_length-le}
-use Rattle.std.proofs.lemmas.Option.{same_Some, none-some, slice_get_within}
+use Rattle.std.proofs.lemmas.Option.{same_Some, none-some}
 use Rattle.hub_model.specs.Journal.{Edit, IsAcceptable, IsLegal, edits_of}
 use Rattle.hub_model.specs.Current.{current, is_edited}
 use Rattle.hub_model.proofs.Legal.{legal_more}
 use Rattle.hub_model.proofs.Lists.{same_number, same_text}
-use Rattle.hub_model.proofs.Tests.{or_right}
 use Rattle.hub_database.specs.declared.entry.Entry.{Entry}
 use Rattle.hub_database.specs.Filed.{Filed, named, no_edit, edit_in, edit_at, journal_of, IsFiled}
 use Rattle.hub_database.specs.Store.{one_if}
 use Rattle.hub_database.proofs.CountLemmas.{edited_none, edited_some, documents_more}
-use Rattle.hub_database.proofs.ListLemmas.{get_push, get_push_other, maps_agree, text_same, text_apart, number_apart, or_none}
+use Rattle.hub_database.proofs.ListLemmas.{get_push, get_push_other, maps_agree, text_same, text_apart}
 
 -- the document is there with these edits, or not at all
 abbrev pub Was : (List ℕ → Option ℕ) → List Filed → List ℕ → ℕ → List Edit → Type 0
@@ -25,12 +21,12 @@ Was numbers documents id k edits = ((numbers id ≡ Some k) × ((d : Filed) × (
 
 module _ (limit : ℕ) (numbers : List ℕ → Option ℕ) (documents : List Filed) (entries : List Entry) (st : IsFiled limit numbers documents entries) (id : List ℕ) (k : ℕ) (edits : List Edit) (was : Was numbers documents id k edits) where
   -- the document at k has the id and the edits
-  at_k : (d : Filed) → slice_get documents k ≡ Some d → (d.id ≡ id) × (d.edits ≡ edits)
+  pub at_k : (d : Filed) → slice_get documents k ≡ Some d → (d.id ≡ id) × (d.edits ≡ edits)
   at_k d g = ⊎_elim
       (λ w. let f = st.found id k w.0 in (ap (λ (z : Filed). z.id) (same_Some d f.0 (sym g ∙ f.1)) ∙ f.2, ap (λ (z : Filed). z.edits) (same_Some d w.1.0 (sym g ∙ w.1.1)) ∙ w.1.2))
       (λ w. absurd (none-some d (sym w.1 ∙ g))) was
 
-  apart : (j : ℕ) (d : Filed) → slice_get documents j ≡ Some d → j ≢ k → d.id ≢ id
+  pub apart : (j : ℕ) (d : Filed) → slice_get documents j ≡ Some d → j ≢ k → d.id ≢ id
   apart j d g n e =
       let own : numbers id ≡ Some j = sym (ap numbers e) ∙ st.own j d g in
       ⊎_elim (λ w. n (same_Some j k (sym own ∙ w.0))) (λ w. none-some j (sym w.0 ∙ own)) was
@@ -136,41 +132,6 @@ module _ (limit : ℕ) (numbers : List ℕ → Option ℕ) (documents : List Fil
         from (inl s) = newest (same_Some entry y (sym (get_push entries entry) ∙ subst (λ n. slice_get (entries ++ entry ∷ []) n ≡ Some y) s g))
         from (inr n) = older (st.within i y (sym (get_push_other entries entry i n) ∙ g)) (same_number y.document k)
 
-    latest' : (i : ℕ) (y : Entry) (d : Filed) → slice_get (entries ++ entry ∷ []) i ≡ Some y → slice_get documents' y.document ≡ Some d → is_edited d.id (drop (i + 1) (journal_of documents' (entries ++ entry ∷ []))) ≡ not (nat_eq d.latest (i + 1))
-    latest' i y d g h = ap (λ es. is_edited d.id (drop (i + 1) es)) journal_is ∙ from (same_number i (length entries))
-      where
-        many : length (journal_of documents entries) ≡ length entries
-        many = length-map entries (edit_at documents)
-
-        is_changed : y.document ≡ k → changed ≡ d
-        is_changed s = same_Some changed d (sym at ∙ subst (λ j. slice_get documents' j ≡ Some d) s h)
-
-        past : i ≡ length entries → drop (i + 1) (journal_of documents entries ++ named id e ∷ []) ≡ []
-        past s = drop_of_length-le (journal_of documents entries ++ named id e ∷ []) (let l : length (journal_of documents entries ++ named id e ∷ []) ≡ length (journal_of documents entries) + 1 = length_push (journal_of documents entries) (named id e) in omega (arith, l, many))
-
-        newest : i ≡ length entries → entry ≡ y → is_edited d.id (drop (i + 1) (journal_of documents entries ++ named id e ∷ [])) ≡ not (nat_eq d.latest (i + 1))
-        newest s t =
-            let last : d.latest ≡ i + 1 = sym (ap (λ (z : Filed). z.latest) (is_changed (sym (ap (λ (z : Entry). z.document) t)))) ∙ ap (λ n. n + 1) (sym s) in
-            ap (is_edited d.id) (past s) ∙ sym (ap not (eq-eqb d.latest (i + 1) last))
-
-        split : i < length entries → is_edited d.id (drop (i + 1) (journal_of documents entries ++ named id e ∷ [])) ≡ (is_edited d.id (drop (i + 1) (journal_of documents entries)) || (bytes_eq d.id id || false))
-        split low = ap (is_edited d.id) (drop-append-le (i + 1) (journal_of documents entries) (named id e ∷ []) (omega (arith, many))) ∙ list_any-append (λ (f : Edit). bytes_eq d.id f.id) (drop (i + 1) (journal_of documents entries)) (named id e ∷ [])
-
-        older : i < length entries → slice_get entries i ≡ Some y → (y.document ≡ k) ⊎ (y.document ≢ k) → is_edited d.id (drop (i + 1) (journal_of documents entries ++ named id e ∷ [])) ≡ not (nat_eq d.latest (i + 1))
-        older low there (inl q) =
-            let same = is_changed q in
-            let named_so : bytes_eq d.id id ≡ true = text_same d.id id (sym (ap (λ (z : Filed). z.id) same)) in
-            let later : nat_eq d.latest (i + 1) ≡ false = number_apart d.latest (i + 1) (λ t. let l : length entries + 1 ≡ d.latest = ap (λ (z : Filed). z.latest) same in omega (arith, t, l, low)) in
-            split low ∙ (or_right (is_edited d.id (drop (i + 1) (journal_of documents entries))) (bytes_eq d.id id || false) (ap (λ b. b || false) named_so) ∙ sym (ap not later))
-        older low there (inr n) =
-            let before : slice_get documents y.document ≡ Some d = sym (other y.document n) ∙ h in
-            let not_so : bytes_eq d.id id ≡ false = text_apart d.id id (apart y.document d before n) in
-            split low ∙ (ap (λ b. is_edited d.id (drop (i + 1) (journal_of documents entries)) || (b || false)) not_so ∙ (or_none (is_edited d.id (drop (i + 1) (journal_of documents entries))) ∙ st.latest i y d there before))
-
-        from : (i ≡ length entries) ⊎ (i ≢ length entries) → is_edited d.id (drop (i + 1) (journal_of documents entries ++ named id e ∷ [])) ≡ not (nat_eq d.latest (i + 1))
-        from (inl s) = newest s (same_Some entry y (sym (get_push entries entry) ∙ subst (λ n. slice_get (entries ++ entry ∷ []) n ≡ Some y) s g))
-        from (inr n) = let there : slice_get entries i ≡ Some y = sym (get_push_other entries entry i n) ∙ g in older (slice_get_within entries i y there) there (same_number y.document k)
-
     some' : (j : ℕ) (d : Filed) → slice_get documents' j ≡ Some d → 1 ≤ length d.edits
     some' j d g = from (same_number j k)
       where
@@ -207,7 +168,6 @@ module _ (limit : ℕ) (numbers : List ℕ → Option ℕ) (documents : List Fil
       kept = kept';
       others = others';
       within = within';
-      latest = latest';
       legal = subst IsLegal (sym journal_is) (legal_more (journal_of documents entries) (named id e) st.legal ok);
       count = omega (arith, room, length_push entries entry);
       fewer = omega (arith, as_many.0, length_push entries entry);

@@ -3,6 +3,7 @@ pub mod CountLemmas
 pub mod NamedLemmas
 pub mod MergeLemmas
 pub mod FiledLemmas
+pub mod IndexedLemmas
 pub mod StoreLemmas
 pub mod RowLemmas
 pub mod ShownLemmas
@@ -10,3 +11,5 @@ pub mod EntryLemmas
 pub mod MissingLemmas
 pub mod InfoLemmas
 pub mod LocalLemmas
+pub mod FeedLemmas
+pub mod FallingLemmas

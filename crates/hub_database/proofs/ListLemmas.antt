@@ -1,9 +1,11 @@
 -- Places of lists, and what a list with one more at its end, or one changed, has at them.
-use Rattle.std.proofs.Common.{◌≡◌, ◌≢◌, ℕ, zero, suc, ◌<◌, ◌≤◌, List, [], ◌∷◌, ◌++◌, length, Bool, true, false, ap, refl, ◌∙◌, arith, inl, inr, ◌||◌}
-use Rattle.std.specs.Prelude.{Some, slice_get, slice_set, map, filter, nat_eq, if◌then◌else◌}
+use Rattle.std.proofs.Common.{◌≡◌, ◌≢◌, ℕ, zero, suc, ◌<◌, ◌≤◌, List, [], ◌∷◌, ◌++◌, length, Bool, true, false, ap, refl, ◌∙◌, arith, inl, inr, ◌||◌, ◌&&◌, ◌+◌, ◌-◌, find, sym, Contains}
+use Rattle.std.specs.Prelude.{Some, slice_get, slice_set, map, option_map, filter, reverse, count_by, nat_eq, if◌then◌else◌}
 use Rattle.std.specs.List.{list_any}
 use Rattle.std.specs.Str.{bytes_eq}
 use Rattle.std.proofs.lemmas.Bool.{cases_Bool, eqb-true}
+use Rattle.std.proofs.lemmas.List.{map-append, reverse-append, length-reverse, get_or-reverse}
+use Rattle.std.proofs.lemmas.List.Sums.{sum_by-cons}
 use Rattle.std.proofs.lemmas.Slice.Eq.{bytes_eq-Decides}
 
 module _ {A : Type 0} where
@@ -58,3 +60,29 @@ number_apart m n h = elim (cases_Bool (nat_eq m n)) [ inl t ↦ absurd (h (eqb-t
 pub or_none : (b : Bool) → (b || (false || false)) ≡ b
 or_none true = refl
 or_none false = refl
+
+pub and_true : (b : Bool) → (b && true) ≡ b
+and_true true = refl
+and_true false = refl
+
+module _ {A B : Type 0} (p : B → Bool) (f : A → B) where
+  -- what is found among what is shown
+  pub find_map : (xs : List A) → find p (map f xs) ≡ option_map f (find (λ x. p (f x)) xs)
+  find_map [] = refl
+  find_map (x ∷ xs) = from (p (f x)) (find_map xs)
+    where
+      from : (b : Bool) → find p (map f xs) ≡ option_map f (find (λ x. p (f x)) xs) → (if b then Some (f x) else find p (map f xs)) ≡ option_map f (if b then Some x else find (λ x. p (f x)) xs)
+      from true h = refl
+      from false h = h
+
+  -- and how many pass
+  pub count_map : (xs : List A) → count_by p (map f xs) ≡ count_by (λ x. p (f x)) xs
+  count_map [] = refl
+  count_map (x ∷ xs) = sum_by-cons (λ y. if p y then 1 else 0) (f x) (map f xs) ∙ (ap (λ n. (if p (f x) then 1 else 0) + n) (count_map xs) ∙ sym (sum_by-cons (λ y. if p (f y) then 1 else 0) x xs))
+
+pub map_reverse : {A B : Type 0} (f : A → B) (xs : List A) → map f (reverse xs) ≡ reverse (map f xs)
+map_reverse f [] = refl
+map_reverse f (x ∷ xs) = ap (map f) (reverse-append (x ∷ []) xs) ∙ (map-append f (reverse xs) (x ∷ []) ∙ (ap (λ ys. ys ++ f x ∷ []) (map_reverse f xs) ∙ sym (reverse-append (f x ∷ []) (map f xs))))
+
+pub contains_reverse : {A : Type 0} (xs : List A) (x : A) → Contains (reverse xs) x → Contains xs x
+contains_reverse xs x (k, l, e) = let low : k < length xs = omega (arith, l, length-reverse xs) in (length xs - 1 - k, omega arith, sym (get_or-reverse xs k x low) ∙ e)

@@ -1,81 +1,146 @@
--- The rows of the documents, one entry more at a time.
-use Rattle.std.proofs.Common.{◌≡◌, ◌≢◌, ℕ, zero, suc, ◌+◌, ◌<◌, List, [], ◌∷◌, ◌++◌, length, Bool, true, false, ap, refl, sym, ◌∙◌, not, arith, append_assoc}
-use Rattle.std.specs.Prelude.{get_or, Option, Some, None, slice_get, drop, map, take, nat_eq, if◌then◌else◌, option_map}
+-- The row of a document, by its tree and by the index.
+use Rattle.std.proofs.Common.{◌≡◌, ℕ, zero, suc, ◌+◌, ◌<◌, ◌≤◌, List, [], ◌∷◌, length, Bool, true, false, ap, refl, sym, ◌∙◌, subst, arith, inl, inr, find, Contains, ◌&&◌, nat_lt}
+use Rattle.std.specs.declared.alloc.AllocError.{AllocError}
+use Rattle.std.specs.Prelude.{IfOk, OnOk, Result, Ok, Err, get_or, take, Option, Some, None, slice_get, map, reverse, option_map}
 use Rattle.std.proofs.lemmas.List.{length-map}
-use Rattle.std.proofs.lemmas.Option.{slice_get-map, slice_get_within}
-use Rattle.std.proofs.lemmas.Bool.{eq-eqb}
-use Rattle.hub_model.specs.Revision.{Revision}
+use Rattle.std.proofs.lemmas.Option.{same_Some, slice_get-map, slice_get_within}
+use Rattle.hub_index.specs.Rows.{last_before, next_after, count_after}
+use Rattle.hub_index.specs.Rows as index_rows
 use Rattle.hub_model.specs.Journal.{Edit, edits_of}
-use Rattle.hub_model.specs.Leaves.{Leaf, leaves_of, revisions_of}
-use Rattle.hub_model.specs.Current.{current_from, is_edited}
-use Rattle.hub_model.specs.Row.{ChangeRow, row_of, is_deleted}
-use Rattle.hub_model.specs.declared.feeds.Style.TheVariants.{MainOnly}
+use Rattle.hub_model.specs.Leaves.{Leaf, leaves_of}
+use Rattle.hub_model.specs.Current.{Current, current, current_from, pending}
+use Rattle.hub_model.specs.Feed.{is_within}
+use Rattle.hub_model.specs.Row.{ChangeRow, row_of, changes_of, doc_of, is_deleted}
+use Rattle.hub_model.specs.declared.feeds.Style.{Style}
+use Rattle.hub_model.specs.declared.feeds.Style.TheVariants.{MainOnly, AllDocs}
+use Rattle.hub_model.proofs.Rows.{from_cases, current_within}
+use Rattle.hub_model.proofs.Shown.{find_is}
+use Rattle.hub_feed.specs.Reach.{first_within}
 use Rattle.hub_revtree.specs.Tree.{IsRevTree}
 use Rattle.hub_database.specs.declared.entry.Entry.{Entry}
 use Rattle.hub_database.specs.declared.document.Document.{Document}
-use Rattle.hub_database.specs.Filed.{named, edit_at, edit_in, journal_of, IsFiled}
+use Rattle.hub_database.specs.Filed.{Filed, named, edit_at, edit_in, journal_of, IsFiled}
+use Rattle.hub_database.specs.Indexed.{IsIndexed, id_in, row_in}
 use Rattle.hub_database.specs.Store.{filed, files}
-use Rattle.hub_database.proofs.ListLemmas.{number_apart}
+use Rattle.hub_database.proofs.IndexedLemmas.{row_document}
+use Rattle.hub_database.proofs.ListLemmas.{and_true, find_map, map_reverse, contains_reverse, count_map}
 use Rattle.hub_database.proofs.NamedLemmas.{renamed, leaves_named, revisions_named, deleted_named}
 use Rattle.hub_database.proofs.StoreLemmas.{get_at}
 
+changes_named : (style : Style) (id : List ℕ) (ls : List Leaf) → changes_of style (map (renamed id) ls) ≡ changes_of style ls
+changes_named MainOnly id ls = ap (take 1) (revisions_named id ls)
+changes_named AllDocs id ls = revisions_named id ls
+
+doc_named : (include_docs : Bool) (id : List ℕ) (ls : List Leaf) → doc_of include_docs (map (renamed id) ls) ≡ doc_of include_docs ls
+doc_named false id ls = refl
+doc_named true id [] = refl
+doc_named true id (l ∷ ls) = refl
+
 -- a document's row, by its tree
-pub row_by : (J : List Edit) (id : List ℕ) (edits : List Edit) (seq : ℕ) → edits_of J id ≡ map (named id) edits → IsRevTree edits
-    → row_of J MainOnly false (record { seq = seq; id = id }) ≡ record { seq = seq; id = id; changes = take 1 (revisions_of (leaves_of edits [])); deleted = is_deleted (leaves_of edits []); doc = None; seen = length J }
-row_by J id edits seq kept tree =
-    ap (λ (ls : List Leaf). record { seq = seq; id = id; changes = take 1 (revisions_of ls); deleted = is_deleted ls; doc = None; seen = length J }) (leaves_named J id edits kept tree.one)
-    ∙ (ap (λ (rs : List Revision). record { seq = seq; id = id; changes = take 1 rs; deleted = is_deleted (map (renamed id) (leaves_of edits [])); doc = None; seen = length J }) (revisions_named id (leaves_of edits []))
-    ∙ ap (λ (b : Bool). record { seq = seq; id = id; changes = take 1 (revisions_of (leaves_of edits [])); deleted = b; doc = None; seen = length J }) (deleted_named id (leaves_of edits [])))
+row_by : (J : List Edit) (style : Style) (include_docs : Bool) (c : Current) (edits : List Edit) → edits_of J c.id ≡ map (named c.id) edits → IsRevTree edits
+    → row_of J style include_docs c ≡ record { seq = c.seq; id = c.id; changes = changes_of style (leaves_of edits []); deleted = is_deleted (leaves_of edits []); doc = doc_of include_docs (leaves_of edits []); seen = length J }
+row_by J style include_docs c edits kept tree =
+    rw (leaves_named J c.id edits kept tree.one, changes_named style c.id (leaves_of edits []), deleted_named c.id (leaves_of edits []), doc_named include_docs c.id (leaves_of edits [])) refl
 
-drop_map : {A B : Type 0} (f : A → B) (xs : List A) (i : ℕ) (x : A) → slice_get xs i ≡ Some x → drop i (map f xs) ≡ f x ∷ drop (i + 1) (map f xs)
-drop_map f [] i x h = absurd (cc)
-drop_map f (y ∷ xs) zero x h = ap (λ z. f z ∷ map f xs) (cc)
-drop_map f (y ∷ xs) (suc i) x h = let next : suc i + 1 ≡ suc (i + 1) = omega arith in rw next (drop_map f xs i x h)
+-- the edit of a current row
+current_edit : (n : ℕ) (J : List Edit) (c : Current) → Contains (current_from n J) c → (k : ℕ) → c.seq ≡ n + k → (e : Edit) × (slice_get J k ≡ Some e) × (e.id ≡ c.id)
+current_edit n [] c h k s = absurd (let w = current_within n [] c h in omega arith)
+current_edit n (e ∷ later) c h zero s =
+    elim (from_cases n e later c h) [
+      | inl p ↦ (e, refl, ap (λ (x : Current). x.id) p.1)
+      | inr q ↦ absurd (let w = current_within (n + 1) later c q in omega (arith, w.0))
+    ]
+current_edit n (e ∷ later) c h (suc k) s =
+    elim (from_cases n e later c h) [
+      | inl p ↦ absurd (let q : n ≡ c.seq = ap (λ (x : Current). x.seq) p.1 in omega arith)
+      | inr q ↦ current_edit (n + 1) later c q k (omega arith)
+    ]
 
-module _ (limit : ℕ) (numbers : List ℕ → Option ℕ) (documents : List Document) (entries : List Entry) (st : IsFiled limit numbers (files documents) entries) (i : ℕ) (x : Entry) (here : slice_get entries i ≡ Some x) (d : Document) (at : slice_get documents x.document ≡ Some d) where
-  filed_at : slice_get (files documents) x.document ≡ Some (filed d)
-  filed_at = slice_get-map filed documents x.document ∙ ap (option_map filed) at
+-- a current row lies at an edit
+pub row_lies : (J : List Edit) (seq : ℕ) → ((c : Current) × Contains (current J) c × (c.seq ≡ seq)) → (1 ≤ seq) × (seq ≤ length J)
+row_lies J seq (c, h, s) = let w = current_within 1 J c h in (omega (arith, w.0, s), omega (arith, w.1, s))
 
-  this : edit_at (files documents) x ≡ edit_in (Some (filed d)) x.revision
-  this = ap (λ o. edit_in o x.revision) filed_at
+-- the row that the journal's entry at a current row's sequence leads to
+module _ (limit : ℕ) (numbers : List ℕ → Option ℕ) (documents : List Document) (entries : List Entry) (st : IsFiled limit numbers (files documents) entries) where
+  pub entry_low : (i : ℕ) (x : Entry) → i < length entries → x ≡ get_or entries i x → x.document < length documents
+  entry_low i x low is = let w = st.within i x (get_at entries i x low is) in omega (arith, slice_get_within (files documents) x.document w.0 w.1, length-map documents filed)
 
-  split : current_from (i + 1) (drop i (journal_of (files documents) entries)) ≡ (if is_edited d.id (drop (i + 1) (journal_of (files documents) entries)) then current_from (i + 1 + 1) (drop (i + 1) (journal_of (files documents) entries)) else (record { seq = i + 1; id = d.id } ∷ current_from (i + 1 + 1) (drop (i + 1) (journal_of (files documents) entries))))
-  split = ap (current_from (i + 1)) (drop_map (edit_at (files documents)) entries i x here ∙ ap (λ e. e ∷ drop (i + 1) (journal_of (files documents) entries)) this)
+  row_at : (c : Current) → Contains (current (journal_of (files documents) entries)) c → (i : ℕ) (x : Entry) → c.seq ≡ i + 1 → slice_get entries i ≡ Some x → (d : Document) → slice_get documents x.document ≡ Some d → IsRevTree d.tree.edits → (style : Style) (include_docs : Bool)
+      → row_of (journal_of (files documents) entries) style include_docs c ≡ record { seq = c.seq; id = d.id; changes = changes_of style (leaves_of d.tree.edits []); deleted = is_deleted (leaves_of d.tree.edits []); doc = doc_of include_docs (leaves_of d.tree.edits []); seen = length (journal_of (files documents) entries) }
+  row_at c h i x s here d at tree style include_docs =
+      let there : slice_get (files documents) x.document ≡ Some (filed d) = slice_get-map filed documents x.document ∙ ap (option_map filed) at in
+      let edit : slice_get (journal_of (files documents) entries) i ≡ Some (edit_at (files documents) x) = slice_get-map (edit_at (files documents)) entries i ∙ ap (option_map (edit_at (files documents))) here in
+      let own = current_edit 1 (journal_of (files documents) entries) c h i (omega (arith, s)) in
+      let same : d.id ≡ c.id = sym (ap (λ o. (edit_in o x.revision).id) there) ∙ (ap (λ (e : Edit). e.id) (same_Some (edit_at (files documents) x) own.0 (sym edit ∙ own.1)) ∙ own.2) in
+      let kept = st.kept x.document (filed d) there in
+      row_by (journal_of (files documents) entries) style include_docs c d.tree.edits (subst (λ q. edits_of (journal_of (files documents) entries) q ≡ map (named q) d.tree.edits) same kept) tree
+      ∙ ap (λ (q : List ℕ). record { seq = c.seq; id = q; changes = changes_of style (leaves_of d.tree.edits []); deleted = is_deleted (leaves_of d.tree.edits []); doc = doc_of include_docs (leaves_of d.tree.edits []); seen = length (journal_of (files documents) entries) }) (sym same)
 
-  decided : is_edited d.id (drop (i + 1) (journal_of (files documents) entries)) ≡ not (nat_eq d.latest (i + 1))
-  decided = st.latest i x (filed d) here filed_at
+  pub row_answer : (result : Result ChangeRow AllocError) (seq seen i : ℕ) (x : Entry) → seq ≡ i + 1 → i < length entries → x ≡ get_or entries i x → (d : Document) → d ≡ get_or documents x.document d → (style : Style) (include_docs : Bool)
+      → IfOk result (λ r. r ≡ record { seq = seq; id = d.id; changes = changes_of style (leaves_of d.tree.edits []); deleted = is_deleted (leaves_of d.tree.edits []); doc = doc_of include_docs (leaves_of d.tree.edits []); seen = seen })
+      → OnOk result (IsRevTree d.tree.edits) → seen ≡ length (journal_of (files documents) entries)
+      → IfOk result (λ r. (c : Current) → Contains (current (journal_of (files documents) entries)) c → c.seq ≡ seq → r ≡ row_of (journal_of (files documents) entries) style include_docs c)
+  row_answer (Ok r) seq seen i x s low is d at style include_docs row tree all = λ c h e.
+      row ∙ (ap (λ (n : ℕ). record { seq = n; id = d.id; changes = changes_of style (leaves_of d.tree.edits []); deleted = is_deleted (leaves_of d.tree.edits []); doc = doc_of include_docs (leaves_of d.tree.edits []); seen = seen }) (sym e)
+      ∙ (ap (λ (n : ℕ). record { seq = c.seq; id = d.id; changes = changes_of style (leaves_of d.tree.edits []); deleted = is_deleted (leaves_of d.tree.edits []); doc = doc_of include_docs (leaves_of d.tree.edits []); seen = n }) all
+      ∙ sym (row_at c h i x (e ∙ s) (get_at entries i x low is) d (get_at documents x.document d (entry_low i x low is) at) tree style include_docs)))
+  row_answer (Err e) seq seen i x s low is d at style include_docs row tree all = tt
 
-  -- an entry that is not its document's latest is no row
-  pub passed : nat_eq d.latest (i + 1) ≡ false → current_from (i + 1) (drop i (journal_of (files documents) entries)) ≡ current_from (i + 1 + 1) (drop (i + 1) (journal_of (files documents) entries))
-  passed h = split ∙ ap (λ b. if b then current_from (i + 1 + 1) (drop (i + 1) (journal_of (files documents) entries)) else (record { seq = i + 1; id = d.id } ∷ current_from (i + 1 + 1) (drop (i + 1) (journal_of (files documents) entries)))) (decided ∙ ap not h)
+-- what a step in the index finds
+within_same : (bound : Option ℕ) (place seq : ℕ) → index_rows.is_within place bound seq ≡ (nat_lt place seq && is_within bound seq)
+within_same None place seq = sym (and_true (nat_lt place seq))
+within_same (Some b) place seq = refl
 
-  -- and one that is it is its row
-  pub shown : nat_eq d.latest (i + 1) ≡ true → current_from (i + 1) (drop i (journal_of (files documents) entries)) ≡ record { seq = i + 1; id = d.id } ∷ current_from (i + 1 + 1) (drop (i + 1) (journal_of (files documents) entries))
-  shown h = split ∙ ap (λ b. if b then current_from (i + 1 + 1) (drop (i + 1) (journal_of (files documents) entries)) else (record { seq = i + 1; id = d.id } ∷ current_from (i + 1 + 1) (drop (i + 1) (journal_of (files documents) entries)))) (decided ∙ ap not h)
+module _ (documents : List Document) (entries : List Entry) (index : List (ℕ × ℕ)) (ix : IsIndexed (files documents) entries index) where
+  -- a row's number is a document's
+  row_low : (r : ℕ × ℕ) → Contains index r → r.1 < length documents
+  row_low r c = let own = row_document (files documents) entries index ix c.0 r (get_at index c.0 r c.1 (sym c.2)) in omega (arith, slice_get_within (files documents) r.1 own.0 own.1, length-map documents filed)
 
-  -- which the tree tells
-  pub row_at : IsRevTree d.tree.edits → d.latest ≡ i + 1
-      → row_of (journal_of (files documents) entries) MainOnly false (record { seq = i + 1; id = d.id }) ≡ record { seq = d.latest; id = d.id; changes = take 1 (revisions_of (leaves_of d.tree.edits [])); deleted = is_deleted (leaves_of d.tree.edits []); doc = None; seen = length entries }
-  row_at tree h =
-      row_by (journal_of (files documents) entries) d.id d.tree.edits (i + 1) (st.kept x.document (filed d) filed_at) tree
-      ∙ (ap (λ (n : ℕ). record { seq = n; id = d.id; changes = take 1 (revisions_of (leaves_of d.tree.edits [])); deleted = is_deleted (leaves_of d.tree.edits []); doc = None; seen = length (journal_of (files documents) entries) }) (sym h)
-      ∙ ap (λ (n : ℕ). record { seq = d.latest; id = d.id; changes = take 1 (revisions_of (leaves_of d.tree.edits [])); deleted = is_deleted (leaves_of d.tree.edits []); doc = None; seen = n }) (length-map entries (edit_at (files documents))))
+  -- which the row shows
+  row_shown : (r : ℕ × ℕ) → Contains index r → (d : Document) → d ≡ get_or documents r.1 d → row_in (files documents) r ≡ record { seq = r.0; id = d.id }
+  row_shown r c d is = ap (λ (o : Option Filed). record { seq = r.0; id = id_in o }) (slice_get-map filed documents r.1 ∙ ap (option_map filed) (get_at documents r.1 d (row_low r c) is))
 
-  abbrev rest_of : ℕ → List ChangeRow
-  rest_of n = map (row_of (journal_of (files documents) entries) MainOnly false) (current_from (n + 1) (drop n (journal_of (files documents) entries)))
+  next_is : (place : ℕ) (bound : Option ℕ) → first_within place bound (current (journal_of (files documents) entries)) ≡ option_map (row_in (files documents)) (next_after index place bound)
+  next_is place bound =
+      ap (find (λ (c : Current). nat_lt place c.seq && is_within bound c.seq)) (sym ix.rows)
+      ∙ (find_map (λ (c : Current). nat_lt place c.seq && is_within bound c.seq) (row_in (files documents)) index
+      ∙ ap (λ (p : ℕ → Bool). option_map (row_in (files documents)) (find (λ (r : ℕ × ℕ). p r.0) index)) (λ i n. sym (within_same bound place n) i))
 
-  -- the rows so far, after an entry that is no row
-  pub rows_stay : (rows all : List ChangeRow) → rows ++ rest_of i ≡ all → d.latest ≢ i + 1 → rows ++ rest_of (i + 1) ≡ all
-  rows_stay rows all h n = ap (λ cs. rows ++ map (row_of (journal_of (files documents) entries) MainOnly false) cs) (sym (passed (number_apart d.latest (i + 1) n))) ∙ h
+  module _ (place : ℕ) (bound : Option ℕ) (r : ℕ × ℕ) (is : Some r ≡ next_after index place bound) where
+    next_in : Contains index r
+    next_in = (find_is (λ (r : ℕ × ℕ). index_rows.is_within place bound r.0) index r (sym is)).1
 
-  -- and after one that is its document's latest
-  pub rows_grow : (rows rows' all : List ChangeRow) (row : ChangeRow) (seen : ℕ) → IsRevTree d.tree.edits → rows ++ rest_of i ≡ all → d.latest ≡ i + 1 → seen ≡ length entries
-      → row ≡ record { seq = d.latest; id = d.id; changes = take 1 (revisions_of (leaves_of d.tree.edits [])); deleted = is_deleted (leaves_of d.tree.edits []); doc = None; seen = seen }
-      → rows' ≡ rows ++ row ∷ [] → rows' ++ rest_of (i + 1) ≡ all
-  rows_grow rows rows' all row seen tree h l many is more =
-      let same : row_of (journal_of (files documents) entries) MainOnly false (record { seq = i + 1; id = d.id }) ≡ row = row_at tree l ∙ sym (rw many at is) in
-      ap (λ rs. rs ++ rest_of (i + 1)) more ∙ (append_assoc rows (row ∷ []) (rest_of (i + 1)) ∙ (ap (λ r. rows ++ r ∷ rest_of (i + 1)) (sym same)
-      ∙ (ap (λ cs. rows ++ map (row_of (journal_of (files documents) entries) MainOnly false) cs) (sym (shown (eq-eqb d.latest (i + 1) l))) ∙ h)))
+    pub next_low : r.1 < length documents
+    next_low = row_low r next_in
+
+    pub next_found : (d : Document) → d ≡ get_or documents r.1 d → Some (record { seq = r.0; id = d.id }) ≡ first_within place bound (current (journal_of (files documents) entries))
+    next_found d at = sym (ap Some (row_shown r next_in d at)) ∙ (ap (option_map (row_in (files documents))) is ∙ sym (next_is place bound))
+
+  pub next_nothing : (place : ℕ) (bound : Option ℕ) → None ≡ next_after index place bound → None ≡ first_within place bound (current (journal_of (files documents) entries))
+  next_nothing place bound is = ap (option_map (row_in (files documents))) is ∙ sym (next_is place bound)
+
+  last_is : (place : ℕ) → find (λ (c : Current). nat_lt c.seq place) (reverse (current (journal_of (files documents) entries))) ≡ option_map (row_in (files documents)) (last_before index place)
+  last_is place =
+      ap (λ cs. find (λ (c : Current). nat_lt c.seq place) (reverse cs)) (sym ix.rows)
+      ∙ (ap (find (λ (c : Current). nat_lt c.seq place)) (sym (map_reverse (row_in (files documents)) index))
+      ∙ find_map (λ (c : Current). nat_lt c.seq place) (row_in (files documents)) (reverse index))
+
+  module _ (place : ℕ) (r : ℕ × ℕ) (is : Some r ≡ last_before index place) where
+    last_in : Contains index r
+    last_in = contains_reverse index r (find_is (λ (r : ℕ × ℕ). nat_lt r.0 place) (reverse index) r (sym is)).1
+
+    pub last_low : r.1 < length documents
+    last_low = row_low r last_in
+
+    pub last_found : (d : Document) → d ≡ get_or documents r.1 d → Some (record { seq = r.0; id = d.id }) ≡ find (λ (c : Current). nat_lt c.seq place) (reverse (current (journal_of (files documents) entries)))
+    last_found d at = sym (ap Some (row_shown r last_in d at)) ∙ (ap (option_map (row_in (files documents))) is ∙ sym (last_is place))
+
+  pub last_nothing : (place : ℕ) → None ≡ last_before index place → None ≡ find (λ (c : Current). nat_lt c.seq place) (reverse (current (journal_of (files documents) entries)))
+  last_nothing place is = ap (option_map (row_in (files documents))) is ∙ sym (last_is place)
+
+  -- how many rows lie above a place
+  pub count_is : (place : ℕ) → count_after index place ≡ pending (current (journal_of (files documents) entries)) place
+  count_is place = sym (count_map (λ (c : Current). nat_lt place c.seq) (row_in (files documents)) index) ∙ ap (λ cs. pending cs place) ix.rows
 
 pub get_default : {A : Type 0} (xs ys : List A) (i : ℕ) (e : A) → ys ≡ xs → i < length ys → slice_get xs i ≡ Some (get_or ys i e)
 get_default {A = A} xs ys i e same low = ap (λ zs. slice_get zs i) (sym same) ∙ at ys i low

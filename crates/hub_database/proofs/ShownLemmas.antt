@@ -15,7 +15,8 @@ use Rattle.hub_model.proofs.Shown.{find_is, find_not}
 use Rattle.hub_document.specs.declared.doc.Doc.{Doc}
 use Rattle.hub_document.specs.declared.open_revs.OpenRevs.TheVariants.{All, Listed}
 use Rattle.hub_revtree.specs.declared.leaf.Winner.{Winner}
-use Rattle.hub_revtree.specs.Tree.{nameless}
+use Rattle.hub_model.specs.Row.{doc_of}
+use Rattle.hub_revtree.specs.Tree.{IsRevTree, nameless}
 use Rattle.hub_revtree.specs.Winner.{winner_of}
 use Rattle.hub_database.specs.declared.document.Document.{Document}
 use Rattle.hub_database.specs.declared.answers.Lookup.TheVariants as looked
@@ -91,16 +92,18 @@ module _ (d : Document) (r : Revision) (path : List Revision) (deleted : Bool) (
 
 -- the edit of a winner is the one that its revision heads
 module _ (J : List Edit) (id : List ℕ) (legal : IsLegal J) where
-  leaf_shown : (l : Leaf) → Contains (leaves_of J id) l → shown J id l.rev ≡ Some (record { id = id; path = line_of J id l.rev; deleted = l.edit.deleted; body = l.edit.body })
-  leaf_shown l c = from (find (is_head l.rev) (edits_of J id)) refl
+  pub leaf_headed : (l : Leaf) → Contains (leaves_of J id) l → find (is_head l.rev) (edits_of J id) ≡ Some l.edit
+  leaf_headed l c = from (find (is_head l.rev) (edits_of J id)) refl
     where
-      from : (o : Option Edit) → find (is_head l.rev) (edits_of J id) ≡ o → shown_of J id l.rev (find (is_head l.rev) (edits_of J id)) ≡ Some (record { id = id; path = line_of J id l.rev; deleted = l.edit.deleted; body = l.edit.body })
+      from : (o : Option Edit) → find (is_head l.rev) (edits_of J id) ≡ o → find (is_head l.rev) (edits_of J id) ≡ Some l.edit
       from None q = let e = leaf_edit J id legal l c in absurd (find_not (is_head l.rev) (edits_of J id) q l.edit (in_edits J id l.edit e.0) (first_from l.edit.path l.rev e.1))
       from (Some f) q =
           let e = leaf_edit J id legal l c in
           let i = find_is (is_head l.rev) (edits_of J id) f q in
-          let same : f ≡ l.edit = (legal_sound J legal).once id l.rev f l.edit (edits_in J id f i.1) e.0 (first_is f.path l.rev i.0) e.1 in
-          ap (shown_of J id l.rev) (q ∙ ap Some same)
+          q ∙ ap Some ((legal_sound J legal).once id l.rev f l.edit (edits_in J id f i.1) e.0 (first_is f.path l.rev i.0) e.1)
+
+  leaf_shown : (l : Leaf) → Contains (leaves_of J id) l → shown J id l.rev ≡ Some (record { id = id; path = line_of J id l.rev; deleted = l.edit.deleted; body = l.edit.body })
+  leaf_shown l c = ap (shown_of J id l.rev) (leaf_headed l c)
 
   -- a winner that is deleted
   pub lookup_deleted : (revs : Bool) (w : Winner) → Some w ≡ winner_of (leaves_of J id) → w.deleted ≡ true → looked.Deleted ≡ lookup J id revs
@@ -189,3 +192,24 @@ module _ (J : List Edit) (id : List ℕ) (none : edits_of J id ≡ []) where
   pub none_listed : (revs : Bool) (rs : List Revision) → map opened_as.Missing rs ≡ open_revs J id (Listed rs) revs
   none_listed revs [] = refl
   none_listed revs (r ∷ rs) = ap (λ es. open_rev_of revs r (shown_of J id r (find (is_head r) es)) ∷ map opened_as.Missing rs) (sym none) ∙ ap (λ os. open_rev J id revs r ∷ os) (none_listed revs rs)
+
+-- the members of the winner of a tree
+module _ (edits : List Edit) (tree : IsRevTree edits) (w : Winner) (is : Some w ≡ winner_of (leaves_of edits [])) where
+  winner_edit : (l : Leaf) (others : List Leaf) → leaves_of edits [] ≡ l ∷ others → find (is_head w.rev) (edits_of edits []) ≡ Some l.edit
+  winner_edit l others q =
+      let rev : w.rev ≡ l.rev = ap (λ (z : Winner). z.rev) (same_Some w _ (is ∙ ap winner_of q)) in
+      ap (λ r. find (is_head r) (edits_of edits [])) rev ∙ leaf_headed edits [] tree.legal l (subst (λ ls. Contains ls l) (sym q) (contains_here l others))
+
+  pub members_found : (path : List Revision) (deleted : Bool) (body : List ℕ) → Some (nameless path deleted body) ≡ find (is_head w.rev) (edits_of edits []) → Some body ≡ doc_of true (leaves_of edits [])
+  members_found path deleted body found = from (leaves_of edits []) refl
+    where
+      from : (ls : List Leaf) → leaves_of edits [] ≡ ls → Some body ≡ doc_of true ls
+      from [] q = absurd (none-some w (sym (is ∙ ap winner_of q)))
+      from (l ∷ others) q = ap (λ (e : Edit). Some e.body) (same_Some (nameless path deleted body) l.edit (found ∙ winner_edit l others q))
+
+  pub members_none : None ≡ find (is_head w.rev) (edits_of edits []) → ⊥
+  members_none none = from (leaves_of edits []) refl
+    where
+      from : (ls : List Leaf) → leaves_of edits [] ≡ ls → ⊥
+      from [] q = none-some w (sym (is ∙ ap winner_of q))
+      from (l ∷ others) q = none-some l.edit (none ∙ winner_edit l others q)

@@ -1,5 +1,5 @@
 -- What storing one edit does to the documents and the journal of a store.
-use Rattle.std.proofs.Common.{◌≡◌, ◌≢◌, ℕ, zero, suc, ◌+◌, ◌<◌, ◌≤◌, List, [], ◌∷◌, ◌++◌, length, Bool, true, false, ap, refl, sym, ◌∙◌, subst, arith, inl, inr}
+use Rattle.std.proofs.Common.{◌≡◌, ◌≢◌, ℕ, zero, suc, ◌+◌, ◌<◌, ◌≤◌, List, [], ◌∷◌, ◌++◌, length, Bool, true, false, ap, refl, sym, ◌∙◌, subst, arith, inl, inr, ◌⊎◌}
 use Rattle.std.specs.Prelude.{IfOk, OnErr, Result, Ok, Err, get_or, Option, Some, None, slice_get, slice_set, map, option_map, nat_le, unwrap_or, if◌then◌else◌}
 use Rattle.std.specs.BTreeMap.{get_by_text}
 use Rattle.std.specs.Map.{update}
@@ -11,12 +11,14 @@ use Rattle.std.proofs.lemmas.List.{length-map, length_push}
 use Rattle.std.proofs.lemmas.List.Elements.{filter-append}
 use Rattle.std.proofs.Math.Seq.{map-set_same}
 use Rattle.std.proofs.Math.ListN.{length-set}
+use Rattle.hub_index.specs.Rows.{moved, seq_of}
 use Rattle.hub_model.specs.Revision.{Revision}
 use Rattle.hub_model.specs.Journal.{Edit, edits_of, head_of}
 use Rattle.hub_model.specs.Leaves.{leaves_of, leaves_among, best_first}
 use Rattle.hub_model.specs.Row.{is_deleted}
 use Rattle.hub_model.specs.declared.outcomes.Outcome.{Outcome}
 use Rattle.hub_model.specs.declared.outcomes.Outcome.TheVariants as outcome
+use Rattle.hub_model.proofs.Lists.{same_text}
 use Rattle.hub_revtree.specs.Tree.{IsRevTree}
 use Rattle.hub_database.specs.declared.entry.Entry.{Entry}
 use Rattle.hub_database.specs.declared.document.Document.{Document}
@@ -25,17 +27,19 @@ use Rattle.hub_database.specs.declared.document.Looked.{Looked}
 use Rattle.hub_database.specs.declared.document.Looked.TheVariants.{Known, Refused, Ready}
 use Rattle.hub_database.specs.declared.store.Store.{Store}
 use Rattle.hub_database.specs.Filed.{Filed, named, edit_at, journal_of, IsFiled}
-use Rattle.hub_database.specs.Looked.{Extends, IsStorable, stores_edit, look_at, unless_full, outcome_of, grown, joined, after, numbered}
-use Rattle.hub_database.specs.Store.{filed, files, IsStore, IsCounted, IsSameStore, Inserts, edits_of_store, deleted_in, one_if}
+use Rattle.hub_database.specs.Looked.{Extends, IsStorable, stores_edit, look_at, unless_full, outcome_of, grown, joined, after, numbered, rowed}
+use Rattle.hub_database.specs.Indexed.{IsIndexed}
+use Rattle.hub_database.specs.Store.{filed, files, IsStore, IsCounted, HasRows, IsSameStore, Inserts, edits_of_store, deleted_in, one_if}
 use Rattle.hub_database.proofs.ListLemmas.{get_push, get_push_other, get_set, get_set_other, text_same, text_apart, count_filter}
 use Rattle.hub_database.proofs.CountLemmas.{deleted_more, deleted_some}
 use Rattle.hub_database.proofs.NamedLemmas.{leaves_named, deleted_named}
 use Rattle.hub_database.proofs.MergeLemmas.{acceptable_in, stores_by}
 use Rattle.hub_database.proofs.FiledLemmas.{Was, kept_of, journal_is, filed_more}
+use Rattle.hub_database.proofs.IndexedLemmas.{indexed_more}
 
--- what storing an edit leaves: the documents in order, and the journal with the edit if it is stored
-abbrev pub Leaves : ℕ → List Filed → List Entry → List ℕ → Looked → (List ℕ → Option ℕ) → List Filed → List Entry → Type 0
-Leaves limit documents entries id l numbers' documents' entries' = IsFiled limit numbers' documents' entries' × (journal_of documents' entries' ≡ joined id l (journal_of documents entries))
+-- what storing an edit leaves: the documents and the rows in order, and the journal with the edit if it is stored
+abbrev pub Leaves : ℕ → List Filed → List Entry → List ℕ → Looked → (List ℕ → Option ℕ) → List Filed → List Entry → List (ℕ × ℕ) → Type 0
+Leaves limit documents entries id l numbers' documents' entries' index' = IsFiled limit numbers' documents' entries' × (journal_of documents' entries' ≡ joined id l (journal_of documents entries)) × IsIndexed documents' entries' index'
 
 -- what is to be stored finds the journal not full
 room_in : (limit n : ℕ) (l : Looked) (e : Edit) → unless_full (nat_le limit n) l ≡ Ready e → n < limit
@@ -66,22 +70,23 @@ counted_on J J' id (Ready e) same count count' was is w i c h =
     omega (arith, h, c, more, all, ap one_if w, ap one_if now)
 
 -- where it is stored
-module _ (limit : ℕ) (numbers : List ℕ → Option ℕ) (documents : List Filed) (entries : List Entry) (st : IsFiled limit numbers documents entries) (id : List ℕ) (k : ℕ) (edits : List Edit) (was : Was numbers documents id k edits)
+module _ (limit : ℕ) (numbers : List ℕ → Option ℕ) (documents : List Filed) (entries : List Entry) (st : IsFiled limit numbers documents entries) (index : List (ℕ × ℕ)) (ix : IsIndexed documents entries index) (id : List ℕ) (k : ℕ) (edits : List Edit) (was : Was numbers documents id k edits)
     (one : edits_of edits [] ≡ edits) where
   stores : (e : Edit) → IsStorable edits (Ready e) → length entries < limit → (numbers' : List ℕ → Option ℕ) (documents' : List Filed)
       → slice_get documents' k ≡ Some (record { id = id; latest = length entries + 1; edits = edits ++ e ∷ [] }) → ((j : ℕ) → j ≢ k → slice_get documents' j ≡ slice_get documents j)
       → numbers' id ≡ Some k → ((q : List ℕ) → q ≢ id → numbers' q ≡ numbers q)
       → ((d : Filed) → slice_get documents k ≡ Some d → length documents' ≡ length documents) → (slice_get documents k ≡ None → length documents' ≡ length documents + 1)
-      → Leaves limit documents entries id (Ready e) numbers' documents' (entries ++ record { document = k; revision = length edits } ∷ [])
+      → Leaves limit documents entries id (Ready e) numbers' documents' (entries ++ record { document = k; revision = length edits } ∷ []) (moved index k (length entries + 1))
   stores e s room numbers' documents' at other this rest stay more =
       let ok = acceptable_in (journal_of documents entries) id edits (kept_of limit numbers documents entries st id k edits was) one e st.legal s.0 s.1 in (
         filed_more limit numbers documents entries st id k edits was e ok room numbers' documents' at other this rest stay more,
         journal_is limit numbers documents entries st id k edits was e ok room numbers' documents' at other this rest stay more,
+        indexed_more limit numbers documents entries index st ix id k edits was e ok room numbers' documents' at other this rest stay more,
       )
 
 -- an edit of a document that is there
 module _ (limit : ℕ) (numbers : List ℕ → Option ℕ) (documents : List Document) (entries : List Entry) (st : IsFiled limit numbers (files documents) entries) (k : ℕ) (d : Document) (at : slice_get documents k ≡ Some d) where
-  filed_at : slice_get (files documents) k ≡ Some (filed d)
+  pub filed_at : slice_get (files documents) k ≡ Some (filed d)
   filed_at = slice_get-map filed documents k ∙ ap (option_map filed) at
 
   same_files : (d' : Document) → filed d' ≡ filed d → files (slice_set documents k d') ≡ files documents
@@ -107,34 +112,36 @@ module _ (limit : ℕ) (numbers : List ℕ → Option ℕ) (documents : List Doc
   pub mark_counted : IsRevTree d.tree.edits → (count : ℕ) → count ≡ deleted_in (journal_of (files documents) entries) → one_if (is_deleted (leaves_of d.tree.edits [])) ≤ count
   mark_counted tree count c = omega (arith, c, ap one_if (mark_at tree), deleted_some (journal_of (files documents) entries) d.id)
 
-  pub unchanged : (d' : Document) (entries' : List Entry) → filed d' ≡ filed d → entries' ≡ entries → IsFiled limit numbers (files (slice_set documents k d')) entries' × (journal_of (files (slice_set documents k d')) entries' ≡ journal_of (files documents) entries)
-  unchanged d' entries' e es = rw (same_files d' e, es) (st, refl)
+  pub unchanged : (index index' : List (ℕ × ℕ)) → IsIndexed (files documents) entries index → (d' : Document) (entries' : List Entry) → filed d' ≡ filed d → entries' ≡ entries → index' ≡ index
+      → IsFiled limit numbers (files (slice_set documents k d')) entries' × (journal_of (files (slice_set documents k d')) entries' ≡ journal_of (files documents) entries) × IsIndexed (files (slice_set documents k d')) entries' index'
+  unchanged index index' ix d' entries' e es is = rw (same_files d' e, es, is) (st, refl, ix)
 
-  leaves_so : (tree : IsRevTree d.tree.edits) (l : Looked) (room : (e : Edit) → l ≡ Ready e → length entries < limit) (d' : Document) (entries' : List Entry)
-      → IsStorable d.tree.edits l → filed d' ≡ after l (filed d) (length entries + 1) → entries' ≡ grown l entries (record { document = k; revision = length d.tree.edits })
-      → Leaves limit (files documents) entries d.id l numbers (files (slice_set documents k d')) entries'
-  leaves_so tree (Ready x) room d' entries' s e es =
+  leaves_so : (index index' : List (ℕ × ℕ)) → IsIndexed (files documents) entries index → (tree : IsRevTree d.tree.edits) (l : Looked) (room : (e : Edit) → l ≡ Ready e → length entries < limit) (d' : Document) (entries' : List Entry)
+      → IsStorable d.tree.edits l → filed d' ≡ after l (filed d) (length entries + 1) → entries' ≡ grown l entries (record { document = k; revision = length d.tree.edits }) → index' ≡ rowed l index k (length entries + 1)
+      → Leaves limit (files documents) entries d.id l numbers (files (slice_set documents k d')) entries' index'
+  leaves_so index index' ix tree (Ready x) room d' entries' s e es is =
       let within : k < length documents = slice_get_within documents k d at in
       let now : slice_get (files (slice_set documents k d')) k ≡ Some (filed d') = slice_get-map filed (slice_set documents k d') k ∙ ap (option_map filed) (get_set documents k d' within) in
-      rw es (stores limit numbers (files documents) entries st d.id k d.tree.edits (inl (st.own k (filed d) filed_at, (filed d, filed_at, refl))) tree.one x s (room x refl) numbers (files (slice_set documents k d'))
+      rw (es, is) (stores limit numbers (files documents) entries st index ix d.id k d.tree.edits (inl (st.own k (filed d) filed_at, (filed d, filed_at, refl))) tree.one x s (room x refl) numbers (files (slice_set documents k d'))
       (now ∙ ap Some e)
       (λ j n. slice_get-map filed (slice_set documents k d') j ∙ (ap (option_map filed) (get_set_other documents k d' j n) ∙ sym (slice_get-map filed documents j)))
       (st.own k (filed d) filed_at) (λ q n. refl)
       (λ f g. let l : length (files (slice_set documents k d')) ≡ length (slice_set documents k d') = length-map (slice_set documents k d') filed in omega (arith, l, length-set documents k d', length-map documents filed))
       (λ g. absurd (none-some (filed d) (sym g ∙ filed_at))))
-  leaves_so tree Known room d' entries' s e es = rw (same_files d' e, es) (st, refl)
-  leaves_so tree (Refused fault) room d' entries' s e es = rw (same_files d' e, es) (st, refl)
+  leaves_so index index' ix tree Known room d' entries' s e es is = rw (same_files d' e, es, is) (st, refl, ix)
+  leaves_so index index' ix tree (Refused fault) room d' entries' s e es is = rw (same_files d' e, es, is) (st, refl, ix)
 
   -- what storing it leaves
-  pub extended : (id : List ℕ) → numbers id ≡ Some k → IsRevTree d.tree.edits → (edit : Incoming) (d' : Document) (entries' : List Entry) (o : Outcome Revision)
-      → Extends (nat_le limit (length entries)) k edit (filed d) (filed d') entries entries' o → IsRevTree d'.tree.edits
+  pub extended : (index index' : List (ℕ × ℕ)) → IsIndexed (files documents) entries index → (id : List ℕ) → numbers id ≡ Some k → IsRevTree d.tree.edits → (edit : Incoming) (d' : Document) (entries' : List Entry) (o : Outcome Revision)
+      → Extends (nat_le limit (length entries)) k edit (filed d) (filed d') entries entries' index index' o → IsRevTree d'.tree.edits
       → (count count' : ℕ) → count ≡ deleted_in (journal_of (files documents) entries) → count' + one_if (is_deleted (leaves_of d.tree.edits [])) ≡ count + one_if (is_deleted (leaves_of d'.tree.edits []))
       → IsFiled limit numbers (files (slice_set documents k d')) entries'
       × (stores_edit limit (journal_of (files documents) entries) id edit ≡ record { outcome = o; journal = journal_of (files (slice_set documents k d')) entries' })
       × (count' ≡ deleted_in (journal_of (files (slice_set documents k d')) entries'))
-  extended id there tree edit d' entries' o x tree' count count' c h =
+      × IsIndexed (files (slice_set documents k d')) entries' index'
+  extended index index' ix id there tree edit d' entries' o x tree' count count' c h =
       let l : Looked = unless_full (nat_le limit (length entries)) (look_at d.id d.tree.edits edit) in
-      let left = leaves_so tree l (λ e r. room_in limit (length entries) (look_at d.id d.tree.edits edit) e r) d' entries' x.storable x.filed x.journal in
+      let left = leaves_so index index' ix tree l (λ e r. room_in limit (length entries) (look_at d.id d.tree.edits edit) e r) d' entries' x.storable x.filed x.journal x.index in
       let full : nat_le limit (length (journal_of (files documents) entries)) ≡ nat_le limit (length entries) = ap (nat_le limit) (length-map entries (edit_at (files documents))) in
       let f = st.found id k there in
       let this : d.id ≡ id = ap (λ (z : Filed). z.id) (same_Some (filed d) f.0 (sym filed_at ∙ f.1)) ∙ f.2 in
@@ -148,6 +155,7 @@ module _ (limit : ℕ) (numbers : List ℕ → Option ℕ) (documents : List Doc
         left.0,
         subst (λ i. stores_edit limit (journal_of (files documents) entries) i edit ≡ record { outcome = o; journal = journal_of (files (slice_set documents k d')) entries' }) this answers,
         counted_on (journal_of (files documents) entries) (journal_of (files (slice_set documents k d')) entries') d.id l left.1 count count' (is_deleted (leaves_of d.tree.edits [])) (is_deleted (leaves_of d'.tree.edits [])) (mark_at tree) mark_now c h,
+        left.2,
       )
     where
       id_stays : (l : Looked) (f : Filed) (n : ℕ) (g : Filed) → g ≡ after l f n → g.id ≡ f.id
@@ -159,12 +167,12 @@ module _ (limit : ℕ) (numbers : List ℕ → Option ℕ) (documents : List Doc
 abbrev pub unwritten : List ℕ → Filed
 unwritten id = record { id = id; latest = 0; edits = [] }
 
-inserted : (limit : ℕ) (numbers : List ℕ → Option ℕ) (documents : List Document) (entries : List Entry) → IsFiled limit numbers (files documents) entries → (id : List ℕ) → numbers id ≡ None
-    → (l : Looked) (room : (e : Edit) → l ≡ Ready e → length entries < limit) (numbers' : List ℕ → Option ℕ) (documents' : List Document) (entries' : List Entry)
+inserted : (limit : ℕ) (numbers : List ℕ → Option ℕ) (documents : List Document) (entries : List Entry) → IsFiled limit numbers (files documents) entries → (index : List (ℕ × ℕ)) → IsIndexed (files documents) entries index → (id : List ℕ) → numbers id ≡ None
+    → (l : Looked) (room : (e : Edit) → l ≡ Ready e → length entries < limit) (numbers' : List ℕ → Option ℕ) (documents' : List Document) (entries' : List Entry) (index' : List (ℕ × ℕ))
     → IsStorable [] l → files documents' ≡ grown l (files documents) (after l (unwritten id) (length entries + 1))
-    → entries' ≡ grown l entries (record { document = length documents; revision = 0 }) → ((q : List ℕ) → numbers' q ≡ numbered l numbers id (length documents) q)
-    → Leaves limit (files documents) entries id l numbers' (files documents') entries'
-inserted limit numbers documents entries st id absent l room numbers' documents' entries' s fs es ns = rw (fs, es) (at l s room ns)
+    → entries' ≡ grown l entries (record { document = length documents; revision = 0 }) → ((q : List ℕ) → numbers' q ≡ numbered l numbers id (length documents) q) → index' ≡ rowed l index (length documents) (length entries + 1)
+    → Leaves limit (files documents) entries id l numbers' (files documents') entries' index'
+inserted limit numbers documents entries st index ix id absent l room numbers' documents' entries' index' s fs es ns is = rw (fs, es, is) (at l s room ns)
   where
     many_files : length (files documents) ≡ length documents
     many_files = length-map documents filed
@@ -173,17 +181,17 @@ inserted limit numbers documents entries st id absent l room numbers' documents'
     past = slice_get_past (files documents) (length documents) (omega (arith, many_files))
 
     at : (l : Looked) → IsStorable [] l → ((e : Edit) → l ≡ Ready e → length entries < limit) → ((q : List ℕ) → numbers' q ≡ numbered l numbers id (length documents) q)
-        → Leaves limit (files documents) entries id l numbers' (grown l (files documents) (after l (unwritten id) (length entries + 1))) (grown l entries (record { document = length documents; revision = 0 }))
+        → Leaves limit (files documents) entries id l numbers' (grown l (files documents) (after l (unwritten id) (length entries + 1))) (grown l entries (record { document = length documents; revision = 0 })) (rowed l index (length documents) (length entries + 1))
     at (Ready e) s room ns =
         let new : Filed = record { id = id; latest = length entries + 1; edits = e ∷ [] } in
-        stores limit numbers (files documents) entries st id (length documents) [] (inr (absent, past, refl)) refl e s (room e refl) numbers' (files documents ++ new ∷ [])
+        stores limit numbers (files documents) entries st index ix id (length documents) [] (inr (absent, past, refl)) refl e s (room e refl) numbers' (files documents ++ new ∷ [])
         (subst (λ n. slice_get (files documents ++ new ∷ []) n ≡ Some new) many_files (get_push (files documents) new))
         (λ j n. get_push_other (files documents) new j (λ e. n (e ∙ many_files)))
         (ns id ∙ ap (λ b. if b then Some (length documents) else numbers id) (text_same id id refl))
         (λ q n. ns q ∙ ap (λ b. if b then Some (length documents) else numbers q) (text_apart id q (λ e. n (sym e))))
         (λ d g. absurd (none-some d (sym past ∙ g))) (λ g. length_push (files documents) new)
-    at Known s room ns = let same : numbers' ≡ numbers = λ i q. ns q i in (subst (λ f. IsFiled limit f (files documents) entries) (sym same) st, refl)
-    at (Refused fault) s room ns = let same : numbers' ≡ numbers = λ i q. ns q i in (subst (λ f. IsFiled limit f (files documents) entries) (sym same) st, refl)
+    at Known s room ns = let same : numbers' ≡ numbers = λ i q. ns q i in (subst (λ f. IsFiled limit f (files documents) entries) (sym same) st, refl, ix)
+    at (Refused fault) s room ns = let same : numbers' ≡ numbers = λ i q. ns q i in (subst (λ f. IsFiled limit f (files documents) entries) (sym same) st, refl, ix)
 
 -- the count after it
 first_counted : (J J' : List Edit) (id : List ℕ) (l : Looked) (n count count' : ℕ) → J' ≡ joined id l J → edits_of J id ≡ [] → IsStorable [] l → count ≡ deleted_in J
@@ -203,8 +211,8 @@ pub first_stored : (full : Bool) (id : List ℕ) (edit : Incoming) (old new : St
     → d ≡ record { id = none.id; latest = length old.journal.items + 1; edits = none.edits ++ e ∷ [] } → number ≡ length old.documents.items
     → files new.documents.items ≡ files old.documents.items ++ d ∷ [] → new.journal.items ≡ old.journal.items ++ record { document = number; revision = length none.edits } ∷ []
     → ((q : List ℕ) → get_by_text new.numbers q ≡ update bytes_eq (get_by_text old.numbers) id (Some number) q)
-    → new.deleted ≡ old.deleted + one_if (is_deleted (leaves_of d.edits [])) → Inserts full id edit old new (outcome.Stored r)
-first_stored full id edit old new none d l e r number first looked ready storable head now place fs js ns count =
+    → new.deleted ≡ old.deleted + one_if (is_deleted (leaves_of d.edits [])) → new.index ≡ moved old.index number (length old.journal.items + 1) → Inserts full id edit old new (outcome.Stored r)
+first_stored full id edit old new none d l e r number first looked ready storable head now place fs js ns count rows =
     let is : unless_full full (look_at id [] edit) ≡ Ready e = sym (ap (λ (z : Filed). unless_full full (look_at z.id z.edits edit)) first) ∙ (sym looked ∙ ready) in
     let filed_now : d ≡ after (Ready e) (unwritten id) (length old.journal.items + 1) = now ∙ ap (λ (z : Filed). record { id = z.id; latest = length old.journal.items + 1; edits = z.edits ++ e ∷ [] }) first in
     record {
@@ -216,35 +224,37 @@ first_stored full id edit old new none d l e r number first looked ready storabl
       numbers = λ q. ns q ∙ (ap (λ n. update bytes_eq (get_by_text old.numbers) id (Some n) q) place ∙ sym (ap (λ k. numbered k (get_by_text old.numbers) id (length old.documents.items) q) is));
       storable = subst (IsStorable []) (ready ∙ sym is) (subst (λ (z : Filed). IsStorable z.edits l) first storable);
       deleted = count ∙ (ap (λ (z : Filed). old.deleted + one_if (is_deleted (leaves_of z.edits []))) filed_now ∙ sym (ap (λ k. old.deleted + one_if (is_deleted (leaves_of (after k (unwritten id) 0).edits []))) is));
+      index = rows ∙ (ap (λ n. moved old.index n (length old.journal.items + 1)) place ∙ sym (ap (λ k. rowed k old.index (length old.documents.items) (length old.journal.items + 1)) is));
     }
 
 -- what storing it leaves
-pub inserted_so : (old new : Store) → IsStore old → IsCounted old → (id : List ℕ) → get_by_text old.numbers id ≡ None → (edit : Incoming) (o : Outcome Revision)
+pub inserted_so : (old new : Store) → IsStore old → IsCounted old → HasRows old → (id : List ℕ) → get_by_text old.numbers id ≡ None → (edit : Incoming) (o : Outcome Revision)
     → Inserts (nat_le old.limits.journal (length old.journal.items)) id edit old new o → new.limits ≡ old.limits
-    → IsStore new × (stores_edit old.limits.journal (edits_of_store old) id edit ≡ record { outcome = o; journal = edits_of_store new }) × IsCounted new
-inserted_so old new st counted id absent edit o x stay =
+    → IsStore new × (stores_edit old.limits.journal (edits_of_store old) id edit ≡ record { outcome = o; journal = edits_of_store new }) × IsCounted new × HasRows new
+inserted_so old new st counted ix id absent edit o x stay =
     let l : Looked = unless_full (nat_le old.limits.journal (length old.journal.items)) (look_at id [] edit) in
-    let left = inserted old.limits.journal (get_by_text old.numbers) old.documents.items old.journal.items st id absent l (λ e r. room_in old.limits.journal (length old.journal.items) (look_at id [] edit) e r) (get_by_text new.numbers) new.documents.items new.journal.items x.storable x.files x.journal x.numbers in
+    let left = inserted old.limits.journal (get_by_text old.numbers) old.documents.items old.journal.items st old.index ix id absent l (λ e r. room_in old.limits.journal (length old.journal.items) (look_at id [] edit) e r) (get_by_text new.numbers) new.documents.items new.journal.items new.index x.storable x.files x.journal x.numbers x.index in
     let none : edits_of (edits_of_store old) id ≡ [] = st.others id absent in
     let full : nat_le old.limits.journal (length (edits_of_store old)) ≡ nat_le old.limits.journal (length old.journal.items) = ap (nat_le old.limits.journal) (length-map old.journal.items (edit_at (files old.documents.items))) in
     let said = stores_by (edits_of_store old) id [] none refl old.limits.journal (nat_le old.limits.journal (length old.journal.items)) full edit in (
       rw stay left.0,
       said ∙ (ap (λ (a : Outcome Revision). record { outcome = a; journal = joined id l (edits_of_store old) }) (sym x.answer) ∙ ap (λ (J : List Edit). record { outcome = o; journal = J }) (sym left.1)),
       first_counted (edits_of_store old) (edits_of_store new) id l 0 old.deleted new.deleted left.1 none x.storable counted x.deleted,
+      left.2,
     )
 
 -- a call that changed nothing
-pub same_store : (old new : Store) → IsStore old → IsCounted old → IsSameStore old new → new.limits ≡ old.limits → IsStore new × IsCounted new × (edits_of_store new ≡ edits_of_store old)
-same_store old new st counted w stay =
+pub same_store : (old new : Store) → IsStore old → IsCounted old → HasRows old → IsSameStore old new → new.limits ≡ old.limits → IsStore new × IsCounted new × (edits_of_store new ≡ edits_of_store old) × HasRows new
+same_store old new st counted ix w stay =
     let same : get_by_text new.numbers ≡ get_by_text old.numbers = λ i q. w.numbers q i in
-    (rw (stay, same, w.documents, w.journal) st, rw (w.deleted, w.documents, w.journal) counted, rw (w.documents, w.journal) refl)
+    (rw (stay, same, w.documents, w.journal) st, rw (w.deleted, w.documents, w.journal) counted, rw (w.documents, w.journal) refl, rw (w.documents, w.journal, w.index) ix)
 
 -- what the call leaves
-pub inserted_all : (old new : Store) → IsStore old → IsCounted old → (id : List ℕ) → get_by_text old.numbers id ≡ None → (edit : Incoming) (result : Result (Outcome Revision) AllocError)
+pub inserted_all : (old new : Store) → IsStore old → IsCounted old → HasRows old → (id : List ℕ) → get_by_text old.numbers id ≡ None → (edit : Incoming) (result : Result (Outcome Revision) AllocError)
     → IfOk result (Inserts (nat_le old.limits.journal (length old.journal.items)) id edit old new) → OnErr result (IsSameStore old new) → new.limits ≡ old.limits
-    → IsStore new × IfOk result (λ o. stores_edit old.limits.journal (edits_of_store old) id edit ≡ record { outcome = o; journal = edits_of_store new }) × IsCounted new
-inserted_all old new st counted id absent edit (Ok o) x w stay = let left = inserted_so old new st counted id absent edit o x stay in (left.0, left.1, left.2)
-inserted_all old new st counted id absent edit (Err e) x w stay = let left = same_store old new st counted w stay in (left.0, tt, left.1)
+    → IsStore new × IfOk result (λ o. stores_edit old.limits.journal (edits_of_store old) id edit ≡ record { outcome = o; journal = edits_of_store new }) × IsCounted new × HasRows new
+inserted_all old new st counted ix id absent edit (Ok o) x w stay = let left = inserted_so old new st counted ix id absent edit o x stay in (left.0, left.1, left.2, left.3)
+inserted_all old new st counted ix id absent edit (Err e) x w stay = let left = same_store old new st counted ix w stay in (left.0, tt, left.1, left.3)
 
 pub get_at : {A : Type 0} (xs : List A) (k : ℕ) (d : A) → k < length xs → d ≡ get_or xs k d → slice_get xs k ≡ Some d
 get_at [] k d h e = absurd (omega arith)
@@ -259,3 +269,15 @@ number_below limit numbers documents entries st id k there = let f = st.found id
 pub on_err : {T E : Type 0} (result : Result T E) (P : Type 0) → P → OnErr result P
 on_err (Ok x) P p = tt
 on_err (Err e) P p = p
+
+-- a number past the documents has no row
+pub no_row : (store : Store) → HasRows store → seq_of (length store.documents.items) store.index ≡ None
+no_row store ix = ix.none (length store.documents.items) (slice_get_past (files store.documents.items) (length store.documents.items) (omega (arith, length-map store.documents.items filed)))
+
+-- a number that was given and taken back
+pub taken_back : {X : Type 0} (f g h : List ℕ → Option X) (id : List ℕ) (v : Option X) → ((q : List ℕ) → g q ≡ update bytes_eq f id v q) → ((q : List ℕ) → h q ≡ update bytes_eq g id None q) → f id ≡ None → (q : List ℕ) → h q ≡ f q
+taken_back f g h id v given taken none q = taken q ∙ from (same_text id q)
+  where
+    from : (id ≡ q) ⊎ (id ≢ q) → update bytes_eq g id None q ≡ f q
+    from (inl e) = ap (λ b. if b then None else g q) (text_same id q e) ∙ (sym none ∙ ap f e)
+    from (inr n) = ap (λ b. if b then None else g q) (text_apart id q n) ∙ (given q ∙ ap (λ b. if b then v else f q) (text_apart id q n))

@@ -1,7 +1,7 @@
 -- The feeds of a database (CouchDB API reference, _changes; how many there may be is own).
 use Rattle.std.specs.Prelude.{ℕ, ◌+◌, ◌-◌, ◌^◌, List, [], ◌∷◌, ◌++◌, length, map, filter, find, not, Bool, ◌||◌, nat_le, nat_eq, if◌then◌else◌, Option, Some, None, option_map, option_and_then}
 use Rattle.hub_model.specs.Current.{current}
-use Rattle.hub_model.specs.Feed.{Feed, Params, begin, due, after_due, after_nothing}
+use Rattle.hub_model.specs.Feed.{Feed, Params, Due, DueGone, begin, due, after_due, after_nothing}
 use Rattle.hub_model.specs.Hand.{change_due}
 use Rattle.hub_model.specs.Journal.{Edit}
 use Rattle.hub_model.specs.Row.{ChangeRow, row_of}
@@ -35,6 +35,15 @@ opened db params = record db { feeds = db.feeds ++ (db.next_feed, begin params (
 abbrev pub item_due : Database → ℕ → Option (Item ChangeRow)
 item_due db id = option_and_then (change_due db.journal) (feed_in id db.feeds)
 
+-- what is due to a feed of a journal: nothing any more where there is no feed
+abbrev pub due_of : List Edit → Option Feed → Due
+due_of J None = DueGone
+due_of J (Some f) = due (current J) f
+
+-- and to the feed of this number of a database
+abbrev pub due_to : Database → ℕ → Due
+due_to db id = due_of db.journal (feed_in id db.feeds)
+
 -- what a feed of a journal answers
 abbrev pub answer_of : List Edit → Option Feed → Next ChangeRow
 answer_of J None = Gone
@@ -44,11 +53,15 @@ answer_of J (Some f) = next_of (row_of J f.params.style f.params.include_docs) (
 abbrev pub answered : Database → ℕ → Next ChangeRow
 answered db id = answer_of db.journal (feed_in id db.feeds)
 
--- the database behind such an answer: only a feed that has nothing to hand moves, to the journal's length
+-- the feeds behind such an answer: only one that has nothing to hand moves, to the journal's length
+abbrev pub feeds_behind : ℕ → ℕ → Next ChangeRow → List (ℕ × Feed) → List (ℕ × Feed)
+feeds_behind id len (Give item) feeds = feeds
+feeds_behind id len Nothing feeds = changed id (λ f. after_nothing f len) feeds
+feeds_behind id len Gone feeds = feeds
+
+-- the database behind it
 abbrev pub behind_answer : Database → ℕ → Next ChangeRow → Database
-behind_answer db id (Give item) = db
-behind_answer db id Nothing = record db { feeds = changed id (λ f. after_nothing f (length db.journal)) db.feeds }
-behind_answer db id Gone = db
+behind_answer db id next = record db { feeds = feeds_behind id (length db.journal) next db.feeds }
 
 -- the database once the item that is due to the feed was handed
 abbrev pub handed : Database → ℕ → Database

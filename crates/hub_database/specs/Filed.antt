@@ -1,7 +1,7 @@
 -- The documents of a database with their trees, and the journal that they make up (own).
-use Rattle.std.specs.Prelude.{◌≡◌, ℕ, ◌+◌, ◌<◌, ◌≤◌, List, [], length, drop, map, slice_get, get_or, false, not, nat_eq, Option, Some, None}
+use Rattle.std.specs.Prelude.{◌≡◌, ℕ, ◌<◌, ◌≤◌, List, [], length, map, slice_get, get_or, false, Option, Some, None}
 use Rattle.hub_model.specs.Journal.{Edit, IsLegal, edits_of}
-use Rattle.hub_model.specs.Current.{current, is_edited}
+use Rattle.hub_model.specs.Current.{current}
 use Rattle.hub_database.specs.declared.entry.Entry.{Entry}
 
 -- a document: its id, the sequence of its latest edit, and its edits with their id left out
@@ -37,7 +37,6 @@ pub record IsFiled (limit : ℕ) (numbers : List ℕ → Option ℕ) (documents 
   pub kept : (k : ℕ) (d : Filed) → slice_get documents k ≡ Some d → edits_of (journal_of documents entries) d.id ≡ map (named d.id) d.edits
   pub others : (id : List ℕ) → numbers id ≡ None → edits_of (journal_of documents entries) id ≡ []
   pub within : (i : ℕ) (x : Entry) → slice_get entries i ≡ Some x → (d : Filed) × (slice_get documents x.document ≡ Some d) × (x.revision < length d.edits)
-  pub latest : (i : ℕ) (x : Entry) (d : Filed) → slice_get entries i ≡ Some x → slice_get documents x.document ≡ Some d → is_edited d.id (drop (i + 1) (journal_of documents entries)) ≡ not (nat_eq d.latest (i + 1))
   pub legal : IsLegal (journal_of documents entries)
   pub count : length entries ≤ limit
   pub fewer : length documents ≤ length entries

@@ -1,9 +1,13 @@
 pub mod Database
 pub mod Edits
+pub mod Falling
 pub mod Feeds
 pub mod Filed
+pub mod Followed
 pub mod Found
+pub mod Indexed
 pub mod Kept
+pub mod Laid
 pub mod Locals
 pub mod Looked
 pub mod Reads

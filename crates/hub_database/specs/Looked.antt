@@ -9,6 +9,7 @@ use Rattle.hub_model.specs.declared.outcomes.Outcome.{Outcome}
 use Rattle.hub_model.specs.declared.outcomes.Outcome.TheVariants as outcome
 use Rattle.hub_model.specs.Outcome.{Stores, merges}
 use Rattle.hub_model.specs.Draft.{makes}
+use Rattle.hub_index.specs.Rows.{moved}
 use Rattle.hub_revtree.specs.Extend.{draft, extends}
 use Rattle.hub_revtree.specs.Tree.{nameless}
 use Rattle.hub_revtree.specs.declared.fault.EditFault.{EditFault}
@@ -75,6 +76,11 @@ abbrev pub grown : {A : Type 0} → Looked → List A → A → List A
 grown (Ready e) xs x = xs ++ x ∷ []
 grown l xs x = xs
 
+-- the rows with that of this document at their end, if the edit is stored
+abbrev pub rowed : Looked → List (ℕ × ℕ) → ℕ → ℕ → List (ℕ × ℕ)
+rowed (Ready e) rows k n = moved rows k n
+rowed l rows k n = rows
+
 -- the journal with the edit at its end, if it is stored
 abbrev pub joined : List ℕ → Looked → List Edit → List Edit
 joined id (Ready e) J = J ++ named id e ∷ []
@@ -91,8 +97,9 @@ numbered (Ready e) numbers id k = update bytes_eq numbers id (Some k)
 numbered l numbers id k = numbers
 
 -- what storing an edit leaves: L is what a look says of it
-pub record Extends (full : Bool) (number : ℕ) (edit : Incoming) (old new : Filed) (before later : List Entry) (o : Outcome Revision) : Type 0 where
+pub record Extends (full : Bool) (number : ℕ) (edit : Incoming) (old new : Filed) (before later : List Entry) (rows rows_later : List (ℕ × ℕ)) (o : Outcome Revision) : Type 0 where
   pub answer : o ≡ outcome_of (unless_full full (look_at old.id old.edits edit))
   pub filed : new ≡ after (unless_full full (look_at old.id old.edits edit)) old (length before + 1)
   pub journal : later ≡ grown (unless_full full (look_at old.id old.edits edit)) before (record { document = number; revision = length old.edits })
   pub storable : IsStorable old.edits (unless_full full (look_at old.id old.edits edit))
+  pub index : rows_later ≡ rowed (unless_full full (look_at old.id old.edits edit)) rows number (length before + 1)

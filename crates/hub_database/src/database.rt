@@ -1,14 +1,11 @@
 //! One database.
 
-ghost use Rattle.std.specs.Prelude.{◌≡◌, ◌⊎◌, ◌<◌, ◌≤◌, [], false, true, length, map, take, IfOk, IfErr, IsTrue};
-ghost use Rattle.hub_model.specs.Current.{current};
+ghost use Rattle.std.specs.Prelude.{◌≡◌, ◌⊎◌, ◌<◌, ◌≤◌, [], false, true, length, take, IfOk, IfErr, IsTrue};
 ghost use Rattle.hub_model.specs.Journal.{IsLegal};
 ghost use Rattle.hub_model.specs.Draft.{makes};
 ghost use Rattle.hub_model.specs.Outcome.{refuses};
 ghost use Rattle.hub_model.specs.declared.outcomes.Fault.{Fault};
 ghost use Rattle.hub_model.specs.declared.outcomes.Outcome.TheVariants.{Stored};
-ghost use Rattle.hub_model.specs.Row.{row_of};
-ghost use Rattle.hub_model.specs.declared.feeds.Style.TheVariants.{MainOnly};
 ghost use Rattle.hub_database.specs.Edits.{draft_of, writes, reply_of};
 ghost use Rattle.hub_database.specs.Reads.{info_of};
 
@@ -16,19 +13,24 @@ use crate::answers::Info;
 use crate::batch::{Batch, DbFault, Replies};
 use crate::local::Local;
 use crate::store::Store;
-use hub_document::{ChangeRow, Doc, Limits, RevId};
+use hub_document::{Doc, Limits, RevId};
+use hub_feed::FeedState;
 use hub_model::{Fault, Outcome};
 use std::alloc::{AllocError, Global};
 use std::collections::BTreeMap;
 use std::marker::Model;
 
-/// The state of one database: the journal of its accepted edits, the tree of each document, and
-/// the limits.
+/// The state of one database: the journal of its accepted edits, the tree of each document, its
+/// feeds, and the limits.
 #[derive(Debug, Drop)]
 pub struct DbState {
     pub(crate) store: Store,
     /// The local documents by their ids.
     pub(crate) locals: BTreeMap<String, Local>,
+    /// The feeds that are not finished, by their numbers, which rise.
+    pub(crate) feeds: Vec<(u64, FeedState)>,
+    /// The number of the next feed.
+    pub(crate) next_feed: u64,
 }
 
 impl Model for DbState {
@@ -36,13 +38,14 @@ impl Model for DbState {
 
     ghost Value = { Database };
 
-    ghost use Rattle.std.specs.Prelude.{[]};
+    ghost use Rattle.std.specs.Prelude.{length};
+    ghost use Rattle.hub_database.specs.Followed.{AreFeeds};
     ghost use Rattle.hub_database.specs.Kept.{kept};
-    ghost use Rattle.hub_database.specs.Store.{IsStore, IsCounted, edits_of_store};
+    ghost use Rattle.hub_database.specs.Store.{IsStore, IsCounted, HasRows, edits_of_store};
 
-    ghost view = { λ a. record { journal = edits_of_store a.store; locals = kept a.locals; feeds = []; next_feed = 0; limits = a.store.limits } };
+    ghost view = { λ a. record { journal = edits_of_store a.store; locals = kept a.locals; feeds = a.feeds.items; next_feed = a.next_feed; limits = a.store.limits } };
 
-    ghost invariant = { λ a. IsStore a.store × IsCounted a.store };
+    ghost invariant = { λ a. IsStore a.store × IsCounted a.store × HasRows a.store × AreFeeds (length (edits_of_store a.store)) a.next_feed a.feeds.items };
 }
 
 // What a call answers whose edit came so. No edit that is made here was known before.
@@ -68,6 +71,8 @@ impl DbState {
         DbState {
             store: Store::new(alloc, limits),
             locals: BTreeMap::new(alloc),
+            feeds: Vec::new(alloc),
+            next_feed: 0,
         }
     }
 
@@ -140,13 +145,5 @@ impl DbState {
             doc_del_count,
             update_seq: self.update_seq(),
         }
-    }
-
-    /// The current rows, rising, each with the winner (CouchDB API reference, `_changes` with
-    /// `style=main_only`). It goes once through the journal, and finds the winner of each document.
-    pub fn rows(&self) -> Result<Vec<ChangeRow>, AllocError>
-        ensures { IfOk result (λ rows. rows.items ≡ map (row_of self.now.journal MainOnly false) (current self.now.journal)) }
-    {
-        self.store.rows()
     }
 }

@@ -1,11 +1,18 @@
 //! Descending answers.
 
-ghost use Rattle.std.specs.Prelude.{◌≡◌, IfOk};
-ghost use Rattle.hub_model.specs.Descending.{descending};
+ghost use Rattle.std.specs.Prelude.{◌≡◌, ◌≤◌, ◌&&◌, map, count_by, nat_lt, IfOk};
+ghost use Rattle.hub_model.specs.Current.{Current, current};
+ghost use Rattle.hub_model.specs.Descending.{descending, falling_rows};
+ghost use Rattle.hub_model.specs.Feed.{since_of};
+ghost use Rattle.hub_model.specs.Row.{row_of};
+ghost use Rattle.hub_database.specs.Falling.{lowest_row, most_of};
 ghost use Rattle.hub_params.specs.FeedModel.{params_of};
 
 use crate::database::DbState;
+use crate::rows::Rows;
 use hub_document::ChangeRow;
+use hub_feed::Source;
+use hub_model::Since;
 use hub_params::FeedParams;
 use std::alloc::AllocError;
 use std::marker::Model;
@@ -23,11 +30,76 @@ pub struct Descending {
 }
 
 impl Model for Descending {
+    ghost use Rattle.hub_model.specs.Current.{Current, current};
     ghost use Rattle.hub_model.specs.Descending.{Descending as Falling};
 
     ghost Value = { Falling };
 
     ghost view = { λ a. record { rows = a.rows.items; last_seq = a.last_seq; pending = a.pending } };
+}
+
+// What a feed shows that lies above, while there are `length` edits.
+fn since_of(since: Since, length: u64) -> u64
+    ensures { result ≡ since_of since length }
+{
+    match since {
+        Since::From(seq) => seq.min(length),
+        Since::Now => length,
+    }
+}
+
+// How many rows are shown at most, of so many.
+fn most_of(limit: Option<u64>, length: u64) -> u64
+    ensures { result ≡ most_of limit length }
+{
+    match limit {
+        Some(limit) => limit.max(1),
+        None => length,
+    }
+}
+
+// The last row's sequence, or where the feed began.
+fn lowest_row(rows: &[ChangeRow], since: u64) -> u64
+    ensures { result ≡ lowest_row since rows.now }
+{
+    match rows.last() {
+        Some(row) => row.seq,
+        None => since,
+    }
+}
+
+impl Rows<'_> {
+    // How many current rows lie above `since` and below `last_seq`, which is no lower.
+    fn count_between(&self, since: u64, last_seq: u64) -> u64
+        requires { since ≤ last_seq }
+        ensures { result ≡ count_by (λ (c : Current). nat_lt since c.seq && nat_lt c.seq last_seq) (current self.now) }
+    {
+        let above = self.count_after(last_seq.saturating_sub(1));
+        self.count_after(since).saturating_sub(above)
+    }
+
+    // The current rows above `since` that pass, the greatest sequence first, up to the limit.
+    fn falling(&self, params: &FeedParams, since: u64) -> Result<Vec<ChangeRow>, AllocError>
+        ensures { let asked = params_of params.now in IfOk result (λ rows. rows.items ≡ map (row_of self.now asked.style asked.include_docs) (falling_rows self.now asked since)) }
+    {
+        let most = most_of(params.limit, self.length());
+        let mut rows = Vec::new(self.store.alloc);
+        let mut place = self.length() + 1;
+        while (rows.len() as u64) < most {
+            let Some((seq, id)) = self.last_before(place) else {
+                return Ok(rows);
+            };
+            if seq <= since {
+                return Ok(rows);
+            }
+            place = seq;
+            if !params.filter.passes(id) {
+                continue;
+            }
+            rows.push(self.row(seq, params.style, params.include_docs)?)?;
+        }
+        Ok(rows)
+    }
 }
 
 impl DbState {
@@ -38,7 +110,15 @@ impl DbState {
     pub fn changes_descending(&self, params: &FeedParams) -> Result<Descending, AllocError>
         ensures { IfOk result (λ answer. answer ≡ descending self.now.journal (params_of params.now)) }
     {
-        let _unanswered = params;
-        Err(AllocError)
+        let rows = Rows { store: &self.store };
+        let since = since_of(params.since, rows.length());
+        let falling = rows.falling(params, since)?;
+        let last_seq = lowest_row(falling.as_slice(), since);
+        let pending = rows.count_between(since, last_seq);
+        Ok(Descending {
+            rows: falling,
+            last_seq,
+            pending,
+        })
     }
 }

@@ -1,8 +1,10 @@
 //! One document of a database.
 
-ghost use Rattle.std.specs.Prelude.{[], ◌∷◌, ◌++◌, None, Some, ◌≡◌, ◌+◌, ◌<◌, ◌≤◌, ◌^◌, nat_le, length, take, vec_len, vec_capacity, IfOk, OnOk, OnErr};
+ghost use Rattle.std.specs.Prelude.{[], ◌∷◌, ◌++◌, None, Some, ◌≡◌, ◌+◌, ◌<◌, ◌≤◌, ◌^◌, nat_le, length, vec_len, vec_capacity, IfOk, OnErr};
+ghost use Rattle.std.specs.List.{All};
+ghost use Rattle.hub_index.specs.Rows.{seq_of};
 ghost use Rattle.hub_model.specs.Journal.{IsAcceptable, head_of};
-ghost use Rattle.hub_model.specs.Leaves.{leaves_of, revisions_of};
+ghost use Rattle.hub_model.specs.Leaves.{leaves_of};
 ghost use Rattle.hub_model.specs.Row.{is_deleted};
 ghost use Rattle.hub_revtree.specs.Tree.{IsRevTree};
 ghost use Rattle.hub_database.specs.Looked.{IsStorable, HasRoom, look_from, look_at, unless_full, Extends};
@@ -10,7 +12,8 @@ ghost use Rattle.hub_database.specs.Store.{filed};
 ghost use Rattle.hub_database.specs.declared.document.Origin.TheVariants.{Elsewhere, Here};
 
 use crate::entry::Entry;
-use hub_document::{Body, ChangeRow, DocId, Path, RevId, Revisions};
+use hub_document::{Body, DocId, Path, RevId};
+use hub_index::{SeqIndex, TreeIndex};
 use hub_model::{Fault, Outcome};
 use hub_revtree::{EditFault, MergeFault, Ready, RevTree};
 use std::alloc::{AllocError, Global};
@@ -188,19 +191,22 @@ impl Document {
     }
 
     /// Stores one more edit of a document that is there, which has this number. It costs what `look`
-    /// does.
+    /// and `SeqIndex::move_to` do.
     pub(crate) fn extend(
         &mut self,
         journal: &mut Vec<Entry>,
+        index: &mut TreeIndex,
         number: u32,
         limit: u64,
         edit: Incoming,
     ) -> Result<Outcome<RevId>, AllocError>
         requires limit { limit < 2 ^ 32 }
         requires few { length self.old.tree.edits ≤ length journal.old.items }
+        requires own { seq_of number index.old ≡ Some self.old.latest }
+        requires above { All (λ r. r.0 < length journal.old.items + 1) index.old }
         ensures tree { IsRevTree self.old.tree.edits }
-        ensures extended { IfOk result (Extends (nat_le limit (length journal.old.items)) number edit (filed self.old) (filed self.new) journal.old.items journal.new.items) }
-        ensures err { OnErr result ((filed self.new ≡ filed self.old) × (journal.new.items ≡ journal.old.items)) }
+        ensures extended { IfOk result (Extends (nat_le limit (length journal.old.items)) number edit (filed self.old) (filed self.new) journal.old.items journal.new.items index.old index.new) }
+        ensures err { OnErr result ((filed self.new ≡ filed self.old) × (journal.new.items ≡ journal.old.items) × (index.new ≡ index.old)) }
     {
         let full = journal.len() as u64 >= limit;
         match look(&mut self.tree, &self.id, full, edit)? {
@@ -208,30 +214,10 @@ impl Document {
             Looked::Refused(fault) => Ok(Outcome::Refused(fault)),
             Looked::Ready(ready) => {
                 journal.try_reserve(1)?;
+                let latest = u64::from(self.latest);
+                index.move_to(number, Some(latest), journal.len() as u64 + 1)?;
                 Ok(Outcome::Stored(self.take(journal, number, ready)))
             }
         }
-    }
-
-    /// The row of the document, at its latest edit. It costs what `RevTree::best` does.
-    pub(crate) fn row(&self, alloc: Global, seen: u64) -> Result<ChangeRow, AllocError>
-        ensures row { IfOk result (λ row. row ≡ record { seq = self.now.latest; id = self.now.id; changes = take 1 (revisions_of (leaves_of self.now.tree.edits [])); deleted = is_deleted (leaves_of self.now.tree.edits []); doc = None; seen = seen }) }
-        ensures tree { OnOk result (IsRevTree self.now.tree.edits) }
-    {
-        let mut changes = Vec::new(alloc);
-        let mut deleted = false;
-        if let Some(winner) = self.tree.best() {
-            changes.push(winner.rev)?;
-            deleted = winner.deleted;
-        }
-        let id = self.id.copy(alloc)?;
-        Ok(ChangeRow {
-            seq: u64::from(self.latest),
-            id,
-            changes: Revisions::new(changes),
-            deleted,
-            doc: None,
-            seen,
-        })
     }
 }

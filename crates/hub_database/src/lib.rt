@@ -7,8 +7,11 @@ mod database;
 mod descending;
 mod diff;
 mod document;
+mod document_row;
 mod entries;
 mod entry;
+#[cfg(test)]
+mod feed_tests;
 mod feeds;
 mod local;
 #[cfg(test)]
@@ -19,6 +22,7 @@ mod open;
 #[cfg(test)]
 mod read_tests;
 mod reads;
+mod rows;
 mod store;
 #[cfg(test)]
 mod tests;

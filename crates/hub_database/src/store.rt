@@ -1,27 +1,31 @@
 //! Documents with their trees, and the journal.
 
-ghost use Rattle.std.specs.Prelude.{[], false, ◌≡◌, ◌+◌, ◌<◌, ◌≤◌, ◌^◌, nat_le, length, map, IfOk, OnErr};
+ghost use Rattle.std.specs.Prelude.{ℕ, List, [], false, ◌≡◌, ◌+◌, ◌<◌, ◌≤◌, ◌^◌, nat_le, length, string_bytes, IfOk, OnOk, OnErr};
 ghost use Rattle.std.specs.BTreeMap.{get_by_text};
-ghost use Rattle.hub_model.specs.Current.{current};
-ghost use Rattle.hub_model.specs.Row.{row_of};
-ghost use Rattle.hub_model.specs.declared.feeds.Style.TheVariants.{MainOnly};
+ghost use Rattle.std.specs.List.{All};
+ghost use Rattle.std.specs.Map.{update};
+ghost use Rattle.std.specs.Str.{bytes_eq};
+ghost use Rattle.hub_index.specs.Rows.{seq_of, moved};
 ghost use Rattle.hub_database.specs.Edits.{stores_doc};
 ghost use Rattle.hub_database.specs.Looked.{stores_edit};
-ghost use Rattle.hub_database.specs.Store.{IsStore, IsCounted, IsSameStore, Inserts, edits_of_store, one_if};
+ghost use Rattle.hub_database.specs.Store.{IsStore, IsCounted, HasRows, IsSameStore, Inserts, edits_of_store, one_if};
 
 use crate::document::{Document, Incoming, Looked, Origin, look};
 use crate::entry::Entry;
-use hub_document::{ChangeRow, Doc, DocId, Limits, RevId};
+use hub_document::{Doc, DocId, Limits, RevId};
+use hub_index::{SeqIndex, TreeIndex};
 use hub_model::{Fault, Outcome};
 use std::alloc::{AllocError, Global};
 use std::collections::BTreeMap;
 
-/// The documents by number, the numbers by id, the journal, and the limits.
+/// The documents by number, the numbers by id, the journal, the rows of feeds, and the limits.
 #[derive(Debug, Drop)]
 pub(crate) struct Store {
     pub(crate) documents: Vec<Document>,
     pub(crate) numbers: BTreeMap<String, u32>,
     pub(crate) journal: Vec<Entry>,
+    /// The documents' numbers by the sequences of their latest edits.
+    pub(crate) index: TreeIndex,
     /// How many documents have a deleted winner.
     pub(crate) deleted: u64,
     pub(crate) limits: Limits,
@@ -44,10 +48,37 @@ fn recounted(count: u64, was: bool, is: bool) -> u64
     count - 1
 }
 
+// Takes in a new document: its number by its id, and its row. An error leaves both as they were.
+fn enter(
+    numbers: &mut BTreeMap<String, u32>,
+    index: &mut TreeIndex,
+    id: &DocId,
+    key: String,
+    number: u32,
+    seq: u64,
+) -> Result<(), AllocError>
+    requires key { string_bytes key ≡ id.now }
+    requires new { get_by_text numbers.old id.now ≡ None }
+    requires own { seq_of number index.old ≡ None }
+    requires positive { 0 < seq }
+    requires above { All (λ r. r.0 < seq) index.old }
+    ensures numbers { OnOk result ((q : List ℕ) → get_by_text numbers.new q ≡ update bytes_eq (get_by_text numbers.old) id.now (Some number) q) }
+    ensures index { OnOk result (index.new ≡ moved index.old number seq) }
+    ensures err { OnErr result (((q : List ℕ) → get_by_text numbers.new q ≡ get_by_text numbers.old q) × (index.new ≡ index.old)) }
+{
+    numbers.insert(key, number)?;
+    if let Err(AllocError) = index.move_to(number, None, seq) {
+        numbers.remove(id.as_str());
+        return Err(AllocError);
+    }
+    Ok(())
+}
+
 impl Store {
     pub(crate) fn new(alloc: Global, limits: Limits) -> Store
         ensures state { IsStore result }
         ensures counted { IsCounted result }
+        ensures rows { HasRows result }
         ensures empty { edits_of_store result ≡ [] }
         ensures limits { result.limits ≡ limits }
     {
@@ -55,17 +86,21 @@ impl Store {
             documents: Vec::new(alloc),
             numbers: BTreeMap::new(alloc),
             journal: Vec::new(alloc),
+            index: TreeIndex::new(alloc),
             deleted: 0,
             limits,
             alloc,
         }
     }
 
-    // Stores the first edit of a document. The map grows last, and what comes after it takes no
+    // Stores the first edit of a document. The maps grow last, and what comes after them takes no
     // memory.
     fn insert(&mut self, id: DocId, edit: Incoming) -> Result<Outcome<RevId>, AllocError>
         requires few { length self.old.documents.items ≤ length self.old.journal.items }
         requires count { self.old.deleted ≤ length self.old.documents.items }
+        requires new { get_by_text self.old.numbers id ≡ None }
+        requires own { seq_of (length self.old.documents.items) self.old.index ≡ None }
+        requires above { All (λ r. r.0 < length self.old.journal.items + 1) self.old.index }
         ensures inserted { IfOk result (Inserts (nat_le self.old.limits.journal (length self.old.journal.items)) id edit self.old self.new) }
         ensures limits { self.new.limits ≡ self.old.limits }
         ensures err { OnErr result (IsSameStore self.old self.new) }
@@ -80,7 +115,15 @@ impl Store {
                 self.journal.try_reserve(1)?;
                 let number = self.documents.len() as u32;
                 let key = String::from_str(self.alloc, document.id.as_str())?;
-                self.numbers.insert(key, number)?;
+                let seq = self.journal.len() as u64 + 1;
+                enter(
+                    &mut self.numbers,
+                    &mut self.index,
+                    &document.id,
+                    key,
+                    number,
+                    seq,
+                )?;
                 let rev = document.take(&mut self.journal, number, ready);
                 self.deleted = recounted(self.deleted, false, document.is_deleted());
                 self.documents.push_reserved(document);
@@ -100,8 +143,10 @@ impl Store {
     fn store(&mut self, id: DocId, edit: Incoming) -> Result<Outcome<RevId>, AllocError>
         requires state { IsStore self.old }
         requires counted { IsCounted self.old }
+        requires rows { HasRows self.old }
         ensures state { IsStore self.new }
         ensures counted { IsCounted self.new }
+        ensures rows { HasRows self.new }
         ensures limits { self.new.limits ≡ self.old.limits }
         ensures ok { IfOk result (λ o. stores_edit self.old.limits.journal (edits_of_store self.old) id edit ≡ record { outcome = o; journal = edits_of_store self.new }) }
         ensures err { OnErr result (edits_of_store self.new ≡ edits_of_store self.old) }
@@ -112,6 +157,7 @@ impl Store {
                 let was = document.is_deleted();
                 let outcome = document.extend(
                     &mut self.journal,
+                    &mut self.index,
                     number,
                     self.limits.journal,
                     edit,
@@ -128,8 +174,10 @@ impl Store {
     pub(crate) fn write(&mut self, doc: Doc, new_edits: bool) -> Result<Outcome<RevId>, AllocError>
         requires state { IsStore self.old }
         requires counted { IsCounted self.old }
+        requires rows { HasRows self.old }
         ensures state { IsStore self.new }
         ensures counted { IsCounted self.new }
+        ensures rows { HasRows self.new }
         ensures limits { self.new.limits ≡ self.old.limits }
         ensures ok { IfOk result (λ o. stores_doc new_edits self.old.limits.journal (edits_of_store self.old) doc ≡ record { outcome = o; journal = edits_of_store self.new }) }
         ensures err { OnErr result (edits_of_store self.new ≡ edits_of_store self.old) }
@@ -162,23 +210,5 @@ impl Store {
                 body,
             },
         )
-    }
-
-    /// The rows of the documents, each at its latest edit, rising. It goes once through the journal,
-    /// and once through each tree.
-    pub(crate) fn rows(&self) -> Result<Vec<ChangeRow>, AllocError>
-        requires { IsStore self.now }
-        ensures { IfOk result (λ rows. rows.items ≡ map (row_of (edits_of_store self.now) MainOnly false) (current (edits_of_store self.now))) }
-    {
-        let seen = self.journal.len() as u64;
-        let mut rows = Vec::new(self.alloc);
-        for (at, entry) in self.journal.iter().enumerate() {
-            let document = &self.documents[entry.document as usize];
-            if document.latest as usize != at + 1 {
-                continue;
-            }
-            rows.push(document.row(self.alloc, seen)?)?;
-        }
-        Ok(rows)
     }
 }

@@ -1,7 +1,8 @@
 //! Writes, their replies, and the rows after them.
 
 use crate::DbState;
-use hub_document::{Doc, Limits, RevId};
+use crate::feed_tests::rows_of;
+use hub_document::{ChangeRow, Doc, Limits, RevId};
 use hub_model::{Fault, Outcome};
 use std::alloc::Global;
 use std::test::Fail;
@@ -21,13 +22,7 @@ fn docs(alloc: Global, texts: &[&str]) -> Vec<Doc> {
 }
 
 // The sequence, the id and the changes of a row.
-fn shows(state: &DbState, at: usize, seq: u64, id: &str, rev: &str) -> bool {
-    let Ok(rows) = state.rows() else {
-        return false;
-    };
-    let Some(row) = rows.get(at) else {
-        return false;
-    };
+fn shows(row: &ChangeRow, seq: u64, id: &str, rev: &str) -> bool {
     row.seq == seq
         && row.id.as_str() == id
         && row.changes.as_slice().first().copied() == RevId::read(rev)
@@ -84,12 +79,17 @@ fn rows_follow_the_latest_edits(rt: HostRuntime) -> Result<(), Fail> {
             &[stored("1-a"), stored("1-b")]
         )
     );
-    assert!(rt; shows(&state, 0, 1, "a", "1-a"));
-    assert!(rt; shows(&state, 1, 2, "b", "1-b"));
+    let rows = rows_of(alloc, &mut state, "")?;
+    assert_eq!(rt; rows.len(), 2);
+    for (row, (seq, id, rev)) in rows.iter().zip([(1u64, "a", "1-a"), (2, "b", "1-b")]) {
+        assert!(rt; shows(row, seq, id, rev));
+    }
     assert!(rt; writes(&mut state, docs(alloc, &[NEWER]), &[stored("2-c")]));
-    assert!(rt; shows(&state, 0, 2, "b", "1-b"));
-    assert!(rt; shows(&state, 1, 3, "a", "2-c"));
-    assert!(rt; !shows(&state, 2, 1, "a", "1-a"));
+    let rows = rows_of(alloc, &mut state, "")?;
+    assert_eq!(rt; rows.len(), 2);
+    for (row, (seq, id, rev)) in rows.iter().zip([(2u64, "b", "1-b"), (3, "a", "2-c")]) {
+        assert!(rt; shows(row, seq, id, rev));
+    }
     assert!(rt; writes(&mut state, docs(alloc, &[A, B]), &[known(), known()]));
     assert_eq!(rt; state.update_seq(), 3);
     Ok(())

@@ -1,4 +1,4 @@
-use Rattle.std.proofs.Common.{◌≡◌, ◌∙◌, ◌⊎◌, ap, sym, subst, List}
+use Rattle.std.proofs.Common.{◌≡◌, ◌∙◌, ◌⊎◌, ap, sym, subst, List, length, true}
 use Rattle.std.specs.Prelude.{IfErr, Result, Ok, Err}
 use Rattle.hub_model.specs.Journal.{Edit}
 use Rattle.hub_model.specs.Draft.{makes}
@@ -10,6 +10,7 @@ use Rattle.hub_database.specs.Edits.{draft_of, reply_of}
 use Rattle.hub_database.specs.Kept.{kept}
 use Rattle.hub_database.specs.Store.{edits_of_store}
 use Rattle.hub_database.specs.declared.batch.DbFault.TheVariants.{NoMemory, Refused}
+use Rattle.hub_database.proofs.FeedLemmas.{feeds_on, write_grows}
 use Rattle.hub_database.proofs.MergeLemmas.{made_reply}
 use Rattle.hub_database.proofs.database.DbState.write_one.Goals as goal
 
@@ -20,8 +21,14 @@ weaker (Err e) P Q f p = f e p
 pub returns-clause-err : goal.returns-clause-err
 returns-clause-err c =
     let J = edits_of_store c.self.inside.store in
-    let stays : edits_of_store c.write.new.self ≡ J → ◌≡◌ {A = Database} (record { journal = edits_of_store c.write.new.self; locals = kept c.self.inside.locals; limits = c.write.new.self.limits }) (record { journal = J; locals = kept c.self.inside.locals; limits = c.self.inside.store.limits }) =
-    λ e. ap (λ (j : List Edit). record { journal = j; locals = kept c.self.inside.locals; limits = c.write.new.self.limits }) e ∙ ap (λ (l : Limits). record { journal = J; locals = kept c.self.inside.locals; limits = l }) c.in_ok-outcome.ensures.limits in
-    subst (λ (z : Database). IfErr c.reply.result (λ e. (◌≡◌ {A = Database} (record { journal = edits_of_store c.write.new.self; locals = kept c.self.inside.locals; limits = c.write.new.self.limits }) z) × ((e ≡ NoMemory) ⊎ ((f : Fault) × (e ≡ Refused f) × (makes z.limits.journal z.journal (draft_of c.args.doc) ≡ refuses z.journal f))))) c.self.view_is
-    (subst (λ r. IfErr r (λ e. (◌≡◌ {A = Database} (record { journal = edits_of_store c.write.new.self; locals = kept c.self.inside.locals; limits = c.write.new.self.limits }) (record { journal = J; locals = kept c.self.inside.locals; limits = c.self.inside.store.limits })) × ((e ≡ NoMemory) ⊎ ((f : Fault) × (e ≡ Refused f) × (makes c.self.inside.store.limits.journal J (draft_of c.args.doc) ≡ refuses J f))))) (sym c.reply.ensures)
+    let stays : edits_of_store c.write.new.self ≡ J → ◌≡◌ {A = Database} (record { journal = edits_of_store c.write.new.self; locals = kept c.self.inside.locals; feeds = c.self.inside.feeds.items; next_feed = c.self.inside.next_feed; limits = c.write.new.self.limits }) (record { journal = J; locals = kept c.self.inside.locals; feeds = c.self.inside.feeds.items; next_feed = c.self.inside.next_feed; limits = c.self.inside.store.limits }) =
+    λ e. ap (λ (j : List Edit). record { journal = j; locals = kept c.self.inside.locals; feeds = c.self.inside.feeds.items; next_feed = c.self.inside.next_feed; limits = c.write.new.self.limits }) e ∙ ap (λ (l : Limits). record { journal = J; locals = kept c.self.inside.locals; feeds = c.self.inside.feeds.items; next_feed = c.self.inside.next_feed; limits = l }) c.in_ok-outcome.ensures.limits in
+    subst (λ (z : Database). IfErr c.reply.result (λ e. (◌≡◌ {A = Database} (record { journal = edits_of_store c.write.new.self; locals = kept c.self.inside.locals; feeds = c.self.inside.feeds.items; next_feed = c.self.inside.next_feed; limits = c.write.new.self.limits }) z) × ((e ≡ NoMemory) ⊎ ((f : Fault) × (e ≡ Refused f) × (makes z.limits.journal z.journal (draft_of c.args.doc) ≡ refuses z.journal f))))) c.self.view_is
+    (subst (λ r. IfErr r (λ e. (◌≡◌ {A = Database} (record { journal = edits_of_store c.write.new.self; locals = kept c.self.inside.locals; feeds = c.self.inside.feeds.items; next_feed = c.self.inside.next_feed; limits = c.write.new.self.limits }) (record { journal = J; locals = kept c.self.inside.locals; feeds = c.self.inside.feeds.items; next_feed = c.self.inside.next_feed; limits = c.self.inside.store.limits })) × ((e ≡ NoMemory) ⊎ ((f : Fault) × (e ≡ Refused f) × (makes c.self.inside.store.limits.journal J (draft_of c.args.doc) ≡ refuses J f))))) (sym c.reply.ensures)
     (weaker (reply_of c.in_ok-outcome.outcome) _ _ (λ e p. (stays p.0, p.1)) (made_reply c.self.inside.store.limits.journal J (draft_of c.args.doc) c.in_ok-outcome.outcome (edits_of_store c.write.new.self) c.in_ok-outcome.ensures.ok).1))
+
+pub invariant_of-self-2 : goal.invariant_of-self-2
+invariant_of-self-2 c =
+    let e = c.in_ok-outcome.ensures in
+    let i = c.self.invariant in
+    (e.state, e.counted, e.rows, feeds_on (length (edits_of_store c.self.inside.store)) (length (edits_of_store c.write.new.self)) c.self.inside.next_feed c.self.inside.feeds.items (write_grows true c.self.inside.store.limits.journal (edits_of_store c.self.inside.store) c.args.doc c.in_ok-outcome.outcome (edits_of_store c.write.new.self) e.ok) i.3)

@@ -1,0 +1,261 @@
+-- The feeds of a database: where one stands, and how they change.
+use Rattle.std.proofs.Common.{◌≡◌, ◌≢◌, ℕ, zero, suc, ◌<◌, ◌≤◌, List, [], ◌∷◌, ◌++◌, length, Bool, true, false, not, ap, refl, sym, ◌∙◌, subst, arith, inl, inr, find, map, nat_eq, nat_lt, nat_le, Contains, AllPairs, IfSome}
+use Rattle.std.specs.Prelude.{IfOk, OnErr, Result, Ok, Err, Option, Some, None, slice_get, slice_set, get_or, option_map, position, unwrap_or, if◌then◌else◌}
+use Rattle.std.specs.List.{All, position_or_len}
+use Rattle.std.proofs.lemmas.Bool.{cases_Bool, eqb-true, eq-eqb, ltb-true, ltb-false}
+use Rattle.std.proofs.lemmas.List.{length_push}
+use Rattle.std.proofs.lemmas.List.Elements.{All-map, All-filter}
+use Rattle.std.proofs.lemmas.List.Folds.{find_at}
+use Rattle.std.proofs.lemmas.List.Kept.{AllPairs-cons, AllPairs-filter}
+use Rattle.std.proofs.lemmas.Option.{same_Some, none-some, slice_get_past}
+use Rattle.hub_index.proofs.IndexLemmas.{of_head, of_tail}
+use Rattle.hub_model.specs.Current.{Current}
+use Rattle.hub_model.specs.Draft.{Draft, parent_of, generation_of, made, edit_of, extended, makes_on}
+use Rattle.hub_model.specs.Feed.{Feed, Status, Open, Ending, Ended, Finished, Due, DueRow, DueEnd, DueNothing, DueGone, due, due_at, due_open, is_in_reach, bound_after, after_due, after_nothing}
+use Rattle.hub_model.specs.Journal.{Edit, head_of, is_head_known, is_acceptable, is_known}
+use Rattle.hub_model.specs.Leaves.{leaves_of}
+use Rattle.hub_model.specs.Outcome.{Stores, refuses, adds, merges}
+use Rattle.hub_model.specs.Revision.{Revision}
+use Rattle.hub_model.specs.declared.feeds.Mode.{Mode}
+use Rattle.hub_model.specs.declared.feeds.Mode.TheVariants.{Normal, Longpoll, Continuous}
+use Rattle.hub_model.specs.declared.outcomes.Fault.TheVariants as fault
+use Rattle.hub_model.specs.declared.outcomes.Outcome.{Outcome}
+use Rattle.hub_model.specs.declared.outcomes.Outcome.TheVariants as outcome
+use Rattle.hub_model.proofs.Lists.{contains_here, contains_there}
+use Rattle.hub_model.proofs.Shown.{find_is, find_not}
+use Rattle.hub_feed.specs.Next.{after_next, next_of}
+use Rattle.hub_feed.specs.declared.next.Next.{Next}
+use Rattle.hub_model.specs.Row.{ChangeRow}
+use Rattle.hub_document.specs.declared.doc.Doc.{Doc}
+use Rattle.hub_document.specs.declared.limits.Limits.{Limits}
+use Rattle.hub_database.specs.Database.{Database, Local}
+use Rattle.hub_database.specs.Edits.{draft_of, stores_doc}
+use Rattle.hub_database.specs.Edits as edits
+use Rattle.hub_database.specs.Feeds.{changed, feed_in, feeds_behind, without}
+use Rattle.hub_database.specs.Followed.{IsBehind, AreFeeds}
+use Rattle.hub_database.proofs.StoreLemmas.{get_at}
+
+-- a write takes no edit away
+adds_grow : (limit : ℕ) (J : List Edit) (e : Edit) → length J ≤ length (adds limit J e).journal
+adds_grow limit J e = from (nat_le limit (length J))
+  where
+    from : (b : Bool) → length J ≤ length (if b then refuses J fault.SequenceFull else record { outcome = outcome.Stored (unwrap_or (head_of e) (record { generation = 0; hash = [] })); journal = J ++ e ∷ [] }).journal
+    from true = omega arith
+    from false = omega (arith, length_push J e)
+
+merges_grow : (limit : ℕ) (J : List Edit) (e : Edit) → length J ≤ length (merges limit J e).journal
+merges_grow limit J e = from (is_head_known J e.id e.path) (is_acceptable J e)
+  where
+    from : (known acceptable : Bool) → length J ≤ length (if known then record { outcome = outcome.Known; journal = J } else if acceptable then adds limit J e else refuses J fault.Contradicts).journal
+    from true acceptable = omega arith
+    from false true = adds_grow limit J e
+    from false false = omega arith
+
+makes_grow : (limit : ℕ) (J : List Edit) (d : Draft) (o : Option (List Revision)) → length J ≤ length (makes_on limit J d o).journal
+makes_grow limit J d None = omega arith
+makes_grow limit J d (Some path) = from (nat_le 65535 (generation_of (parent_of path))) (is_known J d.id (made d (parent_of path)))
+  where
+    from : (last known : Bool) → length J ≤ length (if last then refuses J fault.GenerationLimit else if known then refuses J fault.Conflict else adds limit J (edit_of d path)).journal
+    from true known = omega arith
+    from false true = omega arith
+    from false false = adds_grow limit J (edit_of d path)
+
+pub write_grows : (new_edits : Bool) (limit : ℕ) (J : List Edit) (doc : Doc) (o : Outcome Revision) (K : List Edit) → stores_doc new_edits limit J doc ≡ record { outcome = o; journal = K } → length J ≤ length K
+write_grows new_edits limit J doc o K h = subst (λ (s : Stores). length J ≤ length s.journal) h (from new_edits)
+  where
+    from : (b : Bool) → length J ≤ length (stores_doc b limit J doc).journal
+    from true = makes_grow limit J (draft_of doc) (extended J doc.id (leaves_of J doc.id) doc.rev)
+    from false = merges_grow limit J (edits.edit_of doc)
+
+-- a write changes the journal alone
+pub rest_stays : (J : List Edit) {l l' : List Local} {f f' : List (ℕ × Feed)} {n n' : ℕ} {m m' : Limits} → l ≡ l' → f ≡ f' → n ≡ n' → m ≡ m'
+    → ◌≡◌ {A = Database} (record { journal = J; locals = l; feeds = f; next_feed = n; limits = m }) (record { journal = J; locals = l'; feeds = f'; next_feed = n'; limits = m' })
+rest_stays J a b c d = rw (a, b, c, d) refl
+
+bound_on : (len len' : ℕ) (bound : Option ℕ) → len ≤ len' → IfSome bound (λ b. b ≤ len) → IfSome bound (λ b. b ≤ len')
+bound_on len len' None h b = tt
+bound_on len len' (Some bound) h b = omega arith
+
+-- so the feeds stay behind it
+pub feeds_on : (len len' next : ℕ) (feeds : List (ℕ × Feed)) → len ≤ len' → AreFeeds len next feeds → AreFeeds len' next feeds
+feeds_on len len' next feeds h x = record {
+  rising = x.rising;
+  given = x.given;
+  behind = λ k d l. let b = x.behind k d l in (omega (arith, h, b.0), bound_on len len' (get_or feeds k d).1.bound h b.1);
+}
+
+-- and those that are left stay so
+pub feeds_left : (len next id : ℕ) (feeds : List (ℕ × Feed)) → AreFeeds len next feeds → AreFeeds len next (without id feeds)
+feeds_left len next id feeds x = record {
+  rising = AllPairs-filter (λ (a b : ℕ × Feed). a.0 < b.0) (λ (p : ℕ × Feed). not (nat_eq p.0 id)) feeds x.rising;
+  given = All-filter (λ (p : ℕ × Feed). not (nat_eq p.0 id)) (λ (p : ℕ × Feed). p.0 < next) feeds x.given;
+  behind = All-filter (λ (p : ℕ × Feed). not (nat_eq p.0 id)) (λ (p : ℕ × Feed). IsBehind len p.1) feeds x.behind;
+}
+
+pairs_map : {A B : Type 0} (R : B → B → Type 0) (f : A → B) (xs : List A) → AllPairs (λ a b. R (f a) (f b)) xs → AllPairs R (map f xs)
+pairs_map R f [] pairs = λ i j d a b. absurd (omega arith)
+pairs_map R f (x ∷ xs) pairs = AllPairs-cons R (f x) (map f xs) (All-map (R (f x)) f xs (of_head (λ a b. R (f a) (f b)) x xs pairs)) (pairs_map R f xs (of_tail (λ a b. R (f a) (f b)) x xs pairs))
+
+-- one feed that changes
+module _ (id : ℕ) (change : Feed → Feed) where
+  abbrev changed_one : ℕ × Feed → ℕ × Feed
+  changed_one p = if nat_eq p.0 id then (p.0, change p.1) else p
+
+  same_id : (p : ℕ × Feed) → (changed_one p).0 ≡ p.0
+  same_id p = from (nat_eq p.0 id)
+    where
+      from : (b : Bool) → (if b then (p.0, change p.1) else p).0 ≡ p.0
+      from true = refl
+      from false = refl
+
+  one_behind : (len : ℕ) → ((f : Feed) → IsBehind len f → IsBehind len (change f)) → (p : ℕ × Feed) → IsBehind len p.1 → IsBehind len (changed_one p).1
+  one_behind len keeps p h = from (nat_eq p.0 id)
+    where
+      from : (b : Bool) → IsBehind len (if b then (p.0, change p.1) else p).1
+      from true = keeps p.1 h
+      from false = h
+
+  pub feeds_changed : (len next : ℕ) (feeds : List (ℕ × Feed)) → ((f : Feed) → IsBehind len f → IsBehind len (change f)) → AreFeeds len next feeds → AreFeeds len next (changed id change feeds)
+  feeds_changed len next feeds keeps x = record {
+    rising = pairs_map (λ (a b : ℕ × Feed). a.0 < b.0) changed_one feeds (λ i j d a b. let r = x.rising i j d a b in omega (arith, r, same_id (get_or feeds i d), same_id (get_or feeds j d)));
+    given = All-map (λ (p : ℕ × Feed). p.0 < next) changed_one feeds (λ k d l. let g = x.given k d l in omega (arith, g, same_id (get_or feeds k d)));
+    behind = All-map (λ (p : ℕ × Feed). IsBehind len p.1) changed_one feeds (λ k d l. one_behind len keeps (get_or feeds k d) (x.behind k d l));
+  }
+
+  -- none of this number
+  pub changed_none : (feeds : List (ℕ × Feed)) → ((p : ℕ × Feed) → Contains feeds p → nat_eq p.0 id ≡ true → ⊥) → changed id change feeds ≡ feeds
+  changed_none [] h = refl
+  changed_none (p ∷ feeds) h = from (nat_eq p.0 id) refl (changed_none feeds (λ q c. h q (contains_there p q feeds c)))
+    where
+      from : (b : Bool) → nat_eq p.0 id ≡ b → changed id change feeds ≡ feeds → (if b then (p.0, change p.1) else p) ∷ changed id change feeds ≡ p ∷ feeds
+      from true t rest = absurd (h p (contains_here p feeds) t)
+      from false t rest = ap (λ ps. p ∷ ps) rest
+
+  -- the one of this number
+  pub changed_at : (feeds : List (ℕ × Feed)) (at : ℕ) (p : ℕ × Feed) → AllPairs (λ (a b : ℕ × Feed). a.0 < b.0) feeds → slice_get feeds at ≡ Some p → p.0 ≡ id → slice_set feeds at (p.0, change p.1) ≡ changed id change feeds
+  changed_at [] at p rising there own = absurd (none-some p there)
+  changed_at (q ∷ feeds) zero p rising there own =
+      let same : q ≡ p = same_Some q p there in
+      let named_so : q.0 ≡ id = ap (λ (z : ℕ × Feed). z.0) same ∙ own in
+      ap (λ (z : ℕ × Feed). (z.0, change z.1) ∷ feeds) (sym same)
+      ∙ (ap (λ b. (if b then (q.0, change q.1) else q) ∷ feeds) (sym (eq-eqb q.0 id named_so))
+      ∙ ap (λ ps. changed_one q ∷ ps) (sym (changed_none feeds (λ r c t. let above : q.0 < r.0 = subst (λ (z : ℕ × Feed). q.0 < z.0) c.2 (of_head (λ (a b : ℕ × Feed). a.0 < b.0) q feeds rising c.0 r c.1) in let here : r.0 ≡ id = eqb-true r.0 id t in omega (arith, above, here, named_so)))))
+  changed_at (q ∷ feeds) (suc at) p rising there own =
+      let below : q.0 < p.0 = found_above feeds at there (of_head (λ (a b : ℕ × Feed). a.0 < b.0) q feeds rising) in
+      ap (λ ps. q ∷ ps) (changed_at feeds at p (of_tail (λ (a b : ℕ × Feed). a.0 < b.0) q feeds rising) there own)
+      ∙ ap (λ b. (if b then (q.0, change q.1) else q) ∷ changed id change feeds) (sym (not_this (omega (arith, below, own))))
+    where
+      not_this : q.0 ≢ id → nat_eq q.0 id ≡ false
+      not_this n = elim (cases_Bool (nat_eq q.0 id)) [ inl t ↦ absurd (n (eqb-true q.0 id t)) | inr t ↦ t ]
+
+      found_above : (ps : List (ℕ × Feed)) (at : ℕ) → slice_get ps at ≡ Some p → All (λ (b : ℕ × Feed). q.0 < b.0) ps → q.0 < p.0
+      found_above [] at g all = absurd (none-some p g)
+      found_above (r ∷ ps) zero g all = subst (λ (z : ℕ × Feed). q.0 < z.0) (same_Some r p g) (all 0 r (omega arith))
+      found_above (r ∷ ps) (suc at) g all = found_above ps at g (λ k d l. all (suc k) d (omega arith))
+
+-- what stands where one is looked for
+module _ {A : Type 0} (p : A → Bool) (xs : List A) where
+  pub place_found : (at : ℕ) → Some at ≡ position p xs → (x : A) → x ≡ get_or xs at x → (find p xs ≡ Some x) × (slice_get xs at ≡ Some x)
+  place_found at e x is = from (nat_lt (position_or_len p xs) (length xs)) refl e
+    where
+      from : (b : Bool) → nat_lt (position_or_len p xs) (length xs) ≡ b → Some at ≡ (if b then Some (position_or_len p xs) else None) → (find p xs ≡ Some x) × (slice_get xs at ≡ Some x)
+      from true t e =
+          let same : position_or_len p xs ≡ at = sym (same_Some at (position_or_len p xs) e) in
+          let low : position_or_len p xs < length xs = ltb-true (position_or_len p xs) (length xs) t in
+          let there : slice_get xs at ≡ Some x = get_at xs at x (omega (arith, low, same)) is in
+          (find_at p xs ∙ (ap (slice_get xs) same ∙ there), there)
+      from false t e = absurd (none-some at (sym e))
+
+  pub place_low : (at : ℕ) → Some at ≡ position p xs → at < length xs
+  place_low at e = from (nat_lt (position_or_len p xs) (length xs)) refl e
+    where
+      from : (b : Bool) → nat_lt (position_or_len p xs) (length xs) ≡ b → Some at ≡ (if b then Some (position_or_len p xs) else None) → at < length xs
+      from true t e = omega (arith, ltb-true (position_or_len p xs) (length xs) t, same_Some at (position_or_len p xs) e)
+      from false t e = absurd (none-some at (sym e))
+
+  pub place_none : position p xs ≡ None → find p xs ≡ None
+  place_none e = from (nat_lt (position_or_len p xs) (length xs)) refl e
+    where
+      from : (b : Bool) → nat_lt (position_or_len p xs) (length xs) ≡ b → (if b then Some (position_or_len p xs) else None) ≡ None → find p xs ≡ None
+      from true t e = absurd (none-some (position_or_len p xs) (sym e))
+      from false t e = find_at p xs ∙ slice_get_past xs (position_or_len p xs) (ltb-false (position_or_len p xs) (length xs) t)
+
+-- a feed that looks, or goes on, stays behind
+behind_bound : (len : ℕ) (mode : Mode) (bound : Option ℕ) → IfSome bound (λ b. b ≤ len) → IfSome (bound_after mode bound len) (λ b. b ≤ len)
+behind_bound len Normal bound h = h
+behind_bound len Longpoll None h = omega arith
+behind_bound len Longpoll (Some bound) h = h
+behind_bound len Continuous bound h = h
+
+pub looks_behind : (len : ℕ) (d : Due) (f : Feed) → IsBehind len f → IsBehind len (after_next f d len)
+looks_behind len (DueRow c) f h = h
+looks_behind len (DueEnd last_seq) f h = h
+looks_behind len DueNothing f h = (omega arith, h.1)
+looks_behind len DueGone f h = h
+
+pub goes_behind : (rows : List Current) (len : ℕ) → ((c : Current) → Contains rows c → c.seq ≤ len) → (f : Feed) → IsBehind len f → IsBehind len (after_due f (due rows f) len)
+goes_behind rows len within f h = from f.status
+  where
+    opened : (o : Option Current) (bound : Option ℕ) → find (is_in_reach f) rows ≡ o → f.bound ≡ bound → IsBehind len (after_due f (due_open o bound) len)
+    opened (Some c) bound e q = (within c (find_is (is_in_reach f) rows c e).1, behind_bound len f.params.mode f.bound h.1)
+    opened None (Some bound) e q = (subst (λ o. IfSome o (λ b. b ≤ len)) q h.1, h.1)
+    opened None None e q = (omega arith, h.1)
+
+    from : (s : Status) → IsBehind len (after_due f (due_at s rows f) len)
+    from Open = opened (find (is_in_reach f) rows) f.bound refl refl
+    from Ending = h
+    from Ended = h
+    from Finished = h
+
+set_back : {A : Type 0} (xs : List A) (k : ℕ) (x : A) → slice_get xs k ≡ Some x → slice_set xs k x ≡ xs
+set_back [] k x e = refl
+set_back (y ∷ xs) zero x e = ap (λ z. z ∷ xs) (sym (same_Some y x e))
+set_back (y ∷ xs) (suc k) x e = ap (λ zs. y ∷ zs) (set_back xs k x e)
+
+-- the feed of this number stands here
+module _ (id : ℕ) (feeds : List (ℕ × Feed)) (at : ℕ) (placed : Some at ≡ position (λ (p : ℕ × Feed). nat_eq p.0 id) feeds) (p : ℕ × Feed) (is : p ≡ get_or feeds at p) where
+  pub feed_here : feed_in id feeds ≡ Some p.1
+  feed_here = ap (option_map (λ (q : ℕ × Feed). q.1)) (place_found (λ (q : ℕ × Feed). nat_eq q.0 id) feeds at placed p is).0
+
+  own_id : p.0 ≡ id
+  own_id = eqb-true p.0 id (find_is (λ (q : ℕ × Feed). nat_eq q.0 id) feeds p (place_found (λ (q : ℕ × Feed). nat_eq q.0 id) feeds at placed p is).0).0
+
+  -- and changes there
+  pub changed_here : (change : Feed → Feed) (new : Feed) → AllPairs (λ (a b : ℕ × Feed). a.0 < b.0) feeds → new ≡ change p.1 → slice_set feeds at (p.0, new) ≡ changed id change feeds
+  changed_here change new rising e =
+      ap (λ (f : Feed). slice_set feeds at (p.0, f)) e ∙ changed_at id change feeds at p rising (place_found (λ (q : ℕ × Feed). nat_eq q.0 id) feeds at placed p is).1 own_id
+
+  -- or stays as it was
+  pub stays_here : (new : Feed) → new ≡ p.1 → slice_set feeds at (p.0, new) ≡ feeds
+  stays_here new e = ap (λ (f : Feed). slice_set feeds at (p.0, f)) e ∙ set_back feeds at p (place_found (λ (q : ℕ × Feed). nat_eq q.0 id) feeds at placed p is).1
+
+-- there is no feed of this number
+
+  -- the feeds behind what the feed there answers
+  pub behind_here : (show : Current → ChangeRow) (rows : List Current) (len : ℕ) (new : Feed) → AllPairs (λ (a b : ℕ × Feed). a.0 < b.0) feeds → (d : Due) (next : Next ChangeRow)
+      → next ≡ next_of show rows d → new ≡ after_next p.1 d len → slice_set feeds at (p.0, new) ≡ feeds_behind id len next feeds
+  behind_here show rows len new rising (DueRow c) next e h = rw e (stays_here new h)
+  behind_here show rows len new rising (DueEnd last_seq) next e h = rw e (stays_here new h)
+  behind_here show rows len new rising DueNothing next e h = rw e (changed_here (λ f. after_nothing f len) new rising h)
+  behind_here show rows len new rising DueGone next e h = rw e (stays_here new h)
+
+module _ (id : ℕ) (feeds : List (ℕ × Feed)) (none : position (λ (p : ℕ × Feed). nat_eq p.0 id) feeds ≡ None) where
+  pub no_feed : feed_in id feeds ≡ None
+  no_feed = ap (option_map (λ (q : ℕ × Feed). q.1)) (place_none (λ (q : ℕ × Feed). nat_eq q.0 id) feeds none)
+
+  pub none_changed : (change : Feed → Feed) → changed id change feeds ≡ feeds
+  none_changed change = changed_none id change feeds (find_not (λ (q : ℕ × Feed). nat_eq q.0 id) feeds (place_none (λ (q : ℕ × Feed). nat_eq q.0 id) feeds none))
+
+-- of a result, what two facts give
+pub both_ok : {T E : Type 0} {P Q R : T → Type 0} (r : Result T E) → ((x : T) → P x → Q x → R x) → IfOk r P → IfOk r Q → IfOk r R
+both_ok (Ok x) f p q = f x p q
+both_ok (Err e) f p q = tt
+
+pub more_err : {T E P Q : Type 0} (r : Result T E) → (P → Q) → OnErr r P → OnErr r Q
+more_err (Ok x) f p = tt
+more_err (Err e) f p = f p
+
+-- what holds in either case
+pub ok_or_err : {T E P W : Type 0} {Q : T → Type 0} (r : Result T E) → ((x : T) → Q x → P) → (W → P) → IfOk r Q → OnErr r W → P
+ok_or_err (Ok x) f g q w = f x q
+ok_or_err (Err e) f g q w = g w

@@ -1,0 +1,14 @@
+use Rattle.std.proofs.Common.{arith, sym, ◌∙◌}
+use Rattle.hub_database.proofs.RowLemmas.{last_low, last_found, last_nothing}
+use Rattle.hub_database.proofs.rows.Rows.last_before.Goals as goal
+
+pub returns-in_default : goal.returns-in_default
+returns-in_default c = rw (sym c.self.view_is) (last_nothing c.self.inside.store.now.documents.items c.self.inside.store.now.journal.items c.self.inside.store.now.index c.self.invariant.1 c.args.place (sym c.in_default.is ∙ c.last_before.ensures.last))
+
+pub index-document-requires : goal.index-document-requires
+index-document-requires c = omega (arith, last_low c.self.inside.store.now.documents.items c.self.inside.store.now.journal.items c.self.inside.store.now.index c.self.invariant.1 c.args.place (c.in-Some.seq, c.in-Some.number) c.in-Some.ensures.last, c.self.inside.store.now.documents.ok.0)
+
+pub returns : goal.returns
+returns c =
+    rw (sym c.self.view_is, c.as_str.ensures.value)
+    (last_found c.self.inside.store.now.documents.items c.self.inside.store.now.journal.items c.self.inside.store.now.index c.self.invariant.1 c.args.place (c.in-Some.seq, c.in-Some.number) c.in-Some.ensures.last c.index-document.result.now c.index-document.ensures)

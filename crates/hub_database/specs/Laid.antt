@@ -1,0 +1,10 @@
+-- That a current row lies at one of the journal's edits (own).
+use Rattle.std.specs.Prelude.{◌≤◌, List, length, Contains}
+use Rattle.std.proofs.Common.{arith}
+use Rattle.hub_model.specs.Current.{Current, current}
+use Rattle.hub_model.specs.Journal.{Edit}
+use Rattle.hub_model.proofs.Rows.{current_within}
+
+-- it is no later than the last
+pub rows_below : (J : List Edit) (c : Current) → Contains (current J) c → c.seq ≤ length J
+rows_below J c h = let w = current_within 1 J c h in omega (arith, w.1)

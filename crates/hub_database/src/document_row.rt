@@ -1,0 +1,82 @@
+//! A document's row.
+
+ghost use Rattle.std.specs.Prelude.{[], true, ◌≡◌, take, IfOk, OnOk};
+ghost use Rattle.hub_model.specs.Leaves.{leaves_of, revisions_of};
+ghost use Rattle.hub_model.specs.Row.{changes_of, doc_of, is_deleted};
+ghost use Rattle.hub_revtree.specs.Tree.{IsRevTree};
+
+use crate::document::Document;
+use hub_document::{Body, ChangeRow, Revisions};
+use hub_model::Style;
+use std::alloc::{AllocError, Global};
+
+impl Document {
+    // The winner alone.
+    fn main_change(&self, alloc: Global) -> Result<Revisions, AllocError>
+        ensures { IfOk result (λ revs. revs ≡ take 1 (revisions_of (leaves_of self.now.tree.edits []))) }
+    {
+        let mut list = Vec::new(alloc);
+        if let Some(winner) = self.tree.best() {
+            list.push(winner.rev)?;
+        }
+        Ok(Revisions::new(list))
+    }
+
+    // The revisions that a row lists.
+    fn changes(&self, alloc: Global, style: Style) -> Result<Revisions, AllocError>
+        ensures { IfOk result (λ revs. revs ≡ changes_of style (leaves_of self.now.tree.edits [])) }
+    {
+        match style {
+            Style::MainOnly => self.main_change(alloc),
+            Style::AllDocs => self.tree.leaves(alloc),
+        }
+    }
+
+    // The members of the winner.
+    fn members(&self, alloc: Global) -> Result<Option<Body>, AllocError>
+        ensures { IfOk result (λ body. body ≡ doc_of true (leaves_of self.now.tree.edits [])) }
+    {
+        let Some(winner) = self.tree.best() else {
+            return Ok(None);
+        };
+        let Some(edit) = self.tree.headed(&winner.rev) else {
+            return Ok(None);
+        };
+        Ok(Some(edit.body.copy(alloc)?))
+    }
+
+    // The document that a row brings, where it is asked for.
+    fn row_doc(&self, alloc: Global, include_docs: bool) -> Result<Option<Body>, AllocError>
+        ensures { IfOk result (λ body. body ≡ doc_of include_docs (leaves_of self.now.tree.edits [])) }
+    {
+        if include_docs {
+            self.members(alloc)
+        } else {
+            Ok(None)
+        }
+    }
+
+    /// The row of the document at this sequence, made while there are `seen` edits. It costs what
+    /// `RevTree::best` does, with every leaf what `RevTree::leaves` does, and with its document a
+    /// copy of the members.
+    pub(crate) fn row(
+        &self,
+        alloc: Global,
+        seq: u64,
+        seen: u64,
+        style: Style,
+        include_docs: bool,
+    ) -> Result<ChangeRow, AllocError>
+        ensures row { let leaves = leaves_of self.now.tree.edits [] in IfOk result (λ row. row ≡ record { seq = seq; id = self.now.id; changes = changes_of style leaves; deleted = is_deleted leaves; doc = doc_of include_docs leaves; seen = seen }) }
+        ensures tree { OnOk result (IsRevTree self.now.tree.edits) }
+    {
+        Ok(ChangeRow {
+            seq,
+            id: self.id.copy(alloc)?,
+            changes: self.changes(alloc, style)?,
+            deleted: self.is_deleted(),
+            doc: self.row_doc(alloc, include_docs)?,
+            seen,
+        })
+    }
+}

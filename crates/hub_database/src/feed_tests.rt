@@ -1,0 +1,219 @@
+//! Feeds of a database, and descending answers.
+
+use crate::{DbState, FeedId, OpenFault};
+use hub_document::{ChangeRow, Doc, Limits, RevId};
+use hub_feed::Next;
+use hub_model::Item;
+use hub_params::FeedParams;
+use std::alloc::Global;
+use std::test::Fail;
+
+// The parameters that a query gives.
+fn asked(alloc: Global, query: &str) -> Result<FeedParams, Fail> {
+    match FeedParams::read(alloc, query.as_bytes(), b"") {
+        Ok(params) => Ok(params),
+        Err(_) => Err(Fail::new("no parameters")),
+    }
+}
+
+// A feed that the query opens.
+fn open(alloc: Global, state: &mut DbState, query: &str) -> Result<FeedId, Fail> {
+    match state.open_feed(asked(alloc, query)?) {
+        Ok(feed) => Ok(feed),
+        Err(_) => Err(Fail::new("no feed")),
+    }
+}
+
+// Stores the document that the text is, which another database made.
+fn put(alloc: Global, state: &mut DbState, text: &str) -> Result<(), Fail> {
+    let mut docs = Vec::new(alloc);
+    docs.push(Doc::read(alloc, text.as_bytes(), false)?)?;
+    let _replies = state.write_edits(docs, false)?;
+    Ok(())
+}
+
+// The next item of a feed, if there is one, which is then accepted.
+fn take(state: &mut DbState, feed: FeedId) -> Result<Option<Item<ChangeRow>>, Fail> {
+    match state.next_item(feed)? {
+        Next::Give(item) => {
+            state.accept_item(feed, &item);
+            Ok(Some(item))
+        }
+        _ => Ok(None),
+    }
+}
+
+// The row that a feed hands next.
+fn row(state: &mut DbState, feed: FeedId) -> Result<ChangeRow, Fail> {
+    match take(state, feed)? {
+        Some(Item::Row(row)) => Ok(row),
+        _ => Err(Fail::new("no row")),
+    }
+}
+
+// The last sequence and the count of the end that a feed hands next.
+fn end(state: &mut DbState, feed: FeedId) -> Result<(u64, u64), Fail> {
+    match take(state, feed)? {
+        Some(Item::End { last_seq, pending }) => Ok((last_seq, pending)),
+        _ => Err(Fail::new("no end")),
+    }
+}
+
+// Whether a row lists these revisions.
+fn lists(row: &ChangeRow, revs: &[&str]) -> bool {
+    let changes = row.changes.as_slice();
+    changes.len() == revs.len()
+        && changes
+            .iter()
+            .zip(revs.iter())
+            .all(|pair| RevId::read(pair.1) == Some(*pair.0))
+}
+
+// The members that a row brings.
+fn members(row: &ChangeRow) -> &[u8] {
+    match &row.doc {
+        Some(body) => body.as_bytes(),
+        None => b"",
+    }
+}
+
+/// The rows that a new feed with these parameters hands before its end.
+pub(crate) fn rows_of(
+    alloc: Global,
+    state: &mut DbState,
+    query: &str,
+) -> Result<Vec<ChangeRow>, Fail> {
+    let feed = open(alloc, state, query)?;
+    let mut rows = Vec::new(alloc);
+    for _ in 0..20 {
+        match take(state, feed)? {
+            Some(Item::Row(row)) => rows.push(row)?,
+            _ => break,
+        }
+    }
+    state.finish(feed);
+    Ok(rows)
+}
+
+const A: &str = r#"{"_id":"a","_rev":"1-a","v":1}"#;
+
+const B: &str = r#"{"_id":"b","_rev":"1-b"}"#;
+
+const C: &str = r#"{"_id":"c","_rev":"1-c"}"#;
+
+const A2: &str = r#"{"_id":"a","_revisions":{"start":2,"ids":["b","a"]},"v":2}"#;
+
+const A3: &str = r#"{"_id":"a","_revisions":{"start":3,"ids":["c","b","a"]},"v":3}"#;
+
+// Three leaves of one document, the best of them in the middle.
+const LEAVES: [&str; 3] = [
+    r#"{"_id":"a","_rev":"1-z","v":"z"}"#,
+    r#"{"_id":"a","_revisions":{"start":2,"ids":["a","x"]},"v":"a"}"#,
+    r#"{"_id":"a","_revisions":{"start":2,"ids":["b","x"]},"v":"b","_deleted":true}"#,
+];
+
+#[test]
+fn feeds_are_limited(rt: HostRuntime) -> Result<(), Fail> {
+    let alloc = rt.alloc();
+    let mut limits = Limits::full();
+    limits.feeds = 1;
+    let mut state = DbState::new(alloc, limits);
+    let first = open(alloc, &mut state, "")?;
+    assert_eq!(rt;
+        state.open_feed(asked(alloc, "")?),
+        Err(OpenFault::TooManyFeeds)
+    );
+    state.finish(first);
+    let second = open(alloc, &mut state, "")?;
+    assert!(rt; second != first);
+    Ok(())
+}
+
+#[test]
+fn a_normal_feed_hands_rows_and_an_end(rt: HostRuntime) -> Result<(), Fail> {
+    let alloc = rt.alloc();
+    let mut state = DbState::new(alloc, Limits::full());
+    for text in [A, B, A2] {
+        put(alloc, &mut state, text)?;
+    }
+    let feed = open(alloc, &mut state, "include_docs=true")?;
+    let first = row(&mut state, feed)?;
+    assert!(rt; first.seq == 2 && first.id.as_str() == "b" && lists(&first, &["1-b"]));
+    assert_eq!(rt; members(&first), b"{}".as_slice());
+    let second = row(&mut state, feed)?;
+    assert!(rt; second.seq == 3 && second.id.as_str() == "a" && lists(&second, &["2-b"]));
+    assert_eq!(rt; members(&second), br#"{"v":2}"#.as_slice());
+    assert!(rt; !second.deleted && second.seen == 3);
+    assert_eq!(rt; end(&mut state, feed)?, (3, 0));
+    assert!(rt; take(&mut state, feed)?.is_none());
+    state.finish(feed);
+    assert!(rt; take(&mut state, feed)?.is_none());
+    Ok(())
+}
+
+#[test]
+fn styles_list_the_winner_or_all_leaves(rt: HostRuntime) -> Result<(), Fail> {
+    let alloc = rt.alloc();
+    let mut state = DbState::new(alloc, Limits::full());
+    for text in LEAVES {
+        put(alloc, &mut state, text)?;
+    }
+    let feed = open(alloc, &mut state, "style=main_only&include_docs=true")?;
+    let main = row(&mut state, feed)?;
+    assert!(rt; lists(&main, &["2-a"]) && !main.deleted);
+    assert_eq!(rt; members(&main), br#"{"v":"a"}"#.as_slice());
+    let feed = open(alloc, &mut state, "style=all_docs")?;
+    let all = row(&mut state, feed)?;
+    assert!(rt; lists(&all, &["2-a", "1-z", "2-b"]) && all.doc.is_none());
+    Ok(())
+}
+
+#[test]
+fn rows_leave_the_reach_of_a_normal_feed(rt: HostRuntime) -> Result<(), Fail> {
+    let alloc = rt.alloc();
+    let mut state = DbState::new(alloc, Limits::full());
+    for text in [
+        r#"{"_id":"1","_rev":"1-a"}"#,
+        r#"{"_id":"2","_rev":"1-a"}"#,
+        r#"{"_id":"3","_rev":"1-a"}"#,
+        r#"{"_id":"4","_rev":"1-a"}"#,
+        r#"{"_id":"5","_rev":"1-a"}"#,
+        r#"{"_id":"6","_rev":"1-a"}"#,
+        r#"{"_id":"7","_rev":"1-a"}"#,
+        r#"{"_id":"8","_rev":"1-a"}"#,
+    ] {
+        put(alloc, &mut state, text)?;
+    }
+    let feed = open(alloc, &mut state, "")?;
+    for seq in 1u64..4 {
+        assert_eq!(rt; row(&mut state, feed)?.seq, seq);
+    }
+    put(alloc, &mut state, r#"{"_id":"3","_rev":"1-b"}"#)?;
+    put(alloc, &mut state, r#"{"_id":"5","_rev":"1-b"}"#)?;
+    for seq in [4u64, 6, 7, 8] {
+        assert_eq!(rt; row(&mut state, feed)?.seq, seq);
+    }
+    assert_eq!(rt; end(&mut state, feed)?, (8, 2));
+    Ok(())
+}
+
+#[test]
+fn descending_answers_begin_at_the_last_row(rt: HostRuntime) -> Result<(), Fail> {
+    let alloc = rt.alloc();
+    let mut state = DbState::new(alloc, Limits::full());
+    for text in [A, B, C, A2, A3] {
+        put(alloc, &mut state, text)?;
+    }
+    let params = asked(alloc, "descending=true&since=2")?;
+    let answer = state.changes_descending(&params)?;
+    assert_eq!(rt; answer.rows.len(), 2);
+    for (row, seq) in answer.rows.iter().zip([5u64, 3]) {
+        assert_eq!(rt; row.seq, seq);
+    }
+    assert_eq!(rt; (answer.last_seq, answer.pending), (3, 0));
+    let params = asked(alloc, "descending=true&since=2&limit=1")?;
+    let answer = state.changes_descending(&params)?;
+    assert_eq!(rt; answer.rows.len(), 1);
+    assert_eq!(rt; (answer.last_seq, answer.pending), (5, 1));
+    Ok(())
+}

@@ -1,0 +1,103 @@
+//! The rows of a database as feeds read them.
+
+ghost use Rattle.std.specs.Prelude.{ℕ, List, Bool, ◌≡◌, ◌<◌, ◌≤◌, ◌+◌, Contains, find, nat_lt, reverse, length, option_map, IfOk};
+ghost use Rattle.hub_model.specs.Current.{Current, current};
+
+use crate::store::Store;
+use hub_document::ChangeRow;
+use hub_feed::Source;
+use hub_index::SeqIndex;
+use hub_model::Style;
+use std::alloc::AllocError;
+use std::marker::Model;
+
+/// The rows of a store, seen as its journal.
+#[derive(Debug, Drop)]
+pub(crate) struct Rows<'a> {
+    pub(crate) store: &'a Store,
+}
+
+impl<'a> Model for Rows<'a> {
+    ghost use Rattle.std.specs.Prelude.{List};
+    ghost use Rattle.hub_model.specs.Journal.{Edit};
+
+    ghost Value = { List Edit };
+
+    ghost use Rattle.hub_database.specs.Store.{IsStore, HasRows, edits_of_store};
+
+    ghost view = { λ a. edits_of_store a.store.now };
+
+    ghost invariant = { λ a. IsStore a.store.now × HasRows a.store.now };
+}
+
+impl Rows<'_> {
+    /// The last current row below a place: its sequence and its id. It takes no memory.
+    pub(crate) fn last_before(&self, place: u64) -> Option<(u64, &str)>
+        ensures { option_map (λ p. record { seq = p.0; id = p.1.now }) result ≡ find (λ (c : Current). nat_lt c.seq place) (reverse (current self.now)) }
+    {
+        let Some((seq, number)) = self.store.index.last_before(place) else {
+            return None;
+        };
+        let document = &self.store.documents[number as usize];
+        Some((seq, document.id.as_str()))
+    }
+}
+
+impl Source for Rows<'_> {
+    ghost use Rattle.std.specs.Prelude.{length};
+    ghost use Rattle.hub_model.specs.Current.{current};
+    ghost use Rattle.hub_model.specs.Row.{ChangeRow, row_of};
+    ghost use Rattle.hub_model.specs.Journal.{Edit};
+    ghost use Rattle.hub_model.proofs.Laws.{rows_rise};
+    ghost use Rattle.hub_database.specs.Laid.{rows_below};
+    ghost use Rattle.std.proofs.Common.{refl};
+
+    type Row = ChangeRow;
+
+    ghost length = { λ J. length J };
+
+    ghost current = { λ J. current J };
+
+    ghost shown = { λ J style include_docs c. row_of J style include_docs c };
+
+    ghost seq_of = { λ (r : ChangeRow). r.seq };
+
+    ghost rise = { λ J. rows_rise J };
+
+    ghost within = { λ J c. rows_below J c };
+
+    ghost keeps = { λ J style include_docs c. refl };
+
+    /// Constant time.
+    fn length(&self) -> u64 {
+        self.store.journal.len() as u64
+    }
+
+    /// It costs what `SeqIndex::next_after` does.
+    fn next_after(&self, place: u64, bound: Option<u64>) -> Option<(u64, &str)> {
+        let Some((seq, number)) = self.store.index.next_after(place, bound) else {
+            return None;
+        };
+        let document = &self.store.documents[number as usize];
+        Some((seq, document.id.as_str()))
+    }
+
+    /// It costs what `SeqIndex::count_after` does.
+    fn count_after(&self, place: u64) -> u64 {
+        self.store.index.count_after(place)
+    }
+
+    /// The document is found in constant time. It costs what `RevTree::best` does, with every leaf
+    /// what `RevTree::leaves` does, and with its document a copy of the members.
+    fn row(&self, seq: u64, style: Style, include_docs: bool) -> Result<ChangeRow, AllocError> {
+        let entry = self.store.journal[seq as usize - 1];
+        let document = &self.store.documents[entry.document as usize];
+        document.row(self.store.alloc, seq, self.length(), style, include_docs)
+    }
+
+    fn seq(row: &ChangeRow) -> u64
+        ensures { result ≡ row.now.seq }
+    {
+        row.seq
+    }
+}
