@@ -9,8 +9,8 @@ use Rattle.hub_model.specs.Hand.{item_of}
 use Rattle.hub_model.specs.Row.{ChangeRow, row_of}
 use Rattle.hub_model.specs.declared.feeds.Item.{Item}
 use Rattle.hub_database.specs.Database.{Database}
-use Rattle.hub_database.specs.Feeds.{changed, without, feed_in, answer_of, answered, item_due, behind_answer, finished, handed}
-use Rattle.hub_feed.specs.Next.{next_of}
+use Rattle.hub_database.specs.Feeds.{changed, without, feed_in, answer_of, answered, item_due, behind_answer, due_to, finished, handed}
+use Rattle.hub_feed.specs.Next.{next_of, IsRowDue}
 use Rattle.hub_feed.specs.declared.next.Next.{Next}
 use Rattle.hub_feed.specs.declared.next.Next.TheVariants.{Give, Nothing, Gone}
 
@@ -49,6 +49,6 @@ finished_behind db id Nothing = ap (λ (fs : List (ℕ × Feed)). record db { fe
 finished_behind db id Gone = refl
 
 -- whatever a feed answered, the database once it is forgotten
-pub finished_any : (old new : Database) (id : ℕ) (result : Result (Next ChangeRow) AllocError) → IfOk result (λ next. (next ≡ answered old id) × (new ≡ behind_answer old id next)) → OnErr result (new ≡ old) → finished new id ≡ finished old id
+pub finished_any : (old new : Database) (id : ℕ) (result : Result (Next ChangeRow) AllocError) → IfOk result (λ next. (next ≡ answered old id) × (new ≡ behind_answer old id next)) → OnErr result ((new ≡ old) × IsRowDue (due_to old id)) → finished new id ≡ finished old id
 finished_any old new id (Ok next) o e = ap (λ db. finished db id) o.1 ∙ finished_behind old id next
-finished_any old new id (Err e) o same = ap (λ db. finished db id) same
+finished_any old new id (Err e) o w = ap (λ db. finished db id) w.0

@@ -148,7 +148,7 @@ fn filters_and_limits(rt: HostRuntime) -> Result<(), Fail> {
             "GET /d/_changes?filter=_design&descending=true",
             "",
             &[v],
-            at_four,
+            "\"last_seq\":4,\"pending\":3}",
         ),
     ];
     assert!(rt; are_shown(rt.alloc(), batch, &table)?);
