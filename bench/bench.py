@@ -42,8 +42,8 @@ print(status, usage.ru_utime + usage.ru_stime, usage.ru_maxrss)
 """
 
 MAKE = b"PUT /d HTTP/1.1\r\n\r\n"
-# How often a short feed is asked for.
-TIMES = 1000
+# How many rows a case that reads shows, about.
+READ = 500_000
 
 
 def request(line, body):
@@ -158,7 +158,7 @@ def run(data, repeat):
     return best
 
 
-def measure(name, size, count, setup, asked, repeat):
+def measure(name, size, count, setup, asked, repeat, requests=1):
     """One line of the table. Memory is told above that of a hub with one empty database."""
     empty = run(MAKE, 1)[2]
     before = (0.0, 0, 0) if setup is None else run(setup, repeat)
@@ -169,6 +169,7 @@ def measure(name, size, count, setup, asked, repeat):
         "case": name,
         "documents": size,
         "counted": count,
+        "requests": requests,
         "seconds": round(seconds, 4),
         "per_second": round(count / seconds),
         "in_mb_per_second": round(len(asked) / seconds / 1e6, 2),
@@ -194,16 +195,16 @@ def measure(name, size, count, setup, asked, repeat):
 
 
 def growth(entries):
-    """Of each case the exponent of its time between its smallest and its greatest size: 1.0 is
-    linear in what is counted, or in the documents where the count stays."""
+    """Of each case the exponent of the time of one request, or of all where they are the work, between
+    its smallest and its greatest size: 1.0 is linear."""
     found = {}
     for name in sorted({entry["case"] for entry in entries}):
         row = [e for e in entries if e["case"] == name]
-        by = "counted" if len({e["counted"] for e in row}) > 1 else "documents"
+        by = "documents" if len({e["documents"] for e in row}) > 1 else "counted"
         row.sort(key=lambda e: e[by])
         if row[0][by] < row[-1][by]:
-            times = row[-1]["seconds"] / row[0]["seconds"]
-            found[name] = round(math.log(times) / math.log(row[-1][by] / row[0][by]), 2)
+            each = [e["seconds"] / e["requests"] for e in (row[0], row[-1])]
+            found[name] = round(math.log(each[1] / each[0]) / math.log(row[-1][by] / row[0][by]), 2)
     return found
 
 
@@ -291,24 +292,23 @@ def main():
     for size in sizes:
         repeat = 3 if size < 100000 else 2
         stored = batches(size, 100)
+
+        def reading(name, asked, each):
+            """Asks for it until about this many rows were shown, or requests answered."""
+            times = max(1, READ // max(each, 50))
+            return measure(name, size, each * times, stored, asked * times, repeat, times)
+
         entries += [
             measure("replicated batches", size, size, None, stored, repeat),
             measure("pipelined PUTs", size, size, None, puts(size, 100), repeat),
-            measure("normal feed", size, size, stored, feed(), repeat),
-            measure("feed with documents", size, size, stored, feed("?include_docs=true"), repeat),
-            measure("descending feed", size, size, stored, feed("?descending=true"), repeat),
-            measure("empty feeds", size, TIMES, stored, feed("?since=now") * TIMES, repeat),
-            measure(
-                "feeds from ten below the end",
-                size,
-                TIMES,
-                stored,
-                feed("?since=%d" % (size - 10)) * TIMES,
-                repeat,
-            ),
-            measure("feed of 1,000 listed ids", size, 1000, stored, listed(size), repeat),
-            measure("pipelined GETs", size, size, stored, gets(size), repeat),
-            measure("missing of 1,000 ids", size, 1000, stored, diffs(size), repeat),
+            reading("normal feed", feed(), size),
+            reading("feed with documents", feed("?include_docs=true"), size),
+            reading("descending feed", feed("?descending=true"), size),
+            reading("empty feeds", feed("?since=now"), 1),
+            reading("feeds from ten below the end", feed("?since=%d" % (size - 10)), 10),
+            reading("feed of 1,000 listed ids", listed(size), 1000),
+            reading("missing of 1,000 ids", diffs(size), 1000),
+            reading("pipelined GETs", gets(size), size),
         ]
     large = batches(1000, 10000, 500)
     entries += [
