@@ -1,6 +1,6 @@
 -- The feeds of a database: where one stands, and how they change.
 use Rattle.std.proofs.Common.{◌≡◌, ◌≢◌, ℕ, zero, suc, ◌<◌, ◌≤◌, List, [], ◌∷◌, ◌++◌, length, Bool, true, false, not, ap, refl, sym, ◌∙◌, subst, arith, inl, inr, find, map, nat_eq, nat_lt, nat_le, Contains, AllPairs, IfSome}
-use Rattle.std.specs.Prelude.{IfOk, OnErr, Result, Ok, Err, Option, Some, None, slice_get, slice_set, get_or, option_map, position, unwrap_or, if◌then◌else◌}
+use Rattle.std.specs.Prelude.{IfOk, OnErr, Result, Ok, Err, Option, Some, None, slice_get, slice_set, get_or, option_map, option_and_then, position, unwrap_or, if◌then◌else◌}
 use Rattle.std.specs.List.{All, position_or_len}
 use Rattle.std.proofs.lemmas.Bool.{cases_Bool, eqb-true, eq-eqb, ltb-true, ltb-false}
 use Rattle.std.proofs.lemmas.List.{length_push}
@@ -9,7 +9,7 @@ use Rattle.std.proofs.lemmas.List.Folds.{find_at}
 use Rattle.std.proofs.lemmas.List.Kept.{AllPairs-cons, AllPairs-filter}
 use Rattle.std.proofs.lemmas.Option.{same_Some, none-some, slice_get_past}
 use Rattle.hub_index.proofs.IndexLemmas.{of_head, of_tail}
-use Rattle.hub_model.specs.Current.{Current}
+use Rattle.hub_model.specs.Current.{Current, current}
 use Rattle.hub_model.specs.Draft.{Draft, parent_of, generation_of, made, edit_of, extended, makes_on}
 use Rattle.hub_model.specs.Feed.{Feed, Status, Open, Ending, Ended, Finished, Due, DueRow, DueEnd, DueNothing, DueGone, due, due_at, due_open, is_in_reach, bound_after, after_due, after_nothing}
 use Rattle.hub_model.specs.Journal.{Edit, head_of, is_head_known, is_acceptable, is_known}
@@ -23,15 +23,18 @@ use Rattle.hub_model.specs.declared.outcomes.Outcome.{Outcome}
 use Rattle.hub_model.specs.declared.outcomes.Outcome.TheVariants as outcome
 use Rattle.hub_model.proofs.Lists.{contains_here, contains_there}
 use Rattle.hub_model.proofs.Shown.{find_is, find_not}
+use Rattle.hub_model.specs.Hand.{change_due, item_of}
+use Rattle.hub_model.specs.Row.{ChangeRow, row_of}
+use Rattle.hub_model.specs.declared.feeds.Item.{Item}
 use Rattle.hub_feed.specs.Next.{after_next, next_of}
 use Rattle.hub_feed.specs.declared.next.Next.{Next}
-use Rattle.hub_model.specs.Row.{ChangeRow}
+use Rattle.hub_feed.specs.declared.next.Next.TheVariants.{Give}
 use Rattle.hub_document.specs.declared.doc.Doc.{Doc}
 use Rattle.hub_document.specs.declared.limits.Limits.{Limits}
 use Rattle.hub_database.specs.Database.{Database, Local}
 use Rattle.hub_database.specs.Edits.{draft_of, stores_doc}
 use Rattle.hub_database.specs.Edits as edits
-use Rattle.hub_database.specs.Feeds.{changed, feed_in, feeds_behind, without}
+use Rattle.hub_database.specs.Feeds.{answer_of, answered, changed, feed_in, item_due, behind_answer, feeds_behind, without}
 use Rattle.hub_database.specs.Followed.{IsBehind, AreFeeds}
 use Rattle.hub_database.proofs.StoreLemmas.{get_at}
 
@@ -259,3 +262,17 @@ more_err (Err e) f p = f p
 pub ok_or_err : {T E P W : Type 0} {Q : T → Type 0} (r : Result T E) → ((x : T) → Q x → P) → (W → P) → IfOk r Q → OnErr r W → P
 ok_or_err (Ok x) f g q w = f x q
 ok_or_err (Err e) f g q w = g w
+
+item_given : (show : Current → ChangeRow) (rows : List Current) (d : Due) (item : Item ChangeRow) → Give item ≡ next_of show rows d → item_of show rows d ≡ Some item
+item_given show rows (DueRow c) item e = cc
+item_given show rows (DueEnd last_seq) item e = cc
+item_given show rows DueNothing item e = absurd (cc)
+item_given show rows DueGone item e = absurd (cc)
+
+-- what a feed gives is due to it, and may be accepted
+pub gives_due : (db : Database) (id : ℕ) (item : Item ChangeRow) → Give item ≡ answered db id → item_due db id ≡ Some item
+gives_due db id item e = from (feed_in id db.feeds) e
+  where
+    from : (o : Option Feed) → Give item ≡ answer_of db.journal o → option_and_then (change_due db.journal) o ≡ Some item
+    from None e = absurd (cc)
+    from (Some f) e = item_given (row_of db.journal f.params.style f.params.include_docs) (current db.journal) (due (current db.journal) f) item e

@@ -1,6 +1,6 @@
 //! The rows of a database as feeds read them.
 
-ghost use Rattle.std.specs.Prelude.{ℕ, List, Bool, ◌≡◌, ◌<◌, ◌≤◌, ◌+◌, Contains, find, nat_lt, reverse, length, option_map, IfOk};
+ghost use Rattle.std.specs.Prelude.{◌≡◌, find, nat_lt, reverse, option_map};
 ghost use Rattle.hub_model.specs.Current.{Current, current};
 
 use crate::store::Store;

@@ -170,7 +170,8 @@ impl Store {
     }
 
     /// Stores one document: with `new_edits` its revision is made here. It costs a look in the map,
-    /// what `RevTree::look_extend` or `RevTree::look_merge` does, and what `RevTree::best` does.
+    /// what `RevTree::look_extend` or `RevTree::look_merge` does, what `SeqIndex::move_to` does, and
+    /// what `RevTree::best` does.
     pub(crate) fn write(&mut self, doc: Doc, new_edits: bool) -> Result<Outcome<RevId>, AllocError>
         requires state { IsStore self.old }
         requires counted { IsCounted self.old }

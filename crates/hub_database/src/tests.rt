@@ -22,7 +22,10 @@ fn docs(alloc: Global, texts: &[&str]) -> Vec<Doc> {
 }
 
 // The sequence, the id and the changes of a row.
-fn shows(row: &ChangeRow, seq: u64, id: &str, rev: &str) -> bool {
+fn shows(rows: &[ChangeRow], at: usize, seq: u64, id: &str, rev: &str) -> bool {
+    let Some(row) = rows.get(at) else {
+        return false;
+    };
     row.seq == seq
         && row.id.as_str() == id
         && row.changes.as_slice().first().copied() == RevId::read(rev)
@@ -81,15 +84,13 @@ fn rows_follow_the_latest_edits(rt: HostRuntime) -> Result<(), Fail> {
     );
     let rows = rows_of(alloc, &mut state, "")?;
     assert_eq!(rt; rows.len(), 2);
-    for (row, (seq, id, rev)) in rows.iter().zip([(1u64, "a", "1-a"), (2, "b", "1-b")]) {
-        assert!(rt; shows(row, seq, id, rev));
-    }
+    assert!(rt; shows(rows.as_slice(), 0, 1, "a", "1-a"));
+    assert!(rt; shows(rows.as_slice(), 1, 2, "b", "1-b"));
     assert!(rt; writes(&mut state, docs(alloc, &[NEWER]), &[stored("2-c")]));
     let rows = rows_of(alloc, &mut state, "")?;
     assert_eq!(rt; rows.len(), 2);
-    for (row, (seq, id, rev)) in rows.iter().zip([(2u64, "b", "1-b"), (3, "a", "2-c")]) {
-        assert!(rt; shows(row, seq, id, rev));
-    }
+    assert!(rt; shows(rows.as_slice(), 0, 2, "b", "1-b"));
+    assert!(rt; shows(rows.as_slice(), 1, 3, "a", "2-c"));
     assert!(rt; writes(&mut state, docs(alloc, &[A, B]), &[known(), known()]));
     assert_eq!(rt; state.update_seq(), 3);
     Ok(())

@@ -8,7 +8,7 @@ use Rattle.hub_database.specs.Database.{Database}
 use Rattle.hub_database.specs.Feeds.{answer_of, answered, due_of, due_to}
 use Rattle.hub_database.specs.Followed.{AreFeeds}
 use Rattle.hub_database.specs.Store.{edits_of_store}
-use Rattle.hub_database.proofs.FeedLemmas.{behind_here, both_ok, changed_here, feed_here, feeds_changed, looks_behind, more_err, no_feed, none_changed, ok_or_err, rest_stays, stays_here}
+use Rattle.hub_database.proofs.FeedLemmas.{behind_here, both_ok, changed_here, feed_here, feeds_changed, looks_behind, more_err, no_feed, ok_or_err, rest_stays, stays_here}
 use Rattle.hub_database.proofs.database.DbState.next_item.Goals as goal
 
 pub returns-in_default-clause-ok : goal.returns-in_default-clause-ok
