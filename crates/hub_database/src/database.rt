@@ -91,7 +91,7 @@ impl DbState {
     /// one that contradicts. The call fails only where the list of replies finds no memory; where it
     /// runs out at a document, the batch stops there, and the documents before it stay stored. Each
     /// document costs a look in the map of ids, what `RevTree::look_extend` or `RevTree::look_merge`
-    /// does, and what `RevTree::best` does.
+    /// does, a move in the index of rows, and what `RevTree::best` does.
     pub fn write_edits(&mut self, docs: Vec<Doc>, new_edits: bool) -> Result<Batch, DbFault>
         ensures ok { IfOk result (λ batch. writes new_edits self.old.limits.journal self.old.journal (take (length batch.replies) docs.items) ≡ record { outcomes = batch.replies; journal = self.new.journal }) }
         ensures whole { IfOk result (λ batch. batch.stopped ≡ false → length batch.replies ≡ length docs.items) }
@@ -122,7 +122,7 @@ impl DbState {
     /// PUT and DELETE of a document). Of these the first refuses it: no leaf is named or chosen
     /// (`Conflict`), the leaf has the last generation (`GenerationLimit`), the made revision is known
     /// (`Conflict`), the journal is full (`SequenceFull`). It costs a look in the map of ids, what
-    /// `RevTree::look_extend` does, and what `RevTree::best` does.
+    /// `RevTree::look_extend` does, a move in the index of rows, and what `RevTree::best` does.
     pub fn write_one(&mut self, doc: Doc) -> Result<RevId, DbFault>
         ensures ok { IfOk result (λ rev. makes self.old.limits.journal self.old.journal (draft_of doc) ≡ record { outcome = Stored rev; journal = self.new.journal }) }
         ensures rest { self.new ≡ record self.old { journal = self.new.journal } }
