@@ -1,35 +1,15 @@
 -- What a feed hands, and the database behind it.
 use Rattle.std.proofs.Common.{◌≡◌, ℕ, List, [], ◌∷◌, true, false, refl, ap, ◌∙◌, ◌⊎◌, inl, inr}
-use Rattle.std.specs.Prelude.{Option, Some, None, Result, Ok, Err, IfOk, OnErr, map, filter, nat_eq, if◌then◌else◌}
+use Rattle.std.specs.Prelude.{Result, Ok, Err, IfOk, OnErr, nat_eq}
 use Rattle.std.proofs.lemmas.Bool.{cases_Bool}
 use Rattle.std.specs.declared.alloc.AllocError.{AllocError}
-use Rattle.hub_model.specs.Current.{Current, current}
-use Rattle.hub_model.specs.Feed.{Feed, Due, DueRow, DueEnd, DueNothing, DueGone, due}
-use Rattle.hub_model.specs.Hand.{item_of}
-use Rattle.hub_model.specs.Row.{ChangeRow, row_of}
-use Rattle.hub_model.specs.declared.feeds.Item.{Item}
+use Rattle.hub_model.specs.Feed.{Feed}
+use Rattle.hub_model.specs.Row.{ChangeRow}
 use Rattle.hub_database.specs.Database.{Database}
-use Rattle.hub_database.specs.Feeds.{changed, without, feed_in, answer_of, answered, item_due, behind_answer, due_to, finished, handed}
-use Rattle.hub_feed.specs.Next.{next_of, IsRowDue}
+use Rattle.hub_database.specs.Feeds.{changed, without, answered, behind_answer, due_to, finished, handed}
+use Rattle.hub_feed.specs.Next.{IsRowDue}
 use Rattle.hub_feed.specs.declared.next.Next.{Next}
 use Rattle.hub_feed.specs.declared.next.Next.TheVariants.{Give, Nothing, Gone}
-
-same_given : {R : Type 0} (a b : Item R) → Give a ≡ Give b → a ≡ b
-same_given a b e = cc
-
--- an item that is given is the one that is due
-item_given : {R : Type 0} (show : Current → R) (rows : List Current) (d : Due) (item : Item R) → next_of show rows d ≡ Give item → item_of show rows d ≡ Some item
-item_given show rows (DueRow c) item e = ap Some (same_given _ item e)
-item_given show rows (DueEnd last) item e = ap Some (same_given _ item e)
-item_given show rows DueNothing item e = absurd (cc)
-item_given show rows DueGone item e = absurd (cc)
-
-pub given_due : (db : Database) (id : ℕ) (item : Item ChangeRow) → answered db id ≡ Give item → item_due db id ≡ Some item
-given_due db id item e = from (feed_in id db.feeds) e
-  where
-    from : (f : Option Feed) → answer_of db.journal f ≡ Give item → Rattle.std.specs.Prelude.option_and_then (Rattle.hub_model.specs.Hand.change_due db.journal) f ≡ Some item
-    from None e = absurd (cc)
-    from (Some f) e = item_given (row_of db.journal f.params.style f.params.include_docs) (current db.journal) (due (current db.journal) f) item e
 
 -- a feed that changed and is then forgotten
 without_changed : (id : ℕ) (f : Feed → Feed) (feeds : List (ℕ × Feed)) → without id (changed id f feeds) ≡ without id feeds

@@ -5,9 +5,6 @@ use hub_document::Limits;
 use std::alloc::{AllocError, Global};
 use std::test::Fail;
 
-/// A request line, its body, the rows that are shown, and the end.
-type Shown<'a> = (&'a str, &'a str, &'a [&'a str], &'a str);
-
 /// A chunk (RFC 9112, section 7.1).
 fn chunk(alloc: Global, text: &str) -> Result<String, AllocError> {
     let len = text.len();
@@ -34,25 +31,53 @@ fn feed(alloc: Global, rows: &[&str], end: &str) -> Result<String, AllocError> {
     Ok(out)
 }
 
-/// Whether each request is answered so, over a database `d` with the documents of this batch, and
-/// with one feed at a time.
-fn are_shown(alloc: Global, batch: &str, table: &[Shown<'_>]) -> Result<bool, AllocError> {
-    let mut input = String::from_str(alloc, "PUT /d HTTP/1.1\r\n\r\n")?;
-    let mut expected = whole(alloc, "201 Created", "{\"ok\":true}")?;
-    let stored = request(alloc, "POST /d/_bulk_docs", batch)?;
-    input.push_str(stored.as_str())?;
-    let listed = whole(alloc, "201 Created", "[]")?;
-    expected.push_str(listed.as_str())?;
-    for (line, body, rows, end) in table {
-        let asked = request(alloc, line, body)?;
-        input.push_str(asked.as_str())?;
-        let shown = feed(alloc, rows, end)?;
-        expected.push_str(shown.as_str())?;
+/// A session over a database `d`, with one feed at a time.
+#[derive(Drop)]
+struct Session {
+    alloc: Global,
+    /// The requests.
+    input: String,
+    /// What they are to be answered.
+    expected: String,
+}
+
+impl Session {
+    /// The database is made, and this batch is stored.
+    fn new(alloc: Global, batch: &str) -> Result<Session, AllocError> {
+        let mut input = String::from_str(alloc, "PUT /d HTTP/1.1\r\n\r\n")?;
+        let mut expected = whole(alloc, "201 Created", "{\"ok\":true}")?;
+        let stored = request(alloc, "POST /d/_bulk_docs", batch)?;
+        input.push_str(stored.as_str())?;
+        let listed = whole(alloc, "201 Created", "[]")?;
+        expected.push_str(listed.as_str())?;
+        Ok(Session {
+            alloc,
+            input,
+            expected,
+        })
     }
-    let mut limits = Limits::full();
-    limits.feeds = 1;
-    let (output, _) = answered(alloc, input.as_bytes(), limits)?;
-    Ok(output.as_slice() == expected.as_bytes())
+
+    /// A request for a feed, and the rows and the end that are to be shown.
+    fn shows(
+        &mut self,
+        line: &str,
+        body: &str,
+        rows: &[&str],
+        end: &str,
+    ) -> Result<(), AllocError> {
+        let asked = request(self.alloc, line, body)?;
+        self.input.push_str(asked.as_str())?;
+        let shown = feed(self.alloc, rows, end)?;
+        self.expected.push_str(shown.as_str())
+    }
+
+    /// Whether each request is answered so.
+    fn is_answered(&self) -> Result<bool, AllocError> {
+        let mut limits = Limits::full();
+        limits.feeds = 1;
+        let (output, _) = answered(self.alloc, self.input.as_bytes(), limits)?;
+        Ok(output.as_slice() == self.expected.as_bytes())
+    }
 }
 
 /// A feed begins above `since`, and never above the update sequence.
@@ -63,15 +88,14 @@ fn feeds_begin_above_since(rt: HostRuntime) -> Result<(), Fail> {
     let b = "{\"seq\":2,\"id\":\"b\",\"changes\":[{\"rev\":\"1-b\"}]}";
     let a = "{\"seq\":3,\"id\":\"a\",\"changes\":[{\"rev\":\"2-c\"}]}";
     let end = "\"last_seq\":3,\"pending\":0}";
-    let table: [Shown<'_>; 6] = [
-        ("GET /d/_changes", "", &[b, a], end),
-        ("GET /d/_changes?since=2", "", &[a], end),
-        ("GET /d/_changes?since=3", "", &[], end),
-        ("GET /d/_changes?since=99", "", &[], end),
-        ("GET /d/_changes?since=now", "", &[], end),
-        ("POST /d/_changes?since=1", "{}", &[b, a], end),
-    ];
-    assert!(rt; are_shown(rt.alloc(), batch, &table)?);
+    let mut session = Session::new(rt.alloc(), batch)?;
+    session.shows("GET /d/_changes", "", &[b, a], end)?;
+    session.shows("GET /d/_changes?since=2", "", &[a], end)?;
+    session.shows("GET /d/_changes?since=3", "", &[], end)?;
+    session.shows("GET /d/_changes?since=99", "", &[], end)?;
+    session.shows("GET /d/_changes?since=now", "", &[], end)?;
+    session.shows("POST /d/_changes?since=1", "{}", &[b, a], end)?;
+    assert!(rt; session.is_answered()?);
     Ok(())
 }
 
@@ -84,17 +108,16 @@ fn rows_by_style(rt: HostRuntime) -> Result<(), Fail> {
     let leaves =
         "{\"seq\":3,\"id\":\"x\",\"changes\":[{\"rev\":\"2-a\"},{\"rev\":\"1-z\"},{\"rev\":\"2-b\"}]}";
     let end = "\"last_seq\":3,\"pending\":0}";
-    let table: [Shown<'_>; 3] = [
-        ("GET /d/_changes?style=main_only", "", &[winner], end),
-        ("GET /d/_changes?style=all_docs", "", &[leaves], end),
-        (
-            "GET /d/_changes?style=all_docs&descending=true",
-            "",
-            &[leaves],
-            end,
-        ),
-    ];
-    assert!(rt; are_shown(rt.alloc(), batch, &table)?);
+    let mut session = Session::new(rt.alloc(), batch)?;
+    session.shows("GET /d/_changes?style=main_only", "", &[winner], end)?;
+    session.shows("GET /d/_changes?style=all_docs", "", &[leaves], end)?;
+    session.shows(
+        "GET /d/_changes?style=all_docs&descending=true",
+        "",
+        &[leaves],
+        end,
+    )?;
+    assert!(rt; session.is_answered()?);
     Ok(())
 }
 
@@ -110,48 +133,47 @@ fn filters_and_limits(rt: HostRuntime) -> Result<(), Fail> {
     let v = "{\"seq\":4,\"id\":\"_design/v\",\"changes\":[{\"rev\":\"1-v\"}]}";
     let at_two = "\"last_seq\":2,\"pending\":2}";
     let at_four = "\"last_seq\":4,\"pending\":0}";
-    let table: [Shown<'_>; 9] = [
-        (
-            "GET /d/_changes?filter=_doc_ids&doc_ids=%5B%22c%22,%22b%22%5D&limit=1",
-            "",
-            &[b],
-            at_two,
-        ),
-        (
-            "GET /d/_changes?filter=_doc_ids&doc_ids=%5B%22c%22,%22b%22%5D&limit=0",
-            "",
-            &[b],
-            at_two,
-        ),
-        (
-            "POST /d/_changes?filter=_doc_ids&limit=1",
-            "{\"doc_ids\":[\"c\",\"b\"]}",
-            &[b],
-            at_two,
-        ),
-        (
-            "POST /d/_changes?filter=_doc_ids",
-            "{\"doc_ids\":[\"c\",\"b\",\"c\"]}",
-            &[b, c],
-            at_four,
-        ),
-        ("GET /d/_changes?filter=_design", "", &[v], at_four),
-        ("GET /d/_changes?limit=2", "", &[a, b], at_two),
-        (
-            "GET /d/_changes?limit=0&since=0&style=all_docs&x=1",
-            "",
-            &[a],
-            "\"last_seq\":1,\"pending\":3}",
-        ),
-        ("GET /d/_changes?limit=5", "", &[a, b, c, v], at_four),
-        (
-            "GET /d/_changes?filter=_design&descending=true",
-            "",
-            &[v],
-            "\"last_seq\":4,\"pending\":3}",
-        ),
-    ];
-    assert!(rt; are_shown(rt.alloc(), batch, &table)?);
+    let mut session = Session::new(rt.alloc(), batch)?;
+    session.shows(
+        "GET /d/_changes?filter=_doc_ids&doc_ids=%5B%22c%22,%22b%22%5D&limit=1",
+        "",
+        &[b],
+        at_two,
+    )?;
+    session.shows(
+        "GET /d/_changes?filter=_doc_ids&doc_ids=%5B%22c%22,%22b%22%5D&limit=0",
+        "",
+        &[b],
+        at_two,
+    )?;
+    session.shows(
+        "POST /d/_changes?filter=_doc_ids&limit=1",
+        "{\"doc_ids\":[\"c\",\"b\"]}",
+        &[b],
+        at_two,
+    )?;
+    session.shows(
+        "POST /d/_changes?filter=_doc_ids",
+        "{\"doc_ids\":[\"c\",\"b\",\"c\"]}",
+        &[b, c],
+        at_four,
+    )?;
+    session.shows("GET /d/_changes?filter=_design", "", &[v], at_four)?;
+    session.shows("GET /d/_changes?limit=2", "", &[a, b], at_two)?;
+    session.shows(
+        "GET /d/_changes?limit=0&since=0&style=all_docs&x=1",
+        "",
+        &[a],
+        "\"last_seq\":1,\"pending\":3}",
+    )?;
+    session.shows("GET /d/_changes?limit=5", "", &[a, b, c, v], at_four)?;
+    session.shows(
+        "GET /d/_changes?filter=_design&descending=true",
+        "",
+        &[v],
+        "\"last_seq\":4,\"pending\":3}",
+    )?;
+    assert!(rt; session.is_answered()?);
     Ok(())
 }
 
@@ -163,39 +185,38 @@ fn descending_feeds(rt: HostRuntime) -> Result<(), Fail> {
     let b = "{\"seq\":2,\"id\":\"b\",\"changes\":[{\"rev\":\"1-b\"}]}";
     let c = "{\"seq\":3,\"id\":\"c\",\"changes\":[{\"rev\":\"1-c\"}]}";
     let a = "{\"seq\":5,\"id\":\"a\",\"changes\":[{\"rev\":\"3-e\"}]}";
-    let table: [Shown<'_>; 5] = [
-        (
-            "GET /d/_changes?descending=true&since=2",
-            "",
-            &[a, c],
-            "\"last_seq\":3,\"pending\":0}",
-        ),
-        (
-            "GET /d/_changes?descending=true",
-            "",
-            &[a, c, b],
-            "\"last_seq\":2,\"pending\":0}",
-        ),
-        (
-            "GET /d/_changes?descending=true&limit=1",
-            "",
-            &[a],
-            "\"last_seq\":5,\"pending\":2}",
-        ),
-        (
-            "GET /d/_changes?descending=true&since=9",
-            "",
-            &[],
-            "\"last_seq\":5,\"pending\":0}",
-        ),
-        (
-            "GET /d/_changes?descending=false&limit=1",
-            "",
-            &[b],
-            "\"last_seq\":2,\"pending\":2}",
-        ),
-    ];
-    assert!(rt; are_shown(rt.alloc(), batch, &table)?);
+    let mut session = Session::new(rt.alloc(), batch)?;
+    session.shows(
+        "GET /d/_changes?descending=true&since=2",
+        "",
+        &[a, c],
+        "\"last_seq\":3,\"pending\":0}",
+    )?;
+    session.shows(
+        "GET /d/_changes?descending=true",
+        "",
+        &[a, c, b],
+        "\"last_seq\":2,\"pending\":0}",
+    )?;
+    session.shows(
+        "GET /d/_changes?descending=true&limit=1",
+        "",
+        &[a],
+        "\"last_seq\":5,\"pending\":2}",
+    )?;
+    session.shows(
+        "GET /d/_changes?descending=true&since=9",
+        "",
+        &[],
+        "\"last_seq\":5,\"pending\":0}",
+    )?;
+    session.shows(
+        "GET /d/_changes?descending=false&limit=1",
+        "",
+        &[b],
+        "\"last_seq\":2,\"pending\":2}",
+    )?;
+    assert!(rt; session.is_answered()?);
     Ok(())
 }
 
@@ -211,28 +232,27 @@ fn rows_bring_documents(rt: HostRuntime) -> Result<(), Fail> {
     let plain = "{\"seq\":1,\"id\":\"a\",\"changes\":[{\"rev\":\"1-a\"}]}";
     let deleted = "{\"seq\":2,\"id\":\"b\",\"changes\":[{\"rev\":\"1-b\"}],\"deleted\":true}";
     let end = "\"last_seq\":2,\"pending\":0}";
-    let table: [Shown<'_>; 4] = [
-        ("GET /d/_changes?include_docs=true", "", &[a, b], end),
-        (
-            "GET /d/_changes?include_docs=false",
-            "",
-            &[plain, deleted],
-            end,
-        ),
-        (
-            "GET /d/_changes?include_docs=true&style=all_docs",
-            "",
-            &[a, b],
-            end,
-        ),
-        (
-            "GET /d/_changes?include_docs=true&descending=true",
-            "",
-            &[b, a],
-            "\"last_seq\":1,\"pending\":0}",
-        ),
-    ];
-    assert!(rt; are_shown(rt.alloc(), batch, &table)?);
+    let mut session = Session::new(rt.alloc(), batch)?;
+    session.shows("GET /d/_changes?include_docs=true", "", &[a, b], end)?;
+    session.shows(
+        "GET /d/_changes?include_docs=false",
+        "",
+        &[plain, deleted],
+        end,
+    )?;
+    session.shows(
+        "GET /d/_changes?include_docs=true&style=all_docs",
+        "",
+        &[a, b],
+        end,
+    )?;
+    session.shows(
+        "GET /d/_changes?include_docs=true&descending=true",
+        "",
+        &[b, a],
+        "\"last_seq\":1,\"pending\":0}",
+    )?;
+    assert!(rt; session.is_answered()?);
     Ok(())
 }
 

@@ -34,7 +34,7 @@ use Rattle.hub_document.specs.declared.limits.Limits.{Limits}
 use Rattle.hub_database.specs.Database.{Database, Local}
 use Rattle.hub_database.specs.Edits.{draft_of, stores_doc}
 use Rattle.hub_database.specs.Edits as edits
-use Rattle.hub_database.specs.Feeds.{answer_of, answered, changed, feed_in, item_due, behind_answer, feeds_behind, without}
+use Rattle.hub_database.specs.Feeds.{answer_of, answered, changed, feed_in, item_due, feeds_behind, without}
 use Rattle.hub_database.specs.Followed.{IsBehind, AreFeeds}
 use Rattle.hub_database.proofs.StoreLemmas.{get_at}
 
@@ -232,7 +232,7 @@ module _ (id : ℕ) (feeds : List (ℕ × Feed)) (at : ℕ) (placed : Some at �
   pub stays_here : (new : Feed) → new ≡ p.1 → slice_set feeds at (p.0, new) ≡ feeds
   stays_here new e = ap (λ (f : Feed). slice_set feeds at (p.0, f)) e ∙ set_back feeds at p (place_found (λ (q : ℕ × Feed). nat_eq q.0 id) feeds at placed p is).1
 
--- there is no feed of this number
+  -- there is no feed of this number
 
   -- the feeds behind what the feed there answers
   pub behind_here : (show : Current → ChangeRow) (rows : List Current) (len : ℕ) (new : Feed) → AllPairs (λ (a b : ℕ × Feed). a.0 < b.0) feeds → (d : Due) (next : Next ChangeRow)

@@ -7,7 +7,7 @@ use Rattle.json.specs.Print.{escape_byte, quoted}
 use Rattle.hub_model.specs.Revision.{Revision, text_of}
 use Rattle.hub_model.specs.Draft.{generation_of, parent_of}
 use Rattle.hub_document.specs.declared.doc.Doc.{Doc}
-use Rattle.hub_document.specs.DocText.{member_text, rev_member, deleted_member, history_member, history_text, inside, if_some, members_of, doc_text, local_text}
+use Rattle.hub_document.specs.DocText.{member_text, rev_member, deleted_member, history_member, history_text, inside, if_some, doc_text, local_text}
 use Rattle.hub_document.specs.Joined.{after_commas, head_text, ids_text, start_text, count_text, rest_text}
 use Rattle.hub_document.specs.SpecialText.{special_text}
 use Rattle.hub_document.proofs.WriteLemmas.{quoted_count, three_parts}

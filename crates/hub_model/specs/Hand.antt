@@ -1,5 +1,5 @@
 -- The item that a feed hands of what is due (CouchDB API reference, _changes).
-use Rattle.std.specs.Prelude.{ℕ, List, Option, Some, None}
+use Rattle.std.specs.Prelude.{List, Option, Some, None}
 use Rattle.hub_model.specs.Journal.{Edit}
 use Rattle.hub_model.specs.Current.{Current, current, pending}
 use Rattle.hub_model.specs.Row.{ChangeRow, row_of}
