@@ -1,6 +1,6 @@
 //! Documents by their ids (CouchDB API reference, `/{db}/{docid}`).
 
-ghost use Rattle.std.specs.Prelude.{◌≡◌, ℕ};
+ghost use Rattle.std.specs.Prelude.{◌≡◌};
 ghost use Rattle.hub_document.specs.Ids.{short_id};
 ghost use Rattle.hub_document.specs.Put.{put_in};
 ghost use Rattle.hub_params.specs.DocParams.{doc_asked};
@@ -80,9 +80,9 @@ pub(crate) fn get(
     say_found(alloc, &found)
 }
 
-// Stores an edit whose revision is made here, and says so, with whatever status it is told.
-fn edit(alloc: Global, state: &mut DbState, doc: Doc) -> Result<Vec<u8>, Refusal>
-    ensures { (status : ℕ) → Writes status state.old (edits status state.old doc) result state.new }
+// Stores an edit whose revision is made here, and says so with this status.
+fn edit(alloc: Global, state: &mut DbState, status: u16, doc: Doc) -> Result<Vec<u8>, Refusal>
+    ensures { Writes status state.old (edits status state.old doc) result state.new }
 {
     let id = doc.id.copy(alloc)?;
     match state.write_one(doc) {
@@ -106,7 +106,7 @@ pub(crate) fn put(
     let params = DocParams::read(alloc, query)?;
     let rev = params.rev.as_deref();
     match Doc::read_put(alloc, id, rev, params.new_edits, body) {
-        Ok(doc) => edit(alloc, state, doc),
+        Ok(doc) => edit(alloc, state, 201, doc),
         Err(fault) => Err(Refusal::from(fault)),
     }
 }
@@ -146,7 +146,7 @@ fn delete_leaf(alloc: Global, state: &mut DbState, id: &str, rev: RevId) -> Resu
         deleted: true,
         body,
     };
-    edit(alloc, state, doc)
+    edit(alloc, state, 200, doc)
 }
 
 /// Deletes a document: an edit of the leaf that the query names. It costs what `DbState::write_one`
