@@ -1,9 +1,10 @@
 -- The feeds of a database: where one stands, and how they change.
 use Rattle.std.proofs.Common.{◌≡◌, ◌≢◌, ℕ, zero, suc, ◌<◌, ◌≤◌, List, [], ◌∷◌, ◌++◌, length, Bool, true, false, not, ap, refl, sym, ◌∙◌, subst, arith, inl, inr, find, map, nat_eq, nat_lt, nat_le, Contains, AllPairs, IfSome}
-use Rattle.std.specs.Prelude.{IfOk, OnErr, Result, Ok, Err, Option, Some, None, slice_get, slice_set, get_or, option_map, option_and_then, position, unwrap_or, if◌then◌else◌}
+use Rattle.std.specs.Prelude.{IfOk, OnErr, Result, Ok, Err, Option, Some, None, slice_get, slice_set, get_or, option_map, option_and_then, position, replicate, take, unwrap_or, ◌&&◌, if◌then◌else◌}
 use Rattle.std.specs.List.{All, position_or_len}
 use Rattle.std.proofs.lemmas.Bool.{cases_Bool, eqb-true, eq-eqb, ltb-true, ltb-false}
-use Rattle.std.proofs.lemmas.List.{length_push}
+use Rattle.std.proofs.lemmas.List.{length_push, length-replicate}
+use Rattle.std.proofs.Math.Seq.{take-length}
 use Rattle.std.proofs.lemmas.List.Elements.{All-map, All-filter}
 use Rattle.std.proofs.lemmas.List.Folds.{find_at}
 use Rattle.std.proofs.lemmas.List.Kept.{AllPairs-cons, AllPairs-filter}
@@ -11,10 +12,10 @@ use Rattle.std.proofs.lemmas.Option.{same_Some, none-some, slice_get_past}
 use Rattle.hub_index.proofs.IndexLemmas.{of_head, of_tail}
 use Rattle.hub_model.specs.Current.{Current, current}
 use Rattle.hub_model.specs.Draft.{Draft, parent_of, generation_of, made, edit_of, extended, makes_on}
-use Rattle.hub_model.specs.Feed.{Feed, Status, Open, Ending, Ended, Finished, Due, DueRow, DueEnd, DueNothing, DueGone, due, due_at, due_open, is_in_reach, bound_after, after_due, after_nothing}
+use Rattle.hub_model.specs.Feed.{Feed, Status, Open, Ending, Ended, Finished, Due, DueRow, DueEnd, DueNothing, DueGone, due, due_at, due_open, is_in_reach, is_open, waits, expire, end, bound_after, after_due, after_nothing}
 use Rattle.hub_model.specs.Journal.{Edit, head_of, is_head_known, is_acceptable, is_known}
 use Rattle.hub_model.specs.Leaves.{leaves_of}
-use Rattle.hub_model.specs.Outcome.{Stores, refuses, adds, merges}
+use Rattle.hub_model.specs.Outcome.{Stores, StoresAll, refuses, adds, merges, stores_all}
 use Rattle.hub_model.specs.Revision.{Revision}
 use Rattle.hub_model.specs.declared.feeds.Mode.{Mode}
 use Rattle.hub_model.specs.declared.feeds.Mode.TheVariants.{Normal, Longpoll, Continuous}
@@ -32,9 +33,9 @@ use Rattle.hub_feed.specs.declared.next.Next.TheVariants.{Give}
 use Rattle.hub_document.specs.declared.doc.Doc.{Doc}
 use Rattle.hub_document.specs.declared.limits.Limits.{Limits}
 use Rattle.hub_database.specs.Database.{Database, Local}
-use Rattle.hub_database.specs.Edits.{draft_of, stores_doc}
+use Rattle.hub_database.specs.Edits.{draft_of, stores_doc, writes}
 use Rattle.hub_database.specs.Edits as edits
-use Rattle.hub_database.specs.Feeds.{answer_of, answered, changed, feed_in, item_due, feeds_behind, without}
+use Rattle.hub_database.specs.Feeds.{answer_of, answered, changed, ended, feed_in, item_due, feeds_behind, without}
 use Rattle.hub_database.specs.Followed.{IsBehind, AreFeeds}
 use Rattle.hub_database.proofs.StoreLemmas.{get_at}
 
@@ -71,9 +72,9 @@ write_grows new_edits limit J doc o K h = subst (λ (s : Stores). length J ≤ l
     from false = merges_grow limit J (edits.edit_of doc)
 
 -- a write changes the journal alone
-pub rest_stays : (J : List Edit) {l l' : List Local} {f f' : List (ℕ × Feed)} {n n' : ℕ} {m m' : Limits} → l ≡ l' → f ≡ f' → n ≡ n' → m ≡ m'
-    → ◌≡◌ {A = Database} (record { journal = J; locals = l; feeds = f; next_feed = n; limits = m }) (record { journal = J; locals = l'; feeds = f'; next_feed = n'; limits = m' })
-rest_stays J a b c d = rw (a, b, c, d) refl
+pub rest_stays : (J : List Edit) {b b' : Bool} {l l' : List Local} {f f' : List (ℕ × Feed)} {n n' : ℕ} {m m' : Limits} → b ≡ b' → l ≡ l' → f ≡ f' → n ≡ n' → m ≡ m'
+    → ◌≡◌ {A = Database} (record { journal = J; deleted = b; locals = l; feeds = f; next_feed = n; limits = m }) (record { journal = J; deleted = b'; locals = l'; feeds = f'; next_feed = n'; limits = m' })
+rest_stays J e a b c d = rw (e, a, b, c, d) refl
 
 bound_on : (len len' : ℕ) (bound : Option ℕ) → len ≤ len' → IfSome bound (λ b. b ≤ len) → IfSome bound (λ b. b ≤ len')
 bound_on len len' None h b = tt
@@ -209,6 +210,39 @@ goes_behind rows len within f h = from f.status
     from Ending = h
     from Ended = h
     from Finished = h
+
+-- or whose time is over
+pub expired_behind : (len : ℕ) (f : Feed) → IsBehind len f → IsBehind len (expire f)
+expired_behind len f h = from (is_open f.status && waits f.params.mode)
+  where
+    from : (b : Bool) → IsBehind len (if b then record f { status = Ending } else f)
+    from true = h
+    from false = h
+
+ended_behind : (len : ℕ) (f : Feed) → IsBehind len f → IsBehind len (end f)
+ended_behind len f h = from (is_open f.status)
+  where
+    from : (b : Bool) → IsBehind len (if b then record f { status = Ending } else f)
+    from true = h
+    from false = h
+
+-- and those of a deleted database stay behind
+pub feeds_ended : (len next : ℕ) (feeds : List (ℕ × Feed)) → AreFeeds len next feeds → AreFeeds len next (map ended feeds)
+feeds_ended len next feeds x = record {
+  rising = pairs_map (λ (a b : ℕ × Feed). a.0 < b.0) ended feeds x.rising;
+  given = All-map (λ (p : ℕ × Feed). p.0 < next) ended feeds x.given;
+  behind = All-map (λ (p : ℕ × Feed). IsBehind len p.1) ended feeds (λ k d l. ended_behind len (get_or feeds k d).1 (x.behind k d l));
+}
+
+-- a deleted database refuses each document
+pub all_refused : {A : Type 0} (store : List Edit → A → Stores) (J : List Edit) (xs : List A) → stores_all store true J xs ≡ record { outcomes = replicate (length xs) (outcome.Refused fault.Deleted); journal = J }
+all_refused store J [] = refl
+all_refused store J (x ∷ xs) = ap (λ (s : StoresAll). record { outcomes = outcome.Refused fault.Deleted ∷ s.outcomes; journal = J }) (all_refused store J xs)
+
+pub refused_batch : (new_edits deleted : Bool) (limit : ℕ) (J : List Edit) (docs : List Doc) (n : ℕ) (replies : List (Outcome Revision)) → deleted ≡ true → n ≡ length docs → replies ≡ replicate n (outcome.Refused fault.Deleted)
+    → writes new_edits deleted limit J (take (length replies) docs) ≡ record { outcomes = replies; journal = J }
+refused_batch new_edits deleted limit J docs n replies t e r =
+    rw (t, r, length-replicate {A = Outcome Revision} n (outcome.Refused fault.Deleted), e, take-length docs) (all_refused (stores_doc new_edits limit) J docs)
 
 set_back : {A : Type 0} (xs : List A) (k : ℕ) (x : A) → slice_get xs k ≡ Some x → slice_set xs k x ≡ xs
 set_back [] k x e = refl

@@ -1,8 +1,11 @@
 -- One database as its callers see it (own).
-use Rattle.std.specs.Prelude.{ℕ, List}
+use Rattle.std.specs.Prelude.{ℕ, List, Bool, if◌then◌else◌}
 use Rattle.hub_model.specs.Journal.{Edit}
 use Rattle.hub_model.specs.Feed.{Feed}
+use Rattle.hub_model.specs.declared.outcomes.Fault.TheVariants as fault
 use Rattle.hub_document.specs.declared.limits.Limits.{Limits}
+use Rattle.hub_database.specs.declared.batch.DbFault.{DbFault}
+use Rattle.hub_database.specs.declared.batch.DbFault.TheVariants.{NoMemory, Refused}
 
 -- a local document, with how often it was written
 pub record Local : Type 0 where
@@ -13,7 +16,12 @@ pub record Local : Type 0 where
 -- a database
 pub record Database : Type 0 where
   pub journal : List Edit  -- the accepted edits, first to last
+  pub deleted : Bool  -- whether it was deleted
   pub locals : List Local  -- in the byte order of their ids
   pub feeds : List (ℕ × Feed)  -- those that are not finished, with their numbers, which rise
   pub next_feed : ℕ  -- the number of the next feed
   pub limits : Limits
+
+-- why a call that reads gives up: once the database is deleted that is told before anything else
+abbrev pub reading_fault : Database → DbFault
+reading_fault db = if db.deleted then Refused fault.Deleted else NoMemory

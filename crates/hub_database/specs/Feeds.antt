@@ -1,12 +1,14 @@
 -- The feeds of a database (CouchDB API reference, _changes; how many there may be is own).
-use Rattle.std.specs.Prelude.{ℕ, ◌+◌, ◌-◌, ◌^◌, List, [], ◌∷◌, ◌++◌, length, map, filter, find, not, Bool, ◌||◌, nat_le, nat_eq, if◌then◌else◌, Option, Some, None, option_map, option_and_then}
+use Rattle.std.specs.Prelude.{ℕ, ◌+◌, ◌-◌, ◌^◌, List, [], ◌∷◌, ◌++◌, length, map, filter, find, not, Bool, true, false, ◌||◌, nat_le, nat_eq, if◌then◌else◌, Option, Some, None, option_map, option_and_then}
 use Rattle.hub_model.specs.Current.{current}
-use Rattle.hub_model.specs.Feed.{Feed, Params, Due, DueGone, begin, due, after_due, after_nothing}
+use Rattle.hub_model.specs.Feed.{Feed, Params, Due, DueGone, begin, due, after_due, after_nothing, beat_due, expire, end}
 use Rattle.hub_model.specs.Hand.{change_due}
 use Rattle.hub_model.specs.Journal.{Edit}
 use Rattle.hub_model.specs.Row.{ChangeRow, row_of}
 use Rattle.hub_model.specs.declared.feeds.Item.{Item}
 use Rattle.hub_feed.specs.Next.{next_of}
+use Rattle.hub_feed.specs.declared.host.OpenFault.{OpenFault}
+use Rattle.hub_feed.specs.declared.host.OpenFault.TheVariants.{Deleted, TooManyFeeds}
 use Rattle.hub_feed.specs.declared.next.Next.{Next}
 use Rattle.hub_feed.specs.declared.next.Next.TheVariants.{Give, Nothing, Gone}
 use Rattle.hub_database.specs.Database.{Database}
@@ -26,6 +28,10 @@ without id feeds = filter (λ (p : ℕ × Feed). not (nat_eq p.0 id)) feeds
 -- whether there is no room for one more feed, or no number: none is given twice
 abbrev pub is_full : Database → Bool
 is_full db = nat_le db.limits.feeds (length db.feeds) || nat_le (2 ^ 64 - 1) db.next_feed
+
+-- why no feed is opened, where none is
+abbrev pub refuses_feed : Database → Option OpenFault
+refuses_feed db = if db.deleted then Some Deleted else if is_full db then Some TooManyFeeds else None
 
 -- the database with one feed more
 abbrev pub opened : Database → Params → Database
@@ -70,3 +76,20 @@ handed db id = record db { feeds = changed id (λ f. after_due f (due (current d
 -- the database once the feed is finished
 abbrev pub finished : Database → ℕ → Database
 finished db id = record db { feeds = without id db.feeds }
+
+-- whether a heartbeat may be handed to a feed
+abbrev pub is_beat_due : Option Feed → Bool
+is_beat_due None = false
+is_beat_due (Some f) = beat_due f
+
+-- the database once the feed's time is over
+abbrev pub expired : Database → ℕ → Database
+expired db id = record db { feeds = changed id expire db.feeds }
+
+-- a feed, with its number, once its database is deleted: where it is open, its end is all that is left to hand
+abbrev pub ended : ℕ × Feed → ℕ × Feed
+ended p = (p.0, end p.1)
+
+-- the database once it is deleted
+abbrev pub deleted : Database → Database
+deleted db = record db { deleted = true; feeds = map ended db.feeds }

@@ -1,13 +1,15 @@
 //! Descending answers.
 
-ghost use Rattle.std.specs.Prelude.{◌≡◌, ◌≤◌, ◌&&◌, map, count_by, nat_lt, IfOk};
+ghost use Rattle.std.specs.Prelude.{◌≡◌, ◌≤◌, ◌&&◌, map, count_by, nat_lt, IfOk, false, IfErr};
 ghost use Rattle.hub_model.specs.Current.{Current, current};
 ghost use Rattle.hub_model.specs.Descending.{descending, falling_rows};
 ghost use Rattle.hub_model.specs.Feed.{since_of};
 ghost use Rattle.hub_model.specs.Row.{row_of};
 ghost use Rattle.hub_database.specs.Falling.{lowest_row, most_of};
 ghost use Rattle.hub_params.specs.FeedModel.{params_of};
+ghost use Rattle.hub_database.specs.Database.{reading_fault};
 
+use crate::batch::DbFault;
 use crate::database::DbState;
 use crate::rows::Rows;
 use hub_document::ChangeRow;
@@ -103,11 +105,8 @@ impl Rows<'_> {
 }
 
 impl DbState {
-    /// The current rows that pass, the greatest sequence first, in one answer. Only `since`,
-    /// `limit`, `style`, `include_docs` and `filter` are looked at. It costs a step in the index for
-    /// each row from the end to the last that is shown, what each shown row costs, and the count of
-    /// the rows below it.
-    pub fn changes_descending(&self, params: &FeedParams) -> Result<Descending, AllocError>
+    // The current rows that pass, of a database that stands.
+    fn falling_answer(&self, params: &FeedParams) -> Result<Descending, AllocError>
         ensures { IfOk result (λ answer. answer ≡ descending self.now.journal (params_of params.now)) }
     {
         let rows = Rows { store: &self.store };
@@ -120,5 +119,18 @@ impl DbState {
             last_seq,
             pending,
         })
+    }
+
+    /// The current rows that pass, the greatest sequence first, in one answer. Only `since`,
+    /// `limit`, `style`, `include_docs` and `filter` are looked at. It costs a step in the index for
+    /// each row from the end to the last that is shown, what each shown row costs, and the count of
+    /// the rows below it.
+    pub fn changes_descending(&self, params: &FeedParams) -> Result<Descending, DbFault>
+        ensures ok { IfOk result (λ answer. (self.now.deleted ≡ false) × (answer ≡ descending self.now.journal (params_of params.now))) }
+        ensures err { IfErr result (λ e. e ≡ reading_fault self.now) }
+    {
+        self.check()?;
+        let answer = self.falling_answer(params)?;
+        Ok(answer)
     }
 }

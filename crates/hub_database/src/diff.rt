@@ -1,10 +1,12 @@
 //! Revisions that are missing.
 
-ghost use Rattle.std.specs.Prelude.{◌≡◌, IfOk};
+ghost use Rattle.std.specs.Prelude.{◌≡◌, IfOk, false, IfErr};
 ghost use Rattle.hub_model.specs.Missing.{diffs};
 ghost use Rattle.hub_database.specs.Found.{wanted_diff};
+ghost use Rattle.hub_database.specs.Database.{reading_fault};
 
 use crate::answers::Diff;
+use crate::batch::DbFault;
 use crate::database::DbState;
 use hub_document::{Asked, Revisions};
 use std::alloc::AllocError;
@@ -38,10 +40,8 @@ impl DbState {
         }))
     }
 
-    /// Which of the revisions asked for are missing, of the documents alone of which some are, in
-    /// the order asked. It costs a look in the map of ids for each document, and what
-    /// `RevTree::missing` and `RevTree::possible_ancestors` do.
-    pub fn revs_diff(&self, asked: Vec<Asked>) -> Result<Vec<Diff>, AllocError>
+    // Which of the revisions asked for are missing in a database that stands.
+    fn differences(&self, asked: Vec<Asked>) -> Result<Vec<Diff>, AllocError>
         ensures { IfOk result (λ found. found.items ≡ diffs self.now.journal asked.items) }
     {
         let mut found = Vec::new(self.store.alloc);
@@ -50,6 +50,18 @@ impl DbState {
                 found.push(diff)?;
             }
         }
+        Ok(found)
+    }
+
+    /// Which of the revisions asked for are missing, of the documents alone of which some are, in
+    /// the order asked. It costs a look in the map of ids for each document, and what
+    /// `RevTree::missing` and `RevTree::possible_ancestors` do.
+    pub fn revs_diff(&self, asked: Vec<Asked>) -> Result<Vec<Diff>, DbFault>
+        ensures ok { IfOk result (λ found. (self.now.deleted ≡ false) × (found.items ≡ diffs self.now.journal asked.items)) }
+        ensures err { IfErr result (λ e. e ≡ reading_fault self.now) }
+    {
+        self.check()?;
+        let found = self.differences(asked)?;
         Ok(found)
     }
 }

@@ -1,32 +1,17 @@
 //! The feeds of a database.
 
-ghost use Rattle.std.specs.Prelude.{◌≡◌, ◌⊎◌, Some, true, false, nat_eq, position, IfOk, IfErr, OnErr};
+ghost use Rattle.std.specs.Prelude.{◌≡◌, ◌⊎◌, Some, None, nat_eq, map, position, IfOk, IfErr, OnErr};
 ghost use Rattle.hub_feed.specs.Next.{IsRowDue};
 ghost use Rattle.hub_params.specs.FeedModel.{params_of};
-ghost use Rattle.hub_database.specs.Feeds.{is_full, opened, item_due, answered, behind_answer, handed, finished, due_to};
+ghost use Rattle.hub_database.specs.Feeds.{refuses_feed, opened, feed_in, is_beat_due, expired, ended, item_due, answered, behind_answer, handed, finished, due_to};
 
 use crate::database::DbState;
 use crate::rows::Rows;
 use hub_document::ChangeRow;
-use hub_feed::{FeedState, Next};
+use hub_feed::{FeedId, FeedState, Next, OpenFault};
 use hub_model::Item;
 use hub_params::FeedParams;
 use std::alloc::AllocError;
-
-/// The number of a feed of a database. None is given twice.
-#[derive(Clone, Copy, Debug, PartialEq, Eq)]
-pub struct FeedId {
-    pub(crate) number: u64,
-}
-
-/// Why no feed is opened.
-#[derive(Clone, Copy, Debug, PartialEq, Eq)]
-pub enum OpenFault {
-    /// A growth was refused.
-    NoMemory,
-    /// There are as many feeds as there may be, or no number is left for one more.
-    TooManyFeeds,
-}
 
 // Where the feed of this number stands.
 fn place_of(feeds: &[(u64, FeedState)], number: u64) -> Option<usize>
@@ -35,13 +20,25 @@ fn place_of(feeds: &[(u64, FeedState)], number: u64) -> Option<usize>
     feeds.iter().position(|feed| feed.0 == number)
 }
 
+// Ends each feed that is open.
+pub(crate) fn end_all(feeds: &mut Vec<(u64, FeedState)>)
+    ensures { feeds.new.items ≡ map ended feeds.old.items }
+{
+    for feed in feeds.iter_mut() {
+        feed.1.end();
+    }
+}
+
 impl DbState {
     /// Opens a feed, which stays until it is finished. `descending` is not looked at. It costs a
     /// search among the feeds.
     pub fn open_feed(&mut self, params: FeedParams) -> Result<FeedId, OpenFault>
-        ensures ok { IfOk result (λ id. (id.number ≡ self.old.next_feed) × (is_full self.old ≡ false) × (self.new ≡ opened self.old (params_of params))) }
-        ensures err { IfErr result (λ e. (self.new ≡ self.old) × ((e ≡ OpenFault.NoMemory) ⊎ ((e ≡ OpenFault.TooManyFeeds) × (is_full self.old ≡ true)))) }
+        ensures ok { IfOk result (λ id. (id.number ≡ self.old.next_feed) × (refuses_feed self.old ≡ None) × (self.new ≡ opened self.old (params_of params))) }
+        ensures err { IfErr result (λ e. (self.new ≡ self.old) × ((e ≡ OpenFault.NoMemory) ⊎ (refuses_feed self.old ≡ Some e))) }
     {
+        if self.deleted {
+            return Err(OpenFault::Deleted);
+        }
         if self.feeds.len() as u64 >= self.store.limits.feeds || self.next_feed == u64::MAX {
             return Err(OpenFault::TooManyFeeds);
         }
@@ -83,6 +80,30 @@ impl DbState {
         let rows = Rows { store: &self.store };
         let feed = &mut self.feeds[at];
         feed.1.accept_item(&rows, item);
+    }
+
+    /// Whether a heartbeat may be handed to a feed now: one was asked for, and the feed is open and
+    /// waits. It takes no memory, and costs a search among the feeds.
+    pub fn beat_due(&self, feed: FeedId) -> bool
+        ensures { result ≡ is_beat_due (feed_in feed.number self.now.feeds) }
+    {
+        let Some(at) = place_of(self.feeds.as_slice(), feed.number) else {
+            return false;
+        };
+        let feed = &self.feeds[at];
+        feed.1.beat_due()
+    }
+
+    /// A feed's time without an item is over: an open feed that waits is ending. It takes no memory,
+    /// and costs a search among the feeds.
+    pub fn expire(&mut self, feed: FeedId)
+        ensures { self.new ≡ expired self.old feed.number }
+    {
+        let Some(at) = place_of(self.feeds.as_slice(), feed.number) else {
+            return;
+        };
+        let feed = &mut self.feeds[at];
+        feed.1.expire();
     }
 
     /// Forgets a feed, if there is one of this number. It takes no memory, and costs a search among

@@ -31,5 +31,4 @@ pub use answers::{Diff, Info, Lookup, OpenRev};
 pub use batch::{Batch, DbFault, Replies};
 pub use database::DbState;
 pub use descending::Descending;
-pub use feeds::{FeedId, OpenFault};
 pub use local::Local;

@@ -1,7 +1,7 @@
 //! Local documents.
 
-ghost use Rattle.std.specs.Prelude.{◌≡◌, ◌⊎◌, ◌≤◌, ◌^◌, option_map, IfSome, IfNone, IfOk, IfErr, OnOk, OnErr};
-ghost use Rattle.hub_model.specs.declared.outcomes.Fault.TheVariants.{SequenceFull};
+ghost use Rattle.std.specs.Prelude.{◌≡◌, ◌⊎◌, ◌≤◌, ◌^◌, false, true, option_map, IfSome, IfNone, IfOk, IfErr, OnOk, OnErr};
+ghost use Rattle.hub_model.specs.declared.outcomes.Fault.TheVariants.{Deleted, SequenceFull};
 ghost use Rattle.hub_database.specs.Kept.{kept};
 ghost use Rattle.hub_database.specs.Locals.{local_of, next_count, put_local, written};
 
@@ -51,21 +51,25 @@ fn put(locals: &mut BTreeMap<String, Local>, id: LocalId, local: Local) -> Resul
 
 impl DbState {
     /// The local document of this id. A look in the map of local documents.
-    pub fn local_get(&self, id: &str) -> Option<&Local>
-        ensures { option_map (λ l. record { id = id.now; count = l.now.count; body = l.now.body }) result ≡ local_of self.now.locals id.now }
+    pub fn local_get(&self, id: &str) -> Result<Option<&Local>, DbFault>
+        ensures ok { IfOk result (λ found. (self.now.deleted ≡ false) × (option_map (λ l. record { id = id.now; count = l.now.count; body = l.now.body }) found ≡ local_of self.now.locals id.now)) }
+        ensures err { IfErr result (λ e. (self.now.deleted ≡ true) × (e ≡ DbFault.Refused Deleted)) }
     {
-        local_in(&self.locals, id)
+        self.check()?;
+        Ok(local_in(&self.locals, id))
     }
 
     /// Stores a local document in place of the one of its id, and says how often it was written. At
     /// the last count, 2^64 - 1, it is refused as a full sequence. Two looks in the map of local
     /// documents.
     pub fn local_put(&mut self, doc: LocalDoc) -> Result<u64, DbFault>
-        ensures ok { IfOk result (λ count. (count ≡ (written self.old.locals doc).count)
+        ensures ok { IfOk result (λ count. (self.old.deleted ≡ false) × (count ≡ (written self.old.locals doc).count)
             × (self.new ≡ record self.old { locals = put_local (written self.old.locals doc) self.old.locals })) }
         ensures err { IfErr result (λ e. (self.new ≡ self.old)
-            × ((e ≡ DbFault.NoMemory) ⊎ ((e ≡ DbFault.Refused SequenceFull) × (2 ^ 64 ≤ (written self.old.locals doc).count)))) }
+            × (((self.old.deleted ≡ true) × (e ≡ DbFault.Refused Deleted)) ⊎ ((self.old.deleted ≡ false) × ((e ≡ DbFault.NoMemory)
+            ⊎ ((e ≡ DbFault.Refused SequenceFull) × (2 ^ 64 ≤ (written self.old.locals doc).count)))))) }
     {
+        self.check()?;
         let LocalDoc { id, body } = doc;
         let Some(count) = count_after(&self.locals, id.as_str()) else {
             return Err(DbFault::Refused(Fault::SequenceFull));

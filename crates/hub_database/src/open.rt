@@ -1,11 +1,13 @@
 //! Revisions that are asked for.
 
-ghost use Rattle.std.specs.Prelude.{◌≡◌, map, option_map, IfOk};
+ghost use Rattle.std.specs.Prelude.{◌≡◌, map, option_map, IfOk, false, IfErr};
 ghost use Rattle.hub_database.specs.Found.{history_of, shown_in};
 ghost use Rattle.hub_database.specs.Reads.{doc_shown, open_rev_of, open_revs as open_revs_of};
 ghost use Rattle.hub_database.specs.declared.answers.OpenRev.TheVariants.{Missing};
+ghost use Rattle.hub_database.specs.Database.{reading_fault};
 
 use crate::answers::OpenRev;
+use crate::batch::DbFault;
 use crate::database::DbState;
 use crate::document::Document;
 use hub_document::{Doc, OpenRevs, Path, RevId};
@@ -80,10 +82,8 @@ fn all_missing(alloc: Global, asked: &[RevId]) -> Result<Vec<OpenRev>, AllocErro
 }
 
 impl DbState {
-    /// The revisions of a document that are asked for, each with its history where `revs` asks for
-    /// it. Of an unknown document there is no leaf, and each listed revision is missing. A look in
-    /// the map of ids, and for each revision a look an edit and a copy.
-    pub fn open_revs(
+    // The revisions of a document of a database that stands.
+    fn revisions_of(
         &self,
         id: &str,
         which: &OpenRevs,
@@ -103,5 +103,17 @@ impl DbState {
             (None, OpenRevs::All) => Ok(Vec::new(alloc)),
             (None, OpenRevs::Listed(listed)) => all_missing(alloc, listed.as_slice()),
         }
+    }
+
+    /// The revisions of a document that are asked for, each with its history where `revs` asks for
+    /// it. Of an unknown document there is no leaf, and each listed revision is missing. A look in
+    /// the map of ids, and for each revision a look an edit and a copy.
+    pub fn open_revs(&self, id: &str, which: &OpenRevs, revs: bool) -> Result<Vec<OpenRev>, DbFault>
+        ensures ok { IfOk result (λ found. (self.now.deleted ≡ false) × (found.items ≡ open_revs_of self.now.journal id.now which.now revs)) }
+        ensures err { IfErr result (λ e. e ≡ reading_fault self.now) }
+    {
+        self.check()?;
+        let found = self.revisions_of(id, which, revs)?;
+        Ok(found)
     }
 }

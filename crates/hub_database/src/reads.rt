@@ -1,14 +1,16 @@
 //! What a database is asked.
 
-ghost use Rattle.std.specs.Prelude.{◌≡◌, [], IfOk, IfSome, IfNone};
+ghost use Rattle.std.specs.Prelude.{◌≡◌, [], IfOk, IfSome, IfNone, false, IfErr};
 ghost use Rattle.hub_model.specs.Journal.{edits_of};
 ghost use Rattle.hub_model.specs.Leaves.{leaves_of};
 ghost use Rattle.hub_revtree.specs.Winner.{winner_of};
 ghost use Rattle.hub_database.specs.Found.{IsFound};
 ghost use Rattle.hub_database.specs.Reads.{lookup};
 ghost use Rattle.hub_database.specs.Store.{IsStore, edits_of_store};
+ghost use Rattle.hub_database.specs.Database.{reading_fault};
 
 use crate::answers::Lookup;
+use crate::batch::DbFault;
 use crate::database::DbState;
 use crate::document::Document;
 use crate::store::Store;
@@ -39,9 +41,8 @@ impl DbState {
         document.tree.best()
     }
 
-    /// A document: its winner, with its history where `revs` asks for it. A look in the map of ids,
-    /// what `RevTree::best` costs, and a copy of the document.
-    pub fn get(&self, id: &str, revs: bool) -> Result<Lookup, AllocError>
+    // A document of a database that stands.
+    fn look_up(&self, id: &str, revs: bool) -> Result<Lookup, AllocError>
         ensures { IfOk result (λ found. found ≡ lookup self.now.journal id.now revs) }
     {
         let Some(document) = self.store.document(id) else {
@@ -57,5 +58,16 @@ impl DbState {
             Some(doc) => Ok(Lookup::Found(doc)),
             None => Ok(Lookup::Unknown),
         }
+    }
+
+    /// A document: its winner, with its history where `revs` asks for it. A look in the map of ids,
+    /// what `RevTree::best` costs, and a copy of the document.
+    pub fn get(&self, id: &str, revs: bool) -> Result<Lookup, DbFault>
+        ensures ok { IfOk result (λ found. (self.now.deleted ≡ false) × (found ≡ lookup self.now.journal id.now revs)) }
+        ensures err { IfErr result (λ e. e ≡ reading_fault self.now) }
+    {
+        self.check()?;
+        let found = self.look_up(id, revs)?;
+        Ok(found)
     }
 }

@@ -1,13 +1,13 @@
 //! Rows of changes.
 
-ghost use Rattle.std.specs.Prelude.{◌≡◌, ◌++◌, length, take, OnOk};
+ghost use Rattle.std.specs.Prelude.{◌≡◌, ◌++◌, length, take, IfOk, OnOk};
 ghost use Rattle.hub_document.specs.DocText.{doc_text, row_doc};
 
 use crate::body::Body;
 use crate::doc_id::DocId;
 use crate::revisions::Revisions;
 use crate::text::{put_deleted, put_head, put_rest, put_rev};
-use std::alloc::AllocError;
+use std::alloc::{AllocError, Global};
 use std::marker::Model;
 
 /// A row of a feed of changes (CouchDB API reference, `_changes`).
@@ -36,7 +36,33 @@ impl Model for ChangeRow {
     ghost view = { λ a. record { seq = a.seq; id = a.id; changes = a.changes; deleted = a.deleted; doc = a.doc; seen = a.seen } };
 }
 
+fn copied_body(alloc: Global, body: &Option<Body>) -> Result<Option<Body>, AllocError>
+    ensures { IfOk result (λ b. b ≡ body.now) }
+{
+    match body {
+        Some(body) => Ok(Some(body.copy(alloc)?)),
+        None => Ok(None),
+    }
+}
+
 impl ChangeRow {
+    /// A copy. It costs the lengths of the id, the list of revisions and the members.
+    pub fn copy(&self, alloc: Global) -> Result<ChangeRow, AllocError>
+        ensures { IfOk result (λ row. row ≡ self.now) }
+    {
+        let id = self.id.copy(alloc)?;
+        let changes = self.changes.copy(alloc)?;
+        let doc = copied_body(alloc, &self.doc)?;
+        Ok(ChangeRow {
+            seq: self.seq,
+            id,
+            changes,
+            deleted: self.deleted,
+            doc,
+            seen: self.seen,
+        })
+    }
+
     /// Appends the text of the document with these members whose row it is. It costs the text's
     /// length. After an error what was held still stands in front, and a part of the text may stand
     /// behind it.

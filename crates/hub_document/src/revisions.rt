@@ -1,8 +1,9 @@
 //! Lists of revisions.
 
-ghost use Rattle.std.specs.Prelude.{◌≡◌};
+ghost use Rattle.std.specs.Prelude.{◌≡◌, IfOk};
 
 use crate::revision::RevId;
+use std::alloc::{AllocError, Global};
 use std::marker::Model;
 
 /// A list of revisions, as a row of changes shows them.
@@ -33,5 +34,13 @@ impl Revisions {
         ensures { result.now ≡ self.now }
     {
         self.list.as_slice()
+    }
+
+    /// A copy. It costs the list's length.
+    pub fn copy(&self, alloc: Global) -> Result<Revisions, AllocError>
+        ensures { IfOk result (λ list. list ≡ self.now) }
+    {
+        let list = Vec::from_slice(alloc, self.list.as_slice())?;
+        Ok(Revisions { list })
     }
 }

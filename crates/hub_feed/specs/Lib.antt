@@ -1,5 +1,6 @@
 pub mod Edits
 pub mod EditsLaws
+pub mod Host
 pub mod Next
 pub mod Reach
 pub mod Shown

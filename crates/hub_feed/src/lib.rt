@@ -3,11 +3,13 @@
 #![tactic(auto)]
 
 mod feed;
+mod host;
 mod next;
 mod source;
 #[cfg(test)]
 mod tests;
 
 pub use feed::FeedState;
+pub use host::{FeedHost, FeedId, OpenFault};
 pub use next::Next;
 pub use source::Source;

@@ -13,7 +13,7 @@ use Rattle.hub_database.proofs.database.DbState.accept_item.Goals as goal
 pub returns-in_default : goal.returns-in_default
 returns-in_default c =
     let none : position (λ (p : ℕ × Feed). nat_eq p.0 c.args.feed.number) c.self.inside.feeds.items ≡ None = rw c.as_slice.ensures.value at (sym c.place_of.ensures ∙ c.in_default.is) in
-    subst (λ (z : Database). z ≡ handed z c.args.feed.number) c.self.view_is (rest_stays (edits_of_store c.self.inside.store) refl (sym (none_changed c.args.feed.number c.self.inside.feeds.items none _)) refl refl)
+    subst (λ (z : Database). z ≡ handed z c.args.feed.number) c.self.view_is (rest_stays (edits_of_store c.self.inside.store) refl refl (sym (none_changed c.args.feed.number c.self.inside.feeds.items none _)) refl refl)
 
 pub accept_item-requires : goal.accept_item-requires
 accept_item-requires c =
@@ -50,4 +50,4 @@ returns c =
     let p = c.index_mut-feed.result.now in
     let change : Feed → Feed = λ f. after_due f (due (current J) f) (length J) in
     let now = changed_here id db.feeds.items c.in-Some.at placed p c.index_mut-feed.ensures.value change c.accept_item.new.self c.self.invariant.3.rising c.accept_item.ensures in
-    rw (sym c.self.view_is) (rest_stays J refl now refl refl)
+    rw (sym c.self.view_is) (rest_stays J refl refl now refl refl)

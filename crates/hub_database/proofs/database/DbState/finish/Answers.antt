@@ -19,4 +19,4 @@ invariant_of-self c =
 pub returns : goal.returns
 returns c =
     let left : c.retain.new.self.items ≡ without c.args.feed.number c.self.inside.feeds.items = filter_same _ _ _ (λ x b f' k. search rules) _ _ c.retain.ensures.filtered in
-    rw (sym c.self.view_is) (rest_stays (edits_of_store c.self.inside.store) refl left refl refl)
+    rw (sym c.self.view_is) (rest_stays (edits_of_store c.self.inside.store) refl refl left refl refl)

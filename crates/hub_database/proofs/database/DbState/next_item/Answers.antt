@@ -46,7 +46,7 @@ returns-clause-ok c =
     both_ok c.next_item.result
     (λ next is new. (
       subst (λ (z : Database). next ≡ answered z id) c.self.view_is (is ∙ sym (ap (answer_of J) (feed_here id db.feeds.items c.in-Some.at placed p c.index_mut-feed.ensures.value))),
-      rw (sym c.self.view_is) (rest_stays J refl (behind_here id db.feeds.items c.in-Some.at placed p c.index_mut-feed.ensures.value _ (current J) (length J) c.next_item.new.self c.self.invariant.3.rising (due (current J) p.1) next is new) refl refl),
+      rw (sym c.self.view_is) (rest_stays J refl refl (behind_here id db.feeds.items c.in-Some.at placed p c.index_mut-feed.ensures.value _ (current J) (length J) c.next_item.new.self c.self.invariant.3.rising (due (current J) p.1) next is new) refl refl),
     )) c.next_item.ensures.ok c.next_item.ensures.new
 
 pub returns-clause-err : goal.returns-clause-err
@@ -58,6 +58,6 @@ returns-clause-err c =
     let p = c.index_mut-feed.result.now in
     more_err c.next_item.result
     (λ w. (
-      rw (sym c.self.view_is) (rest_stays J refl (stays_here id db.feeds.items c.in-Some.at placed p c.index_mut-feed.ensures.value c.next_item.new.self w.0) refl refl),
+      rw (sym c.self.view_is) (rest_stays J refl refl (stays_here id db.feeds.items c.in-Some.at placed p c.index_mut-feed.ensures.value c.next_item.new.self w.0) refl refl),
       subst (λ (z : Database). IsRowDue (due_to z id)) c.self.view_is (subst IsRowDue (sym (ap (due_of J) (feed_here id db.feeds.items c.in-Some.at placed p c.index_mut-feed.ensures.value))) w.1),
     )) c.next_item.ensures.err

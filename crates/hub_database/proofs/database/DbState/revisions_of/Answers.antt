@@ -2,7 +2,7 @@ use Rattle.std.proofs.Common.{◌≡◌, sym, ◌∙◌, subst}
 use Rattle.std.specs.Prelude.{IfOk}
 use Rattle.hub_database.specs.Store.{edits_of_store}
 use Rattle.hub_database.proofs.ShownLemmas.{all_found, listed_found}
-use Rattle.hub_database.proofs.database.DbState.open_revs.Goals as goal
+use Rattle.hub_database.proofs.database.DbState.revisions_of.Goals as goal
 
 pub returns-in_ok-leaves-in-Some-All : goal.returns-in_ok-leaves-in-Some-All
 returns-in_ok-leaves-in-Some-All c =

@@ -4,7 +4,7 @@ use Rattle.hub_params.specs.FeedModel.{params_of}
 use Rattle.hub_database.specs.Falling.{lowest_row}
 use Rattle.hub_database.specs.Store.{edits_of_store}
 use Rattle.hub_database.proofs.FallingLemmas.{answer_is, last_high}
-use Rattle.hub_database.proofs.database.DbState.changes_descending.Goals as goal
+use Rattle.hub_database.proofs.database.DbState.falling_answer.Goals as goal
 
 pub count_between-pending-requires : goal.count_between-pending-requires
 count_between-pending-requires c = last_high (edits_of_store c.self.inside.store) (params_of c.args.params.now) c.since_of-since.result c.in_ok-falling.falling.items c.lowest_row-last_seq.result c.in_ok-falling.ensures (c.lowest_row-last_seq.ensures ∙ ap (lowest_row c.since_of-since.result) c.as_slice.ensures.value)

@@ -1,6 +1,6 @@
 use Rattle.std.proofs.Common.{◌++◌, ◌∷◌, [], sym, ap, ◌∙◌, append_assoc}
 use Rattle.hub_database.proofs.MissingLemmas.{diffs_none}
-use Rattle.hub_database.proofs.database.DbState.revs_diff.Goals as goal
+use Rattle.hub_database.proofs.database.DbState.differences.Goals as goal
 
 pub loop-asked-preserved : goal.loop-asked-preserved
 loop-asked-preserved c =

@@ -2,7 +2,7 @@ use Rattle.std.proofs.Common.{◌≡◌, ◌∙◌, ◌+◌, ◌-◌, ap, sym, l
 use Rattle.hub_database.specs.Database.{Database}
 use Rattle.hub_database.specs.Reads.{info_of}
 use Rattle.hub_database.proofs.InfoLemmas.{count_below, info_by}
-use Rattle.hub_database.proofs.database.DbState.info.Goals as goal
+use Rattle.hub_database.proofs.database.DbState.counts.Goals as goal
 
 pub returns : goal.returns
 returns c =

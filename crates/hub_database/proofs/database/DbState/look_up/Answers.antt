@@ -1,7 +1,7 @@
 use Rattle.std.proofs.Common.{sym, ◌∙◌}
 use Rattle.hub_database.specs.Store.{edits_of_store}
 use Rattle.hub_database.proofs.ShownLemmas.{unknown_found, deleted_found, live_found, never_none}
-use Rattle.hub_database.proofs.database.DbState.get.Goals as goal
+use Rattle.hub_database.proofs.database.DbState.look_up.Goals as goal
 
 pub returns-in_default-best : goal.returns-in_default-best
 returns-in_default-best c =
