@@ -1,14 +1,14 @@
 -- `answer` gives a step, and the only one.
 use Rattle.std.proofs.Common.{◌≡◌, ℕ, ◌≤◌, List, [], ◌∷◌, length, false, inl, inr, sym, ◌∙◌, ap, subst, refl}
-use Rattle.std.specs.Prelude.{Option, Some, None, nat_lt, nat_le}
-use Rattle.std.proofs.lemmas.Bool.{cases_Bool, ltb-true, ltb-false, lt-ltb, le-ltb, leb-true, leb-false, le-leb, lt-leb}
+use Rattle.std.specs.Prelude.{Option, Some, None, nat_lt}
+use Rattle.std.proofs.lemmas.Bool.{cases_Bool, ltb-true, ltb-false, lt-ltb, le-ltb}
 use Rattle.std.proofs.lemmas.Option.{same_Some, none-some}
 use Rattle.hub_model.specs.Current.{current}
 use Rattle.hub_model.specs.Feed.{Params, Feed, Due, DueRow, DueEnd, DueNothing, DueGone, after_due, after_row, after_end, beat_due}
 use Rattle.hub_model.specs.Hand.{due_in, item_of, change_due}
 use Rattle.hub_model.specs.RightlyHanded.{ChangeItem}
 use Rattle.hub_model.specs.Row.{row_of}
-use Rattle.hub_world.specs.World.{World, Subscription, open_feeds, subscription, with_subscription, pushed, due_of, is_beat_due}
+use Rattle.hub_world.specs.World.{World, Subscription, has_no_room, subscription, with_subscription, pushed, due_of, is_beat_due}
 use Rattle.hub_world.specs.Event.{Event, Write, Interactive, Begin, Hand, Heartbeat, Expire, Take, Finish, Delete, Reply, Outcomes, Opened, TooManyFeeds, DatabaseDeleted, Pushed, Full, Nothing, Gone, Took, Left}
 use Rattle.hub_world.specs.Step.{Step, Run}
 use Rattle.hub_world.specs.Answer.{Answer, answered, push, hand_due, hand, beat, opened, answer, replies_to, after}
@@ -52,9 +52,9 @@ begin_steps : (w : World) (params : Params) → Step w (Begin params) (opened w 
 begin_steps w params =
     elim (cases_Bool w.deleted) [
       | inl t ↦ rw t (refl, refl)
-      | inr t ↦ rw t (elim (cases_Bool (nat_le w.limits.feeds (open_feeds w))) [
-        | inl u ↦ rw u (refl, leb-true _ _ u, refl)
-        | inr u ↦ rw u (refl, leb-false _ _ u, refl, refl)
+      | inr t ↦ rw t (elim (cases_Bool (has_no_room w)) [
+        | inl u ↦ rw u (refl, u, refl)
+        | inr u ↦ rw u (refl, u, refl, refl)
       ])
     ]
 
@@ -105,9 +105,9 @@ is_only_answer w new (Write edits) (Outcomes outcomes) m = (ap Outcomes m.0, m.1
 is_only_answer w new (Write edits) _ m = absurd m
 is_only_answer w new (Interactive drafts) (Outcomes outcomes) m = (ap Outcomes m.0, m.1)
 is_only_answer w new (Interactive drafts) _ m = absurd m
-is_only_answer w new (Begin params) (Opened f) m = from_same (opened w params) _ _ new (rw m.0 (rw (lt-leb _ _ m.1) refl)) (ap Opened m.2) m.3
+is_only_answer w new (Begin params) (Opened f) m = from_same (opened w params) _ _ new (rw m.0 (rw m.1 refl)) (ap Opened m.2) m.3
 is_only_answer w new (Begin params) DatabaseDeleted m = from_same (opened w params) (answered DatabaseDeleted w) _ new (rw m.0 refl) refl m.1
-is_only_answer w new (Begin params) TooManyFeeds m = from_same (opened w params) (answered TooManyFeeds w) _ new (rw m.0 (rw (le-leb _ _ m.1) refl)) refl m.2
+is_only_answer w new (Begin params) TooManyFeeds m = from_same (opened w params) (answered TooManyFeeds w) _ new (rw m.0 (rw m.1 refl)) refl m.2
 is_only_answer w new (Begin params) _ m = absurd m
 is_only_answer w new (Hand f) (Pushed item) m = from_same (hand w f (subscription w f)) (answered (Pushed item) (with_subscription w f (pushed m.0 (after_due m.0.feed (due_in w.journal m.0.feed) (length w.journal)) item))) _ new (ap (hand w f) m.1 ∙ (item_pushes w f m.0 _ item m.2 ∙ rw (lt-ltb _ _ m.3.0) refl)) refl m.3.1
 is_only_answer w new (Hand f) Full m = from_same (hand w f (subscription w f)) (answered Full w) _ new (ap (hand w f) m.1 ∙ due_full w f m.0 _ m.2.0 m.2.1 m.3) refl m.4

@@ -1,12 +1,12 @@
 -- The answer to each event and the world after it, computed (own; feeds by CouchDB API reference, _changes).
-use Rattle.std.specs.Prelude.{ℕ, List, [], ◌∷◌, length, map, true, if◌then◌else◌, Option, Some, None, slice_get, nat_lt, nat_le}
+use Rattle.std.specs.Prelude.{ℕ, List, [], ◌∷◌, length, map, true, if◌then◌else◌, Option, Some, None, slice_get, nat_lt}
 use Rattle.hub_model.specs.Current.{current, pending}
 use Rattle.hub_model.specs.Feed.{Params, Feed, Due, DueRow, DueEnd, DueNothing, DueGone, after_row, after_end, after_nothing, beat_due}
 use Rattle.hub_model.specs.Hand.{due_in}
 use Rattle.hub_model.specs.RightlyHanded.{ChangeItem}
 use Rattle.hub_model.specs.Row.{row_of}
 use Rattle.hub_model.specs.declared.feeds.Item.TheVariants.{Row, Beat, End}
-use Rattle.hub_world.specs.World.{World, Subscription, open_feeds, subscription, with_subscription, lane_of, merged, drafted, with_feed, pushed, expired, took, finished, ended}
+use Rattle.hub_world.specs.World.{World, Subscription, has_no_room, subscription, with_subscription, lane_of, merged, drafted, with_feed, pushed, expired, took, finished, ended}
 use Rattle.hub_world.specs.Event.{Event, Write, Interactive, Begin, Hand, Heartbeat, Expire, Take, Finish, Delete, Reply, Outcomes, Opened, TooManyFeeds, DatabaseDeleted, Pushed, Full, Nothing, Gone, Took, Left}
 
 -- a reply, and the world after it
@@ -46,7 +46,7 @@ beat w f (Some s) = if beat_due s.feed then push w f s s.feed Beat else answered
 abbrev pub opened : World → Params → Answer
 opened w params =
     if w.deleted then answered DatabaseDeleted w
-    else if nat_le w.limits.feeds (open_feeds w) then answered TooManyFeeds w
+    else if has_no_room w then answered TooManyFeeds w
     else answered (Opened (length w.feeds)) (with_feed w params)
 
 -- what an event answers, and the world after it

@@ -6,3 +6,7 @@ pub mod Answer
 pub mod Laws
 pub mod Headline
 pub mod Worked
+pub mod Core
+pub mod Entries
+pub mod Lane
+pub mod Meant

@@ -4,7 +4,7 @@ use Rattle.hub_model.specs.Feed.{DueNothing, DueGone, after_due, after_nothing, 
 use Rattle.hub_model.specs.Hand.{due_in, change_due}
 use Rattle.hub_model.specs.RightlyHanded.{ChangeItem}
 use Rattle.hub_model.specs.declared.feeds.Item.TheVariants.{Beat}
-use Rattle.hub_world.specs.World.{World, Subscription, open_feeds, subscription, with_subscription, due_of, is_beat_due, lane_of, merged, drafted, with_feed, Pushes, expired, took, finished, ended}
+use Rattle.hub_world.specs.World.{World, Subscription, has_no_room, subscription, with_subscription, due_of, is_beat_due, lane_of, merged, drafted, with_feed, Pushes, expired, took, finished, ended}
 use Rattle.hub_world.specs.Event.{Event, Write, Interactive, Begin, Hand, Heartbeat, Expire, Take, Finish, Delete, Reply, Outcomes, Opened, TooManyFeeds, DatabaseDeleted, Pushed, Full, Nothing, Gone, Took, Left}
 
 -- from old, the event may have this reply and lead to new
@@ -13,9 +13,9 @@ Step old (Write edits) (Outcomes outcomes) new = (outcomes ≡ (merged old edits
 Step old (Write edits) _ new = ⊥
 Step old (Interactive drafts) (Outcomes outcomes) new = (outcomes ≡ (drafted old drafts).outcomes) × (new ≡ record old { journal = (drafted old drafts).journal })
 Step old (Interactive drafts) _ new = ⊥
-Step old (Begin params) (Opened f) new = (old.deleted ≡ false) × (open_feeds old < old.limits.feeds) × (f ≡ length old.feeds) × (new ≡ with_feed old params)
+Step old (Begin params) (Opened f) new = (old.deleted ≡ false) × (has_no_room old ≡ false) × (f ≡ length old.feeds) × (new ≡ with_feed old params)
 Step old (Begin params) DatabaseDeleted new = (old.deleted ≡ true) × (new ≡ old)
-Step old (Begin params) TooManyFeeds new = (old.deleted ≡ false) × (old.limits.feeds ≤ open_feeds old) × (new ≡ old)
+Step old (Begin params) TooManyFeeds new = (old.deleted ≡ false) × (has_no_room old ≡ true) × (new ≡ old)
 Step old (Begin params) _ new = ⊥
 Step old (Hand f) (Pushed item) new = (s : Subscription) × (subscription old f ≡ Some s) × (change_due old.journal s.feed ≡ Some item) × Pushes old f s (after_due s.feed (due_in old.journal s.feed) (length old.journal)) item new
 Step old (Hand f) Full new = (s : Subscription) × (subscription old f ≡ Some s) × ((item : ChangeItem) × (change_due old.journal s.feed ≡ Some item)) × (old.limits.lane ≤ length s.lane) × (new ≡ old)

@@ -1,5 +1,5 @@
 -- A database with its feeds and their lanes, and what happens to them (own; feeds by CouchDB API reference, _changes).
-use Rattle.std.specs.Prelude.{◌≡◌, ℕ, ◌<◌, List, [], ◌∷◌, ◌++◌, length, drop, Bool, true, false, not, Option, Some, None, slice_get, slice_set, count_by}
+use Rattle.std.specs.Prelude.{◌≡◌, ℕ, ◌<◌, ◌-◌, ◌^◌, ◌||◌, nat_le, List, [], ◌∷◌, ◌++◌, length, drop, Bool, true, false, not, Option, Some, None, slice_get, slice_set, count_by}
 use Rattle.hub_model.specs.Draft.{Draft, makes}
 use Rattle.hub_model.specs.Feed.{Params, Status, Open, Ending, Ended, Finished, Feed, Due, DueGone, begin, beat_due, expire, end, finish}
 use Rattle.hub_model.specs.Hand.{due_in}
@@ -39,6 +39,10 @@ is_finished Finished = true
 -- how many feeds are not finished
 abbrev pub open_feeds : World → ℕ
 open_feeds w = count_by (λ s. not (is_finished s.feed.status)) w.feeds
+
+-- whether there may be no feed more: as many as may be are not finished, or no number is left
+abbrev pub has_no_room : World → Bool
+has_no_room w = nat_le w.limits.feeds (open_feeds w) || nat_le (2 ^ 64 - 1) (length w.feeds)
 
 -- feed f, where there is one
 abbrev pub subscription : World → ℕ → Option Subscription

@@ -1,5 +1,5 @@
 use Rattle.hub_world.proofs.Lanes.{takes_in_order, holds_the_rest, hands_rightly}
-use Rattle.hub_world.proofs.hands_and_takes.Goals as goal
+use Rattle.hub_world.proofs.laws.hands_and_takes.Goals as goal
 
 pub returns-clause-in_order : goal.returns-clause-in_order
 returns-clause-in_order c = takes_in_order

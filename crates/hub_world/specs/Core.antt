@@ -1,0 +1,47 @@
+-- The core as a program keeps it, and the world that it shows: its finished feeds are dropped, and stay in the world (own).
+use Rattle.std.specs.Prelude.{◌≡◌, ℕ, ◌+◌, List, [], ◌∷◌, length, map, true, All, if◌then◌else◌}
+use Rattle.hub_document.specs.declared.limits.Limits as hub
+use Rattle.hub_database.specs.Database.{Database}
+use Rattle.hub_model.specs.Feed.{Feed}
+use Rattle.hub_model.specs.RightlyHanded.{ChangeItem}
+use Rattle.hub_world.specs.World.{World, Limits, Subscription, is_finished}
+
+-- a database, and the lanes of its feeds by their numbers
+pub record Core : Type 0 where
+  pub db : Database
+  pub lanes : List (ℕ × List ChangeItem)
+
+-- the limits that count here
+abbrev pub limits_of : hub.Limits → Limits
+limits_of limits = record { journal = limits.journal; feeds = limits.feeds; lane = limits.lane }
+
+-- of feeds numbered from n, those that are not finished, with their numbers
+abbrev pub standing_from : ℕ → List Subscription → List (ℕ × Subscription)
+standing_from n [] = []
+standing_from n (s ∷ ss) = if is_finished s.feed.status then standing_from (n + 1) ss else (n, s) ∷ standing_from (n + 1) ss
+
+-- those of a world
+abbrev pub standing : World → List (ℕ × Subscription)
+standing w = standing_from 0 w.feeds
+
+-- the feed of such an entry
+abbrev pub feed_entry : ℕ × Subscription → ℕ × Feed
+feed_entry p = (p.0, p.1.feed)
+
+-- its lane
+abbrev pub lane_entry : ℕ × Subscription → ℕ × List ChangeItem
+lane_entry p = (p.0, p.1.lane)
+
+-- a finished feed has nothing in its lane
+abbrev pub IsEmptied : Subscription → Type 0
+IsEmptied s = is_finished s.feed.status ≡ true → s.lane ≡ []
+
+-- the core shows this world
+pub record Shows (c : Core) (w : World) : Type 0 where
+  pub limits : w.limits ≡ limits_of c.db.limits
+  pub journal : w.journal ≡ c.db.journal
+  pub deleted : w.deleted ≡ c.db.deleted
+  pub given : length w.feeds ≡ c.db.next_feed
+  pub feeds : map feed_entry (standing w) ≡ c.db.feeds
+  pub lanes : map lane_entry (standing w) ≡ c.lanes
+  pub emptied : All IsEmptied w.feeds

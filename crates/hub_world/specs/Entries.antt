@@ -1,0 +1,18 @@
+-- Lists of entries by number (own).
+use Rattle.std.specs.Prelude.{ℕ, List, Bool, map, filter, find, not, nat_eq, Option, option_map, if◌then◌else◌}
+
+-- whether the entry is of this number
+abbrev pub is_of : {A : Type 0} → ℕ → ℕ × A → Bool
+is_of number p = nat_eq p.0 number
+
+-- the entry of this number, if there is one
+abbrev pub entry_in : {A : Type 0} → ℕ → List (ℕ × A) → Option A
+entry_in number entries = option_map (λ p. p.1) (find (is_of number) entries)
+
+-- the entries, that of this number changed so
+abbrev pub changed : {A : Type 0} → ℕ → (A → A) → List (ℕ × A) → List (ℕ × A)
+changed number change entries = map (λ p. if is_of number p then (p.0, change p.1) else p) entries
+
+-- the entries but for that of this number
+abbrev pub without : {A : Type 0} → ℕ → List (ℕ × A) → List (ℕ × A)
+without number entries = filter (λ p. not (is_of number p)) entries

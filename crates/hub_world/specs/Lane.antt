@@ -1,0 +1,37 @@
+-- Lanes by the numbers of their feeds (own).
+use Rattle.std.specs.Prelude.{ℕ, ◌<◌, List, AllPairs, [], ◌∷◌, ◌++◌, length, drop, Bool, true, false, nat_lt, slice_get, unwrap_or, Option, Some, None, option_and_then, if◌then◌else◌}
+use Rattle.hub_model.specs.RightlyHanded.{ChangeItem}
+use Rattle.hub_world.specs.Entries.{changed, entry_in}
+
+-- the lanes of a core
+abbrev pub Lanes : Type 0
+Lanes = List (ℕ × List ChangeItem)
+
+-- their numbers rise
+abbrev pub IsRising : Lanes → Type 0
+IsRising lanes = AllPairs (λ (a b : ℕ × List ChangeItem). a.0 < b.0) lanes
+
+-- whether this lane has room for one more
+abbrev pub takes_more : ℕ → Option (List ChangeItem) → Bool
+takes_more limit None = false
+takes_more limit (Some items) = nat_lt (length items) limit
+
+-- whether the lane of this number has
+abbrev pub has_room : ℕ → ℕ → Lanes → Bool
+has_room limit number lanes = takes_more limit (entry_in number lanes)
+
+-- the item at the end of the lane, where there is room
+abbrev pub pushed : ℕ → ℕ → ChangeItem → Lanes → Lanes
+pushed limit number item lanes = if has_room limit number lanes then changed number (λ items. items ++ item ∷ []) lanes else lanes
+
+-- the front of the lane, if there is one
+abbrev pub front : ℕ → Lanes → Option ChangeItem
+front number lanes = option_and_then (λ items. slice_get items 0) (entry_in number lanes)
+
+-- the lanes without that
+abbrev pub behind_front : ℕ → Lanes → Lanes
+behind_front number lanes = changed number (drop 1) lanes
+
+-- what is in the lane
+abbrev pub held : ℕ → Lanes → List ChangeItem
+held number lanes = unwrap_or (entry_in number lanes) []

@@ -1,0 +1,65 @@
+-- What the program's events and replies mean (own).
+use Rattle.std.specs.Prelude.{◌≡◌, ◌<◌, List, length, map, take, Bool, false, IsTrue, ⊤}
+use Rattle.hub_database.specs.Edits.{edit_of, draft_of}
+use Rattle.hub_params.specs.FeedModel.{params_of}
+use Rattle.hub_document.specs.declared.doc.Doc.{Doc}
+use Rattle.hub_database.specs.declared.batch.Batch.{Batch}
+use Rattle.hub_world.specs.Core.{Core, Shows}
+use Rattle.hub_world.specs.Event as model
+use Rattle.hub_world.specs.Step.{Step}
+use Rattle.hub_world.specs.World.{World}
+use Rattle.hub_world.specs.declared.event.Event.{Event}
+use Rattle.hub_world.specs.declared.event.Event.TheVariants as event
+use Rattle.hub_world.specs.declared.reply.Reply.{Reply}
+use Rattle.hub_world.specs.declared.reply.Reply.TheVariants as reply
+
+-- the event that is meant
+abbrev pub event_of : Event → model.Event
+event_of (event.Write docs) = model.Write (map edit_of docs.items)
+event_of (event.Interactive docs) = model.Interactive (map draft_of docs.items)
+event_of (event.Begin params) = model.Begin (params_of params)
+event_of (event.Hand feed) = model.Hand feed.number
+event_of (event.Heartbeat feed) = model.Heartbeat feed.number
+event_of (event.Expire feed) = model.Expire feed.number
+event_of (event.Take feed) = model.Take feed.number
+event_of (event.Finish feed) = model.Finish feed.number
+event_of event.Delete = model.Delete
+
+-- the reply that is meant
+abbrev pub reply_of : Reply → model.Reply
+reply_of (reply.Outcomes batch) = model.Outcomes batch.replies
+reply_of (reply.Opened feed) = model.Opened feed.number
+reply_of reply.TooManyFeeds = model.TooManyFeeds
+reply_of reply.DatabaseDeleted = model.DatabaseDeleted
+reply_of (reply.Pushed item) = model.Pushed item
+reply_of reply.Full = model.Full
+reply_of reply.Nothing = model.Nothing
+reply_of reply.Gone = model.Gone
+reply_of (reply.Took item) = model.Took item
+reply_of (reply.Left items) = model.Left items.items
+
+-- the event as it took place, given its reply: of a batch that stopped, the write of the documents before the stop
+abbrev pub happened : Event → Reply → model.Event
+happened (event.Write docs) (reply.Outcomes batch) = model.Write (map edit_of (take (length batch.replies) docs.items))
+happened (event.Interactive docs) (reply.Outcomes batch) = model.Interactive (map draft_of (take (length batch.replies) docs.items))
+happened event reply = event_of event
+
+-- a batch that did not stop answers for each document, one that stopped for fewer
+pub record IsAnsweredFor (docs : List Doc) (batch : Batch) : Type 0 where
+  pub whole : batch.stopped ≡ false → length batch.replies ≡ length docs
+  pub stopped : IsTrue batch.stopped → length batch.replies < length docs
+
+-- so a reply to a write
+abbrev pub Answers : Event → Reply → Type 0
+Answers (event.Write docs) (reply.Outcomes batch) = IsAnsweredFor docs.items batch
+Answers (event.Interactive docs) (reply.Outcomes batch) = IsAnsweredFor docs.items batch
+Answers event reply = ⊤
+
+-- whether it is that of a batch that stopped
+abbrev pub is_stopped : Reply → Bool
+is_stopped (reply.Outcomes batch) = batch.stopped
+is_stopped reply = false
+
+-- from each world that the core shows the event took place, with this reply, to one that it shows then
+abbrev pub Applies : Core → Event → Reply → Core → Type 0
+Applies old event reply new = (w : World) → Shows old w → (next : World) × Step w (happened event reply) (reply_of reply) next × Shows new next

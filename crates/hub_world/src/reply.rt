@@ -1,0 +1,47 @@
+//! What comes of an event.
+
+ghost use Rattle.std.specs.Prelude.{◌≡◌};
+ghost use Rattle.hub_world.specs.Meant.{is_stopped};
+
+use hub_database::Batch;
+use hub_document::ChangeRow;
+use hub_feed::FeedId;
+use hub_model::Item;
+use std::collections::VecDeque;
+
+/// A reply to an event.
+#[derive(Debug, Drop)]
+pub enum Reply {
+    /// What became of each document, in order; where the batch stopped, of those before the stop.
+    Outcomes(Batch),
+    /// The feed was opened.
+    Opened(FeedId),
+    /// There are as many feeds as there may be, or no number is left for one more.
+    TooManyFeeds,
+    /// The database was deleted before.
+    DatabaseDeleted,
+    /// This item is now the last of the lane.
+    Pushed(Item<ChangeRow>),
+    /// The lane has no room for what is due.
+    Full,
+    /// There was nothing to do, or nothing to tell.
+    Nothing,
+    /// The feed will hand nothing more.
+    Gone,
+    /// This item was the front of the lane; none where it was empty.
+    Took(Option<Item<ChangeRow>>),
+    /// What was handed and never taken, the front first.
+    Left(VecDeque<Item<ChangeRow>>),
+}
+
+impl Reply {
+    /// Whether it is that of a batch that found no memory for a document.
+    pub(crate) fn is_stopped(&self) -> bool
+        ensures { result ≡ is_stopped self.now }
+    {
+        match self {
+            Reply::Outcomes(batch) => batch.stopped,
+            _ => false,
+        }
+    }
+}

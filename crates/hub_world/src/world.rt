@@ -1,0 +1,234 @@
+//! A database with its feeds and their lanes, as one machine.
+
+ghost use Rattle.std.specs.Prelude.{◌≡◌, ℕ, Some, false, map, IfOk, OnErr};
+ghost use Rattle.hub_world.specs.Answer.{answer, replies_to};
+ghost use Rattle.hub_world.specs.Core.{Shows, limits_of};
+ghost use Rattle.hub_world.specs.Headline.{reached, IsFaithful};
+ghost use Rattle.hub_world.specs.Meant.{event_of, reply_of, Answers, Applies};
+ghost use Rattle.hub_world.specs.World.{World as Shown, Subscription, subscription, empty};
+ghost use Rattle.hub_database.specs.Feeds.{item_due};
+
+use crate::event::Event;
+use crate::lane::{self, Lane};
+use crate::reply::Reply;
+use hub_database::DbState;
+use hub_document::{ChangeRow, Doc, Limits};
+use hub_feed::{FeedId, Next, OpenFault};
+use hub_model::Item;
+use hub_params::FeedParams;
+use std::alloc::{AllocError, Global};
+use std::marker::Model;
+
+/// A database with its feeds and their lanes. Every event is one call, so that a list of events is
+/// an interleaving of whatever makes them.
+#[derive(Debug, Drop)]
+pub struct World {
+    db: DbState,
+    /// The lanes of the feeds that are not finished.
+    lanes: Vec<Lane>,
+    /// How many items a lane holds at most.
+    lane: u64,
+    alloc: Global,
+}
+
+impl Model for World {
+    ghost use Rattle.hub_world.specs.Core.{Core};
+
+    ghost Value = { Core };
+
+    ghost use Rattle.std.specs.Prelude.{◌≡◌};
+    ghost use Rattle.hub_world.specs.Core.{Shows};
+    ghost use Rattle.hub_world.specs.World.{World as Shown};
+
+    ghost view = { λ a. record { db = a.db; lanes = a.lanes.items } };
+
+    ghost invariant = { λ a. (a.lane ≡ a.db.limits.lane) × ((w : Shown) × Shows (record { db = a.db; lanes = a.lanes.items }) w) };
+}
+
+impl World {
+    /// A database with no document and no feed.
+    pub fn new(alloc: Global, limits: Limits) -> World
+        ensures { Shows result (empty (limits_of limits)) }
+    {
+        World {
+            db: DbState::new(alloc, limits),
+            lanes: Vec::new(alloc),
+            lane: limits.lane,
+            alloc,
+        }
+    }
+
+    // Documents come with their histories.
+    fn write(&mut self, docs: Vec<Doc>) -> Result<Reply, AllocError>
+        ensures ok { IfOk result (λ reply. Applies self.old (Event.Write docs) reply self.new × Answers (Event.Write docs) reply) }
+        ensures err { OnErr result (self.new ≡ self.old) }
+    {
+        match self.db.write_edits(docs, false) {
+            Ok(batch) => Ok(Reply::Outcomes(batch)),
+            Err(_) => Err(AllocError),
+        }
+    }
+
+    // Documents come whose revisions are made here.
+    fn make(&mut self, docs: Vec<Doc>) -> Result<Reply, AllocError>
+        ensures ok { IfOk result (λ reply. Applies self.old (Event.Interactive docs) reply self.new × Answers (Event.Interactive docs) reply) }
+        ensures err { OnErr result (self.new ≡ self.old) }
+    {
+        match self.db.write_edits(docs, true) {
+            Ok(batch) => Ok(Reply::Outcomes(batch)),
+            Err(_) => Err(AllocError),
+        }
+    }
+
+    // A feed is opened, with an empty lane.
+    fn begin(&mut self, params: FeedParams) -> Result<Reply, AllocError>
+        ensures ok { IfOk result (λ reply. Applies self.old (Event.Begin params) reply self.new) }
+        ensures err { OnErr result (self.new ≡ self.old) }
+    {
+        self.lanes.try_reserve(1)?;
+        match self.db.open_feed(params) {
+            Ok(feed) => {
+                self.lanes.push_reserved(Lane::new(self.alloc, feed.number));
+                Ok(Reply::Opened(feed))
+            }
+            Err(OpenFault::NoMemory) => Err(AllocError),
+            Err(OpenFault::Deleted) => Ok(Reply::DatabaseDeleted),
+            Err(OpenFault::TooManyFeeds) => Ok(Reply::TooManyFeeds),
+        }
+    }
+
+    // The item that is due to a feed goes into its lane, and only then the feed goes on.
+    fn give(&mut self, feed: FeedId, item: Item<ChangeRow>) -> Result<Reply, AllocError>
+        requires due { item_due self.old.db feed.number ≡ Some item }
+        ensures ok { IfOk result (λ reply. Applies self.old (Event.Hand feed) reply self.new) }
+        ensures err { OnErr result (self.new ≡ self.old) }
+    {
+        if !lane::push(self.alloc, &mut self.lanes, self.lane, feed.number, &item)? {
+            return Ok(Reply::Full);
+        }
+        self.db.accept_item(feed, &item);
+        Ok(Reply::Pushed(item))
+    }
+
+    // What is due to a feed goes into its lane.
+    fn hand(&mut self, feed: FeedId) -> Result<Reply, AllocError>
+        ensures ok { IfOk result (λ reply. Applies self.old (Event.Hand feed) reply self.new) }
+        ensures err { OnErr result (self.new ≡ self.old) }
+    {
+        match self.db.next_item(feed)? {
+            Next::Give(item) => self.give(feed, item),
+            Next::Nothing => Ok(Reply::Nothing),
+            Next::Gone => Ok(Reply::Gone),
+        }
+    }
+
+    // A heartbeat that may be handed goes into the feed's lane.
+    fn beat(&mut self, feed: FeedId) -> Result<Reply, AllocError>
+        ensures ok { IfOk result (λ reply. Applies self.old (Event.Heartbeat feed) reply self.new) }
+        ensures err { OnErr result (self.new ≡ self.old) }
+    {
+        if !self.db.beat_due(feed) {
+            return Ok(Reply::Nothing);
+        }
+        if !lane::push(
+            self.alloc,
+            &mut self.lanes,
+            self.lane,
+            feed.number,
+            &Item::Beat,
+        )? {
+            return Ok(Reply::Full);
+        }
+        Ok(Reply::Pushed(Item::Beat))
+    }
+
+    // A feed's time is over.
+    fn expire(&mut self, feed: FeedId) -> Reply
+        ensures { Applies self.old (Event.Expire feed) result self.new }
+    {
+        self.db.expire(feed);
+        Reply::Nothing
+    }
+
+    // The front of a feed's lane is taken.
+    fn take(&mut self, feed: FeedId) -> Reply
+        ensures { Applies self.old (Event.Take feed) result self.new }
+    {
+        Reply::Took(lane::take(&mut self.lanes, feed.number))
+    }
+
+    // A feed's subscriber is gone.
+    fn finish(&mut self, feed: FeedId) -> Reply
+        ensures { Applies self.old (Event.Finish feed) result self.new }
+    {
+        self.db.finish(feed);
+        Reply::Left(lane::remove(self.alloc, &mut self.lanes, feed.number))
+    }
+
+    // The database is deleted, unless it was.
+    fn delete(&mut self) -> Reply
+        ensures { Applies self.old Event.Delete result self.new }
+    {
+        match self.db.delete() {
+            Ok(()) => Reply::Nothing,
+            Err(_) => Reply::DatabaseDeleted,
+        }
+    }
+
+    /// Makes one event take place. Where a growth is refused all stays as it was, but for a batch: the
+    /// documents before the one that found no memory stay stored, and the reply says that it stopped.
+    /// It costs what the call of `DbState` does, a search among the lanes, and for a row a copy.
+    pub fn apply(&mut self, event: Event) -> Result<Reply, AllocError>
+        ensures step { IfOk result (λ reply. Applies self.old event reply self.new) }
+        ensures batch { IfOk result (λ reply. Answers event reply) }
+        ensures err { OnErr result (self.new ≡ self.old) }
+    {
+        match event {
+            Event::Write(docs) => self.write(docs),
+            Event::Interactive(docs) => self.make(docs),
+            Event::Begin(params) => self.begin(params),
+            Event::Hand(feed) => self.hand(feed),
+            Event::Heartbeat(feed) => self.beat(feed),
+            Event::Expire(feed) => Ok(self.expire(feed)),
+            Event::Take(feed) => Ok(self.take(feed)),
+            Event::Finish(feed) => Ok(self.finish(feed)),
+            Event::Delete => Ok(self.delete()),
+        }
+    }
+
+    // Makes one event take place as a whole, or tells that a growth was refused.
+    fn apply_whole(&mut self, event: Event) -> Result<Reply, AllocError>
+        ensures { IfOk result (λ reply. (w : Shown) → Shows self.old w → (reply_of reply ≡ (answer w (event_of event)).reply) × Shows self.new (answer w (event_of event)).world) }
+    {
+        let reply = self.apply(event)?;
+        if reply.is_stopped() {
+            return Err(AllocError);
+        }
+        Ok(reply)
+    }
+
+    /// Runs a list of events on a new database, up to the first that finds no memory. Over every list
+    /// of events, what a feed's connection has taken is a prefix of what the feed handed out: rows in
+    /// strictly rising sequence, each its document's current row at its step, each passing the filter,
+    /// none above last_seq, nothing after the end, and every current passing row between since and the
+    /// feed's place among them (`headline`). The replies and the world are those of the definitions,
+    /// where an event has one answer.
+    pub fn run(
+        alloc: Global,
+        limits: Limits,
+        events: Vec<Event>,
+    ) -> Result<(World, Vec<Reply>), AllocError>
+        ensures replies { IfOk result (λ r. map reply_of r.1.items ≡ replies_to (empty (limits_of limits)) (map event_of events.items)) }
+        ensures world { IfOk result (λ r. Shows r.0 (reached (limits_of limits) (map event_of events.items))) }
+        ensures headline { IfOk result (λ r. (f : ℕ) (s : Subscription) → subscription (reached (limits_of limits) (map event_of events.items)) f ≡ Some s → IsFaithful (limits_of limits) (map event_of events.items) f s) }
+    {
+        let mut world = World::new(alloc, limits);
+        let mut replies = Vec::new(alloc);
+        replies.try_reserve(events.len())?;
+        for event in events {
+            let reply = world.apply_whole(event)?;
+            replies.push_reserved(reply);
+        }
+        Ok((world, replies))
+    }
+}
