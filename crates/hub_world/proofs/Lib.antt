@@ -3,3 +3,7 @@ pub mod Journals
 pub mod Kept
 pub mod Lanes
 pub mod Faithful
+pub mod LaneLemmas
+pub mod StandingLists
+pub mod Standing
+pub mod Stepping

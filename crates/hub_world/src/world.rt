@@ -63,10 +63,10 @@ impl World {
         ensures ok { IfOk result (λ reply. Applies self.old (Event.Write docs) reply self.new × Answers (Event.Write docs) reply) }
         ensures err { OnErr result (self.new ≡ self.old) }
     {
-        match self.db.write_edits(docs, false) {
-            Ok(batch) => Ok(Reply::Outcomes(batch)),
-            Err(_) => Err(AllocError),
-        }
+        let Ok(batch) = self.db.write_edits(docs, false) else {
+            return Err(AllocError);
+        };
+        Ok(Reply::Outcomes(batch))
     }
 
     // Documents come whose revisions are made here.
@@ -74,10 +74,10 @@ impl World {
         ensures ok { IfOk result (λ reply. Applies self.old (Event.Interactive docs) reply self.new × Answers (Event.Interactive docs) reply) }
         ensures err { OnErr result (self.new ≡ self.old) }
     {
-        match self.db.write_edits(docs, true) {
-            Ok(batch) => Ok(Reply::Outcomes(batch)),
-            Err(_) => Err(AllocError),
-        }
+        let Ok(batch) = self.db.write_edits(docs, true) else {
+            return Err(AllocError);
+        };
+        Ok(Reply::Outcomes(batch))
     }
 
     // A feed is opened, with an empty lane.
@@ -169,10 +169,10 @@ impl World {
     fn delete(&mut self) -> Reply
         ensures { Applies self.old Event.Delete result self.new }
     {
-        match self.db.delete() {
-            Ok(()) => Reply::Nothing,
-            Err(_) => Reply::DatabaseDeleted,
-        }
+        let Ok(()) = self.db.delete() else {
+            return Reply::DatabaseDeleted;
+        };
+        Reply::Nothing
     }
 
     /// Makes one event take place. Where a growth is refused all stays as it was, but for a batch: the
