@@ -11,15 +11,19 @@ use Rattle.hub_database.proofs.FeedLemmas.{place_found, place_none}
 use Rattle.hub_world.specs.Entries.{is_of, entry_in, changed, without}
 use Rattle.hub_world.specs.Lane.{Lanes, has_room, pushed}
 
+-- numbers rise
+abbrev Rise : {A : Type 0} → List (ℕ × A) → Type 0
+Rise {A = A} entries = AllPairs (λ (a b : ℕ × A). a.0 < b.0) entries
+
 -- where numbers rise, those after the first are above it, and rise
-module _ {A : Type 0} (p : ℕ × A) (entries : List (ℕ × A)) (rising : AllPairs (λ (a b : ℕ × A). a.0 < b.0) (p ∷ entries)) where
+module _ {A : Type 0} (p : ℕ × A) (entries : List (ℕ × A)) (rising : Rise (p ∷ entries)) where
   after_first : All (λ (q : ℕ × A). p.0 < q.0) entries
   after_first k d l = rising 0 (suc k) d (omega arith) (omega arith)
 
-  rest_rises : AllPairs (λ (a b : ℕ × A). a.0 < b.0) entries
+  rest_rises : Rise entries
   rest_rises i j d l m = rising (suc i) (suc j) d (omega arith) (omega arith)
 
--- entries of other numbers stay, changed or taken out
+-- entries of other numbers stay, whether that of this number is changed or taken out
 module _ {A : Type 0} (number : ℕ) where
   abbrev Others : List (ℕ × A) → Type 0
   Others entries = All (λ p. is_of number p ≡ false) entries
@@ -50,7 +54,7 @@ module _ {A : Type 0} (number : ℕ) where
   above p entries own rising k d l = let r = rising k d l in ne_eqb (get_or entries k d).0 number (λ e. omega (arith, r, own, e))
 
   -- the one here has the number, and those before and after it other ones
-  at_place : (change : A → A) (entries : List (ℕ × A)) (at : ℕ) (p : ℕ × A) → AllPairs (λ (a b : ℕ × A). a.0 < b.0) entries → slice_get entries at ≡ Some p → p.0 ≡ number
+  at_place : (change : A → A) (entries : List (ℕ × A)) (at : ℕ) (p : ℕ × A) → Rise entries → slice_get entries at ≡ Some p → p.0 ≡ number
       → (slice_set entries at (p.0, change p.1) ≡ changed number change entries) × (remove entries at ≡ without number entries)
   at_place change [] at p rising there own = absurd (none-some p there)
   at_place change (q ∷ entries) zero p rising there own =
@@ -89,7 +93,7 @@ module _ {A : Type 0} (number : ℕ) (entries : List (ℕ × A)) (at : ℕ) (pla
   entry_here = ap (option_map (λ (q : ℕ × A). q.1)) (place_found (is_of number) entries at placed p is).0
 
   -- and changes there
-  pub changed_here : (change : A → A) (new : A) → AllPairs (λ (a b : ℕ × A). a.0 < b.0) entries → new ≡ change p.1 → slice_set entries at (p.0, new) ≡ changed number change entries
+  pub changed_here : (change : A → A) (new : A) → Rise entries → new ≡ change p.1 → slice_set entries at (p.0, new) ≡ changed number change entries
   changed_here change new rising e = ap (λ (a : A). slice_set entries at (p.0, a)) e ∙ (at_place number change entries at p rising there own).0
 
   -- or stays
@@ -97,7 +101,7 @@ module _ {A : Type 0} (number : ℕ) (entries : List (ℕ × A)) (at : ℕ) (pla
   stays_here = put_back entries at p there
 
   -- or goes
-  pub without_here : AllPairs (λ (a b : ℕ × A). a.0 < b.0) entries → remove entries at ≡ without number entries
+  pub without_here : Rise entries → remove entries at ≡ without number entries
   without_here rising = (at_place number (λ a. a) entries at p rising there own).1
 
 -- there is none

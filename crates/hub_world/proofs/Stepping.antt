@@ -285,3 +285,7 @@ to_same old new now event reply e l = subst (λ c. Leads old event reply c) e l
 
 pub still_shows : (old new : Core) (event : Event) (reply : Reply) → (w : World) × Shows old w → Leads old event reply new → (w : World) × Shows new w
 still_shows old new event reply x l = let s = l x.0 x.1 in (s.0, s.2)
+
+-- a lane without room stays
+pub unpushed : (limit f : ℕ) (item : ChangeItem) (lanes : lane.Lanes) → has_room limit f lanes ≡ false → lane.pushed limit f item lanes ≡ lanes
+unpushed limit f item lanes e = rw e refl

@@ -1,29 +1,49 @@
-use Rattle.std.proofs.Common.{rules, ◌≡◌, ℕ, Some, false, map, IfOk, OnErr, ◌+◌, ◌-◌, ◌*◌, ◌<◌, ◌≤◌, length, ◌/◌, ◌%◌, Bool, true, nat_eq, nat_lt, List, [], ◌∷◌, ◌++◌, slice_index_or, slice_set, bit_and, bit_or, Fits, w8, w32, w64, Bor, MutBor}
-use Rattle.hub_world.specs.Answer.{answer, replies_to}
-use Rattle.hub_world.specs.Core.{Shows, limits_of}
-use Rattle.hub_world.specs.Headline.{reached, IsFaithful}
-use Rattle.hub_world.specs.Meant.{event_of, reply_of, Answers, Applies}
-use Rattle.hub_world.specs.World.{World as Shown}
-use Rattle.hub_world.specs.World.{Subscription, subscription, empty}
-use Rattle.hub_database.specs.Feeds.{item_due}
+use Rattle.std.proofs.Common.{◌≡◌, ◌∙◌, sym, ap, subst, refl, true, false, ℕ}
+use Rattle.std.specs.Prelude.{Some}
+use Rattle.hub_database.specs.Database.{Database}
+use Rattle.hub_world.specs.Core.{Core}
+use Rattle.hub_world.specs.Event as model
+use Rattle.hub_model.specs.declared.feeds.Item.TheVariants.{Beat}
+use Rattle.hub_world.specs.Lane.{has_room, pushed}
+use Rattle.hub_world.proofs.Standing.{lanes_rise}
+use Rattle.hub_world.proofs.Stepping.{Leads, beat_pushed, beat_full, beat_nothing, unpushed, from_same, to_same, still_shows}
 use Rattle.hub_world.proofs.world.World.beat.Goals as goal
 
--- src/world.rt:131:13
 pub returns-then-not-beat_due-clause-ok : goal.returns-then-not-beat_due-clause-ok
-returns-then-not-beat_due-clause-ok c = ?
+returns-then-not-beat_due-clause-ok c =
+    let old : Core = record { db = c.self.inside.db; lanes = c.self.inside.lanes.items } in
+    from_same old c.args.self.now c.args.self.now (model.Heartbeat c.args.feed.number) model.Nothing c.self.view_is (to_same old old c.args.self.now (model.Heartbeat c.args.feed.number) model.Nothing c.self.view_is (beat_nothing old c.args.feed.number (sym c.beat_due.ensures ∙ c.if-not-beat_due.true)))
 
--- src/world.rt:133:13
 pub push-requires : goal.push-requires
-push-requires c = ?
+push-requires c = record { rising = lanes_rise (record { db = c.self.inside.db; lanes = c.self.inside.lanes.items }) c.self.invariant.1.0 c.self.invariant.1.1 }
 
--- src/world.rt:140:13
 pub returns-then-not-branch-clause-ok : goal.returns-then-not-branch-clause-ok
-returns-then-not-branch-clause-ok c = ?
+returns-then-not-branch-clause-ok c =
+    let old : Core = record { db = c.self.inside.db; lanes = c.self.inside.lanes.items } in
+    let f = c.args.feed.number in
+    let pushes = c.in_ok-push.ensures.ok in
+    let room : has_room old.db.limits.lane f old.lanes ≡ false = ap (λ (n : ℕ). has_room n f old.lanes) (sym c.self.invariant.0) ∙ (sym pushes.0 ∙ c.if-not-branch.true) in
+    let lanes : c.push.new.lanes.items ≡ pushed old.db.limits.lane f Beat old.lanes = pushes.1 ∙ ap (λ (n : ℕ). pushed n f Beat old.lanes) c.self.invariant.0 in
+    from_same old c.args.self.now (record old { lanes = c.push.new.lanes.items }) (model.Heartbeat c.args.feed.number) model.Full c.self.view_is
+    (to_same old old (record old { lanes = c.push.new.lanes.items }) (model.Heartbeat c.args.feed.number) model.Full (ap (λ ls. record { db = old.db; lanes = ls }) (sym (lanes ∙ unpushed old.db.limits.lane f Beat old.lanes room))) (beat_full old f (sym c.beat_due.ensures ∙ c.if-not-beat_due.false) room))
 
--- src/world.rt:126:5
+-- the step
+leads : (c : goal.Else-not-branch) → Leads (record { db = c.self.inside.db; lanes = c.self.inside.lanes.items }) (model.Heartbeat c.args.feed.number) (model.Pushed Beat) (record { db = c.self.inside.db; lanes = c.push.new.lanes.items })
+leads c =
+    let old : Core = record { db = c.self.inside.db; lanes = c.self.inside.lanes.items } in
+    let f = c.args.feed.number in
+    let pushes = c.in_ok-push.ensures.ok in
+    let room : has_room old.db.limits.lane f old.lanes ≡ true = ap (λ (n : ℕ). has_room n f old.lanes) (sym c.self.invariant.0) ∙ (sym pushes.0 ∙ c.if-not-branch.false) in
+    let lanes : c.push.new.lanes.items ≡ pushed old.db.limits.lane f Beat old.lanes = pushes.1 ∙ ap (λ (n : ℕ). pushed n f Beat old.lanes) c.self.invariant.0 in
+    to_same old (record old { lanes = pushed old.db.limits.lane f Beat old.lanes }) (record old { lanes = c.push.new.lanes.items }) (model.Heartbeat c.args.feed.number) (model.Pushed Beat)
+    (ap (λ ls. record { db = old.db; lanes = ls }) (sym lanes)) (beat_pushed old f (sym c.beat_due.ensures ∙ c.if-not-beat_due.false) room)
+
 pub invariant_of-self-2 : goal.invariant_of-self-2
-invariant_of-self-2 c = ?
+invariant_of-self-2 c =
+    let old : Core = record { db = c.self.inside.db; lanes = c.self.inside.lanes.items } in
+    (c.self.invariant.0, still_shows old (record old { lanes = c.push.new.lanes.items }) (model.Heartbeat c.args.feed.number) (model.Pushed Beat) c.self.invariant.1 (leads c))
 
--- src/world.rt:126:5
 pub returns-clause-ok : goal.returns-clause-ok
-returns-clause-ok c = ?
+returns-clause-ok c =
+    let old : Core = record { db = c.self.inside.db; lanes = c.self.inside.lanes.items } in
+    from_same old c.args.self.now (record old { lanes = c.push.new.lanes.items }) (model.Heartbeat c.args.feed.number) (model.Pushed Beat) c.self.view_is (leads c)

@@ -1,17 +1,24 @@
-use Rattle.std.proofs.Common.{rules, ◌≡◌, ℕ, Some, false, map, IfOk, OnErr, ◌+◌, ◌-◌, ◌*◌, ◌<◌, ◌≤◌, length, ◌/◌, ◌%◌, Bool, true, nat_eq, nat_lt, List, [], ◌∷◌, ◌++◌, slice_index_or, slice_set, bit_and, bit_or, Fits, w8, w32, w64, Bor, MutBor}
-use Rattle.hub_world.specs.Answer.{answer, replies_to}
-use Rattle.hub_world.specs.Core.{Shows, limits_of}
-use Rattle.hub_world.specs.Headline.{reached, IsFaithful}
-use Rattle.hub_world.specs.Meant.{event_of, reply_of, Answers, Applies}
-use Rattle.hub_world.specs.World.{World as Shown}
-use Rattle.hub_world.specs.World.{Subscription, subscription, empty}
-use Rattle.hub_database.specs.Feeds.{item_due}
+use Rattle.std.proofs.Common.{◌≡◌, ◌∙◌, ◌⊎◌, ◌++◌, ◌∷◌, [], sym, ap, subst, refl, true, false, ℕ, map, length, List, inl, inr}
+use Rattle.std.specs.Prelude.{take, IfOk, Option, Some, None}
+use Rattle.hub_database.specs.Database.{Database}
+use Rattle.hub_world.specs.Core.{Core}
+use Rattle.hub_world.specs.Event as model
+use Rattle.hub_world.proofs.Stepping.{Leads, delete_leads, delete_again, from_same, to_same, still_shows}
+use Rattle.hub_database.specs.Feeds.{deleted}
 use Rattle.hub_world.proofs.world.World.delete.Goals as goal
 
--- src/world.rt:169:5
-pub invariant_of-self : goal.invariant_of-self
-invariant_of-self c = ?
+-- the step
+leads : (c : goal.In-Ok) → Leads (record { db = c.self.inside.db; lanes = c.self.inside.lanes.items }) model.Delete model.Nothing (record { db = c.delete.new.self; lanes = c.self.inside.lanes.items })
+leads c =
+    let old : Core = record { db = c.self.inside.db; lanes = c.self.inside.lanes.items } in
+    to_same old (record old { db = deleted old.db }) (record old { db = c.delete.new.self }) model.Delete model.Nothing (ap (λ (db : Database). record { db = db; lanes = c.self.inside.lanes.items }) (sym c.in-Ok.ensures.ok.1)) (delete_leads old c.in-Ok.ensures.ok.0)
 
--- src/world.rt:169:5
+pub invariant_of-self-2 : goal.invariant_of-self-2
+invariant_of-self-2 c =
+    let old : Core = record { db = c.self.inside.db; lanes = c.self.inside.lanes.items } in
+    (c.self.invariant.0 ∙ sym (ap (λ (db : Database). db.limits.lane) c.in-Ok.ensures.ok.1), still_shows old (record old { db = c.delete.new.self }) model.Delete model.Nothing c.self.invariant.1 (leads c))
+
 pub returns : goal.returns
-returns c = ?
+returns c =
+    let old : Core = record { db = c.self.inside.db; lanes = c.self.inside.lanes.items } in
+    from_same old c.args.self.now (record old { db = c.delete.new.self }) model.Delete model.Nothing c.self.view_is (leads c)

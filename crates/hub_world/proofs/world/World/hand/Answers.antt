@@ -1,21 +1,35 @@
-use Rattle.std.proofs.Common.{rules, ◌≡◌, ℕ, Some, false, map, IfOk, OnErr, ◌+◌, ◌-◌, ◌*◌, ◌<◌, ◌≤◌, length, ◌/◌, ◌%◌, Bool, true, nat_eq, nat_lt, List, [], ◌∷◌, ◌++◌, slice_index_or, slice_set, bit_and, bit_or, Fits, w8, w32, w64, Bor, MutBor}
-use Rattle.hub_world.specs.Answer.{answer, replies_to}
-use Rattle.hub_world.specs.Core.{Shows, limits_of}
-use Rattle.hub_world.specs.Headline.{reached, IsFaithful}
-use Rattle.hub_world.specs.Meant.{event_of, reply_of, Answers, Applies}
-use Rattle.hub_world.specs.World.{World as Shown}
-use Rattle.hub_world.specs.World.{Subscription, subscription, empty}
-use Rattle.hub_database.specs.Feeds.{item_due}
+use Rattle.std.proofs.Common.{◌≡◌, ◌∙◌, sym, ap, subst, refl, true, false, ℕ}
+use Rattle.std.specs.Prelude.{Some}
+use Rattle.hub_database.specs.Database.{Database}
+use Rattle.hub_world.specs.Core.{Core}
+use Rattle.hub_world.specs.Event as model
+use Rattle.hub_database.specs.Feeds.{behind_answer, answered}
+use Rattle.hub_feed.specs.declared.next.Next.TheVariants as next
+use Rattle.hub_world.proofs.Stepping.{Leads, hand_nothing, hand_gone, from_same, to_same, still_shows}
 use Rattle.hub_world.proofs.world.World.hand.Goals as goal
 
--- src/world.rt:120:30
+-- the step
+leads : (c : goal.In-Nothing) → Leads (record { db = c.self.inside.db; lanes = c.self.inside.lanes.items }) (model.Hand c.args.feed.number) model.Nothing (record { db = c.next_item.new.self; lanes = c.self.inside.lanes.items })
+leads c =
+    let old : Core = record { db = c.self.inside.db; lanes = c.self.inside.lanes.items } in
+    let f = c.args.feed.number in
+    let own = rw c.in-Nothing.is at c.in_ok-item.ensures.ok in
+    to_same old (record old { db = behind_answer old.db f next.Nothing }) (record old { db = c.next_item.new.self }) (model.Hand c.args.feed.number) model.Nothing (ap (λ (db : Database). record { db = db; lanes = old.lanes }) (sym own.1)) (hand_nothing old f own.0)
+
 pub invariant_of-self-in-Nothing : goal.invariant_of-self-in-Nothing
-invariant_of-self-in-Nothing c = ?
+invariant_of-self-in-Nothing c =
+    let old : Core = record { db = c.self.inside.db; lanes = c.self.inside.lanes.items } in
+    (c.self.invariant.0 ∙ sym (ap (λ (db : Database). db.limits.lane) c.in_ok-item.ensures.ok.1), still_shows old (record old { db = c.next_item.new.self }) (model.Hand c.args.feed.number) model.Nothing c.self.invariant.1 (leads c))
 
--- src/world.rt:114:5
 pub returns-in-Nothing-clause-ok : goal.returns-in-Nothing-clause-ok
-returns-in-Nothing-clause-ok c = ?
+returns-in-Nothing-clause-ok c =
+    let old : Core = record { db = c.self.inside.db; lanes = c.self.inside.lanes.items } in
+    from_same old c.args.self.now (record old { db = c.next_item.new.self }) (model.Hand c.args.feed.number) model.Nothing c.self.view_is (leads c)
 
--- src/world.rt:114:5
 pub returns-in-Gone-clause-ok : goal.returns-in-Gone-clause-ok
-returns-in-Gone-clause-ok c = ?
+returns-in-Gone-clause-ok c =
+    let old : Core = record { db = c.self.inside.db; lanes = c.self.inside.lanes.items } in
+    let f = c.args.feed.number in
+    let own = rw c.in-Gone.is at c.in_ok-item.ensures.ok in
+    from_same old c.args.self.now (record old { db = c.next_item.new.self }) (model.Hand c.args.feed.number) model.Gone c.self.view_is
+    (to_same old old (record old { db = c.next_item.new.self }) (model.Hand c.args.feed.number) model.Gone (ap (λ (db : Database). record { db = db; lanes = old.lanes }) (sym own.1)) (hand_gone old f own.0))

@@ -1,17 +1,29 @@
-use Rattle.std.proofs.Common.{rules, ◌≡◌, ℕ, Some, false, map, IfOk, OnErr, ◌+◌, ◌-◌, ◌*◌, ◌<◌, ◌≤◌, length, ◌/◌, ◌%◌, Bool, true, nat_eq, nat_lt, List, [], ◌∷◌, ◌++◌, slice_index_or, slice_set, bit_and, bit_or, Fits, w8, w32, w64, Bor, MutBor}
-use Rattle.hub_world.specs.Answer.{answer, replies_to}
-use Rattle.hub_world.specs.Core.{Shows, limits_of}
-use Rattle.hub_world.specs.Headline.{reached, IsFaithful}
-use Rattle.hub_world.specs.Meant.{event_of, reply_of, Answers, Applies}
-use Rattle.hub_world.specs.World.{World as Shown}
-use Rattle.hub_world.specs.World.{Subscription, subscription, empty}
-use Rattle.hub_database.specs.Feeds.{item_due}
+use Rattle.std.proofs.Common.{◌≡◌, ◌∙◌, ◌⊎◌, ◌++◌, ◌∷◌, [], sym, ap, subst, refl, true, false, ℕ, map, length, List, inl, inr}
+use Rattle.std.specs.Prelude.{take, IfOk, Option, Some, None}
+use Rattle.hub_database.specs.Database.{Database}
+use Rattle.hub_world.specs.Core.{Core}
+use Rattle.hub_world.specs.Event as model
+use Rattle.hub_database.specs.Edits.{edit_of}
+use Rattle.hub_world.proofs.Stepping.{Leads, write_leads, from_same, to_same, still_shows}
 use Rattle.hub_world.proofs.world.World.write.Goals as goal
 
--- src/world.rt:62:5
-pub invariant_of-self : goal.invariant_of-self
-invariant_of-self c = ?
+-- the step
+leads : (c : goal.In-Ok) → Leads (record { db = c.self.inside.db; lanes = c.self.inside.lanes.items }) (model.Write (map edit_of (take (length c.in-Ok.batch.replies) c.args.docs.items))) (model.Outcomes c.in-Ok.batch.replies) (record { db = c.write_edits.new.self; lanes = c.self.inside.lanes.items })
+leads c =
+    let old : Core = record { db = c.self.inside.db; lanes = c.self.inside.lanes.items } in
+    to_same old (record old { db = record old.db { journal = c.write_edits.new.self.journal } }) (record old { db = c.write_edits.new.self }) (model.Write (map edit_of (take (length c.in-Ok.batch.replies) c.args.docs.items))) (model.Outcomes c.in-Ok.batch.replies) (ap (λ (db : Database). record { db = db; lanes = c.self.inside.lanes.items }) (sym c.in-Ok.ensures.rest))
+    (write_leads old (take (length c.in-Ok.batch.replies) c.args.docs.items) c.in-Ok.batch.replies c.write_edits.new.self.journal c.in-Ok.ensures.ok)
 
--- src/world.rt:62:5
+pub invariant_of-self-2 : goal.invariant_of-self-2
+invariant_of-self-2 c =
+    let old : Core = record { db = c.self.inside.db; lanes = c.self.inside.lanes.items } in (
+      c.self.invariant.0 ∙ sym (ap (λ (db : Database). db.limits.lane) c.in-Ok.ensures.rest),
+      still_shows old (record old { db = c.write_edits.new.self }) (model.Write (map edit_of (take (length c.in-Ok.batch.replies) c.args.docs.items))) (model.Outcomes c.in-Ok.batch.replies) c.self.invariant.1 (leads c),
+    )
+
 pub returns-clause-ok : goal.returns-clause-ok
-returns-clause-ok c = ?
+returns-clause-ok c =
+    let old : Core = record { db = c.self.inside.db; lanes = c.self.inside.lanes.items } in (
+      from_same old c.args.self.now (record old { db = c.write_edits.new.self }) (model.Write (map edit_of (take (length c.in-Ok.batch.replies) c.args.docs.items))) (model.Outcomes c.in-Ok.batch.replies) c.self.view_is (leads c),
+      record { whole = c.in-Ok.ensures.whole; stopped = c.in-Ok.ensures.stopped },
+    )
