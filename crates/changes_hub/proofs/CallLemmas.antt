@@ -54,7 +54,7 @@ stores_came old name body (Err e) new (inr h) = inr h
 pub whole_front : (b : Batch) (old new : Database) (docs : List Doc) (outcomes : List (Outcome Revision)) → docs ≡ read_docs (readings b.new_edits b.docs) → HasStored b.new_edits old docs outcomes new → HasFront old b new
 whole_front b old new docs outcomes same s =
     let all : docs ≡ take (length docs) (read_docs (readings b.new_edits b.docs)) = sym (take_all (length docs) docs (omega arith)) ∙ ap (take (length docs)) same in
-    let journal = ap (λ (z : StoresAll). z.journal) (sym s.stored) ∙ ap (λ ds. (writes b.new_edits old.limits.journal old.journal ds).journal) all in
+    let journal = ap (λ (z : StoresAll). z.journal) (sym s.stored) ∙ ap (λ ds. (writes b.new_edits old.deleted old.limits.journal old.journal ds).journal) all in
     record { count = length docs; front = s.rest ∙ ap (λ J. record old { journal = J }) journal }
 
 -- ---- the hub

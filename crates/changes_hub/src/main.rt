@@ -16,6 +16,7 @@ mod feed_tests;
 mod feeds;
 mod locals;
 mod name;
+mod refusal;
 mod response;
 mod stream;
 #[cfg(test)]

@@ -1,6 +1,6 @@
 use Rattle.std.proofs.Common.{inl, inr, refl}
 use Rattle.changes_hub.proofs.CallLemmas.{writes_came}
-use Rattle.changes_hub.proofs.database.answer.Goals as goal
+use Rattle.changes_hub.proofs.database.answer_standing.Goals as goal
 
 pub returns-in-PutDocument : goal.returns-in-PutDocument
 returns-in-PutDocument c =
