@@ -1,5 +1,5 @@
 -- What becomes of a call on a database, and of the hub then.
-use Rattle.std.proofs.Common.{◌≡◌, ℕ, List, length, take, Option, Some, refl, sym, ap, ◌∙◌, subst, set, slice_get, get_or, arith, inl, inr}
+use Rattle.std.proofs.Common.{◌≡◌, ℕ, List, length, take, Option, Some, false, refl, sym, ap, ◌∙◌, subst, set, slice_get, get_or, arith, inl, inr}
 use Rattle.std.specs.Prelude.{unwrap_or, Vec, Result, Ok, Err}
 use Rattle.std.specs.declared.alloc.Global.{Global}
 use Rattle.std.proofs.lemmas.List.{take_all}
@@ -13,7 +13,7 @@ use Rattle.hub_database.specs.Edits.{writes}
 use Rattle.hub_http.specs.declared.refusal.Refusal.{Refusal}
 use Rattle.hub_session.specs.declared.service.Answer.{Answer}
 use Rattle.changes_hub.specs.Bulk.{Batch, batch_in, readings, read_docs}
-use Rattle.changes_hub.specs.Calls.{HasFront, stores, calls}
+use Rattle.changes_hub.specs.Calls.{HasFront, answers_standing, calls, stores}
 use Rattle.changes_hub.specs.Said.{Said, Body, Step, reads}
 use Rattle.changes_hub.specs.declared.databases.Sent.{Sent}
 use Rattle.changes_hub.specs.Came.{Responds, Reads, Writes, Stores, Begins, CameOut, CameAt, Goes, IsFound, HasStored, with_status}
@@ -49,6 +49,10 @@ pub stores_came : (old : Database) (name body : List ℕ) (r : Result (Vec ℕ G
 stores_came old name body (Ok text) new h = (responds 201 text (stores old (batch_in body)).said h.0, h.1)
 stores_came old name body (Err e) new (inl h) = inl h
 stores_came old name body (Err e) new (inr h) = inr h
+
+-- what a call leaves of a database that was not deleted
+pub left_standing : (c : Call) (name body : List ℕ) (db : Database) → db.deleted ≡ false → (answers_standing c name body db).state ≡ (calls c name body db).state
+left_standing c name body db e = rw e refl
 
 -- a batch that was stored whole is a front of it
 pub whole_front : (b : Batch) (old new : Database) (docs : List Doc) (outcomes : List (Outcome Revision)) → docs ≡ read_docs (readings b.new_edits b.docs) → HasStored b.new_edits old docs outcomes new → HasFront old b new
