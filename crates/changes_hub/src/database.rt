@@ -98,7 +98,7 @@ fn answer_standing(
     }
 }
 
-/// What a database answers to a call with this body.
+// What a database answers to a call with this body: once it is deleted, that alone.
 fn answer(
     alloc: Global,
     name: &str,

@@ -20,7 +20,7 @@ use hub_params::{FeedParams, ParamFault};
 use std::alloc::Global;
 
 // The refusal of parameters that are none.
-fn bad_params(fault: ParamFault) -> Refusal
+fn unread(fault: ParamFault) -> Refusal
     ensures { result ≡ of_param_fault fault }
 {
     match fault {
@@ -95,7 +95,7 @@ pub(crate) fn begin(
 {
     match FeedParams::read(alloc, query, body) {
         Ok(params) => begin_asked(state, params),
-        Err(fault) => Err(bad_params(fault)),
+        Err(fault) => Err(unread(fault)),
     }
 }
 

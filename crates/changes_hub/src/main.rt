@@ -6,6 +6,8 @@ ghost use Rattle.std.specs.Prelude.{◌≡◌, ◌↔◌, ◌⊎◌, IsTrue};
 mod bulk;
 mod call;
 mod database;
+#[cfg(test)]
+mod database_tests;
 mod databases;
 mod diff;
 #[cfg(test)]
