@@ -1,5 +1,5 @@
 -- What becomes of a call on a database, and of the hub then.
-use Rattle.std.proofs.Common.{◌≡◌, ℕ, List, length, take, Option, Some, refl, sym, ap, ◌∙◌, subst, set, slice_get, get_or, arith, inl, inr}
+use Rattle.std.proofs.Common.{◌≡◌, ℕ, List, length, take, Option, Some, false, refl, sym, ap, ◌∙◌, subst, set, slice_get, get_or, arith, inl, inr}
 use Rattle.std.specs.Prelude.{unwrap_or, Vec, Result, Ok, Err}
 use Rattle.std.specs.declared.alloc.Global.{Global}
 use Rattle.std.proofs.lemmas.List.{take_all}
@@ -13,7 +13,7 @@ use Rattle.hub_database.specs.Edits.{writes}
 use Rattle.hub_http.specs.declared.refusal.Refusal.{Refusal}
 use Rattle.hub_session.specs.declared.service.Answer.{Answer}
 use Rattle.changes_hub.specs.Bulk.{Batch, batch_in, readings, read_docs}
-use Rattle.changes_hub.specs.Calls.{HasFront, stores, calls}
+use Rattle.changes_hub.specs.Calls.{HasFront, answers_standing, calls, stores}
 use Rattle.changes_hub.specs.Said.{Said, Body, Step, reads}
 use Rattle.changes_hub.specs.declared.databases.Sent.{Sent}
 use Rattle.changes_hub.specs.Came.{Responds, Reads, Writes, Stores, Begins, CameOut, CameAt, Goes, IsFound, HasStored, with_status}
@@ -50,11 +50,15 @@ stores_came old name body (Ok text) new h = (responds 201 text (stores old (batc
 stores_came old name body (Err e) new (inl h) = inl h
 stores_came old name body (Err e) new (inr h) = inr h
 
+-- what a call leaves of a database that was not deleted
+pub left_standing : (c : Call) (name body : List ℕ) (db : Database) → db.deleted ≡ false → (answers_standing c name body db).state ≡ (calls c name body db).state
+left_standing c name body db e = rw e refl
+
 -- a batch that was stored whole is a front of it
 pub whole_front : (b : Batch) (old new : Database) (docs : List Doc) (outcomes : List (Outcome Revision)) → docs ≡ read_docs (readings b.new_edits b.docs) → HasStored b.new_edits old docs outcomes new → HasFront old b new
 whole_front b old new docs outcomes same s =
     let all : docs ≡ take (length docs) (read_docs (readings b.new_edits b.docs)) = sym (take_all (length docs) docs (omega arith)) ∙ ap (take (length docs)) same in
-    let journal = ap (λ (z : StoresAll). z.journal) (sym s.stored) ∙ ap (λ ds. (writes b.new_edits old.limits.journal old.journal ds).journal) all in
+    let journal = ap (λ (z : StoresAll). z.journal) (sym s.stored) ∙ ap (λ ds. (writes b.new_edits old.deleted old.limits.journal old.journal ds).journal) all in
     record { count = length docs; front = s.rest ∙ ap (λ J. record old { journal = J }) journal }
 
 -- ---- the hub

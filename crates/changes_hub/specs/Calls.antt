@@ -2,7 +2,6 @@
 use Rattle.std.specs.Prelude.{◌≡◌, ℕ, ◌^◌, List, [], ◌∷◌, take, Bool, true, if◌then◌else◌, nat_le, codes, string_bytes, Option, Some, None, Result, Ok, Err}
 use Rattle.hub_model.specs.Revision.{Revision}
 use Rattle.hub_model.specs.Leaves.{leaves_of}
-use Rattle.hub_model.specs.Draft.{makes}
 use Rattle.hub_model.specs.Missing.{Asked, diffs}
 use Rattle.hub_model.specs.declared.outcomes.Outcome.{Outcome}
 use Rattle.hub_model.specs.declared.outcomes.Outcome.TheVariants.{Stored, Known, Refused}
@@ -19,9 +18,11 @@ use Rattle.hub_document.specs.declared.local_doc.LocalDoc.{LocalDoc}
 use Rattle.hub_document.specs.declared.open_revs.OpenRevs.{OpenRevs}
 use Rattle.hub_document.specs.declared.open_revs.OpenRevs.TheVariants.{All, Listed}
 use Rattle.hub_database.specs.Database.{Database, Local}
-use Rattle.hub_database.specs.Edits.{draft_of, writes}
+use Rattle.hub_database.specs.Edits.{makes_one, writes}
 use Rattle.hub_database.specs.Locals.{local_of, put_local, written}
 use Rattle.hub_database.specs.Reads.{info_of, lookup, open_revs}
+use Rattle.hub_database.specs.declared.batch.DbFault.{DbFault}
+use Rattle.hub_database.specs.declared.batch.DbFault.TheVariants as db_fault
 use Rattle.hub_database.specs.declared.answers.Lookup.{Lookup}
 use Rattle.hub_database.specs.declared.answers.Lookup.TheVariants.{Unknown, Deleted, Found}
 use Rattle.hub_database.specs.declared.answers.OpenRev.{OpenRev}
@@ -29,6 +30,7 @@ use Rattle.hub_revtree.specs.Winner.{winner_of}
 use Rattle.hub_revtree.specs.declared.leaf.Winner.{Winner}
 use Rattle.hub_http.specs.Refusals.{of_doc_fault, of_fault}
 use Rattle.hub_http.specs.declared.refusal.Refusal.{Refusal}
+use Rattle.hub_http.specs.declared.refusal.Refusal.TheVariants as refusal
 use Rattle.hub_http.specs.declared.refusal.Refusal.TheVariants.{BadRev, Conflict, SequenceFull, Missing, DocDeleted}
 use Rattle.hub_params.specs.DocParams.{DocAsked, doc_asked}
 use Rattle.hub_params.specs.FeedParams.{feed_asked}
@@ -39,6 +41,11 @@ use Rattle.changes_hub.specs.Feeds.{begins}
 use Rattle.changes_hub.specs.Said.{Said, Body, Refusing, Step, reads}
 use Rattle.changes_hub.specs.declared.call.Call.{Call}
 use Rattle.changes_hub.specs.declared.call.Call.TheVariants as call
+
+-- the refusal of a call that failed
+abbrev pub of_db_fault : DbFault → Refusal
+of_db_fault db_fault.NoMemory = refusal.NoMemory
+of_db_fault (db_fault.Refused fault) = of_fault fault
 
 -- what a database says of itself
 abbrev pub says_info : List ℕ → Database → Said
@@ -88,7 +95,7 @@ says_edit status id (Refused fault) = Refusing (of_fault fault)
 -- storing an edit whose revision is made here
 abbrev pub edits : ℕ → Database → Doc → Step
 edits status db doc =
-    let stored = makes db.limits.journal db.journal (draft_of doc) in
+    let stored = makes_one db.deleted db.limits.journal db.journal doc in
     record { said = says_edit status doc.id stored.outcome; state = record db { journal = stored.journal } }
 
 -- putting a document, or the refusal of its fault
@@ -158,25 +165,29 @@ abbrev pub stores : Database → Result Batch Refusal → Step
 stores db (Err refusal) = reads db (Refusing refusal)
 stores db (Ok batch) =
     let read = readings batch.new_edits batch.docs in
-    let stored = writes batch.new_edits db.limits.journal db.journal (read_docs read) in
+    let stored = writes batch.new_edits db.deleted db.limits.journal db.journal (read_docs read) in
     record { said = Body 201 (batch_body batch.docs (replies_of batch.new_edits (faults_of read) stored.outcomes)); state = record db { journal = stored.journal } }
 
 -- the state of a database that has documents from the front of a batch
 pub record HasFront (db : Database) (batch : Batch) (new : Database) : Type 0 where
   pub count : ℕ
-  pub front : new ≡ record db { journal = (writes batch.new_edits db.limits.journal db.journal (take count (read_docs (readings batch.new_edits batch.docs)))).journal }
+  pub front : new ≡ record db { journal = (writes batch.new_edits db.deleted db.limits.journal db.journal (take count (read_docs (readings batch.new_edits batch.docs)))).journal }
 
 -- ---- calls
 
--- what a database of this name answers to a call with this body, and the database after it
+-- what a database of this name that was not deleted answers to a call with this body, and the database after it
+abbrev pub answers_standing : Call → List ℕ → List ℕ → Database → Step
+answers_standing call.Info name body db = reads db (says_info name db)
+answers_standing call.BulkDocs name body db = stores db (batch_in body)
+answers_standing (call.Changes query) name body db = begins db (feed_asked query.items body)
+answers_standing call.RevsDiff name body db = reads db (says_diffs db (asked_by body))
+answers_standing call.FullCommit name body db = reads db says_commit
+answers_standing (call.GetDocument id query) name body db = reads db (gets_doc db (string_bytes id) (doc_asked query.items))
+answers_standing (call.PutDocument id query) name body db = puts_doc db (put_in (string_bytes id) (doc_asked query.items).rev (doc_asked query.items).new_edits body)
+answers_standing (call.DeleteDocument id query) name body db = deletes_doc db (string_bytes id) (doc_asked query.items).rev
+answers_standing (call.GetLocal id) name body db = reads db (says_local (local_of db.locals (string_bytes id)))
+answers_standing (call.PutLocal id) name body db = puts_local db (local_in (string_bytes id) body)
+
+-- the same of any database: once it is deleted it refuses each call
 abbrev pub calls : Call → List ℕ → List ℕ → Database → Step
-calls call.Info name body db = reads db (says_info name db)
-calls call.BulkDocs name body db = stores db (batch_in body)
-calls (call.Changes query) name body db = begins db (feed_asked query.items body)
-calls call.RevsDiff name body db = reads db (says_diffs db (asked_by body))
-calls call.FullCommit name body db = reads db says_commit
-calls (call.GetDocument id query) name body db = reads db (gets_doc db (string_bytes id) (doc_asked query.items))
-calls (call.PutDocument id query) name body db = puts_doc db (put_in (string_bytes id) (doc_asked query.items).rev (doc_asked query.items).new_edits body)
-calls (call.DeleteDocument id query) name body db = deletes_doc db (string_bytes id) (doc_asked query.items).rev
-calls (call.GetLocal id) name body db = reads db (says_local (local_of db.locals (string_bytes id)))
-calls (call.PutLocal id) name body db = puts_local db (local_in (string_bytes id) body)
+calls c name body db = if db.deleted then reads db (Refusing refusal.Deleted) else answers_standing c name body db

@@ -41,13 +41,13 @@ Writes status old step (Err e) new = ((step.said ≡ Refusing e) × (new ≡ ste
 
 -- documents were stored one after the other with these outcomes, and left the database new
 pub record HasStored (new_edits : Bool) (old : Database) (docs : List Doc) (outcomes : List (Outcome Revision)) (new : Database) : Type 0 where
-  pub stored : writes new_edits old.limits.journal old.journal docs ≡ record { outcomes = outcomes; journal = new.journal }
+  pub stored : writes new_edits old.deleted old.limits.journal old.journal docs ≡ record { outcomes = outcomes; journal = new.journal }
   pub rest : new ≡ record old { journal = new.journal }
 
 -- documents from the front of these were stored
 pub record HasStoredFront (new_edits : Bool) (old : Database) (docs : List Doc) (new : Database) : Type 0 where
   pub count : ℕ
-  pub front : new ≡ record old { journal = (writes new_edits old.limits.journal old.journal (take count docs)).journal }
+  pub front : new ≡ record old { journal = (writes new_edits old.deleted old.limits.journal old.journal (take count docs)).journal }
 
 -- a batch came out so, and left the database new
 abbrev pub Stores : Result Batch Refusal → Database → Result (Vec ℕ Global) Refusal → Database → Type 0

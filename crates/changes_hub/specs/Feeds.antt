@@ -8,9 +8,9 @@ use Rattle.hub_model.specs.declared.feeds.Mode.TheVariants.{Normal, Longpoll, Co
 use Rattle.hub_model.specs.declared.feeds.Item.{Item}
 use Rattle.hub_model.specs.declared.feeds.Item.TheVariants.{Row, Beat, End}
 use Rattle.hub_database.specs.Database.{Database}
-use Rattle.hub_database.specs.Feeds.{is_full, opened, handed, finished}
-use Rattle.hub_database.specs.declared.feeds.OpenFault.{OpenFault}
-use Rattle.hub_database.specs.declared.feeds.OpenFault.TheVariants as open_fault
+use Rattle.hub_database.specs.Feeds.{refuses_feed, opened, handed, finished}
+use Rattle.hub_feed.specs.declared.host.OpenFault.{OpenFault}
+use Rattle.hub_feed.specs.declared.host.OpenFault.TheVariants as open_fault
 use Rattle.hub_params.specs.FeedParams.{FeedAsked}
 use Rattle.hub_params.specs.FeedModel.{params_in}
 use Rattle.hub_params.specs.declared.feed_fault.ParamFault.{ParamFault}
@@ -38,17 +38,21 @@ of_param_fault param.BadFlag = refusal.BadFlag
 -- the refusal of a feed that was not opened
 abbrev pub of_open_fault : OpenFault → Refusal
 of_open_fault open_fault.NoMemory = refusal.NoMemory
+of_open_fault open_fault.Deleted = refusal.Deleted
 of_open_fault open_fault.TooManyFeeds = refusal.TooManyFeeds
 
 -- an answer that is made at once
 abbrev pub lists : Descending → Said
 lists answer = Feeding (Listed answer)
 
--- opening a feed, where there is room for one more
+-- opening a feed, unless there is a fault
+abbrev pub opens_unless : Option OpenFault → Database → Params → Step
+opens_unless (Some fault) db params = reads db (Refusing (of_open_fault fault))
+opens_unless None db params = record { said = Feeding (Followed (record { number = db.next_feed })); state = opened db params }
+
+-- opening a feed
 abbrev pub opens : Database → Params → Step
-opens db params =
-    if is_full db then reads db (Refusing refusal.TooManyFeeds)
-    else record { said = Feeding (Followed (record { number = db.next_feed })); state = opened db params }
+opens db params = opens_unless (refuses_feed db) db params
 
 -- a feed that goes upwards: only one that ends at once is served yet
 abbrev pub begins_by : Database → Params → Mode → Step

@@ -1,5 +1,5 @@
 -- A hub's databases, and what it answers to a request (CouchDB API reference, the server and its databases; own for the order of refusals).
-use Rattle.std.specs.Prelude.{◌≡◌, ◌⊎◌, ℕ, List, [], ◌∷◌, ◌++◌, length, find, set, slice_get, unwrap_or, option_map, Bool, Option, Some, None, Result, Ok, Err, if◌then◌else◌, nat_le, string_bytes}
+use Rattle.std.specs.Prelude.{◌≡◌, ◌⊎◌, ℕ, List, [], ◌∷◌, ◌++◌, length, find, set, slice_get, unwrap_or, option_map, Bool, false, Option, Some, None, Result, Ok, Err, if◌then◌else◌, nat_le, string_bytes}
 use Rattle.std.specs.List.{list_any, position_from}
 use Rattle.std.specs.Str.{bytes_eq}
 use Rattle.hub_model.specs.Row.{ChangeRow}
@@ -65,7 +65,7 @@ greets h = says h (Body 200 welcome_body)
 
 -- a database without edits
 abbrev pub empty : List ℕ → Limits → Named
-empty name limits = record { name = name; state = record { journal = []; locals = []; feeds = []; next_feed = 0; limits = limits } }
+empty name limits = record { name = name; state = record { journal = []; deleted = false; locals = []; feeds = []; next_feed = 0; limits = limits } }
 
 -- the hub with one more
 abbrev pub with_database : Hub → List ℕ → Hub

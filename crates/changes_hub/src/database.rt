@@ -1,16 +1,18 @@
 //! A database by its name, and its answers to calls.
 
-ghost use Rattle.std.specs.Prelude.{◌≡◌};
-ghost use Rattle.changes_hub.specs.Calls.{calls, says_info, says_commit};
+ghost use Rattle.std.specs.Prelude.{◌≡◌, false};
+ghost use Rattle.changes_hub.specs.Calls.{calls, answers_standing, says_info, says_commit};
 ghost use Rattle.changes_hub.specs.Came.{Reads, CameOut, Hands, with_status};
 ghost use Rattle.changes_hub.specs.Hub.{MayLeave, has_name};
 
 use crate::call::Call;
+use crate::refusal::refusal_of;
 use crate::response::Response;
 use crate::{bulk, diff, documents, feeds, locals};
 use http::StatusCode;
-use hub_database::{DbState, FeedId};
+use hub_database::DbState;
 use hub_document::ChangeRow;
+use hub_feed::FeedId;
 use hub_http::Refusal;
 use hub_model::Item;
 use hub_replies::{commit_body, info_body};
@@ -35,9 +37,10 @@ impl Model for Database {
 
 // What a database says of itself.
 fn info(alloc: Global, name: &str, state: &DbState) -> Result<Vec<u8>, Refusal>
+    requires stands { state.now.deleted ≡ false }
     ensures { Reads 200 (says_info name.now state.now) result }
 {
-    let info = state.info();
+    let info = state.info().map_err(refusal_of)?;
     Ok(info_body(alloc, name, &info)?)
 }
 
@@ -58,15 +61,16 @@ fn with_status(status: StatusCode, body: Result<Vec<u8>, Refusal>) -> Result<Res
     }
 }
 
-/// What a database answers to a call with this body.
-fn answer(
+// What a database that was not deleted answers to a call with this body.
+fn answer_standing(
     alloc: Global,
     name: &str,
     state: &mut DbState,
     call: Call,
     body: &[u8],
 ) -> Result<Response, Refusal>
-    ensures { CameOut (calls call name.now body.now state.old) (MayLeave call name.now body.now state.old) result state.new }
+    requires stands { state.old.deleted ≡ false }
+    ensures { CameOut (answers_standing call name.now body.now state.old) (MayLeave call name.now body.now state.old) result state.new }
 {
     match call {
         Call::Info => with_status(StatusCode::OK, info(alloc, name, state)),
@@ -92,6 +96,22 @@ fn answer(
             locals::put(alloc, state, id.as_str(), body),
         ),
     }
+}
+
+// What a database answers to a call with this body: once it is deleted, that alone.
+fn answer(
+    alloc: Global,
+    name: &str,
+    state: &mut DbState,
+    call: Call,
+    body: &[u8],
+) -> Result<Response, Refusal>
+    ensures { CameOut (calls call name.now body.now state.old) (MayLeave call name.now body.now state.old) result state.new }
+{
+    if state.is_deleted() {
+        return Err(Refusal::Deleted);
+    }
+    answer_standing(alloc, name, state, call, body)
 }
 
 impl Database {

@@ -1,13 +1,14 @@
 //! Documents by their ids (CouchDB API reference, `/{db}/{docid}`).
 
-ghost use Rattle.std.specs.Prelude.{◌≡◌};
+ghost use Rattle.std.specs.Prelude.{◌≡◌, false};
 ghost use Rattle.hub_document.specs.Ids.{short_id};
 ghost use Rattle.hub_document.specs.Put.{put_in};
 ghost use Rattle.hub_params.specs.DocParams.{doc_asked};
 ghost use Rattle.changes_hub.specs.Calls.{says_found, says_revs, gets_revs, gets_doc, edits, puts_doc, deletes_leaf, deletes_doc, refuses_unnamed, winner_in};
 ghost use Rattle.changes_hub.specs.Came.{Reads, Writes};
 
-use hub_database::{DbFault, DbState, Lookup, OpenRev};
+use crate::refusal::refusal_of;
+use hub_database::{DbState, Lookup, OpenRev};
 use hub_document::{Body, Doc, DocId, OpenRevs, RevId};
 use hub_http::Refusal;
 use hub_params::DocParams;
@@ -44,12 +45,13 @@ fn get_revs(
     revs: bool,
     asked: Option<OpenRevs>,
 ) -> Result<Vec<u8>, Refusal>
+    requires stands { state.now.deleted ≡ false }
     ensures { Reads 200 (gets_revs state.now id.now revs asked) result }
 {
     let Some(which) = asked else {
         return Err(Refusal::BadRev);
     };
-    let found = state.open_revs(id, &which, revs)?;
+    let found = state.open_revs(id, &which, revs).map_err(refusal_of)?;
     say_revs(alloc, &which, found.as_slice())
 }
 
@@ -61,6 +63,7 @@ pub(crate) fn get(
     id: &str,
     query: &[u8],
 ) -> Result<Vec<u8>, Refusal>
+    requires stands { state.now.deleted ≡ false }
     ensures { Reads 200 (gets_doc state.now id.now (doc_asked query.now)) result }
 {
     let DocParams {
@@ -76,7 +79,7 @@ pub(crate) fn get(
     if rev.is_some() {
         return Err(Refusal::BadRev);
     }
-    let found = state.get(id, revs)?;
+    let found = state.get(id, revs).map_err(refusal_of)?;
     say_found(alloc, &found)
 }
 
@@ -87,8 +90,7 @@ fn edit(alloc: Global, state: &mut DbState, status: u16, doc: Doc) -> Result<Vec
     let id = doc.id.copy(alloc)?;
     match state.write_one(doc) {
         Ok(rev) => Ok(edit_body(alloc, id.as_str(), &rev)?),
-        Err(DbFault::Refused(fault)) => Err(Refusal::from(fault)),
-        Err(DbFault::NoMemory) => Err(Refusal::NoMemory),
+        Err(fault) => Err(refusal_of(fault)),
     }
 }
 

@@ -1,6 +1,6 @@
 //! Feeds of a database (CouchDB API reference, `/{db}/_changes`).
 
-ghost use Rattle.std.specs.Prelude.{◌≡◌, Some};
+ghost use Rattle.std.specs.Prelude.{◌≡◌, false, Some};
 ghost use Rattle.hub_database.specs.Feeds.{item_due};
 ghost use Rattle.hub_model.specs.Descending.{descending};
 ghost use Rattle.hub_params.specs.FeedModel.{params_of};
@@ -9,17 +9,18 @@ ghost use Rattle.hub_params.specs.FeedShown.{params_asked};
 ghost use Rattle.changes_hub.specs.Came.{Begins, CameOut, Hands};
 ghost use Rattle.changes_hub.specs.Feeds.{lists, opens, begins_asked, begins, of_param_fault, of_open_fault, is_end, behind};
 
+use crate::refusal::refusal_of;
 use crate::response::{Feed, Listed, Response};
-use hub_database::{DbState, FeedId, OpenFault};
+use hub_database::DbState;
 use hub_document::ChangeRow;
-use hub_feed::Next;
+use hub_feed::{FeedId, Next, OpenFault};
 use hub_http::Refusal;
 use hub_model::{Item, Mode};
 use hub_params::{FeedParams, ParamFault};
 use std::alloc::Global;
 
 // The refusal of parameters that are none.
-fn refusal_of(fault: ParamFault) -> Refusal
+fn unread(fault: ParamFault) -> Refusal
     ensures { result ≡ of_param_fault fault }
 {
     match fault {
@@ -42,6 +43,7 @@ fn unopened(fault: OpenFault) -> Refusal
 {
     match fault {
         OpenFault::NoMemory => Refusal::NoMemory,
+        OpenFault::Deleted => Refusal::Deleted,
         OpenFault::TooManyFeeds => Refusal::TooManyFeeds,
     }
 }
@@ -58,14 +60,16 @@ fn open(state: &mut DbState, params: FeedParams) -> Result<Response, Refusal>
 
 // Makes an answer that goes downwards.
 fn list(state: &DbState, params: &FeedParams) -> Result<Response, Refusal>
+    requires stands { state.now.deleted ≡ false }
     ensures { Begins (lists (descending state.now.journal (params_of params.now))) result }
 {
-    let answer = state.changes_descending(params)?;
+    let answer = state.changes_descending(params).map_err(refusal_of)?;
     Ok(Response::Feed(Feed::Listed(Listed::new(answer))))
 }
 
 // Begins what parameters ask for.
 fn begin_asked(state: &mut DbState, params: FeedParams) -> Result<Response, Refusal>
+    requires stands { state.old.deleted ≡ false }
     ensures { CameOut (begins_asked state.old (params_asked params)) (λ db. db ≡ state.old) result state.new }
 {
     if params.descending {
@@ -86,11 +90,12 @@ pub(crate) fn begin(
     query: &[u8],
     body: &[u8],
 ) -> Result<Response, Refusal>
+    requires stands { state.old.deleted ≡ false }
     ensures { CameOut (begins state.old (feed_asked query.now body.now)) (λ db. db ≡ state.old) result state.new }
 {
     match FeedParams::read(alloc, query, body) {
         Ok(params) => begin_asked(state, params),
-        Err(fault) => Err(refusal_of(fault)),
+        Err(fault) => Err(unread(fault)),
     }
 }
 

@@ -6,6 +6,8 @@ ghost use Rattle.std.specs.Prelude.{◌≡◌, ◌↔◌, ◌⊎◌, IsTrue};
 mod bulk;
 mod call;
 mod database;
+#[cfg(test)]
+mod database_tests;
 mod databases;
 mod diff;
 #[cfg(test)]
@@ -16,6 +18,7 @@ mod feed_tests;
 mod feeds;
 mod locals;
 mod name;
+mod refusal;
 mod response;
 mod stream;
 #[cfg(test)]

@@ -4,8 +4,9 @@ ghost use Rattle.std.specs.Prelude.{◌≡◌};
 ghost use Rattle.changes_hub.specs.Feeds.{next_listed};
 
 use http::StatusCode;
-use hub_database::{Descending, FeedId};
+use hub_database::Descending;
 use hub_document::ChangeRow;
+use hub_feed::FeedId;
 use hub_model::Item;
 use std::marker::Model;
 use std::vec::IntoIter;
