@@ -93,7 +93,7 @@ step_seen old (Heartbeat g) (Pushed item) new f row m c = absurd (beat_rows (g =
 step_seen old _ _ new f row m c = absurd (contains_none row c)
 
 -- events one after the other
-after-append : (w : World) (before rest : List Event) → after w (before ++ rest) ≡ after (after w before) rest
+pub after-append : (w : World) (before rest : List Event) → after w (before ++ rest) ≡ after (after w before) rest
 after-append w [] rest = refl
 after-append w (event ∷ before) rest = after-append (answer w event).world before rest
 

@@ -9,7 +9,7 @@ use Rattle.hub_model.proofs.Shown.{find_is}
 use Rattle.hub_model.specs.RightlyHanded.{ChangeItem}
 use Rattle.hub_database.proofs.FeedLemmas.{place_found, place_none}
 use Rattle.hub_world.specs.Entries.{is_of, entry_in, changed, without}
-use Rattle.hub_world.specs.Lane.{Lanes, has_room, pushed}
+use Rattle.hub_world.specs.Lane.{Lanes, has_room, pushed_into}
 
 -- numbers rise
 abbrev Rise : {A : Type 0} → List (ℕ × A) → Type 0
@@ -115,16 +115,16 @@ module _ {A : Type 0} (number : ℕ) (entries : List (ℕ × A)) (none : positio
   pub none_out : without number entries ≡ entries
   none_out = others_kept number entries (not_found number entries (place_none (is_of number) entries none))
 
--- what is pushed into the lane of this number, and what is not
+-- what is pushed_into into the lane of this number, and what is not
 module _ (limit number : ℕ) (item : ChangeItem) (lanes : Lanes) where
-  pub no_lane : entry_in number lanes ≡ None → (false ≡ has_room limit number lanes) × (lanes ≡ pushed limit number item lanes)
+  pub no_lane : entry_in number lanes ≡ None → (false ≡ has_room limit number lanes) × (lanes ≡ pushed_into limit number item lanes)
   no_lane none = rw none (refl, refl)
 
-  pub is_full : (items : List ChangeItem) → entry_in number lanes ≡ Some items → limit ≤ length items → (false ≡ has_room limit number lanes) × (lanes ≡ pushed limit number item lanes)
+  pub is_full : (items : List ChangeItem) → entry_in number lanes ≡ Some items → limit ≤ length items → (false ≡ has_room limit number lanes) × (lanes ≡ pushed_into limit number item lanes)
   is_full items holds full = rw (holds, le-ltb (length items) limit full) (refl, refl)
 
   pub has_place : (items : List ChangeItem) → entry_in number lanes ≡ Some items → length items < limit
-      → (true ≡ has_room limit number lanes) × (changed number (λ items. items ++ item ∷ []) lanes ≡ pushed limit number item lanes)
+      → (true ≡ has_room limit number lanes) × (changed number (λ items. items ++ item ∷ []) lanes ≡ pushed_into limit number item lanes)
   has_place items holds less = rw (holds, lt-ltb (length items) limit less) (refl, refl)
 
 -- what stands at the front, where it is taken

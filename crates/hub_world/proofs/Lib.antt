@@ -7,3 +7,4 @@ pub mod LaneLemmas
 pub mod StandingLists
 pub mod Standing
 pub mod Stepping
+pub mod Running

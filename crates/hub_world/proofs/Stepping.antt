@@ -26,7 +26,7 @@ use Rattle.hub_database.specs.Feeds as feeds
 use Rattle.hub_world.specs.Core.{Core, Shows}
 use Rattle.hub_world.specs.Entries.{entry_in, changed, without}
 use Rattle.hub_world.specs.Event.{Event, Write, Interactive, Begin, Hand, Heartbeat, Expire, Take, Finish, Delete, Reply, Outcomes, Opened, TooManyFeeds, DatabaseDeleted, Pushed, Full, Nothing, Gone, Took, Left}
-use Rattle.hub_world.specs.Lane.{has_room, takes_more, front, behind_front, held}
+use Rattle.hub_world.specs.Lane.{has_room, takes_more, front, without_front, held}
 use Rattle.hub_world.specs.Lane as lane
 use Rattle.hub_world.specs.Step.{Step}
 use Rattle.hub_world.specs.World.{World, Limits, Subscription, subscription, with_subscription, is_finished, has_no_room, is_beat_due, lane_of, merged, drafted, pushed, expired, took, due_of}
@@ -135,12 +135,12 @@ lane_limit : (c : Core) (w : World) → Shows c w → w.limits.lane ≡ c.db.lim
 lane_limit c w h = ap (λ (l : Limits). l.lane) h.limits
 
 pub hand_pushed : (c : Core) (f : ℕ) (item : ChangeItem) → feeds.item_due c.db f ≡ Some item → has_room c.db.limits.lane f c.lanes ≡ true
-    → Leads c (Hand f) (Pushed item) (record { db = feeds.handed c.db f; lanes = lane.pushed c.db.limits.lane f item c.lanes })
+    → Leads c (Hand f) (Pushed item) (record { db = feeds.handed c.db f; lanes = lane.pushed_into c.db.limits.lane f item c.lanes })
 hand_pushed c f item ready room w h =
     let s = at c f item ready w h in
     let free = ltb-true (length s.0.lane) c.db.limits.lane (room_here c f item ready w h ∙ room) in
     let shown = entry_changed c w f (λ g. after_due g (due_in c.db.journal g) (length c.db.journal)) (λ items. items ++ item ∷ []) s.0 (pushed s.0 (after_due s.0.feed (due_in w.journal s.0.feed) (length w.journal)) item) h s.1 s.3
-      (goes_on s.0.feed (due_in w.journal s.0.feed) (length w.journal) s.3) (ap (λ (J : List Edit). after_due s.0.feed (due_in J s.0.feed) (length J)) (sym h.journal)) refl in
+    (goes_on s.0.feed (due_in w.journal s.0.feed) (length w.journal) s.3) (ap (λ (J : List Edit). after_due s.0.feed (due_in J s.0.feed) (length J)) (sym h.journal)) refl in
     (_, (s.0, s.1, due_here c f item ready w h, (omega (arith, free, lane_limit c w h), refl)), rw room shown)
 
 pub hand_full : (c : Core) (f : ℕ) (item : ChangeItem) → feeds.item_due c.db f ≡ Some item → has_room c.db.limits.lane f c.lanes ≡ false → Leads c (Hand f) Full c
@@ -215,7 +215,7 @@ beating None e = absurd (cc)
 beating (Some f) e = (f, refl, e)
 
 pub beat_pushed : (c : Core) (f : ℕ) → feeds.is_beat_due (feeds.feed_in f c.db.feeds) ≡ true → has_room c.db.limits.lane f c.lanes ≡ true
-    → Leads c (Heartbeat f) (Pushed Beat) (record c { lanes = lane.pushed c.db.limits.lane f Beat c.lanes })
+    → Leads c (Heartbeat f) (Pushed Beat) (record c { lanes = lane.pushed_into c.db.limits.lane f Beat c.lanes })
 beat_pushed c f beats room w h =
     let b = beating (entry_in f c.db.feeds) beats in
     let s = feed_found c w f b.0 h b.1 in
@@ -258,21 +258,20 @@ expire_leads c f w h = from (entry_in f c.db.feeds) refl
         let shown = entry_changed c w f expire (λ items. items) s.0 (record s.0 { feed = expire s.0.feed }) h s.1 s.3 (expire_on s.0.feed s.3) refl refl in
         (_, ap (λ o. expired o f w) (sym s.1), subst (λ ls. Shows (record { db = feeds.expired c.db f; lanes = ls }) (with_subscription w f (record s.0 { feed = expire s.0.feed }))) (changed_same f c.lanes) shown)
 
-pub take_leads : (c : Core) (f : ℕ) → Leads c (Take f) (Took (front f c.lanes)) (record c { lanes = behind_front f c.lanes })
+pub take_leads : (c : Core) (f : ℕ) → Leads c (Take f) (Took (front f c.lanes)) (record c { lanes = without_front f c.lanes })
 take_leads c f w h = from (entry_in f c.db.feeds) refl
   where
-    from : (o : Option Feed) → entry_in f c.db.feeds ≡ o → (new : World) × Step w (Take f) (Took (front f c.lanes)) new × Shows (record c { lanes = behind_front f c.lanes }) new
+    from : (o : Option Feed) → entry_in f c.db.feeds ≡ o → (new : World) × Step w (Take f) (Took (front f c.lanes)) new × Shows (record c { lanes = without_front f c.lanes }) new
     from None q =
         let g = feed_gone c w f h q in
         let t = gone_takes c w f h g.0 in
         (w, (ap (option_and_then (λ (items : List ChangeItem). slice_get items 0)) g.1 ∙ ap (λ (items : List ChangeItem). slice_get items 0) (sym t.0), sym t.1), subst (λ ls. Shows (record { db = c.db; lanes = ls }) w) (sym (changed_absent f (drop 1) c.lanes g.1)) h)
     from (Some feed) q =
         let s = feed_found c w f feed h q in
-        let shown = entry_changed c w f (λ g. g) (drop 1) s.0 (record s.0 { lane = drop 1 s.0.lane }) h s.1 s.3 s.3 refl refl in
-        (
+        let shown = entry_changed c w f (λ g. g) (drop 1) s.0 (record s.0 { lane = drop 1 s.0.lane }) h s.1 s.3 s.3 refl refl in (
           _,
           (ap (option_and_then (λ (items : List ChangeItem). slice_get items 0)) s.4 ∙ ap (λ o. slice_get (lane_of o) 0) (sym s.1), ap (λ o. took o f w) (sym s.1)),
-          subst (λ fs. Shows (record { db = record c.db { feeds = fs }; lanes = behind_front f c.lanes }) (with_subscription w f (record s.0 { lane = drop 1 s.0.lane }))) (changed_same f c.db.feeds) shown,
+          subst (λ fs. Shows (record { db = record c.db { feeds = fs }; lanes = without_front f c.lanes }) (with_subscription w f (record s.0 { lane = drop 1 s.0.lane }))) (changed_same f c.db.feeds) shown,
         )
 
 -- ---- cores that are the same, and that show some world
@@ -287,5 +286,5 @@ pub still_shows : (old new : Core) (event : Event) (reply : Reply) → (w : Worl
 still_shows old new event reply x l = let s = l x.0 x.1 in (s.0, s.2)
 
 -- a lane without room stays
-pub unpushed : (limit f : ℕ) (item : ChangeItem) (lanes : lane.Lanes) → has_room limit f lanes ≡ false → lane.pushed limit f item lanes ≡ lanes
+pub unpushed : (limit f : ℕ) (item : ChangeItem) (lanes : lane.Lanes) → has_room limit f lanes ≡ false → lane.pushed_into limit f item lanes ≡ lanes
 unpushed limit f item lanes e = rw e refl

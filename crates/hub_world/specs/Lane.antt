@@ -1,5 +1,5 @@
 -- Lanes by the numbers of their feeds (own).
-use Rattle.std.specs.Prelude.{ℕ, ◌<◌, List, AllPairs, [], ◌∷◌, ◌++◌, length, drop, Bool, true, false, nat_lt, slice_get, unwrap_or, Option, Some, None, option_and_then, if◌then◌else◌}
+use Rattle.std.specs.Prelude.{ℕ, ◌<◌, List, AllPairs, [], ◌∷◌, ◌++◌, length, drop, Bool, false, nat_lt, slice_get, unwrap_or, Option, Some, None, option_and_then, if◌then◌else◌}
 use Rattle.hub_model.specs.RightlyHanded.{ChangeItem}
 use Rattle.hub_world.specs.Entries.{changed, entry_in}
 
@@ -21,16 +21,16 @@ abbrev pub has_room : ℕ → ℕ → Lanes → Bool
 has_room limit number lanes = takes_more limit (entry_in number lanes)
 
 -- the item at the end of the lane, where there is room
-abbrev pub pushed : ℕ → ℕ → ChangeItem → Lanes → Lanes
-pushed limit number item lanes = if has_room limit number lanes then changed number (λ items. items ++ item ∷ []) lanes else lanes
+abbrev pub pushed_into : ℕ → ℕ → ChangeItem → Lanes → Lanes
+pushed_into limit number item lanes = if has_room limit number lanes then changed number (λ items. items ++ item ∷ []) lanes else lanes
 
 -- the front of the lane, if there is one
 abbrev pub front : ℕ → Lanes → Option ChangeItem
 front number lanes = option_and_then (λ items. slice_get items 0) (entry_in number lanes)
 
--- the lanes without that
-abbrev pub behind_front : ℕ → Lanes → Lanes
-behind_front number lanes = changed number (drop 1) lanes
+-- the lanes, the front of this one taken
+abbrev pub without_front : ℕ → Lanes → Lanes
+without_front number lanes = changed number (drop 1) lanes
 
 -- what is in the lane
 abbrev pub held : ℕ → Lanes → List ChangeItem

@@ -2,7 +2,7 @@
 
 ghost use Rattle.std.specs.Prelude.{◌≡◌, [], nat_eq, position, IfOk, OnErr};
 ghost use Rattle.hub_world.specs.Entries.{without};
-ghost use Rattle.hub_world.specs.Lane.{IsRising, has_room, pushed, front, behind_front, held};
+ghost use Rattle.hub_world.specs.Lane.{IsRising, has_room, pushed_into, front, without_front, held};
 
 use hub_document::ChangeRow;
 use hub_model::Item;
@@ -70,7 +70,7 @@ pub(crate) fn push(
     item: &Item<ChangeRow>,
 ) -> Result<bool, AllocError>
     requires rising { IsRising lanes.old.items }
-    ensures ok { IfOk result (λ done. (done ≡ has_room limit feed lanes.old.items) × (lanes.new.items ≡ pushed limit feed item.now lanes.old.items)) }
+    ensures ok { IfOk result (λ done. (done ≡ has_room limit feed lanes.old.items) × (lanes.new.items ≡ pushed_into limit feed item.now lanes.old.items)) }
     ensures err { OnErr result (lanes.new.items ≡ lanes.old.items) }
 {
     let Some(at) = place_of(lanes.as_slice(), feed) else {
@@ -89,7 +89,7 @@ pub(crate) fn push(
 pub(crate) fn take(lanes: &mut Vec<Lane>, feed: u64) -> Option<Item<ChangeRow>>
     requires rising { IsRising lanes.old.items }
     ensures item { result ≡ front feed lanes.old.items }
-    ensures lanes { lanes.new.items ≡ behind_front feed lanes.old.items }
+    ensures lanes { lanes.new.items ≡ without_front feed lanes.old.items }
 {
     let at = place_of(lanes.as_slice(), feed)?;
     let lane = &mut lanes[at];

@@ -4,7 +4,7 @@ use Rattle.hub_database.specs.Database.{Database}
 use Rattle.hub_world.specs.Core.{Core}
 use Rattle.hub_world.specs.Event as model
 use Rattle.hub_model.specs.declared.feeds.Item.TheVariants.{Beat}
-use Rattle.hub_world.specs.Lane.{has_room, pushed}
+use Rattle.hub_world.specs.Lane.{has_room, pushed_into}
 use Rattle.hub_world.proofs.Standing.{lanes_rise}
 use Rattle.hub_world.proofs.Stepping.{Leads, beat_pushed, beat_full, beat_nothing, unpushed, from_same, to_same, still_shows}
 use Rattle.hub_world.proofs.world.World.beat.Goals as goal
@@ -23,7 +23,7 @@ returns-then-not-branch-clause-ok c =
     let f = c.args.feed.number in
     let pushes = c.in_ok-push.ensures.ok in
     let room : has_room old.db.limits.lane f old.lanes ≡ false = ap (λ (n : ℕ). has_room n f old.lanes) (sym c.self.invariant.0) ∙ (sym pushes.0 ∙ c.if-not-branch.true) in
-    let lanes : c.push.new.lanes.items ≡ pushed old.db.limits.lane f Beat old.lanes = pushes.1 ∙ ap (λ (n : ℕ). pushed n f Beat old.lanes) c.self.invariant.0 in
+    let lanes : c.push.new.lanes.items ≡ pushed_into old.db.limits.lane f Beat old.lanes = pushes.1 ∙ ap (λ (n : ℕ). pushed_into n f Beat old.lanes) c.self.invariant.0 in
     from_same old c.args.self.now (record old { lanes = c.push.new.lanes.items }) (model.Heartbeat c.args.feed.number) model.Full c.self.view_is
     (to_same old old (record old { lanes = c.push.new.lanes.items }) (model.Heartbeat c.args.feed.number) model.Full (ap (λ ls. record { db = old.db; lanes = ls }) (sym (lanes ∙ unpushed old.db.limits.lane f Beat old.lanes room))) (beat_full old f (sym c.beat_due.ensures ∙ c.if-not-beat_due.false) room))
 
@@ -34,8 +34,8 @@ leads c =
     let f = c.args.feed.number in
     let pushes = c.in_ok-push.ensures.ok in
     let room : has_room old.db.limits.lane f old.lanes ≡ true = ap (λ (n : ℕ). has_room n f old.lanes) (sym c.self.invariant.0) ∙ (sym pushes.0 ∙ c.if-not-branch.false) in
-    let lanes : c.push.new.lanes.items ≡ pushed old.db.limits.lane f Beat old.lanes = pushes.1 ∙ ap (λ (n : ℕ). pushed n f Beat old.lanes) c.self.invariant.0 in
-    to_same old (record old { lanes = pushed old.db.limits.lane f Beat old.lanes }) (record old { lanes = c.push.new.lanes.items }) (model.Heartbeat c.args.feed.number) (model.Pushed Beat)
+    let lanes : c.push.new.lanes.items ≡ pushed_into old.db.limits.lane f Beat old.lanes = pushes.1 ∙ ap (λ (n : ℕ). pushed_into n f Beat old.lanes) c.self.invariant.0 in
+    to_same old (record old { lanes = pushed_into old.db.limits.lane f Beat old.lanes }) (record old { lanes = c.push.new.lanes.items }) (model.Heartbeat c.args.feed.number) (model.Pushed Beat)
     (ap (λ ls. record { db = old.db; lanes = ls }) (sym lanes)) (beat_pushed old f (sym c.beat_due.ensures ∙ c.if-not-beat_due.false) room)
 
 pub invariant_of-self-2 : goal.invariant_of-self-2

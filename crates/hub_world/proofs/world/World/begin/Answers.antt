@@ -14,10 +14,10 @@ leads c =
     let old : Core = record { db = c.self.inside.db; lanes = c.self.inside.lanes.items } in
     let own = c.in-Ok.ensures.ok in
     let lanes : c.push_reserved.new.self.items ≡ c.self.inside.lanes.items ++ (c.self.inside.db.next_feed, []) ∷ [] =
-      c.push_reserved.ensures.items ∙ (ap (λ ls. ls ++ c.new.result ∷ []) c.in_ok-try_reserve.ensures.items ∙ ap (λ l. c.self.inside.lanes.items ++ l ∷ []) (c.new.ensures ∙ ap (λ (n : ℕ). (n, [])) own.0)) in
+    c.push_reserved.ensures.items ∙ (ap (λ ls. ls ++ c.new.result ∷ []) c.in_ok-try_reserve.ensures.items ∙ ap (λ l. c.self.inside.lanes.items ++ l ∷ []) (c.new.ensures ∙ ap (λ (n : ℕ). (n, [])) own.0)) in
     subst (λ (n : ℕ). Leads old (model.Begin (params_of c.args.params)) (model.Opened n) (record { db = c.open_feed.new.self; lanes = c.push_reserved.new.self.items })) (sym own.0)
     (to_same old (record { db = opened old.db (params_of c.args.params); lanes = old.lanes ++ (old.db.next_feed, []) ∷ [] }) (record { db = c.open_feed.new.self; lanes = c.push_reserved.new.self.items }) (model.Begin (params_of c.args.params)) (model.Opened old.db.next_feed)
-      (rw (own.2, lanes) refl) (begin_leads old (params_of c.args.params) own.1))
+    (rw (own.2, lanes) refl) (begin_leads old (params_of c.args.params) own.1))
 
 pub invariant_of-self-in-Ok : goal.invariant_of-self-in-Ok
 invariant_of-self-in-Ok c =
@@ -35,5 +35,5 @@ returns-in-Err-TooManyFeeds-clause-ok c =
     let err = rw c.in-Err-TooManyFeeds.field-0-is at c.in-Err-TooManyFeeds.ensures.err in
     let same : record { db = c.open_feed.new.self; lanes = c.try_reserve.new.self.items } ≡ old = rw (err.0, c.in_ok-try_reserve.ensures.items) refl in
     from_same old c.args.self.now (record { db = c.open_feed.new.self; lanes = c.try_reserve.new.self.items }) (model.Begin (params_of c.args.params)) model.TooManyFeeds c.self.view_is
-      (to_same old old (record { db = c.open_feed.new.self; lanes = c.try_reserve.new.self.items }) (model.Begin (params_of c.args.params)) model.TooManyFeeds (sym same)
-      (elim err.1 [ inl e ↦ absurd (cc) | inr e ↦ begin_full old (params_of c.args.params) e ]))
+    (to_same old old (record { db = c.open_feed.new.self; lanes = c.try_reserve.new.self.items }) (model.Begin (params_of c.args.params)) model.TooManyFeeds (sym same)
+    (elim err.1 [ inl e ↦ absurd (cc) | inr e ↦ begin_full old (params_of c.args.params) e ]))

@@ -4,7 +4,7 @@ use Rattle.hub_database.specs.Database.{Database}
 use Rattle.hub_world.specs.Core.{Core}
 use Rattle.hub_world.specs.Event as model
 use Rattle.hub_database.specs.Feeds.{handed, item_due}
-use Rattle.hub_world.specs.Lane.{has_room, pushed}
+use Rattle.hub_world.specs.Lane.{has_room, pushed_into}
 use Rattle.hub_world.proofs.Standing.{lanes_rise}
 use Rattle.hub_world.proofs.Stepping.{Leads, hand_pushed, hand_full, unpushed, from_same, to_same, still_shows}
 use Rattle.hub_world.proofs.world.World.give.Goals as goal
@@ -18,7 +18,7 @@ returns-then-not-branch-clause-ok c =
     let f = c.args.feed.number in
     let pushes = c.in_ok-push.ensures.ok in
     let room : has_room old.db.limits.lane f old.lanes ≡ false = ap (λ (n : ℕ). has_room n f old.lanes) (sym c.self.invariant.0) ∙ (sym pushes.0 ∙ c.if-not-branch.true) in
-    let lanes : c.push.new.lanes.items ≡ pushed old.db.limits.lane f c.args.item old.lanes = pushes.1 ∙ ap (λ (n : ℕ). pushed n f c.args.item old.lanes) c.self.invariant.0 in
+    let lanes : c.push.new.lanes.items ≡ pushed_into old.db.limits.lane f c.args.item old.lanes = pushes.1 ∙ ap (λ (n : ℕ). pushed_into n f c.args.item old.lanes) c.self.invariant.0 in
     let due = subst (λ (z : Core). item_due z.db f ≡ Some c.args.item) (sym c.self.view_is) c.requires.due in
     from_same old c.args.self.now (record old { lanes = c.push.new.lanes.items }) (model.Hand c.args.feed.number) model.Full c.self.view_is
     (to_same old old (record old { lanes = c.push.new.lanes.items }) (model.Hand c.args.feed.number) model.Full (ap (λ ls. record { db = old.db; lanes = ls }) (sym (lanes ∙ unpushed old.db.limits.lane f c.args.item old.lanes room))) (hand_full old f c.args.item due room))
@@ -30,9 +30,9 @@ leads c =
     let f = c.args.feed.number in
     let pushes = c.in_ok-push.ensures.ok in
     let room : has_room old.db.limits.lane f old.lanes ≡ true = ap (λ (n : ℕ). has_room n f old.lanes) (sym c.self.invariant.0) ∙ (sym pushes.0 ∙ c.if-not-branch.false) in
-    let lanes : c.push.new.lanes.items ≡ pushed old.db.limits.lane f c.args.item old.lanes = pushes.1 ∙ ap (λ (n : ℕ). pushed n f c.args.item old.lanes) c.self.invariant.0 in
+    let lanes : c.push.new.lanes.items ≡ pushed_into old.db.limits.lane f c.args.item old.lanes = pushes.1 ∙ ap (λ (n : ℕ). pushed_into n f c.args.item old.lanes) c.self.invariant.0 in
     let due = subst (λ (z : Core). item_due z.db f ≡ Some c.args.item) (sym c.self.view_is) c.requires.due in
-    to_same old (record { db = handed old.db f; lanes = pushed old.db.limits.lane f c.args.item old.lanes }) (record { db = c.accept_item.new.self; lanes = c.push.new.lanes.items }) (model.Hand c.args.feed.number) (model.Pushed c.args.item)
+    to_same old (record { db = handed old.db f; lanes = pushed_into old.db.limits.lane f c.args.item old.lanes }) (record { db = c.accept_item.new.self; lanes = c.push.new.lanes.items }) (model.Hand c.args.feed.number) (model.Pushed c.args.item)
     (rw (c.accept_item.ensures, lanes) refl) (hand_pushed old f c.args.item due room)
 
 pub invariant_of-self-2 : goal.invariant_of-self-2

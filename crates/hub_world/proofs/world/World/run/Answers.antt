@@ -1,33 +1,27 @@
-use Rattle.std.proofs.Common.{rules, ◌≡◌, ℕ, Some, false, map, IfOk, OnErr, ◌+◌, ◌-◌, ◌*◌, ◌<◌, ◌≤◌, length, ◌/◌, ◌%◌, Bool, true, nat_eq, nat_lt, List, [], ◌∷◌, ◌++◌, slice_index_or, slice_set, bit_and, bit_or, Fits, w8, w32, w64, Bor, MutBor}
-use Rattle.hub_world.specs.Answer.{answer, replies_to}
-use Rattle.hub_world.specs.Core.{Shows, limits_of}
-use Rattle.hub_world.specs.Headline.{reached, IsFaithful}
-use Rattle.hub_world.specs.Meant.{event_of, reply_of, Answers, Applies}
-use Rattle.hub_world.specs.World.{World as Shown}
-use Rattle.hub_world.specs.World.{Subscription, subscription, empty}
-use Rattle.hub_database.specs.Feeds.{item_due}
+use Rattle.std.proofs.Common.{◌≡◌, ◌∙◌, ◌++◌, ◌∷◌, [], ◌+◌, suc, sym, ap, length, arith, append_assoc, map}
+use Rattle.std.proofs.lemmas.List.{length_push}
+use Rattle.hub_world.specs.Answer.{after}
+use Rattle.hub_world.specs.Core.{limits_of}
+use Rattle.hub_world.specs.Meant.{event_of}
+use Rattle.hub_world.specs.World.{empty}
+use Rattle.hub_world.proofs.Faithful.{faithful}
+use Rattle.hub_world.proofs.Running.{told_more, world_more}
 use Rattle.hub_world.proofs.world.World.run.Goals as goal
 
--- src/world.rt:228:9
-pub loop-event-init : goal.loop-event-init
-loop-event-init c = ?
-
--- src/world.rt:230:13
-pub push_reserved-requires : goal.push_reserved-requires
-push_reserved-requires c = ?
-
--- src/world.rt:228:9
 pub loop-event-preserved : goal.loop-event-preserved
-loop-event-preserved c = ?
+loop-event-preserved c =
+    let i = c.loop-event.invariant in
+    let step = c.in-Some.ensures.steps in
+    let start = empty (limits_of c.args.limits) in
+    let one = c.in_ok-reply.ensures (after start (map event_of c.loop-event.yielded)) i.world in
+    let longer : length c.push_reserved.new.self.items ≡ length c.loop-event.replies.items + 1 = ap length c.push_reserved.ensures.items ∙ length_push c.loop-event.replies.items c.in_ok-reply.reply in
+    let left : length c.loop-event.event-iterator.rest.items ≡ suc (length c.next.new.self.rest.items) = ap length step.0 in
+    record {
+      replies = rw c.push_reserved.ensures.items (told_more start c.loop-event.yielded c.in-Some.event c.loop-event.replies.items c.in_ok-reply.reply i.replies one.0);
+      world = world_more start c.loop-event.yielded c.in-Some.event c.apply_whole.new.self one.1;
+      events = append_assoc c.loop-event.yielded (c.in-Some.event ∷ []) c.next.new.self.rest.items ∙ (ap (λ es. c.loop-event.yielded ++ es) (sym step.0) ∙ i.events);
+      room = omega (arith, longer, left, i.room, c.push_reserved.ensures.capacity);
+    }
 
--- src/world.rt:216:5
-pub returns-clause-replies : goal.returns-clause-replies
-returns-clause-replies c = ?
-
--- src/world.rt:216:5
-pub returns-clause-world : goal.returns-clause-world
-returns-clause-world c = ?
-
--- src/world.rt:216:5
 pub returns-clause-headline : goal.returns-clause-headline
-returns-clause-headline c = ?
+returns-clause-headline c = faithful (limits_of c.args.limits) (map event_of c.args.events.items)
