@@ -5,6 +5,8 @@ mod event;
 mod lane;
 mod laws;
 mod reply;
+#[cfg(test)]
+mod tests;
 mod world;
 
 pub use event::Event;
