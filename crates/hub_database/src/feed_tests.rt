@@ -1,8 +1,8 @@
 //! Feeds of a database, and descending answers.
 
-use crate::{DbState, FeedId, OpenFault};
+use crate::DbState;
 use hub_document::{ChangeRow, Doc, Limits, RevId};
-use hub_feed::Next;
+use hub_feed::{FeedId, Next, OpenFault};
 use hub_model::Item;
 use hub_params::FeedParams;
 use std::alloc::Global;
