@@ -13,6 +13,7 @@ mod entry;
 #[cfg(test)]
 mod feed_tests;
 mod feeds;
+mod host;
 mod local;
 #[cfg(test)]
 mod local_tests;
