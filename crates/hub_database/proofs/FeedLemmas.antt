@@ -266,8 +266,6 @@ module _ (id : ℕ) (feeds : List (ℕ × Feed)) (at : ℕ) (placed : Some at �
   pub stays_here : (new : Feed) → new ≡ p.1 → slice_set feeds at (p.0, new) ≡ feeds
   stays_here new e = ap (λ (f : Feed). slice_set feeds at (p.0, f)) e ∙ set_back feeds at p (place_found (λ (q : ℕ × Feed). nat_eq q.0 id) feeds at placed p is).1
 
-  -- there is no feed of this number
-
   -- the feeds behind what the feed there answers
   pub behind_here : (show : Current → ChangeRow) (rows : List Current) (len : ℕ) (new : Feed) → AllPairs (λ (a b : ℕ × Feed). a.0 < b.0) feeds → (d : Due) (next : Next ChangeRow)
       → next ≡ next_of show rows d → new ≡ after_next p.1 d len → slice_set feeds at (p.0, new) ≡ feeds_behind id len next feeds
@@ -276,6 +274,7 @@ module _ (id : ℕ) (feeds : List (ℕ × Feed)) (at : ℕ) (placed : Some at �
   behind_here show rows len new rising DueNothing next e h = rw e (changed_here (λ f. after_nothing f len) new rising h)
   behind_here show rows len new rising DueGone next e h = rw e (stays_here new h)
 
+-- there is no feed of this number
 module _ (id : ℕ) (feeds : List (ℕ × Feed)) (none : position (λ (p : ℕ × Feed). nat_eq p.0 id) feeds ≡ None) where
   pub no_feed : feed_in id feeds ≡ None
   no_feed = ap (option_map (λ (q : ℕ × Feed). q.1)) (place_none (λ (q : ℕ × Feed). nat_eq q.0 id) feeds none)

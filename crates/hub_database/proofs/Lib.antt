@@ -12,4 +12,5 @@ pub mod MissingLemmas
 pub mod InfoLemmas
 pub mod LocalLemmas
 pub mod FeedLemmas
+pub mod HostLemmas
 pub mod FallingLemmas

@@ -152,10 +152,11 @@ impl DbState {
     /// Stores documents one after the other: with `new_edits` as edits whose revisions are made here,
     /// without it as edits that another database made, with their histories, as a replicator sends
     /// them (CouchDB API reference, `_bulk_docs`). There a document that has no history is refused as
-    /// one that contradicts. Once the database is deleted each is refused as that. The call fails only where the list of replies finds no memory; where it
-    /// runs out at a document, the batch stops there, and the documents before it stay stored. Each
-    /// document costs a look in the map of ids, what `RevTree::look_extend` or `RevTree::look_merge`
-    /// does, a move in the index of rows, and what `RevTree::best` does.
+    /// one that contradicts. Once the database is deleted each is refused as that. The call fails
+    /// only where the list of replies finds no memory; where it runs out at a document, the batch
+    /// stops there, and the documents before it stay stored. Each document costs a look in the map
+    /// of ids, what `RevTree::look_extend` or `RevTree::look_merge` does, a move in the index of
+    /// rows, and what `RevTree::best` does.
     pub fn write_edits(&mut self, docs: Vec<Doc>, new_edits: bool) -> Result<Batch, DbFault>
         ensures ok { IfOk result (λ batch. writes new_edits self.old.deleted self.old.limits.journal self.old.journal (take (length batch.replies) docs.items) ≡ record { outcomes = batch.replies; journal = self.new.journal }) }
         ensures whole { IfOk result (λ batch. batch.stopped ≡ false → length batch.replies ≡ length docs.items) }
@@ -182,9 +183,10 @@ impl DbState {
 
     /// Stores one edit whose revision is made here, and says that revision (CouchDB API reference,
     /// PUT and DELETE of a document). Of these the first refuses it: the database was deleted
-    /// (`Deleted`), no leaf is named or chosen (`Conflict`), the leaf has the last generation (`GenerationLimit`), the made revision is known
-    /// (`Conflict`), the journal is full (`SequenceFull`). It costs a look in the map of ids, what
-    /// `RevTree::look_extend` does, a move in the index of rows, and what `RevTree::best` does.
+    /// (`Deleted`), no leaf is named or chosen (`Conflict`), the leaf has the last generation
+    /// (`GenerationLimit`), the made revision is known (`Conflict`), the journal is full
+    /// (`SequenceFull`). It costs a look in the map of ids, what `RevTree::look_extend` does, a move
+    /// in the index of rows, and what `RevTree::best` does.
     pub fn write_one(&mut self, doc: Doc) -> Result<RevId, DbFault>
         ensures ok { IfOk result (λ rev. makes_one self.old.deleted self.old.limits.journal self.old.journal doc ≡ record { outcome = Stored rev; journal = self.new.journal }) }
         ensures rest { self.new ≡ record self.old { journal = self.new.journal } }

@@ -1,31 +1,31 @@
 //! Feeds of a database, and descending answers.
 
-use crate::{DbState, FeedId, OpenFault};
+use crate::DbState;
 use hub_document::{ChangeRow, Doc, Limits, RevId};
-use hub_feed::Next;
+use hub_feed::{FeedId, Next, OpenFault};
 use hub_model::Item;
 use hub_params::FeedParams;
 use std::alloc::Global;
 use std::test::Fail;
 
-// The parameters that a query gives.
-fn asked(alloc: Global, query: &str) -> Result<FeedParams, Fail> {
+/// The parameters that a query gives.
+pub(crate) fn asked(alloc: Global, query: &str) -> Result<FeedParams, Fail> {
     match FeedParams::read(alloc, query.as_bytes(), b"") {
         Ok(params) => Ok(params),
         Err(_) => Err(Fail::new("no parameters")),
     }
 }
 
-// A feed that the query opens.
-fn open(alloc: Global, state: &mut DbState, query: &str) -> Result<FeedId, Fail> {
+/// A feed that the query opens.
+pub(crate) fn open(alloc: Global, state: &mut DbState, query: &str) -> Result<FeedId, Fail> {
     match state.open_feed(asked(alloc, query)?) {
         Ok(feed) => Ok(feed),
         Err(_) => Err(Fail::new("no feed")),
     }
 }
 
-// Stores the document that the text is, which another database made.
-fn put(alloc: Global, state: &mut DbState, text: &str) -> Result<(), Fail> {
+/// Stores the document that the text is, which another database made.
+pub(crate) fn put(alloc: Global, state: &mut DbState, text: &str) -> Result<(), Fail> {
     let mut docs = Vec::new(alloc);
     docs.push(Doc::read(alloc, text.as_bytes(), false)?)?;
     let _replies = state.write_edits(docs, false)?;
@@ -49,24 +49,24 @@ fn take(state: &mut DbState, feed: FeedId) -> Result<Option<Item<ChangeRow>>, Fa
     }
 }
 
-// The row that a feed hands next.
-fn row(state: &mut DbState, feed: FeedId) -> Result<ChangeRow, Fail> {
+/// The row that a feed hands next.
+pub(crate) fn row(state: &mut DbState, feed: FeedId) -> Result<ChangeRow, Fail> {
     match take(state, feed)? {
         Some(Item::Row(row)) => Ok(row),
         _ => Err(Fail::new("no row")),
     }
 }
 
-// The last sequence and the count of the end that a feed hands next.
-fn end(state: &mut DbState, feed: FeedId) -> Result<(u64, u64), Fail> {
+/// The last sequence and the count of the end that a feed hands next.
+pub(crate) fn end(state: &mut DbState, feed: FeedId) -> Result<(u64, u64), Fail> {
     match take(state, feed)? {
         Some(Item::End { last_seq, pending }) => Ok((last_seq, pending)),
         _ => Err(Fail::new("no end")),
     }
 }
 
-// Whether a feed has nothing to hand any more.
-fn is_gone(state: &mut DbState, feed: FeedId) -> Result<bool, Fail> {
+/// Whether a feed has nothing to hand any more.
+pub(crate) fn is_gone(state: &mut DbState, feed: FeedId) -> Result<bool, Fail> {
     match state.next_item(feed)? {
         Next::Gone => Ok(true),
         _ => Ok(false),

@@ -34,6 +34,7 @@ impl DbState {
     /// search among the feeds.
     pub fn open_feed(&mut self, params: FeedParams) -> Result<FeedId, OpenFault>
         ensures ok { IfOk result (λ id. (id.number ≡ self.old.next_feed) × (refuses_feed self.old ≡ None) × (self.new ≡ opened self.old (params_of params))) }
+        ensures new { IfOk result (λ id. feed_in id.number self.old.feeds ≡ None) }
         ensures err { IfErr result (λ e. (self.new ≡ self.old) × ((e ≡ OpenFault.NoMemory) ⊎ (refuses_feed self.old ≡ Some e))) }
     {
         if self.deleted {

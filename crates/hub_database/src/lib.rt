@@ -4,6 +4,8 @@
 mod answers;
 mod batch;
 mod database;
+#[cfg(test)]
+mod deletion_tests;
 mod descending;
 mod diff;
 mod document;
@@ -13,6 +15,9 @@ mod entry;
 #[cfg(test)]
 mod feed_tests;
 mod feeds;
+mod host;
+#[cfg(test)]
+mod host_tests;
 mod local;
 #[cfg(test)]
 mod local_tests;
@@ -26,6 +31,8 @@ mod rows;
 mod store;
 #[cfg(test)]
 mod tests;
+#[cfg(test)]
+mod waiting_tests;
 
 pub use answers::{Diff, Info, Lookup, OpenRev};
 pub use batch::{Batch, DbFault, Replies};

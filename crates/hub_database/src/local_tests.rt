@@ -15,8 +15,8 @@ fn put(alloc: Global, state: &mut DbState, id: &str, text: &str) -> Option<Resul
 
 fn keeps(state: &DbState, id: &str, count: u64, body: &str) -> bool {
     match state.local_get(id) {
-        Some(local) => local.count == count && local.body.as_bytes() == body.as_bytes(),
-        None => false,
+        Ok(Some(local)) => local.count == count && local.body.as_bytes() == body.as_bytes(),
+        _ => false,
     }
 }
 
@@ -24,7 +24,7 @@ fn keeps(state: &DbState, id: &str, count: u64, body: &str) -> bool {
 fn local_documents_are_counted_one_by_one(rt: HostRuntime) -> Result<(), Fail> {
     let alloc = rt.alloc();
     let mut state = DbState::new(alloc, Limits::full());
-    assert!(rt; state.local_get("_local/x").is_none());
+    assert!(rt; state.local_get("_local/x")?.is_none());
     assert_eq!(rt;
         put(alloc, &mut state, "_local/x", "{\"v\":1}"),
         Some(Ok(1))
@@ -36,9 +36,9 @@ fn local_documents_are_counted_one_by_one(rt: HostRuntime) -> Result<(), Fail> {
     assert_eq!(rt; put(alloc, &mut state, "_local/a", "{}"), Some(Ok(1)));
     assert!(rt; keeps(&state, "_local/x", 2, "{\"v\":2}"));
     assert!(rt; keeps(&state, "_local/a", 1, "{}"));
-    assert!(rt; state.local_get("_local/y").is_none());
+    assert!(rt; state.local_get("_local/y")?.is_none());
     assert_eq!(rt; state.update_seq(), 0);
-    assert_eq!(rt; state.info().doc_count, 0);
+    assert_eq!(rt; state.info()?.doc_count, 0);
     Ok(())
 }
 

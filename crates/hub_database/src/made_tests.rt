@@ -75,15 +75,15 @@ const B2: &str = "2-ef9706f00d5204d4b73e97b9394cf4b1";
 fn a_document_is_made_deleted_and_made_again(rt: HostRuntime) -> Result<(), Fail> {
     let alloc = rt.alloc();
     let mut state = DbState::new(alloc, Limits::full());
-    assert_eq!(rt; state.info(), counts(0, 0, 0));
+    assert_eq!(rt; state.info()?, counts(0, 0, 0));
     assert!(rt; makes(alloc, &mut state, A, A1));
-    assert_eq!(rt; state.info(), counts(1, 0, 1));
+    assert_eq!(rt; state.info()?, counts(1, 0, 1));
     assert!(rt; refuses(alloc, &mut state, A, Fault::Conflict));
-    assert_eq!(rt; state.info(), counts(1, 0, 1));
+    assert_eq!(rt; state.info()?, counts(1, 0, 1));
     assert!(rt; makes(alloc, &mut state, A_DELETED, A2));
-    assert_eq!(rt; state.info(), counts(0, 1, 2));
+    assert_eq!(rt; state.info()?, counts(0, 1, 2));
     assert!(rt; makes(alloc, &mut state, A, A3));
-    assert_eq!(rt; state.info(), counts(1, 0, 3));
+    assert_eq!(rt; state.info()?, counts(1, 0, 3));
     Ok(())
 }
 
@@ -92,11 +92,11 @@ fn only_a_leaf_is_extended(rt: HostRuntime) -> Result<(), Fail> {
     let alloc = rt.alloc();
     let mut state = DbState::new(alloc, Limits::full());
     assert!(rt; refuses(alloc, &mut state, B_NEWER, Fault::Conflict));
-    assert_eq!(rt; state.info(), counts(0, 0, 0));
+    assert_eq!(rt; state.info()?, counts(0, 0, 0));
     assert!(rt; makes(alloc, &mut state, B, B1));
     assert!(rt; makes(alloc, &mut state, B_NEWER, B2));
     assert!(rt; refuses(alloc, &mut state, B_NEWER, Fault::Conflict));
-    assert_eq!(rt; state.info(), counts(1, 0, 2));
+    assert_eq!(rt; state.info()?, counts(1, 0, 2));
     Ok(())
 }
 
@@ -117,7 +117,7 @@ fn a_conflict_stops_no_others(rt: HostRuntime) -> Result<(), Fail> {
     assert_eq!(rt; replies[1], Outcome::Refused(Fault::Conflict));
     let c1 = RevId::read("1-fb9ac373006d562c3ba1cd99e8474820");
     assert_eq!(rt; Some(replies[2]), c1.map(Outcome::Stored));
-    assert_eq!(rt; state.info(), counts(3, 0, 3));
+    assert_eq!(rt; state.info()?, counts(3, 0, 3));
     Ok(())
 }
 
@@ -158,7 +158,7 @@ fn the_last_generation_is_not_extended(rt: HostRuntime) -> Result<(), Fail> {
     assert!(rt; replicates(alloc, &mut state, text.as_str()));
     let edit = "{\"_id\":\"a\",\"_rev\":\"65535-x\"}";
     assert!(rt; refuses(alloc, &mut state, edit, Fault::GenerationLimit));
-    assert_eq!(rt; state.info(), counts(1, 0, 1));
+    assert_eq!(rt; state.info()?, counts(1, 0, 1));
     Ok(())
 }
 
@@ -172,7 +172,7 @@ fn a_full_journal_takes_no_made_edit(rt: HostRuntime) -> Result<(), Fail> {
     assert!(rt; refuses(alloc, &mut state, B, Fault::SequenceFull));
     assert!(rt; refuses(alloc, &mut state, A_DELETED, Fault::SequenceFull));
     assert!(rt; refuses(alloc, &mut state, A, Fault::Conflict));
-    assert_eq!(rt; state.info(), counts(1, 0, 1));
+    assert_eq!(rt; state.info()?, counts(1, 0, 1));
     assert_eq!(rt; state.update_seq(), 1);
     Ok(())
 }
@@ -185,10 +185,10 @@ fn the_counts_follow_the_winners(rt: HostRuntime) -> Result<(), Fail> {
     let y = "{\"_id\":\"a\",\"_revisions\":{\"start\":2,\"ids\":[\"y\",\"a\"]}}";
     assert!(rt; replicates(alloc, &mut state, x));
     assert!(rt; replicates(alloc, &mut state, y));
-    assert_eq!(rt; state.info(), counts(1, 0, 2));
+    assert_eq!(rt; state.info()?, counts(1, 0, 2));
     let winner = "{\"_id\":\"a\",\"_rev\":\"2-y\",\"_deleted\":true}";
     assert!(rt; write(alloc, &mut state, winner).is_some());
-    assert_eq!(rt; state.info(), counts(1, 0, 3));
+    assert_eq!(rt; state.info()?, counts(1, 0, 3));
     let other = "{\"_id\":\"a\",\"_rev\":\"2-x\",\"_deleted\":true}";
     assert!(rt;
         makes(
@@ -198,13 +198,13 @@ fn the_counts_follow_the_winners(rt: HostRuntime) -> Result<(), Fail> {
             "3-55e177f153a8a4da2eda5908a10772f9"
         )
     );
-    assert_eq!(rt; state.info(), counts(0, 1, 4));
+    assert_eq!(rt; state.info()?, counts(0, 1, 4));
     let gone =
         "{\"_id\":\"b\",\"_revisions\":{\"start\":2,\"ids\":[\"d\",\"c\"]},\"_deleted\":true}";
     assert!(rt; replicates(alloc, &mut state, gone));
-    assert_eq!(rt; state.info(), counts(0, 2, 5));
+    assert_eq!(rt; state.info()?, counts(0, 2, 5));
     let back = "{\"_id\":\"b\",\"_revisions\":{\"start\":3,\"ids\":[\"e\",\"d\",\"c\"]}}";
     assert!(rt; replicates(alloc, &mut state, back));
-    assert_eq!(rt; state.info(), counts(1, 1, 6));
+    assert_eq!(rt; state.info()?, counts(1, 1, 6));
     Ok(())
 }

@@ -1,4 +1,4 @@
-use Rattle.std.proofs.Common.{◌≡◌, ◌∙◌, ap, sym, arith, length, ℕ, ◌<◌, slice_set}
+use Rattle.std.proofs.Common.{◌≡◌, ◌∙◌, ap, sym, arith, length, ◌<◌, slice_set}
 use Rattle.std.proofs.lemmas.List.Edits.{map_over_more}
 use Rattle.hub_model.specs.Feed.{Feed, end}
 use Rattle.hub_database.specs.Feeds.{ended}

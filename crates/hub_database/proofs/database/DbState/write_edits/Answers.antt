@@ -1,4 +1,4 @@
-use Rattle.std.proofs.Common.{◌≡◌, ◌∙◌, ap, sym, arith}
+use Rattle.std.proofs.Common.{◌∙◌, ap, sym, arith}
 use Rattle.hub_database.specs.Database.{Database}
 use Rattle.hub_database.proofs.FeedLemmas.{both_ok, refused_batch}
 use Rattle.hub_database.proofs.database.DbState.write_edits.Goals as goal

@@ -1,0 +1,46 @@
+//! A database as what keeps feeds.
+
+use crate::database::DbState;
+use hub_document::ChangeRow;
+use hub_feed::{FeedHost, FeedId, Next, OpenFault};
+use hub_model::Item;
+use hub_params::FeedParams;
+use std::alloc::AllocError;
+
+impl FeedHost for DbState {
+    ghost use Rattle.hub_database.specs.Hosting.{hosted_of};
+
+    type Row = ChangeRow;
+
+    ghost hosted = { hosted_of };
+
+    /// It costs a search among the feeds.
+    fn open_feed(&mut self, params: FeedParams) -> Result<FeedId, OpenFault> {
+        DbState::open_feed(self, params)
+    }
+
+    /// It costs a search among the feeds and what `FeedState::next_item` does.
+    fn next_item(&mut self, feed: FeedId) -> Result<Next<ChangeRow>, AllocError> {
+        DbState::next_item(self, feed)
+    }
+
+    /// It costs a search among the feeds.
+    fn accept_item(&mut self, feed: FeedId, item: &Item<ChangeRow>) {
+        DbState::accept_item(self, feed, item);
+    }
+
+    /// It costs a search among the feeds.
+    fn beat_due(&self, feed: FeedId) -> bool {
+        DbState::beat_due(self, feed)
+    }
+
+    /// It costs a search among the feeds.
+    fn expire(&mut self, feed: FeedId) {
+        DbState::expire(self, feed);
+    }
+
+    /// It costs a search among the feeds.
+    fn finish(&mut self, feed: FeedId) {
+        DbState::finish(self, feed);
+    }
+}
