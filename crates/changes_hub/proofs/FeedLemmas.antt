@@ -11,7 +11,7 @@ use Rattle.hub_model.specs.Hand.{due_in, change_due}
 use Rattle.hub_model.specs.Row.{ChangeRow}
 use Rattle.hub_model.specs.declared.feeds.Item.{Item}
 use Rattle.hub_model.specs.declared.feeds.Item.TheVariants.{Row, Beat, End}
-use Rattle.hub_database.specs.Feeds.{changed, feed_in, item_due, handed}
+use Rattle.hub_database.specs.Feeds.{changed, entry_in, item_due, handed}
 use Rattle.hub_session.specs.declared.closing.StreamEnd.TheVariants.{Complete}
 use Rattle.hub_session.specs.Feeds.{Streams}
 use Rattle.changes_hub.specs.Feeds.{is_end, behind, next_listed}
@@ -59,11 +59,11 @@ put_there (z ∷ xs) zero x y h = refl
 put_there (z ∷ xs) (suc i) x y h = put_there xs i x y h
 
 -- the feed of a number is changed with that of the number
-feed_changed : (id : ℕ) (change : Feed → Feed) (feeds : List (ℕ × Feed)) → feed_in id (changed id change feeds) ≡ option_map change (feed_in id feeds)
+feed_changed : (id : ℕ) (change : Feed → Feed) (feeds : List (ℕ × Feed)) → entry_in id (changed id change feeds) ≡ option_map change (entry_in id feeds)
 feed_changed id change [] = refl
 feed_changed id change (p ∷ feeds) = from (cases_Bool (nat_eq p.0 id)) (feed_changed id change feeds)
   where
-    from : (nat_eq p.0 id ≡ true) ⊎ (nat_eq p.0 id ≡ false) → feed_in id (changed id change feeds) ≡ option_map change (feed_in id feeds) → feed_in id (changed id change (p ∷ feeds)) ≡ option_map change (feed_in id (p ∷ feeds))
+    from : (nat_eq p.0 id ≡ true) ⊎ (nat_eq p.0 id ≡ false) → entry_in id (changed id change feeds) ≡ option_map change (entry_in id feeds) → entry_in id (changed id change (p ∷ feeds)) ≡ option_map change (entry_in id (p ∷ feeds))
     from (inl t) later = rw (t, t) refl
     from (inr t) later = rw (t, t) later
 
@@ -73,7 +73,7 @@ record IsAt (h : Hub) (at id : ℕ) (J : List Edit) (f : Feed) : Type 0 where
   pub database : Named
   pub there : slice_get h.databases at ≡ Some database
   pub journal : database.state.journal ≡ J
-  pub feed : feed_in id database.state.feeds ≡ Some f
+  pub feed : entry_in id database.state.feeds ≡ Some f
 
 module _ (h k : Hub) (at id : ℕ) (J : List Edit) (f : Feed) (item : Item ChangeRow) where
   -- the feed behind what is due
@@ -95,7 +95,7 @@ module _ (h k : Hub) (at id : ℕ) (J : List Edit) (f : Feed) (item : Item Chang
       absurd (let same : Some item ≡ None = ap (λ (z : Given). z.item) given in cc)
 
   -- which moves the feed on
-  handed_feed : (is : IsAt h at id J f) → feed_in id (handed is.database.state id).feeds ≡ Some next
+  handed_feed : (is : IsAt h at id J f) → entry_in id (handed is.database.state id).feeds ≡ Some next
   handed_feed is =
       feed_changed id _ is.database.state.feeds
       ∙ ap (option_map (λ f. after_due f (due (current is.database.state.journal) f) (length is.database.state.journal))) is.feed

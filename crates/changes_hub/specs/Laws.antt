@@ -9,7 +9,7 @@ use Rattle.hub_model.specs.Row.{ChangeRow, row_of}
 use Rattle.hub_model.specs.declared.feeds.Item.{Item}
 use Rattle.hub_model.specs.declared.feeds.Item.TheVariants.{Row, End}
 use Rattle.hub_model.specs.declared.feeds.Mode.TheVariants.{Normal}
-use Rattle.hub_database.specs.Feeds.{feed_in}
+use Rattle.hub_database.specs.Feeds.{entry_in}
 use Rattle.hub_session.specs.declared.closing.StreamEnd.TheVariants.{Complete}
 use Rattle.hub_session.specs.Feeds.{Streams}
 use Rattle.changes_hub.specs.Hub.{Hub, Named, HubGives}
@@ -44,7 +44,7 @@ pub record IsBegun (h : Hub) (params : Params) (J : List Edit) : Type 0 where
   pub database : Named
   pub there : slice_get h.databases at ≡ Some database
   pub journal : database.state.journal ≡ J
-  pub begun : feed_in id database.state.feeds ≡ Some (begin params (length J))
+  pub begun : entry_in id database.state.feeds ≡ Some (begin params (length J))
 
 -- a feed that ends at once and came to its end was the whole feed
 abbrev pub CompleteFeedIsWhole : Type 0

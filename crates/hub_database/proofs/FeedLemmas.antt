@@ -35,7 +35,7 @@ use Rattle.hub_document.specs.declared.limits.Limits.{Limits}
 use Rattle.hub_database.specs.Database.{Database, Local}
 use Rattle.hub_database.specs.Edits.{draft_of, stores_doc, writes}
 use Rattle.hub_database.specs.Edits as edits
-use Rattle.hub_database.specs.Feeds.{answer_of, answered, changed, ended, feed_in, item_due, feeds_behind, without}
+use Rattle.hub_database.specs.Feeds.{answer_of, answered, changed, ended, entry_in, item_due, feeds_behind, without}
 use Rattle.hub_database.specs.Followed.{IsBehind, AreFeeds}
 use Rattle.hub_database.proofs.StoreLemmas.{get_at}
 
@@ -251,7 +251,7 @@ set_back (y ∷ xs) (suc k) x e = ap (λ zs. y ∷ zs) (set_back xs k x e)
 
 -- the feed of this number stands here
 module _ (id : ℕ) (feeds : List (ℕ × Feed)) (at : ℕ) (placed : Some at ≡ position (λ (p : ℕ × Feed). nat_eq p.0 id) feeds) (p : ℕ × Feed) (is : p ≡ get_or feeds at p) where
-  pub feed_here : feed_in id feeds ≡ Some p.1
+  pub feed_here : entry_in id feeds ≡ Some p.1
   feed_here = ap (option_map (λ (q : ℕ × Feed). q.1)) (place_found (λ (q : ℕ × Feed). nat_eq q.0 id) feeds at placed p is).0
 
   own_id : p.0 ≡ id
@@ -276,7 +276,7 @@ module _ (id : ℕ) (feeds : List (ℕ × Feed)) (at : ℕ) (placed : Some at �
 
 -- there is no feed of this number
 module _ (id : ℕ) (feeds : List (ℕ × Feed)) (none : position (λ (p : ℕ × Feed). nat_eq p.0 id) feeds ≡ None) where
-  pub no_feed : feed_in id feeds ≡ None
+  pub no_feed : entry_in id feeds ≡ None
   no_feed = ap (option_map (λ (q : ℕ × Feed). q.1)) (place_none (λ (q : ℕ × Feed). nat_eq q.0 id) feeds none)
 
   pub none_changed : (change : Feed → Feed) → changed id change feeds ≡ feeds
@@ -304,7 +304,7 @@ item_given show rows DueGone item e = absurd (cc)
 
 -- what a feed gives is due to it, and may be accepted
 pub gives_due : (db : Database) (id : ℕ) (item : Item ChangeRow) → Give item ≡ answered db id → item_due db id ≡ Some item
-gives_due db id item e = from (feed_in id db.feeds) e
+gives_due db id item e = from (entry_in id db.feeds) e
   where
     from : (o : Option Feed) → Give item ≡ answer_of db.journal o → option_and_then (change_due db.journal) o ≡ Some item
     from None e = absurd (cc)

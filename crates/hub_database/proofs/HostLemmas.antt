@@ -1,5 +1,5 @@
 -- A database keeps its feeds as what keeps feeds does: the feed of each number, once one comes, changes or goes.
-use Rattle.std.proofs.Common.{◌≡◌, ◌≢◌, ℕ, suc, ◌<◌, List, [], ◌∷◌, ◌++◌, length, ap, refl, sym, ◌∙◌, subst, arith, inl, inr, nat_eq}
+use Rattle.std.proofs.Common.{◌+◌, ◌≡◌, ◌≢◌, ℕ, suc, ◌<◌, List, [], ◌∷◌, ◌++◌, length, ap, refl, sym, ◌∙◌, subst, arith, inl, inr, nat_eq}
 use Rattle.std.specs.Prelude.{Option, Some, None, option_map, if◌then◌else◌}
 use Rattle.std.specs.List.{All}
 use Rattle.std.proofs.lemmas.Bool.{cases_Bool, eqb-true, eq-eqb, eqb-false, ne_eqb}
@@ -13,16 +13,16 @@ use Rattle.hub_feed.specs.Host as host
 use Rattle.hub_feed.specs.Next.{next_of, after_next}
 use Rattle.hub_feed.specs.declared.next.Next.{Next}
 use Rattle.hub_database.specs.Database.{Database}
-use Rattle.hub_database.specs.Feeds.{answer_of, answered, behind_answer, changed, feed_in, opened, without}
+use Rattle.hub_database.specs.Feeds.{answer_of, answered, behind_answer, changed, entry_in, opened, without}
 use Rattle.hub_database.specs.Hosting.{hosted_of}
 
 -- one feed that changes
 module _ (id : ℕ) (change : Feed → Feed) where
-  pub own_changed : (feeds : List (ℕ × Feed)) → feed_in id (changed id change feeds) ≡ option_map change (feed_in id feeds)
+  pub own_changed : (feeds : List (ℕ × Feed)) → entry_in id (changed id change feeds) ≡ option_map change (entry_in id feeds)
   own_changed [] = refl
   own_changed (p ∷ feeds) = elim (cases_Bool (nat_eq p.0 id)) [ inl t ↦ rw (t, t) refl | inr t ↦ rw (t, t) (own_changed feeds) ]
 
-  pub other_changed : (q : ℕ) → q ≢ id → (feeds : List (ℕ × Feed)) → feed_in q (changed id change feeds) ≡ feed_in q feeds
+  pub other_changed : (q : ℕ) → q ≢ id → (feeds : List (ℕ × Feed)) → entry_in q (changed id change feeds) ≡ entry_in q feeds
   other_changed q n [] = refl
   other_changed q n (p ∷ feeds) =
       elim (cases_Bool (nat_eq p.0 id)) [
@@ -32,11 +32,11 @@ module _ (id : ℕ) (change : Feed → Feed) where
 
 -- one feed that goes
 module _ (id : ℕ) where
-  pub own_without : (feeds : List (ℕ × Feed)) → feed_in id (without id feeds) ≡ None
+  pub own_without : (feeds : List (ℕ × Feed)) → entry_in id (without id feeds) ≡ None
   own_without [] = refl
   own_without (p ∷ feeds) = elim (cases_Bool (nat_eq p.0 id)) [ inl t ↦ rw t (own_without feeds) | inr t ↦ rw (t, t) (own_without feeds) ]
 
-  pub other_without : (q : ℕ) → q ≢ id → (feeds : List (ℕ × Feed)) → feed_in q (without id feeds) ≡ feed_in q feeds
+  pub other_without : (q : ℕ) → q ≢ id → (feeds : List (ℕ × Feed)) → entry_in q (without id feeds) ≡ entry_in q feeds
   other_without q n [] = refl
   other_without q n (p ∷ feeds) =
       elim (cases_Bool (nat_eq p.0 id)) [
@@ -46,7 +46,7 @@ module _ (id : ℕ) where
 
 -- one feed that comes
 module _ (id : ℕ) (f : Feed) where
-  pub own_added : (feeds : List (ℕ × Feed)) → feed_in id feeds ≡ None → feed_in id (feeds ++ (id, f) ∷ []) ≡ Some f
+  pub own_added : (feeds : List (ℕ × Feed)) → entry_in id feeds ≡ None → entry_in id (feeds ++ (id, f) ∷ []) ≡ Some f
   own_added [] none = rw (eq-eqb id id refl) refl
   own_added (p ∷ feeds) none =
       elim (cases_Bool (nat_eq p.0 id)) [
@@ -54,12 +54,12 @@ module _ (id : ℕ) (f : Feed) where
         | inr t ↦ rw t (own_added feeds (rw t at none))
       ]
 
-  pub other_added : (q : ℕ) → q ≢ id → (feeds : List (ℕ × Feed)) → feed_in q (feeds ++ (id, f) ∷ []) ≡ feed_in q feeds
+  pub other_added : (q : ℕ) → q ≢ id → (feeds : List (ℕ × Feed)) → entry_in q (feeds ++ (id, f) ∷ []) ≡ entry_in q feeds
   other_added q n [] = rw (ne_eqb id q (λ e. n (sym e))) refl
   other_added q n (p ∷ feeds) = elim (cases_Bool (nat_eq p.0 q)) [ inl u ↦ rw u refl | inr u ↦ rw u (other_added q n feeds) ]
 
 -- no feed has a number that lies above all of theirs
-pub none_above : (next : ℕ) (feeds : List (ℕ × Feed)) → All (λ (p : ℕ × Feed). p.0 < next) feeds → feed_in next feeds ≡ None
+pub none_above : (next : ℕ) (feeds : List (ℕ × Feed)) → All (λ (p : ℕ × Feed). p.0 < next) feeds → entry_in next feeds ≡ None
 none_above next [] all = refl
 none_above next (p ∷ feeds) all =
     rw (ne_eqb p.0 next (λ e. omega (arith, all 0 p (omega arith), e))) (none_above next feeds (λ k d l. all (suc k) d (omega arith)))
@@ -73,23 +73,25 @@ by_number id now own others mine rest q =
     ]
 
 -- feeds change, and the journal does not
-becomes : (old new : Database) (id : ℕ) (feed : Option Feed) → new.journal ≡ old.journal → feed_in id new.feeds ≡ feed → ((q : ℕ) → q ≢ id → feed_in q new.feeds ≡ feed_in q old.feeds) → Becomes ChangeRow id feed (hosted_of old) (hosted_of new)
+becomes : (old new : Database) (id : ℕ) (feed : Option Feed) → new.journal ≡ old.journal → entry_in id new.feeds ≡ feed → ((q : ℕ) → q ≢ id → entry_in q new.feeds ≡ entry_in q old.feeds) → Becomes ChangeRow id feed (hosted_of old) (hosted_of new)
 becomes old new id feed same own rest = record {
   length = ap (λ (J : List Edit). length J) same;
   current = ap (λ (J : List Edit). current J) same;
   shown = ap (λ (J : List Edit). row_of J) same;
-  feeds = by_number id (λ q. feed_in q new.feeds) feed (λ q. feed_in q old.feeds) own rest;
+  feeds = by_number id (λ q. entry_in q new.feeds) feed (λ q. entry_in q old.feeds) own rest;
 }
 
 -- a feed is opened
-pub opened_becomes : (db : Database) (params : Params) (id : ℕ) (new : Database) → id ≡ db.next_feed → new ≡ opened db params → feed_in id db.feeds ≡ None → Becomes ChangeRow id (Some (begin params (length db.journal))) (hosted_of db) (hosted_of new)
+pub opened_becomes : (db : Database) (params : Params) (id : ℕ) (new : Database) → id ≡ db.next_feed → new ≡ opened db params → entry_in id db.feeds ≡ None → Becomes ChangeRow id (Some (begin params (length db.journal))) (hosted_of db) (hosted_of new)
 opened_becomes db params id new number e none =
     let f = begin params (length db.journal) in
-    rw (e, sym number) (becomes db (record db { feeds = db.feeds ++ (id, f) ∷ [] }) id (Some f) refl (own_added id f db.feeds none) (λ q n. other_added id f q n db.feeds))
+    let at : new ≡ record db { feeds = db.feeds ++ (id, f) ∷ []; next_feed = db.next_feed + 1 } = e ∙ ap (λ (n : ℕ). record db { feeds = db.feeds ++ (n, f) ∷ []; next_feed = db.next_feed + 1 }) (sym number) in
+    subst (λ (z : Database). Becomes ChangeRow id (Some f) (hosted_of db) (hosted_of z)) (sym at)
+    (becomes db (record db { feeds = db.feeds ++ (id, f) ∷ []; next_feed = db.next_feed + 1 }) id (Some f) refl (own_added id f db.feeds none) (λ q n. other_added id f q n db.feeds))
 
 -- a feed changes
-pub changed_becomes : (db : Database) (id : ℕ) (change : Feed → Feed) (new : Database) → new ≡ record db { feeds = changed id change db.feeds } → Becomes ChangeRow id (option_map change (feed_in id db.feeds)) (hosted_of db) (hosted_of new)
-changed_becomes db id change new e = rw e (becomes db (record db { feeds = changed id change db.feeds }) id (option_map change (feed_in id db.feeds)) refl (own_changed id change db.feeds) (λ q n. other_changed id change q n db.feeds))
+pub changed_becomes : (db : Database) (id : ℕ) (change : Feed → Feed) (new : Database) → new ≡ record db { feeds = changed id change db.feeds } → Becomes ChangeRow id (option_map change (entry_in id db.feeds)) (hosted_of db) (hosted_of new)
+changed_becomes db id change new e = rw e (becomes db (record db { feeds = changed id change db.feeds }) id (option_map change (entry_in id db.feeds)) refl (own_changed id change db.feeds) (λ q n. other_changed id change q n db.feeds))
 
 -- a feed goes
 pub without_becomes : (db : Database) (id : ℕ) (new : Database) → new ≡ record db { feeds = without id db.feeds } → Becomes ChangeRow id None (hosted_of db) (hosted_of new)
@@ -97,13 +99,13 @@ without_becomes db id new e = rw e (becomes db (record db { feeds = without id d
 
 -- a feed answers
 pub answered_becomes : (db : Database) (id : ℕ) (next : Next ChangeRow) (new : Database) → next ≡ answered db id → new ≡ behind_answer db id next
-    → Becomes ChangeRow id (option_map (host.answered (hosted_of db)) (feed_in id db.feeds)) (hosted_of db) (hosted_of new)
-answered_becomes db id next new a e = rw (e, a) (from (feed_in id db.feeds) refl)
+    → Becomes ChangeRow id (option_map (host.answered (hosted_of db)) (entry_in id db.feeds)) (hosted_of db) (hosted_of new)
+answered_becomes db id next new a e = rw (e, a) (from (entry_in id db.feeds) refl)
   where
-    stays : (o : Option Feed) → feed_in id db.feeds ≡ o → Becomes ChangeRow id o (hosted_of db) (hosted_of db)
+    stays : (o : Option Feed) → entry_in id db.feeds ≡ o → Becomes ChangeRow id o (hosted_of db) (hosted_of db)
     stays o here = becomes db db id o refl here (λ q n. refl)
 
-    looks : (show : Current → ChangeRow) (f : Feed) → feed_in id db.feeds ≡ Some f → (d : Due) → Becomes ChangeRow id (Some (after_next f d (length db.journal))) (hosted_of db) (hosted_of (behind_answer db id (next_of show (current db.journal) d)))
+    looks : (show : Current → ChangeRow) (f : Feed) → entry_in id db.feeds ≡ Some f → (d : Due) → Becomes ChangeRow id (Some (after_next f d (length db.journal))) (hosted_of db) (hosted_of (behind_answer db id (next_of show (current db.journal) d)))
     looks show f here (DueRow c) = stays (Some f) here
     looks show f here (DueEnd last_seq) = stays (Some f) here
     looks show f here DueNothing =
@@ -111,6 +113,6 @@ answered_becomes db id next new a e = rw (e, a) (from (feed_in id db.feeds) refl
         subst (λ o. Becomes ChangeRow id o (hosted_of db) (hosted_of (record db { feeds = changed id change db.feeds }))) (ap (option_map change) here) (changed_becomes db id change (record db { feeds = changed id change db.feeds }) refl)
     looks show f here DueGone = stays (Some f) here
 
-    from : (o : Option Feed) → feed_in id db.feeds ≡ o → Becomes ChangeRow id (option_map (host.answered (hosted_of db)) o) (hosted_of db) (hosted_of (behind_answer db id (answer_of db.journal o)))
+    from : (o : Option Feed) → entry_in id db.feeds ≡ o → Becomes ChangeRow id (option_map (host.answered (hosted_of db)) o) (hosted_of db) (hosted_of (behind_answer db id (answer_of db.journal o)))
     from None here = stays None here
     from (Some f) here = looks (row_of db.journal f.params.style f.params.include_docs) f here (due (current db.journal) f)

@@ -1,6 +1,7 @@
 -- The feeds of a database (CouchDB API reference, _changes; how many there may be is own).
 use Rattle.std.specs.Prelude.{ℕ, ◌+◌, ◌-◌, ◌^◌, List, [], ◌∷◌, ◌++◌, length, map, filter, find, not, Bool, true, false, ◌||◌, nat_le, nat_eq, if◌then◌else◌, Option, Some, None, option_map, option_and_then}
 use Rattle.hub_model.specs.Current.{current}
+pub use Rattle.hub_model.specs.Entries.{entry_in, changed, without}
 use Rattle.hub_model.specs.Feed.{Feed, Params, Due, DueGone, begin, due, after_due, after_nothing, beat_due, expire, end}
 use Rattle.hub_model.specs.Hand.{change_due}
 use Rattle.hub_model.specs.Journal.{Edit}
@@ -12,18 +13,6 @@ use Rattle.hub_feed.specs.declared.host.OpenFault.TheVariants.{Deleted, TooManyF
 use Rattle.hub_feed.specs.declared.next.Next.{Next}
 use Rattle.hub_feed.specs.declared.next.Next.TheVariants.{Give, Nothing, Gone}
 use Rattle.hub_database.specs.Database.{Database}
-
--- the feed of this number, if there is one
-abbrev pub feed_in : ℕ → List (ℕ × Feed) → Option Feed
-feed_in id feeds = option_map (λ (p : ℕ × Feed). p.1) (find (λ (p : ℕ × Feed). nat_eq p.0 id) feeds)
-
--- the feeds, that of this number changed so
-abbrev pub changed : ℕ → (Feed → Feed) → List (ℕ × Feed) → List (ℕ × Feed)
-changed id change feeds = map (λ (p : ℕ × Feed). if nat_eq p.0 id then (p.0, change p.1) else p) feeds
-
--- the feeds but for that of this number
-abbrev pub without : ℕ → List (ℕ × Feed) → List (ℕ × Feed)
-without id feeds = filter (λ (p : ℕ × Feed). not (nat_eq p.0 id)) feeds
 
 -- whether there is no room for one more feed, or no number: none is given twice
 abbrev pub is_full : Database → Bool
@@ -39,7 +28,7 @@ opened db params = record db { feeds = db.feeds ++ (db.next_feed, begin params (
 
 -- the item that is due to a feed, if there is one
 abbrev pub item_due : Database → ℕ → Option (Item ChangeRow)
-item_due db id = option_and_then (change_due db.journal) (feed_in id db.feeds)
+item_due db id = option_and_then (change_due db.journal) (entry_in id db.feeds)
 
 -- what is due to a feed of a journal: nothing any more where there is no feed
 abbrev pub due_of : List Edit → Option Feed → Due
@@ -48,7 +37,7 @@ due_of J (Some f) = due (current J) f
 
 -- and to the feed of this number of a database
 abbrev pub due_to : Database → ℕ → Due
-due_to db id = due_of db.journal (feed_in id db.feeds)
+due_to db id = due_of db.journal (entry_in id db.feeds)
 
 -- what a feed of a journal answers
 abbrev pub answer_of : List Edit → Option Feed → Next ChangeRow
@@ -57,7 +46,7 @@ answer_of J (Some f) = next_of (row_of J f.params.style f.params.include_docs) (
 
 -- what the feed of this number answers
 abbrev pub answered : Database → ℕ → Next ChangeRow
-answered db id = answer_of db.journal (feed_in id db.feeds)
+answered db id = answer_of db.journal (entry_in id db.feeds)
 
 -- the feeds behind such an answer: only one that has nothing to hand moves, to the journal's length
 abbrev pub feeds_behind : ℕ → ℕ → Next ChangeRow → List (ℕ × Feed) → List (ℕ × Feed)

@@ -3,7 +3,7 @@
 ghost use Rattle.std.specs.Prelude.{◌≡◌, ◌⊎◌, Some, None, nat_eq, map, position, IfOk, IfErr, OnErr};
 ghost use Rattle.hub_feed.specs.Next.{IsRowDue};
 ghost use Rattle.hub_params.specs.FeedModel.{params_of};
-ghost use Rattle.hub_database.specs.Feeds.{refuses_feed, opened, feed_in, is_beat_due, expired, ended, item_due, answered, behind_answer, handed, finished, due_to};
+ghost use Rattle.hub_database.specs.Feeds.{refuses_feed, opened, entry_in, is_beat_due, expired, ended, item_due, answered, behind_answer, handed, finished, due_to};
 
 use crate::database::DbState;
 use crate::rows::Rows;
@@ -34,7 +34,7 @@ impl DbState {
     /// search among the feeds.
     pub fn open_feed(&mut self, params: FeedParams) -> Result<FeedId, OpenFault>
         ensures ok { IfOk result (λ id. (id.number ≡ self.old.next_feed) × (refuses_feed self.old ≡ None) × (self.new ≡ opened self.old (params_of params))) }
-        ensures new { IfOk result (λ id. feed_in id.number self.old.feeds ≡ None) }
+        ensures new { IfOk result (λ id. entry_in id.number self.old.feeds ≡ None) }
         ensures err { IfErr result (λ e. (self.new ≡ self.old) × ((e ≡ OpenFault.NoMemory) ⊎ (refuses_feed self.old ≡ Some e))) }
     {
         if self.deleted {
@@ -86,7 +86,7 @@ impl DbState {
     /// Whether a heartbeat may be handed to a feed now: one was asked for, and the feed is open and
     /// waits. It takes no memory, and costs a search among the feeds.
     pub fn beat_due(&self, feed: FeedId) -> bool
-        ensures { result ≡ is_beat_due (feed_in feed.number self.now.feeds) }
+        ensures { result ≡ is_beat_due (entry_in feed.number self.now.feeds) }
     {
         let Some(at) = place_of(self.feeds.as_slice(), feed.number) else {
             return false;

@@ -6,6 +6,7 @@ use Rattle.hub_model.specs.Hand.{item_of}
 use Rattle.hub_model.specs.declared.feeds.Item.{Item}
 use Rattle.hub_model.specs.declared.feeds.Style.{Style}
 use Rattle.hub_feed.specs.Next.{next_of, after_next}
+use Rattle.hub_feed.specs.declared.host.OpenFault.{OpenFault}
 use Rattle.hub_feed.specs.declared.next.Next.{Next}
 use Rattle.hub_feed.specs.declared.next.Next.TheVariants.{Gone}
 
@@ -15,8 +16,9 @@ pub record Hosted (R : Type 0) : Type 0 where
   pub current : List Current
   pub shown : Style → Bool → Current → R  -- a current row as it is shown now, in a style, with its document or without
   pub feeds : ℕ → Option Feed  -- by their numbers, those that are not finished
+  pub refuses : Option OpenFault  -- why no feed is opened now, where none is
 
--- the feed of this number is now so, and nothing else changed
+-- the feed of this number is now so, and nothing else changed but whether one more is opened
 pub record Becomes (R : Type 0) (id : ℕ) (feed : Option Feed) (old new : Hosted R) : Type 0 where
   pub length : new.length ≡ old.length
   pub current : new.current ≡ old.current

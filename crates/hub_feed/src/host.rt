@@ -1,6 +1,6 @@
 //! What keeps feeds.
 
-ghost use Rattle.std.specs.Prelude.{◌≡◌, Some, None, option_map, IfOk, IfErr, OnErr};
+ghost use Rattle.std.specs.Prelude.{◌≡◌, ◌⊎◌, Some, None, option_map, IfOk, IfErr, OnOk, OnErr};
 ghost use Rattle.hub_model.specs.Feed.{begin, expire};
 ghost use Rattle.hub_params.specs.FeedModel.{params_of};
 ghost use Rattle.hub_feed.specs.Next.{IsRowDue};
@@ -41,7 +41,8 @@ pub trait FeedHost {
     fn open_feed(&mut self, params: FeedParams) -> Result<FeedId, OpenFault>
         ensures new { IfOk result (λ id. (hosted self.old).feeds id.number ≡ None) }
         ensures ok { IfOk result (λ id. Becomes Self.Row id.number (Some (begin (params_of params) (hosted self.old).length)) (hosted self.old) (hosted self.new)) }
-        ensures err { OnErr result (self.new ≡ self.old) };
+        ensures free { OnOk result ((hosted self.old).refuses ≡ None) }
+        ensures err { IfErr result (λ e. (self.new ≡ self.old) × ((e ≡ OpenFault.NoMemory) ⊎ ((hosted self.old).refuses ≡ Some e))) };
 
     /// What a feed has to hand now. An item is made and nothing changes: `accept_item` goes on. A
     /// feed that has nothing to hand goes to the length of what it follows. Only a row takes memory.

@@ -12,6 +12,7 @@ pub mod RightlyHanded
 pub mod Descending
 pub mod Outcome
 pub mod Draft
+pub mod Entries
 pub mod Missing
 pub mod Laws
 pub mod FeedLaws

@@ -8,7 +8,7 @@ use Rattle.std.proofs.lemmas.Option.{none-some, same_Some}
 use Rattle.hub_model.proofs.Shown.{find_is}
 use Rattle.hub_model.specs.RightlyHanded.{ChangeItem}
 use Rattle.hub_database.proofs.FeedLemmas.{place_found, place_none}
-use Rattle.hub_world.specs.Entries.{is_of, entry_in, changed, without}
+use Rattle.hub_model.specs.Entries.{is_of, entry_in, changed, without}
 use Rattle.hub_world.specs.Lane.{Lanes, has_room, pushed_into}
 
 -- numbers rise

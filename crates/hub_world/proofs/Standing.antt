@@ -11,7 +11,7 @@ use Rattle.hub_model.specs.Feed.{Feed, Params, Status, Open, Ending, Ended, Fini
 use Rattle.hub_model.specs.Journal.{Edit}
 use Rattle.hub_model.specs.RightlyHanded.{ChangeItem}
 use Rattle.hub_world.specs.Core.{Core, Shows, IsEmptied, limits_of}
-use Rattle.hub_world.specs.Entries.{entry_in, changed, without}
+use Rattle.hub_model.specs.Entries.{entry_in, changed, without}
 use Rattle.hub_world.specs.Lane.{Lanes, IsRising}
 use Rattle.hub_world.specs.World.{World, Subscription, empty, is_finished, open_feeds, has_no_room, subscription, with_subscription, lane_of, with_feed, expired, took, finished, ended}
 pub use Rattle.hub_world.proofs.StandingLists.{changed_same, changed_absent}

@@ -24,7 +24,7 @@ use Rattle.hub_feed.specs.declared.host.OpenFault.TheVariants as open_fault
 use Rattle.hub_database.specs.Edits.{edit_of, draft_of, stores_doc, writes}
 use Rattle.hub_database.specs.Feeds as feeds
 use Rattle.hub_world.specs.Core.{Core, Shows}
-use Rattle.hub_world.specs.Entries.{entry_in, changed, without}
+use Rattle.hub_model.specs.Entries.{entry_in, changed, without}
 use Rattle.hub_world.specs.Event.{Event, Write, Interactive, Begin, Hand, Heartbeat, Expire, Take, Finish, Delete, Reply, Outcomes, Opened, TooManyFeeds, DatabaseDeleted, Pushed, Full, Nothing, Gone, Took, Left}
 use Rattle.hub_world.specs.Lane.{has_room, takes_more, front, without_front, held}
 use Rattle.hub_world.specs.Lane as lane
@@ -214,7 +214,7 @@ beating : (o : Option Feed) → feeds.is_beat_due o ≡ true → (f : Feed) × (
 beating None e = absurd (cc)
 beating (Some f) e = (f, refl, e)
 
-pub beat_pushed : (c : Core) (f : ℕ) → feeds.is_beat_due (feeds.feed_in f c.db.feeds) ≡ true → has_room c.db.limits.lane f c.lanes ≡ true
+pub beat_pushed : (c : Core) (f : ℕ) → feeds.is_beat_due (entry_in f c.db.feeds) ≡ true → has_room c.db.limits.lane f c.lanes ≡ true
     → Leads c (Heartbeat f) (Pushed Beat) (record c { lanes = lane.pushed_into c.db.limits.lane f Beat c.lanes })
 beat_pushed c f beats room w h =
     let b = beating (entry_in f c.db.feeds) beats in
@@ -223,14 +223,14 @@ beat_pushed c f beats room w h =
     let shown = entry_changed c w f (λ g. g) (λ items. items ++ Beat ∷ []) s.0 (pushed s.0 s.0.feed Beat) h s.1 s.3 s.3 refl refl in
     (_, (s.0, s.1, ap beat_due s.2 ∙ b.2, refl, (omega (arith, free, lane_limit c w h), refl)), rw room (subst (λ fs. Shows (record { db = record c.db { feeds = fs }; lanes = changed f (λ items. items ++ Beat ∷ []) c.lanes }) (with_subscription w f (pushed s.0 s.0.feed Beat))) (changed_same f c.db.feeds) shown))
 
-pub beat_full : (c : Core) (f : ℕ) → feeds.is_beat_due (feeds.feed_in f c.db.feeds) ≡ true → has_room c.db.limits.lane f c.lanes ≡ false → Leads c (Heartbeat f) Full c
+pub beat_full : (c : Core) (f : ℕ) → feeds.is_beat_due (entry_in f c.db.feeds) ≡ true → has_room c.db.limits.lane f c.lanes ≡ false → Leads c (Heartbeat f) Full c
 beat_full c f beats room w h =
     let b = beating (entry_in f c.db.feeds) beats in
     let s = feed_found c w f b.0 h b.1 in
     let full = ltb-false (length s.0.lane) c.db.limits.lane (ap (takes_more c.db.limits.lane) (sym s.4) ∙ room) in
     (w, (s.0, s.1, ap beat_due s.2 ∙ b.2, omega (arith, full, lane_limit c w h), refl), h)
 
-pub beat_nothing : (c : Core) (f : ℕ) → feeds.is_beat_due (feeds.feed_in f c.db.feeds) ≡ false → Leads c (Heartbeat f) Nothing c
+pub beat_nothing : (c : Core) (f : ℕ) → feeds.is_beat_due (entry_in f c.db.feeds) ≡ false → Leads c (Heartbeat f) Nothing c
 beat_nothing c f e w h = from (entry_in f c.db.feeds) refl
   where
     from : (o : Option Feed) → entry_in f c.db.feeds ≡ o → (new : World) × Step w (Heartbeat f) Nothing new × Shows c new

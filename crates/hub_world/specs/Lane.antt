@@ -1,7 +1,7 @@
 -- Lanes by the numbers of their feeds (own).
 use Rattle.std.specs.Prelude.{ℕ, ◌<◌, List, AllPairs, [], ◌∷◌, ◌++◌, length, drop, Bool, false, nat_lt, slice_get, unwrap_or, Option, Some, None, option_and_then, if◌then◌else◌}
 use Rattle.hub_model.specs.RightlyHanded.{ChangeItem}
-use Rattle.hub_world.specs.Entries.{changed, entry_in}
+use Rattle.hub_model.specs.Entries.{changed, entry_in}
 
 -- the lanes of a core
 abbrev pub Lanes : Type 0

@@ -7,6 +7,5 @@ pub mod Laws
 pub mod Headline
 pub mod Worked
 pub mod Core
-pub mod Entries
 pub mod Lane
 pub mod Meant

@@ -1,7 +1,7 @@
 //! The lanes of feeds.
 
 ghost use Rattle.std.specs.Prelude.{◌≡◌, [], nat_eq, position, IfOk, OnErr};
-ghost use Rattle.hub_world.specs.Entries.{without};
+ghost use Rattle.hub_model.specs.Entries.{without};
 ghost use Rattle.hub_world.specs.Lane.{IsRising, has_room, pushed_into, front, without_front, held};
 
 use hub_document::ChangeRow;

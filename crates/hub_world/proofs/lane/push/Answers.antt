@@ -1,7 +1,7 @@
 use Rattle.std.proofs.Common.{◌≡◌, ◌∙◌, sym, subst, ℕ, List, ◌∷◌, [], ◌++◌, Some, None, arith, length, ◌<◌, ◌≤◌}
 use Rattle.std.specs.Prelude.{position, get_or}
 use Rattle.hub_model.specs.RightlyHanded.{ChangeItem}
-use Rattle.hub_world.specs.Entries.{is_of}
+use Rattle.hub_model.specs.Entries.{is_of}
 use Rattle.hub_world.proofs.LaneLemmas.{entry_here, changed_here, stays_here, no_entry, no_lane, is_full, has_place}
 use Rattle.hub_world.proofs.lane.push.Goals as goal
 

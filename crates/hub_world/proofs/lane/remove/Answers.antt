@@ -1,7 +1,7 @@
 use Rattle.std.proofs.Common.{◌≡◌, ◌∙◌, sym, ap, ℕ, List, [], Some, None}
 use Rattle.std.specs.Prelude.{position, get_or, unwrap_or}
 use Rattle.hub_model.specs.RightlyHanded.{ChangeItem}
-use Rattle.hub_world.specs.Entries.{is_of}
+use Rattle.hub_model.specs.Entries.{is_of}
 use Rattle.hub_world.proofs.LaneLemmas.{entry_here, without_here, no_entry, none_out}
 use Rattle.hub_world.proofs.lane.remove.Goals as goal
 

@@ -1,7 +1,7 @@
 use Rattle.std.proofs.Common.{◌≡◌, ◌∙◌, sym, ap, ℕ, List, Some, None, drop}
 use Rattle.std.specs.Prelude.{option_and_then, position, slice_get, get_or}
 use Rattle.hub_model.specs.RightlyHanded.{ChangeItem}
-use Rattle.hub_world.specs.Entries.{is_of}
+use Rattle.hub_model.specs.Entries.{is_of}
 use Rattle.hub_world.proofs.LaneLemmas.{entry_here, changed_here, no_entry, none_changed, front_of}
 use Rattle.hub_world.proofs.lane.take.Goals as goal
 
