@@ -10,3 +10,5 @@ pub mod Core
 pub mod Entries
 pub mod Lane
 pub mod Meant
+pub mod PlainFeeds
+pub mod PlainAnswers
