@@ -3,3 +3,4 @@ pub mod Journals
 pub mod Kept
 pub mod Lanes
 pub mod Faithful
+pub mod PlainLemmas

@@ -1,16 +1,16 @@
 //! A plain program that answers events as the definitions do: it goes through lists, as slowly as it
 //! likes, and keeps finished feeds. The tests compare `World` with it.
 
-ghost use Rattle.std.specs.Prelude.{◌≡◌, ◌<◌, ◌×◌, Some, IfOk, length, map};
-ghost use Rattle.hub_model.specs.Feed.{DueRow, DueEnd, DueNothing};
+ghost use Rattle.std.specs.Prelude.{◌≡◌, ◌<◌, IfOk, length};
+ghost use Rattle.hub_model.specs.Feed.{Open, DueRow, DueEnd, DueNothing};
 ghost use Rattle.hub_model.specs.Hand.{due_in};
-ghost use Rattle.hub_database.specs.Edits.{draft_of, edit_of};
+ghost use Rattle.hub_database.specs.Edits.{writes};
 ghost use Rattle.hub_params.specs.FeedModel.{params_of};
-ghost use Rattle.hub_world.specs.Answer.{Answer, answer, push, hand, hand_due, beat, opened};
+ghost use Rattle.hub_world.specs.Answer.{answer, push, hand, hand_due, beat, opened};
 ghost use Rattle.hub_world.specs.Core.{limits_of};
-ghost use Rattle.hub_world.specs.Event.{Write, Interactive, Take, Expire, Finish, Delete};
+ghost use Rattle.hub_world.specs.Event.{Take, Expire, Finish, Delete};
 ghost use Rattle.hub_world.specs.Meant.{event_of, reply_of};
-ghost use Rattle.hub_world.specs.PlainAnswers.{IsAnswer};
+ghost use Rattle.hub_world.specs.PlainAnswers.{IsAnswer, written};
 ghost use Rattle.hub_world.specs.World.{World as Shown, empty, has_no_room, subscription, with_subscription};
 
 mod edit;
@@ -22,7 +22,7 @@ mod trees;
 
 use crate::event::Event;
 use crate::plain::edit::{PlainCurrent, PlainEdit};
-use crate::plain::feed::{PlainFeed, PlainSubscription, all_ended, begin, copied};
+use crate::plain::feed::{PlainFeed, PlainSubscription, all_ended, begin, copied, take_front};
 use crate::plain::rows::{current, pending, row_of};
 use crate::plain::store::store_all;
 use crate::reply::Reply;
@@ -69,7 +69,9 @@ impl Plain {
     }
 
     // Documents are stored: as new edits, or as those that another database made.
-    fn write(&mut self, docs: Vec<Doc>, new_edits: bool) -> Result<Reply, AllocError> {
+    fn write(&mut self, docs: Vec<Doc>, new_edits: bool) -> Result<Reply, AllocError>
+        ensures { IfOk result (λ reply. IsAnswer (written self.old (writes new_edits self.old.deleted self.old.limits.journal self.old.journal docs.items)) reply self.new) }
+    {
         let list = store_all(
             self.alloc,
             new_edits,
@@ -204,13 +206,18 @@ impl Plain {
     }
 
     // Hands what is due to an open feed.
-    fn hand_open(&mut self, feed: FeedId, old: PlainSubscription) -> Result<Reply, AllocError> {
+    fn hand_open(&mut self, feed: FeedId, old: PlainSubscription) -> Result<Reply, AllocError>
+        requires held { feed.number < length self.old.feeds }
+        requires open { old.feed.status ≡ Open }
+        ensures { IfOk result (λ reply. IsAnswer (hand_due self.old feed.number old (due_in self.old.journal old.feed)) reply self.new) }
+    {
         let rows = current(self.alloc, self.journal.as_slice())?;
-        let found = rows.iter().find(|row| old.feed.is_in_reach(row));
-        match (found, old.feed.bound) {
-            (Some(current), _) => self.hand_row(feed, old, current),
-            (None, Some(bound)) => self.hand_end(feed, old, bound),
-            (None, None) => self.hand_nothing(feed, old),
+        if let Some(current) = old.feed.first_in_reach(rows.as_slice()) {
+            return self.hand_row(feed, old, current);
+        }
+        match old.feed.bound {
+            Some(bound) => self.hand_end(feed, old, bound),
+            None => self.hand_nothing(feed, old),
         }
     }
 
@@ -266,13 +273,10 @@ impl Plain {
             return Ok(Reply::Took(None));
         };
         let mut lane = old.lane;
-        if lane.is_empty() {
-            return Ok(Reply::Took(None));
-        }
-        let item = lane.remove(0);
+        let item = take_front(&mut lane);
         let next = old.feed;
         self.replace(feed, PlainSubscription { feed: next, lane });
-        Ok(Reply::Took(Some(item)))
+        Ok(Reply::Took(item))
     }
 
     // A feed's subscriber is gone.

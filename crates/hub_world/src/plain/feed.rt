@@ -1,6 +1,6 @@
 //! Feeds and their lanes, straight from the definitions.
 
-ghost use Rattle.std.specs.Prelude.{◌≡◌, IfOk, map};
+ghost use Rattle.std.specs.Prelude.{◌≡◌, IfOk, drop, find, map, option_map, slice_get};
 ghost use Rattle.hub_model.specs.Feed.{after_end, after_nothing, after_row, beat_due, begin, bound_after, bound_of, end, expire, finish, is_in_reach, is_open, is_within, since_of, status_after, waits};
 ghost use Rattle.hub_params.specs.FeedModel.{params_of};
 ghost use Rattle.hub_world.specs.World.{ended};
@@ -74,6 +74,17 @@ fn copied_lane(alloc: Global, lane: &[Item<ChangeRow>]) -> Result<Vec<Item<Chang
     let mut items = copied_lane(alloc, later)?;
     items.insert(0, copied(alloc, item)?)?;
     Ok(items)
+}
+
+/// Takes the front of a lane, if there is one.
+pub(crate) fn take_front(lane: &mut Vec<Item<ChangeRow>>) -> Option<Item<ChangeRow>>
+    ensures item { result ≡ slice_get lane.old.items 0 }
+    ensures rest { lane.new.items ≡ drop 1 lane.old.items }
+{
+    if lane.is_empty() {
+        return None;
+    }
+    Some(lane.remove(0))
 }
 
 fn since_of(since: Since, length: u64) -> u64
@@ -174,6 +185,13 @@ impl PlainFeed {
         self.place < current.seq
             && is_within(self.bound, current.seq)
             && self.params.filter.passes(current.id.as_str())
+    }
+
+    /// The first of the rows that is in reach.
+    pub(crate) fn first_in_reach<'a>(&self, rows: &'a [PlainCurrent]) -> Option<&'a PlainCurrent>
+        ensures { option_map (λ c. c.now) result ≡ find (is_in_reach self.now) rows.now }
+    {
+        rows.iter().find(|row| self.is_in_reach(row))
     }
 
     /// Whether a heartbeat may be handed.

@@ -1,6 +1,6 @@
 //! The leaves of a document, and what stands behind a revision, straight from the definitions.
 
-ghost use Rattle.std.specs.Prelude.{◌≡◌, IfOk, OnOk};
+ghost use Rattle.std.specs.Prelude.{◌≡◌, IfOk, OnOk, position};
 ghost use Rattle.std.specs.List.{list_any};
 ghost use Rattle.hub_model.specs.Revision.{revision_cmp};
 ghost use Rattle.hub_model.specs.Leaves.{leaf_cmp, is_behind_head, with_leaf, leaves_among, comes_before, placed, best_first, leaves_of, revisions_of};
@@ -90,14 +90,18 @@ fn comes_before(leaf: &PlainLeaf, other: &PlainLeaf) -> bool
     leaf_cmp(leaf.edit.deleted, &leaf.rev, other.edit.deleted, &other.rev).is_gt()
 }
 
+// The place of the first of the leaves that this one is above.
+fn first_below(leaf: &PlainLeaf, leaves: &[PlainLeaf]) -> Option<usize>
+    ensures { result ≡ position (comes_before leaf.now) leaves.now }
+{
+    leaves.iter().position(|other| comes_before(leaf, other))
+}
+
 // Puts the leaf before the first that it is above.
 fn place(leaves: &mut Vec<PlainLeaf>, leaf: PlainLeaf) -> Result<(), AllocError>
     ensures { OnOk result (leaves.new.items ≡ placed leaf leaves.old.items) }
 {
-    let at = leaves
-        .iter()
-        .position(|other| comes_before(&leaf, other))
-        .unwrap_or(leaves.len());
+    let at = first_below(&leaf, leaves.as_slice()).unwrap_or(leaves.len());
     leaves.insert(at, leaf)?;
     Ok(())
 }

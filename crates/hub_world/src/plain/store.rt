@@ -119,6 +119,16 @@ fn edit_on(alloc: Global, doc: &Doc, rev: RevId, path: Vec<RevId>) -> Result<Pla
     })
 }
 
+// The generation of the path's first revision; 0 of an empty path.
+fn generation_of(path: &[RevId]) -> u16
+    ensures { result ≡ generation_of (parent_of path.now) }
+{
+    match path.first() {
+        Some(rev) => rev.generation(),
+        None => 0,
+    }
+}
+
 // Stores a draft that extends this path.
 fn make_on(
     alloc: Global,
@@ -129,10 +139,10 @@ fn make_on(
 ) -> Result<Outcome<RevId>, AllocError>
     ensures { IfOk result (λ outcome. record { outcome = outcome; journal = journal.new.items } ≡ makes_on limit journal.old.items (draft_of doc.now) (Some path.items)) }
 {
-    let parent = path.first().copied();
-    if parent.map_or(0, |rev| rev.generation()) == u16::MAX {
+    if generation_of(path.as_slice()) == u16::MAX {
         return Ok(Outcome::Refused(Fault::GenerationLimit));
     }
+    let parent = path.first().copied();
     let rev = rev_of_edit(alloc, doc.deleted, parent, &doc.id, &doc.body)?;
     if is_known(alloc, journal.as_slice(), doc.id.as_str(), &rev)? {
         return Ok(Outcome::Refused(Fault::Conflict));
