@@ -1,6 +1,6 @@
 -- Steps of the tests' plain program.
-use Rattle.std.proofs.Common.{◌≡◌, ℕ, suc, ◌+◌, ◌≤◌, List, [], ◌∷◌, length, Bool, true, false, ap, ap₂, refl, sym, ◌∙◌, inl, inr, arith}
-use Rattle.std.specs.Prelude.{Option, if◌then◌else◌, insert, map, not, nat_lt, position, unwrap_or}
+use Rattle.std.proofs.Common.{◌≡◌, ℕ, zero, suc, ◌+◌, ◌≤◌, List, [], ◌∷◌, length, Bool, true, false, ap, ap₂, refl, sym, ◌∙◌, inl, inr, arith}
+use Rattle.std.specs.Prelude.{Option, slice_get, take, if◌then◌else◌, insert, map, not, nat_lt, position, unwrap_or}
 use Rattle.std.specs.List.{position_or_len}
 use Rattle.std.proofs.lemmas.Bool.{cases_Bool, ltb-false}
 use Rattle.std.proofs.lemmas.List.Sums.{prefix_len-le-length}
@@ -51,3 +51,16 @@ merges_written deleted limit J docs = sym (stored_as edit_of (merges limit) dele
 -- documents whose revisions are made here, as drafts
 pub makes_written : (deleted : Bool) (limit : ℕ) (J : List Edit) (docs : List Doc) → stores_all (makes limit) deleted J (map draft_of docs) ≡ writes true deleted limit J docs
 makes_written deleted limit J docs = sym (stored_as draft_of (makes limit) deleted J docs)
+
+-- lists that are one up to a place, and at it, are one past it
+pub same_more : {A : Type 0} (xs ys : List A) (n : ℕ) → take n xs ≡ take n ys → slice_get xs n ≡ slice_get ys n → take (suc n) xs ≡ take (suc n) ys
+same_more [] [] n h e = refl
+same_more [] (y ∷ ys) zero h e = absurd (cc)
+same_more [] (y ∷ ys) (suc n) h e = absurd (cc)
+same_more (x ∷ xs) [] zero h e = absurd (cc)
+same_more (x ∷ xs) [] (suc n) h e = absurd (cc)
+same_more (x ∷ xs) (y ∷ ys) zero h e = cc
+same_more (x ∷ xs) (y ∷ ys) (suc n) h e =
+    let first : x ≡ y = cc in
+    let older : take n xs ≡ take n ys = cc in
+    cc (same_more xs ys n older e)

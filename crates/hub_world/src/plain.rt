@@ -11,7 +11,7 @@ ghost use Rattle.hub_world.specs.Core.{limits_of};
 ghost use Rattle.hub_world.specs.Event.{Take, Expire, Finish, Delete};
 ghost use Rattle.hub_world.specs.Meant.{event_of, reply_of};
 ghost use Rattle.hub_world.specs.PlainAnswers.{IsAnswer, written};
-ghost use Rattle.hub_world.specs.World.{World as Shown, empty, has_no_room, subscription, with_subscription};
+ghost use Rattle.hub_world.specs.World.{empty, has_no_room, subscription, with_subscription};
 
 mod edit;
 mod feed;

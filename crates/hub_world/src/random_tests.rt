@@ -1,12 +1,14 @@
 //! Random events through `World` and through the plain program.
 
-ghost use Rattle.std.specs.Prelude.{◌<◌};
+ghost use Rattle.std.specs.Prelude.{◌≡◌, ◌<◌, IsTrue, slice_get};
+ghost use Rattle.hub_world.specs.Meant.{reply_of};
 
 use crate::event::Event;
 use crate::plain::Plain;
 use crate::reply::Reply;
 use crate::world::World;
-use hub_document::{ChangeRow, Doc, Limits, RevId};
+use hub_database::Batch;
+use hub_document::{Body, ChangeRow, Doc, Limits, RevId};
 use hub_feed::FeedId;
 use hub_filter::{DocIds, Filter};
 use hub_model::{Fault, Item, Mode, Outcome, Since, Style};
@@ -81,9 +83,9 @@ impl Seen {
         Ok(())
     }
 
-    // A feed: mostly one of the last three, now and then any, or one that there is not.
+    // A feed: mostly one of the last two, now and then any, or one that there is not.
     fn feed(&self, random: &mut Random) -> FeedId {
-        let back = random.below(3) + 1;
+        let back = random.below(2) + 1;
         let number = if random.one_in(8) {
             random.below(self.feeds.saturating_add(2))
         } else {
@@ -228,34 +230,64 @@ fn params(alloc: Global, random: &mut Random) -> Result<FeedParams, Fail> {
 
 // One event. The same state of the generator makes the same one.
 fn event(alloc: Global, seen: &Seen, random: &mut Random) -> Result<Event, Fail> {
-    match random.below(100) {
+    match random.below(200) {
         0 => Ok(Event::Delete),
-        1..=14 => Ok(Event::Write(writes(alloc, seen, random)?)),
-        15..=24 => Ok(Event::Interactive(drafts(alloc, seen, random)?)),
-        25..=36 => Ok(Event::Begin(params(alloc, random)?)),
-        37..=66 => Ok(Event::Hand(seen.feed(random))),
-        67..=74 => Ok(Event::Heartbeat(seen.feed(random))),
-        75..=79 => Ok(Event::Expire(seen.feed(random))),
-        80..=91 => Ok(Event::Take(seen.feed(random))),
+        1..=30 => Ok(Event::Write(writes(alloc, seen, random)?)),
+        31..=50 => Ok(Event::Interactive(drafts(alloc, seen, random)?)),
+        51..=72 => Ok(Event::Begin(params(alloc, random)?)),
+        73..=142 => Ok(Event::Hand(seen.feed(random))),
+        143..=156 => Ok(Event::Heartbeat(seen.feed(random))),
+        157..=162 => Ok(Event::Expire(seen.feed(random))),
+        163..=192 => Ok(Event::Take(seen.feed(random))),
         _ => Ok(Event::Finish(seen.feed(random))),
     }
 }
 
-// Whether two rows are one, in full.
-fn same_row(row: &ChangeRow, other: &ChangeRow) -> bool {
-    let docs = match (&row.doc, &other.doc) {
+fn same_doc(doc: &Option<Body>, other: &Option<Body>) -> bool
+    ensures { IsTrue result → doc.now ≡ other.now }
+{
+    match (doc, other) {
         (Some(doc), Some(other)) => doc.as_bytes() == other.as_bytes(),
         (None, None) => true,
         _ => false,
-    };
-    docs && row.seq == other.seq
-        && row.id.as_str() == other.id.as_str()
-        && row.changes.as_slice() == other.changes.as_slice()
-        && row.deleted == other.deleted
-        && row.seen == other.seen
+    }
 }
 
-fn same_item(item: &Item<ChangeRow>, other: &Item<ChangeRow>) -> bool {
+#[tactic(auto, using(hub_model::proofs::Tests::same_is))]
+fn same_rev(rev: &RevId, other: &RevId) -> bool
+    ensures { IsTrue result → rev.now ≡ other.now }
+{
+    rev.is_same(other)
+}
+
+fn same_revs(revs: &[RevId], others: &[RevId]) -> bool
+    ensures { IsTrue result → revs.now ≡ others.now }
+{
+    match (revs, others) {
+        ([], []) => true,
+        ([rev, later @ ..], [other, others_later @ ..]) => {
+            same_rev(rev, other) && same_revs(later, others_later)
+        }
+        _ => false,
+    }
+}
+
+// Whether two rows are one, in full.
+fn same_row(row: &ChangeRow, other: &ChangeRow) -> bool
+    ensures { IsTrue result → row.now ≡ other.now }
+{
+    if row.seq != other.seq || row.seen != other.seen || row.deleted != other.deleted {
+        return false;
+    }
+    if row.id.as_str() != other.id.as_str() {
+        return false;
+    }
+    same_revs(row.changes.as_slice(), other.changes.as_slice()) && same_doc(&row.doc, &other.doc)
+}
+
+fn same_item(item: &Item<ChangeRow>, other: &Item<ChangeRow>) -> bool
+    ensures { IsTrue result → item.now ≡ other.now }
+{
     match (item, other) {
         (Item::Row(row), Item::Row(other)) => same_row(row, other),
         (Item::Beat, Item::Beat) => true,
@@ -270,7 +302,9 @@ fn same_item(item: &Item<ChangeRow>, other: &Item<ChangeRow>) -> bool {
     }
 }
 
-fn same_taken(item: &Option<Item<ChangeRow>>, other: &Option<Item<ChangeRow>>) -> bool {
+fn same_taken(item: &Option<Item<ChangeRow>>, other: &Option<Item<ChangeRow>>) -> bool
+    ensures { IsTrue result → item.now ≡ other.now }
+{
     match (item, other) {
         (Some(item), Some(other)) => same_item(item, other),
         (None, None) => true,
@@ -278,22 +312,65 @@ fn same_taken(item: &Option<Item<ChangeRow>>, other: &Option<Item<ChangeRow>>) -
     }
 }
 
-fn same_lane(items: &VecDeque<Item<ChangeRow>>, others: &VecDeque<Item<ChangeRow>>) -> bool {
+fn same_at(items: &VecDeque<Item<ChangeRow>>, others: &VecDeque<Item<ChangeRow>>, at: usize) -> bool
+    ensures { IsTrue result → slice_get items.now.items at ≡ slice_get others.now.items at }
+{
+    match (items.get(at), others.get(at)) {
+        (Some(item), Some(other)) => same_item(item, other),
+        _ => false,
+    }
+}
+
+fn same_lane(items: &VecDeque<Item<ChangeRow>>, others: &VecDeque<Item<ChangeRow>>) -> bool
+    ensures { IsTrue result → items.now.items ≡ others.now.items }
+{
     if items.len() != others.len() {
         return false;
     }
-    items
-        .iter()
-        .zip(others.iter())
-        .all(|(item, other)| same_item(item, other))
+    for at in 0..items.len() {
+        if !same_at(items, others, at) {
+            return false;
+        }
+    }
+    true
+}
+
+fn same_outcome(outcome: &Outcome<RevId>, other: &Outcome<RevId>) -> bool
+    ensures { IsTrue result → outcome.now ≡ other.now }
+{
+    match (outcome, other) {
+        (Outcome::Stored(rev), Outcome::Stored(other)) => same_rev(rev, other),
+        (Outcome::Known, Outcome::Known) => true,
+        (Outcome::Refused(fault), Outcome::Refused(other)) => fault == other,
+        _ => false,
+    }
+}
+
+fn same_outcomes(outcomes: &[Outcome<RevId>], others: &[Outcome<RevId>]) -> bool
+    ensures { IsTrue result → outcomes.now ≡ others.now }
+{
+    match (outcomes, others) {
+        ([], []) => true,
+        ([outcome, later @ ..], [other, others_later @ ..]) => {
+            same_outcome(outcome, other) && same_outcomes(later, others_later)
+        }
+        _ => false,
+    }
+}
+
+fn same_batch(batch: &Batch, other: &Batch) -> bool
+    ensures { IsTrue result → batch.now ≡ other.now }
+{
+    batch.stopped == other.stopped
+        && same_outcomes(batch.replies.as_slice(), other.replies.as_slice())
 }
 
 // Whether two replies are one, in full.
-fn same(reply: &Reply, other: &Reply) -> bool {
+fn same(reply: &Reply, other: &Reply) -> bool
+    ensures { IsTrue result → reply_of reply.now ≡ reply_of other.now }
+{
     match (reply, other) {
-        (Reply::Outcomes(batch), Reply::Outcomes(other)) => {
-            batch.replies.as_slice() == other.replies.as_slice() && batch.stopped == other.stopped
-        }
+        (Reply::Outcomes(batch), Reply::Outcomes(other)) => same_batch(batch, other),
         (Reply::Opened(feed), Reply::Opened(other)) => feed == other,
         (Reply::TooManyFeeds, Reply::TooManyFeeds) => true,
         (Reply::DatabaseDeleted, Reply::DatabaseDeleted) => true,

@@ -1,7 +1,7 @@
 //! Feeds and their lanes, straight from the definitions.
 
 ghost use Rattle.std.specs.Prelude.{◌≡◌, IfOk, drop, find, map, option_map, slice_get};
-ghost use Rattle.hub_model.specs.Feed.{after_end, after_nothing, after_row, beat_due, begin, bound_after, bound_of, end, expire, finish, is_in_reach, is_open, is_within, since_of, status_after, waits};
+ghost use Rattle.hub_model.specs.Feed.{after_end, after_nothing, after_row, beat_due, begin, bound_after, bound_of, end, expire, finish, is_in_reach, is_open, is_within, since_of, waits};
 ghost use Rattle.hub_params.specs.FeedModel.{params_of};
 ghost use Rattle.hub_world.specs.World.{ended};
 

@@ -1,11 +1,10 @@
 //! What becomes of documents that are stored, straight from the definitions.
 
-ghost use Rattle.std.specs.Prelude.{◌≡◌, ◌<◌, ◌∷◌, Some, None, IfOk, option_map, slice_get};
-ghost use Rattle.hub_database.specs.Edits.{draft_of, edit_of, stores_doc, writes};
-ghost use Rattle.hub_model.specs.Draft.{extended, edit_of as edit_on, generation_of, makes, makes_on, parent_of};
-ghost use Rattle.hub_model.specs.Leaves.{leaves_of, revisions_of};
+ghost use Rattle.std.specs.Prelude.{◌≡◌, ◌∷◌, Some, None, IfOk, option_map, slice_get};
+ghost use Rattle.hub_database.specs.Edits.{draft_of, stores_doc, writes};
+ghost use Rattle.hub_model.specs.Draft.{extended, generation_of, makes, makes_on, parent_of};
+ghost use Rattle.hub_model.specs.Leaves.{leaves_of};
 ghost use Rattle.hub_model.specs.Outcome.{adds, merges};
-ghost use Rattle.hub_model.specs.Path.{names};
 
 use crate::plain::edit::{PlainEdit, PlainLeaf, edit_of};
 use crate::plain::leaves::{leaves_of, line_of, revisions_of};

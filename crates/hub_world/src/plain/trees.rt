@@ -1,8 +1,8 @@
 //! Paths, and what the edits of a document know, straight from the definitions.
 
 ghost use Rattle.std.specs.Prelude.{◌≡◌, IfOk};
-ghost use Rattle.std.specs.List.{list_any, list_all};
-ghost use Rattle.hub_model.specs.Path.{names, is_first, is_falling, is_full, is_history, behind, is_one, agrees};
+ghost use Rattle.std.specs.List.{list_all};
+ghost use Rattle.hub_model.specs.Path.{names, is_falling, is_full, is_history, behind, is_one, agrees};
 ghost use Rattle.hub_model.specs.Journal.{edits_of, is_known, is_head_known, is_acceptable};
 
 use crate::plain::edit::PlainEdit;
