@@ -17,6 +17,7 @@ mod edit;
 mod feed;
 mod leaves;
 mod rows;
+pub(crate) mod same;
 mod store;
 mod trees;
 

@@ -1,20 +1,18 @@
 //! Random events through `World` and through the plain program.
 
-ghost use Rattle.std.specs.Prelude.{◌≡◌, ◌<◌, IsTrue, slice_get};
-ghost use Rattle.hub_world.specs.Meant.{reply_of};
+ghost use Rattle.std.specs.Prelude.{◌<◌};
 
 use crate::event::Event;
 use crate::plain::Plain;
+use crate::plain::same::same;
 use crate::reply::Reply;
 use crate::world::World;
-use hub_database::Batch;
-use hub_document::{Body, ChangeRow, Doc, Limits, RevId};
+use hub_document::{ChangeRow, Doc, Limits, RevId};
 use hub_feed::FeedId;
 use hub_filter::{DocIds, Filter};
 use hub_model::{Fault, Item, Mode, Outcome, Since, Style};
 use hub_params::FeedParams;
 use std::alloc::{AllocError, Global};
-use std::collections::VecDeque;
 use std::test::Fail;
 
 const IDS: [&str; 4] = ["a", "b", "c", "_design/x"];
@@ -169,6 +167,7 @@ fn drafts(alloc: Global, seen: &Seen, random: &mut Random) -> Result<Vec<Doc>, F
     Ok(docs)
 }
 
+// How long a feed lasts.
 fn mode(random: &mut Random) -> Mode {
     match random.below(3) {
         0 => Mode::Normal,
@@ -177,6 +176,7 @@ fn mode(random: &mut Random) -> Mode {
     }
 }
 
+// Where a feed begins.
 fn since(random: &mut Random) -> Since {
     match random.below(4) {
         0 => Since::Now,
@@ -185,6 +185,7 @@ fn since(random: &mut Random) -> Since {
     }
 }
 
+// How many rows a feed shows at most; 0 too.
 fn limit(random: &mut Random) -> Option<u64> {
     if random.one_in(3) {
         Some(random.below(4))
@@ -193,6 +194,7 @@ fn limit(random: &mut Random) -> Option<u64> {
     }
 }
 
+// Which documents a feed shows.
 fn filter(alloc: Global, random: &mut Random) -> Result<Filter, Fail> {
     match random.below(4) {
         0 => Ok(Filter::Design),
@@ -207,6 +209,7 @@ fn filter(alloc: Global, random: &mut Random) -> Result<Filter, Fail> {
     }
 }
 
+// What a feed is asked.
 fn params(alloc: Global, random: &mut Random) -> Result<FeedParams, Fail> {
     let style = if random.one_in(2) {
         Style::MainOnly
@@ -243,147 +246,6 @@ fn event(alloc: Global, seen: &Seen, random: &mut Random) -> Result<Event, Fail>
     }
 }
 
-fn same_doc(doc: &Option<Body>, other: &Option<Body>) -> bool
-    ensures { IsTrue result → doc.now ≡ other.now }
-{
-    match (doc, other) {
-        (Some(doc), Some(other)) => doc.as_bytes() == other.as_bytes(),
-        (None, None) => true,
-        _ => false,
-    }
-}
-
-#[tactic(auto, using(hub_model::proofs::Tests::same_is))]
-fn same_rev(rev: &RevId, other: &RevId) -> bool
-    ensures { IsTrue result → rev.now ≡ other.now }
-{
-    rev.is_same(other)
-}
-
-fn same_revs(revs: &[RevId], others: &[RevId]) -> bool
-    ensures { IsTrue result → revs.now ≡ others.now }
-{
-    match (revs, others) {
-        ([], []) => true,
-        ([rev, later @ ..], [other, others_later @ ..]) => {
-            same_rev(rev, other) && same_revs(later, others_later)
-        }
-        _ => false,
-    }
-}
-
-// Whether two rows are one, in full.
-fn same_row(row: &ChangeRow, other: &ChangeRow) -> bool
-    ensures { IsTrue result → row.now ≡ other.now }
-{
-    if row.seq != other.seq || row.seen != other.seen || row.deleted != other.deleted {
-        return false;
-    }
-    if row.id.as_str() != other.id.as_str() {
-        return false;
-    }
-    same_revs(row.changes.as_slice(), other.changes.as_slice()) && same_doc(&row.doc, &other.doc)
-}
-
-fn same_item(item: &Item<ChangeRow>, other: &Item<ChangeRow>) -> bool
-    ensures { IsTrue result → item.now ≡ other.now }
-{
-    match (item, other) {
-        (Item::Row(row), Item::Row(other)) => same_row(row, other),
-        (Item::Beat, Item::Beat) => true,
-        (
-            Item::End { last_seq, pending },
-            Item::End {
-                last_seq: other_last,
-                pending: other_pending,
-            },
-        ) => last_seq == other_last && pending == other_pending,
-        _ => false,
-    }
-}
-
-fn same_taken(item: &Option<Item<ChangeRow>>, other: &Option<Item<ChangeRow>>) -> bool
-    ensures { IsTrue result → item.now ≡ other.now }
-{
-    match (item, other) {
-        (Some(item), Some(other)) => same_item(item, other),
-        (None, None) => true,
-        _ => false,
-    }
-}
-
-fn same_at(items: &VecDeque<Item<ChangeRow>>, others: &VecDeque<Item<ChangeRow>>, at: usize) -> bool
-    ensures { IsTrue result → slice_get items.now.items at ≡ slice_get others.now.items at }
-{
-    match (items.get(at), others.get(at)) {
-        (Some(item), Some(other)) => same_item(item, other),
-        _ => false,
-    }
-}
-
-fn same_lane(items: &VecDeque<Item<ChangeRow>>, others: &VecDeque<Item<ChangeRow>>) -> bool
-    ensures { IsTrue result → items.now.items ≡ others.now.items }
-{
-    if items.len() != others.len() {
-        return false;
-    }
-    for at in 0..items.len() {
-        if !same_at(items, others, at) {
-            return false;
-        }
-    }
-    true
-}
-
-fn same_outcome(outcome: &Outcome<RevId>, other: &Outcome<RevId>) -> bool
-    ensures { IsTrue result → outcome.now ≡ other.now }
-{
-    match (outcome, other) {
-        (Outcome::Stored(rev), Outcome::Stored(other)) => same_rev(rev, other),
-        (Outcome::Known, Outcome::Known) => true,
-        (Outcome::Refused(fault), Outcome::Refused(other)) => fault == other,
-        _ => false,
-    }
-}
-
-fn same_outcomes(outcomes: &[Outcome<RevId>], others: &[Outcome<RevId>]) -> bool
-    ensures { IsTrue result → outcomes.now ≡ others.now }
-{
-    match (outcomes, others) {
-        ([], []) => true,
-        ([outcome, later @ ..], [other, others_later @ ..]) => {
-            same_outcome(outcome, other) && same_outcomes(later, others_later)
-        }
-        _ => false,
-    }
-}
-
-fn same_batch(batch: &Batch, other: &Batch) -> bool
-    ensures { IsTrue result → batch.now ≡ other.now }
-{
-    batch.stopped == other.stopped
-        && same_outcomes(batch.replies.as_slice(), other.replies.as_slice())
-}
-
-// Whether two replies are one, in full.
-fn same(reply: &Reply, other: &Reply) -> bool
-    ensures { IsTrue result → reply_of reply.now ≡ reply_of other.now }
-{
-    match (reply, other) {
-        (Reply::Outcomes(batch), Reply::Outcomes(other)) => same_batch(batch, other),
-        (Reply::Opened(feed), Reply::Opened(other)) => feed == other,
-        (Reply::TooManyFeeds, Reply::TooManyFeeds) => true,
-        (Reply::DatabaseDeleted, Reply::DatabaseDeleted) => true,
-        (Reply::Pushed(item), Reply::Pushed(other)) => same_item(item, other),
-        (Reply::Full, Reply::Full) => true,
-        (Reply::Nothing, Reply::Nothing) => true,
-        (Reply::Gone, Reply::Gone) => true,
-        (Reply::Took(item), Reply::Took(other)) => same_taken(item, other),
-        (Reply::Left(items), Reply::Left(others)) => same_lane(items, others),
-        _ => false,
-    }
-}
-
 // How often each kind of reply came.
 #[derive(Clone, Copy, Default)]
 struct Counts {
@@ -408,11 +270,13 @@ struct Counts {
     left_none: u64,
 }
 
+// Counts one more.
 fn more(count: &mut u64) {
     *count = count.saturating_add(1);
 }
 
 impl Counts {
+    // Counts what became of a document.
     fn count_outcome(&mut self, outcome: &Outcome<RevId>) {
         match outcome {
             Outcome::Stored(_) => more(&mut self.stored),
@@ -425,6 +289,7 @@ impl Counts {
         }
     }
 
+    // Counts an item that was pushed.
     fn count_item(&mut self, item: &Item<ChangeRow>) {
         match item {
             Item::Row(_) => more(&mut self.row),
@@ -433,6 +298,7 @@ impl Counts {
         }
     }
 
+    // Counts a reply.
     fn count(&mut self, reply: &Reply) {
         match reply {
             Reply::Outcomes(batch) => {

@@ -87,6 +87,7 @@ pub(crate) fn take_front(lane: &mut Vec<Item<ChangeRow>>) -> Option<Item<ChangeR
     Some(lane.remove(0))
 }
 
+// What a feed begins after, while there are so many edits.
 fn since_of(since: Since, length: u64) -> u64
     ensures { result ≡ since_of since length }
 {
@@ -96,6 +97,7 @@ fn since_of(since: Since, length: u64) -> u64
     }
 }
 
+// Where a feed stops, while there are so many edits.
 fn bound_of(mode: Mode, length: u64) -> Option<u64>
     ensures { result ≡ bound_of mode length }
 {
@@ -106,6 +108,7 @@ fn bound_of(mode: Mode, length: u64) -> Option<u64>
     }
 }
 
+// Whether such a feed waits for edits to come.
 fn waits(mode: Mode) -> bool
     ensures { result ≡ waits mode }
 {
@@ -116,6 +119,7 @@ fn waits(mode: Mode) -> bool
     }
 }
 
+// Where a feed stops after a row, while there are so many edits.
 fn bound_after(mode: Mode, bound: Option<u64>, length: u64) -> Option<u64>
     ensures { result ≡ bound_after mode bound length }
 {
@@ -126,6 +130,7 @@ fn bound_after(mode: Mode, bound: Option<u64>, length: u64) -> Option<u64>
     }
 }
 
+// Whether a sequence is not above the bound, if there is one.
 fn is_within(bound: Option<u64>, seq: u64) -> bool
     ensures { result ≡ is_within bound seq }
 {

@@ -12,6 +12,7 @@ use hub_document::RevId;
 use std::alloc::{AllocError, Global};
 use std::cmp::Ordering;
 
+// The greater generation is above, then the greater hash.
 fn revision_cmp(rev: &RevId, other: &RevId) -> Ordering
     ensures { result ≡ revision_cmp rev.now other.now }
 {
@@ -84,6 +85,7 @@ fn leaves_among(
     Ok(leaves)
 }
 
+// Whether the leaf is above the other.
 fn comes_before(leaf: &PlainLeaf, other: &PlainLeaf) -> bool
     ensures { result ≡ comes_before leaf.now other.now }
 {

@@ -40,6 +40,7 @@ fn is_full(path: &[RevId]) -> bool
     }
 }
 
+// Whether it may be the path of an edit.
 fn is_history(path: &[RevId]) -> bool
     ensures { result ≡ is_history path.now }
 {
@@ -70,6 +71,7 @@ fn is_one(mine: Option<RevId>, other: Option<RevId>) -> bool
     }
 }
 
+// Whether no revision has a different one behind it in each of the paths.
 fn agrees(path: &[RevId], other: &[RevId]) -> bool
     ensures { result ≡ agrees path.now other.now }
 {
