@@ -8,3 +8,4 @@ pub mod StandingLists
 pub mod Standing
 pub mod Stepping
 pub mod Running
+pub mod PlainLemmas

@@ -9,3 +9,5 @@ pub mod Worked
 pub mod Core
 pub mod Lane
 pub mod Meant
+pub mod PlainFeeds
+pub mod PlainAnswers

@@ -4,6 +4,10 @@
 mod event;
 mod lane;
 mod laws;
+#[cfg(test)]
+mod plain;
+#[cfg(test)]
+mod random_tests;
 mod reply;
 #[cfg(test)]
 mod tests;

@@ -1,0 +1,395 @@
+//! Random events through `World` and through the plain program.
+
+ghost use Rattle.std.specs.Prelude.{◌<◌};
+
+use crate::event::Event;
+use crate::plain::Plain;
+use crate::plain::same::same;
+use crate::reply::Reply;
+use crate::world::World;
+use hub_document::{ChangeRow, Doc, Limits, RevId};
+use hub_feed::FeedId;
+use hub_filter::{DocIds, Filter};
+use hub_model::{Fault, Item, Mode, Outcome, Since, Style};
+use hub_params::FeedParams;
+use std::alloc::{AllocError, Global};
+use std::test::Fail;
+
+const IDS: [&str; 4] = ["a", "b", "c", "_design/x"];
+
+const HASHES: [&str; 3] = ["a", "b", "c"];
+
+const REVS: [&str; 4] = ["1-a", "1-b", "2-a", "2-b"];
+
+// A linear congruential generator.
+#[derive(Clone, Copy)]
+struct Random {
+    state: u64,
+}
+
+impl Random {
+    // The next number, below this one.
+    fn below(&mut self, end: u64) -> u64
+        requires { 0 < end }
+        ensures { result < end }
+    {
+        self.state = self
+            .state
+            .wrapping_mul(6_364_136_223_846_793_005)
+            .wrapping_add(1_442_695_040_888_963_407);
+        self.state / 4_294_967_296 % end
+    }
+
+    // Whether one of so many cases came.
+    fn one_in(&mut self, cases: u64) -> bool
+        requires { 0 < cases }
+    {
+        self.below(cases) == 0
+    }
+}
+
+// One of the texts.
+fn one_of(random: &mut Random, texts: &[&'static str]) -> &'static str {
+    let count = texts.len() as u64;
+    if count == 0 {
+        return "";
+    }
+    texts[random.below(count) as usize]
+}
+
+// What earlier replies told.
+#[derive(Drop)]
+struct Seen {
+    revs: Vec<RevId>,
+    feeds: u64,
+}
+
+impl Seen {
+    // Notes what a reply tells.
+    fn note(&mut self, reply: &Reply) -> Result<(), AllocError> {
+        match reply {
+            Reply::Opened(feed) => self.feeds = feed.number.saturating_add(1),
+            Reply::Outcomes(batch) => {
+                for outcome in batch.replies.as_slice() {
+                    if let Outcome::Stored(rev) = outcome {
+                        self.revs.push(*rev)?;
+                    }
+                }
+            }
+            _ => {}
+        }
+        Ok(())
+    }
+
+    // A feed: mostly one of the last two, now and then any, or one that there is not.
+    fn feed(&self, random: &mut Random) -> FeedId {
+        let back = random.below(2) + 1;
+        let number = if random.one_in(8) {
+            random.below(self.feeds.saturating_add(2))
+        } else {
+            self.feeds.saturating_sub(back)
+        };
+        FeedId { number }
+    }
+
+    // The text of a revision that was told earlier, or of one of a few.
+    fn rev(&self, alloc: Global, random: &mut Random) -> Result<String, Fail> {
+        let count = self.revs.len() as u64;
+        if count == 0 || random.one_in(4) {
+            return Ok(String::from_str(alloc, one_of(random, &REVS))?);
+        }
+        let rev = self.revs[random.below(count) as usize];
+        let mut text = Vec::new(alloc);
+        rev.print(&mut text)?;
+        match String::from_utf8(text) {
+            Ok(text) => Ok(text),
+            Err(_) => Err(Fail::new("no text")),
+        }
+    }
+}
+
+// The members of a document behind its id.
+fn members(alloc: Global, random: &mut Random) -> Result<String, Fail> {
+    let value = random.below(2);
+    let deleted = random.one_in(3);
+    Ok(format!(in alloc; r#""v":{value},"_deleted":{deleted}"#)?)
+}
+
+// A document with a history of one to three revisions.
+fn historical(alloc: Global, random: &mut Random) -> Result<Doc, Fail> {
+    let id = one_of(random, &IDS);
+    let start = random.below(3) + 1;
+    let mut hashes = String::from_str(alloc, "")?;
+    for at in 0..start {
+        let comma = if at == 0 { "" } else { "," };
+        let hash = one_of(random, &HASHES);
+        hashes = format!(in alloc; r#"{hashes}{comma}"{hash}""#)?;
+    }
+    let rest = members(alloc, random)?;
+    let text = format!(in alloc;
+        r#"{{"_id":"{id}","_revisions":{{"start":{start},"ids":[{hashes}]}},{rest}}}"#
+    )?;
+    Ok(Doc::read(alloc, text.as_bytes(), false)?)
+}
+
+// A document whose revision is to be made.
+fn drafted(alloc: Global, seen: &Seen, random: &mut Random) -> Result<Doc, Fail> {
+    let id = one_of(random, &IDS);
+    let rest = members(alloc, random)?;
+    let text = if random.one_in(3) {
+        format!(in alloc; r#"{{"_id":"{id}",{rest}}}"#)?
+    } else {
+        let rev = seen.rev(alloc, random)?;
+        format!(in alloc; r#"{{"_id":"{id}","_rev":"{rev}",{rest}}}"#)?
+    };
+    Ok(Doc::read(alloc, text.as_bytes(), true)?)
+}
+
+// Documents with histories; now and then one without.
+fn writes(alloc: Global, seen: &Seen, random: &mut Random) -> Result<Vec<Doc>, Fail> {
+    let mut docs = Vec::new(alloc);
+    for _ in 0..random.below(3) + 1 {
+        if random.one_in(10) {
+            docs.push(drafted(alloc, seen, random)?)?;
+        } else {
+            docs.push(historical(alloc, random)?)?;
+        }
+    }
+    Ok(docs)
+}
+
+// Documents whose revisions are to be made.
+fn drafts(alloc: Global, seen: &Seen, random: &mut Random) -> Result<Vec<Doc>, Fail> {
+    let mut docs = Vec::new(alloc);
+    for _ in 0..random.below(2) + 1 {
+        docs.push(drafted(alloc, seen, random)?)?;
+    }
+    Ok(docs)
+}
+
+// How long a feed lasts.
+fn mode(random: &mut Random) -> Mode {
+    match random.below(3) {
+        0 => Mode::Normal,
+        1 => Mode::Longpoll,
+        _ => Mode::Continuous,
+    }
+}
+
+// Where a feed begins.
+fn since(random: &mut Random) -> Since {
+    match random.below(4) {
+        0 => Since::Now,
+        1 => Since::From(random.below(16)),
+        _ => Since::From(0),
+    }
+}
+
+// How many rows a feed shows at most; 0 too.
+fn limit(random: &mut Random) -> Option<u64> {
+    if random.one_in(3) {
+        Some(random.below(4))
+    } else {
+        None
+    }
+}
+
+// Which documents a feed shows.
+fn filter(alloc: Global, random: &mut Random) -> Result<Filter, Fail> {
+    match random.below(4) {
+        0 => Ok(Filter::Design),
+        1 => {
+            let mut ids = Vec::new(alloc);
+            for _ in 0..random.below(3) {
+                ids.push(String::from_str(alloc, one_of(random, &IDS))?)?;
+            }
+            Ok(Filter::DocIds(DocIds::new(ids)))
+        }
+        _ => Ok(Filter::All),
+    }
+}
+
+// What a feed is asked.
+fn params(alloc: Global, random: &mut Random) -> Result<FeedParams, Fail> {
+    let style = if random.one_in(2) {
+        Style::MainOnly
+    } else {
+        Style::AllDocs
+    };
+    let heartbeat = if random.one_in(2) { Some(1000) } else { None };
+    let filter = filter(alloc, random)?;
+    Ok(FeedParams {
+        mode: mode(random),
+        since: since(random),
+        limit: limit(random),
+        descending: false,
+        style,
+        include_docs: random.one_in(2),
+        filter,
+        heartbeat,
+        timeout: 60_000,
+    })
+}
+
+// One event. The same state of the generator makes the same one.
+fn event(alloc: Global, seen: &Seen, random: &mut Random) -> Result<Event, Fail> {
+    match random.below(200) {
+        0 => Ok(Event::Delete),
+        1..=30 => Ok(Event::Write(writes(alloc, seen, random)?)),
+        31..=50 => Ok(Event::Interactive(drafts(alloc, seen, random)?)),
+        51..=72 => Ok(Event::Begin(params(alloc, random)?)),
+        73..=142 => Ok(Event::Hand(seen.feed(random))),
+        143..=156 => Ok(Event::Heartbeat(seen.feed(random))),
+        157..=162 => Ok(Event::Expire(seen.feed(random))),
+        163..=192 => Ok(Event::Take(seen.feed(random))),
+        _ => Ok(Event::Finish(seen.feed(random))),
+    }
+}
+
+// How often each kind of reply came.
+#[derive(Clone, Copy, Default)]
+struct Counts {
+    stored: u64,
+    known: u64,
+    deleted: u64,
+    contradicts: u64,
+    conflict: u64,
+    sequence_full: u64,
+    opened: u64,
+    too_many: u64,
+    database_deleted: u64,
+    row: u64,
+    beat: u64,
+    end: u64,
+    full: u64,
+    nothing: u64,
+    gone: u64,
+    took: u64,
+    took_none: u64,
+    left: u64,
+    left_none: u64,
+}
+
+// Counts one more.
+fn more(count: &mut u64) {
+    *count = count.saturating_add(1);
+}
+
+impl Counts {
+    // Counts what became of a document.
+    fn count_outcome(&mut self, outcome: &Outcome<RevId>) {
+        match outcome {
+            Outcome::Stored(_) => more(&mut self.stored),
+            Outcome::Known => more(&mut self.known),
+            Outcome::Refused(Fault::Deleted) => more(&mut self.deleted),
+            Outcome::Refused(Fault::Contradicts) => more(&mut self.contradicts),
+            Outcome::Refused(Fault::Conflict) => more(&mut self.conflict),
+            Outcome::Refused(Fault::SequenceFull) => more(&mut self.sequence_full),
+            Outcome::Refused(Fault::GenerationLimit) => {}
+        }
+    }
+
+    // Counts an item that was pushed.
+    fn count_item(&mut self, item: &Item<ChangeRow>) {
+        match item {
+            Item::Row(_) => more(&mut self.row),
+            Item::Beat => more(&mut self.beat),
+            Item::End { .. } => more(&mut self.end),
+        }
+    }
+
+    // Counts a reply.
+    fn count(&mut self, reply: &Reply) {
+        match reply {
+            Reply::Outcomes(batch) => {
+                for outcome in batch.replies.as_slice() {
+                    self.count_outcome(outcome);
+                }
+            }
+            Reply::Opened(_) => more(&mut self.opened),
+            Reply::TooManyFeeds => more(&mut self.too_many),
+            Reply::DatabaseDeleted => more(&mut self.database_deleted),
+            Reply::Pushed(item) => self.count_item(item),
+            Reply::Full => more(&mut self.full),
+            Reply::Nothing => more(&mut self.nothing),
+            Reply::Gone => more(&mut self.gone),
+            Reply::Took(Some(_)) => more(&mut self.took),
+            Reply::Took(None) => more(&mut self.took_none),
+            Reply::Left(items) if items.is_empty() => more(&mut self.left_none),
+            Reply::Left(_) => more(&mut self.left),
+        }
+    }
+
+    // Each count with its name.
+    fn named(&self) -> [(&'static str, u64); 19] {
+        [
+            ("stored", self.stored),
+            ("known", self.known),
+            ("deleted", self.deleted),
+            ("contradicts", self.contradicts),
+            ("conflict", self.conflict),
+            ("sequence full", self.sequence_full),
+            ("opened", self.opened),
+            ("too many feeds", self.too_many),
+            ("database deleted", self.database_deleted),
+            ("row", self.row),
+            ("beat", self.beat),
+            ("end", self.end),
+            ("full", self.full),
+            ("nothing", self.nothing),
+            ("gone", self.gone),
+            ("took", self.took),
+            ("took none", self.took_none),
+            ("left", self.left),
+            ("left none", self.left_none),
+        ]
+    }
+}
+
+// Small limits.
+fn limits() -> Limits {
+    let mut limits = Limits::full();
+    limits.feeds = 2;
+    limits.lane = 2;
+    limits.journal = 12;
+    limits
+}
+
+// A hundred events, and what the plain program answers to them.
+fn answered(alloc: Global, random: &mut Random) -> Result<(Vec<Event>, Vec<Reply>), Fail> {
+    let mut plain = Plain::new(alloc, limits());
+    let mut seen = Seen {
+        revs: Vec::new(alloc),
+        feeds: 0,
+    };
+    let mut events = Vec::new(alloc);
+    let mut replies = Vec::new(alloc);
+    for _ in 0..100 {
+        let mut again = *random;
+        events.push(event(alloc, &seen, random)?)?;
+        let reply = plain.answer(event(alloc, &seen, &mut again)?)?;
+        seen.note(&reply)?;
+        replies.push(reply)?;
+    }
+    Ok((events, replies))
+}
+
+#[test]
+fn the_world_answers_as_the_plain_program(rt: HostRuntime) -> Result<(), Fail> {
+    let alloc = rt.alloc();
+    let mut random = Random { state: 20_260_101 };
+    let mut counts = Counts::default();
+    for run in 0..200 {
+        let (events, wanted) = answered(alloc, &mut random)?;
+        let (_world, replies) = World::run(alloc, limits(), events)?;
+        assert_eq!(rt; replies.len(), wanted.len(), "in run {run}");
+        for (at, (reply, other)) in replies.iter().zip(wanted.iter()).enumerate() {
+            assert!(rt; same(reply, other), "at event {at} of run {run}");
+            counts.count(reply);
+        }
+    }
+    for (kind, count) in counts.named() {
+        assert!(rt; count > 0, "no reply of the kind: {kind}");
+    }
+    Ok(())
+}
