@@ -1,6 +1,7 @@
 -- What a database and a hub do for a feed (CouchDB API reference, /{db}/_changes; own for the feeds that are not served yet).
 use Rattle.std.specs.Prelude.{ℕ, List, [], ◌∷◌, Bool, true, false, if◌then◌else◌, Option, Some, None, Result, Ok, Err}
 use Rattle.hub_model.specs.Row.{ChangeRow}
+pub use Rattle.hub_model.specs.RightlyHanded.{is_end}
 use Rattle.hub_model.specs.Feed.{Params}
 use Rattle.hub_model.specs.Descending.{Descending, descending}
 use Rattle.hub_model.specs.declared.feeds.Mode.{Mode}
@@ -72,12 +73,6 @@ begins db (Err fault) = reads db (Refusing (of_param_fault fault))
 begins db (Ok asked) = begins_asked db asked
 
 -- ---- handing its items
-
--- whether an item ends its feed
-abbrev pub is_end : Item ChangeRow → Bool
-is_end (Row row) = false
-is_end Beat = false
-is_end (End last_seq pending) = true
 
 -- the next item of an answer with these rows left, and what is left behind it
 abbrev pub next_of_rows : List ChangeRow → ℕ → ℕ → Item ChangeRow × Option Descending

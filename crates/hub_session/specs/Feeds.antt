@@ -1,6 +1,7 @@
 -- RFC 9112, section 7.1 (chunks); own for the feed: what a stream sends for a feed's items, and how it goes.
 use Rattle.std.specs.Prelude.{◌≡◌, ◌≤◌, ⊤, ℕ, ◌+◌, List, [], ◌∷◌, ◌++◌, Bool, true, false, Option, Some, None, codes}
 use Rattle.hub_model.specs.Row.{ChangeRow}
+pub use Rattle.hub_model.specs.RightlyHanded.{is_end}
 use Rattle.hub_model.specs.declared.feeds.Mode.{Mode}
 use Rattle.hub_model.specs.declared.feeds.Item.{Item}
 use Rattle.hub_model.specs.declared.feeds.Item.TheVariants.{Row, Beat, End}
@@ -42,12 +43,6 @@ items_text mode rows (item ∷ items) = sent_text mode rows item ++ items_text m
 -- what is sent for a stream of these items, behind the head of its answer
 abbrev pub feed_text : Mode → List (Item ChangeRow) → List ℕ
 feed_text mode items = text_chunks (feed_head mode) ++ items_text mode 0 items
-
--- the item ends its feed
-abbrev pub is_end : Item ChangeRow → Bool
-is_end (Row row) = false
-is_end Beat = false
-is_end (End last_seq pending) = true
 
 -- from s, a stream that sent so many items may end so before its End, and leave t
 abbrev pub StopsSo : {S : Type 0} → Gives S → ℕ → S → StreamEnd → S → Type 0
