@@ -1,5 +1,5 @@
 -- What a database and a hub do for a feed (CouchDB API reference, /{db}/_changes; own for the feeds that are not served yet).
-use Rattle.std.specs.Prelude.{ℕ, List, [], ◌∷◌, Bool, true, false, if◌then◌else◌, Option, Some, None, Result, Ok, Err}
+use Rattle.std.specs.Prelude.{ℕ, List, [], ◌∷◌, if◌then◌else◌, Option, Some, None, Result, Ok, Err}
 use Rattle.hub_model.specs.Row.{ChangeRow}
 pub use Rattle.hub_model.specs.RightlyHanded.{is_end}
 use Rattle.hub_model.specs.Feed.{Params}
@@ -7,7 +7,7 @@ use Rattle.hub_model.specs.Descending.{Descending, descending}
 use Rattle.hub_model.specs.declared.feeds.Mode.{Mode}
 use Rattle.hub_model.specs.declared.feeds.Mode.TheVariants.{Normal, Longpoll, Continuous}
 use Rattle.hub_model.specs.declared.feeds.Item.{Item}
-use Rattle.hub_model.specs.declared.feeds.Item.TheVariants.{Row, Beat, End}
+use Rattle.hub_model.specs.declared.feeds.Item.TheVariants.{Row, End}
 use Rattle.hub_database.specs.Database.{Database}
 use Rattle.hub_database.specs.Feeds.{refuses_feed, opened, handed, finished}
 use Rattle.hub_feed.specs.declared.host.OpenFault.{OpenFault}

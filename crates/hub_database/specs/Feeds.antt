@@ -1,5 +1,5 @@
 -- The feeds of a database (CouchDB API reference, _changes; how many there may be is own).
-use Rattle.std.specs.Prelude.{ℕ, ◌+◌, ◌-◌, ◌^◌, List, [], ◌∷◌, ◌++◌, length, map, filter, find, not, Bool, true, false, ◌||◌, nat_le, nat_eq, if◌then◌else◌, Option, Some, None, option_map, option_and_then}
+use Rattle.std.specs.Prelude.{ℕ, ◌+◌, ◌-◌, ◌^◌, List, [], ◌∷◌, ◌++◌, length, map, Bool, true, false, ◌||◌, nat_le, if◌then◌else◌, Option, Some, None, option_and_then}
 use Rattle.hub_model.specs.Current.{current}
 pub use Rattle.hub_model.specs.Entries.{entry_in, changed, without}
 use Rattle.hub_model.specs.Feed.{Feed, Params, Due, DueGone, begin, due, after_due, after_nothing, beat_due, expire, end}

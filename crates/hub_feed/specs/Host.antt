@@ -1,5 +1,5 @@
 -- What keeps feeds, as its callers see it (own; feeds by CouchDB API reference, _changes and _db_updates).
-use Rattle.std.specs.Prelude.{◌≡◌, ℕ, List, Bool, false, Option, Some, None, option_map, nat_eq, if◌then◌else◌}
+use Rattle.std.specs.Prelude.{◌≡◌, ℕ, List, Bool, false, Option, Some, None, nat_eq, if◌then◌else◌}
 use Rattle.hub_model.specs.Current.{Current}
 use Rattle.hub_model.specs.Feed.{Feed, Due, DueGone, due, after_due, beat_due}
 use Rattle.hub_model.specs.Hand.{item_of}

@@ -1,6 +1,6 @@
 -- A run of the program is a run of the definitions.
-use Rattle.std.proofs.Common.{◌≡◌, ◌∙◌, ℕ, List, [], ◌∷◌, ◌++◌, false, true, map, length, refl, sym, ap, subst, arith}
-use Rattle.std.specs.Prelude.{Option, take}
+use Rattle.std.proofs.Common.{◌≡◌, ◌∙◌, ℕ, List, [], ◌∷◌, ◌++◌, false, map, length, refl, sym, ap, subst, arith}
+use Rattle.std.specs.Prelude.{take}
 use Rattle.std.proofs.Math.Seq.{take-length}
 use Rattle.std.proofs.lemmas.List.{map-append}
 use Rattle.hub_document.specs.declared.limits.Limits as hub

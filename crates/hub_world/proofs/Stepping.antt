@@ -1,10 +1,10 @@
 -- Each change of a core is a step of the worlds that it shows.
-use Rattle.std.proofs.Common.{◌≡◌, ◌∙◌, ℕ, ◌≤◌, List, [], ◌∷◌, ◌++◌, true, false, map, length, refl, sym, ap, subst, arith}
-use Rattle.std.specs.Prelude.{Option, Some, None, Bool, ◌&&◌, nat_lt, nat_le, slice_get, drop, unwrap_or, option_and_then, if◌then◌else◌}
-use Rattle.std.proofs.lemmas.Bool.{cases_Bool, ltb-true, ltb-false}
-use Rattle.std.proofs.lemmas.Option.{same_Some, none-some}
-use Rattle.hub_model.specs.Current.{Current, current, pending}
-use Rattle.hub_model.specs.Feed.{Feed, Params, Status, Open, Ending, Ended, Finished, Due, DueRow, DueEnd, DueNothing, DueGone, due, due_at, after_due, after_nothing, status_after, is_open, waits, expire, beat_due}
+use Rattle.std.proofs.Common.{◌≡◌, ◌∙◌, ℕ, List, [], ◌∷◌, ◌++◌, true, false, map, length, refl, sym, ap, subst, arith}
+use Rattle.std.specs.Prelude.{Option, Some, None, Bool, ◌&&◌, nat_le, slice_get, drop, unwrap_or, option_and_then, if◌then◌else◌}
+use Rattle.std.proofs.lemmas.Bool.{ltb-true, ltb-false}
+use Rattle.std.proofs.lemmas.Option.{none-some}
+use Rattle.hub_model.specs.Current.{Current, current}
+use Rattle.hub_model.specs.Feed.{Feed, Params, Status, Open, Ending, Ended, Finished, Due, DueRow, DueEnd, DueNothing, DueGone, due_at, after_due, after_nothing, status_after, is_open, waits, expire, beat_due}
 use Rattle.hub_model.specs.Hand.{change_due, due_in}
 use Rattle.hub_model.specs.Journal.{Edit}
 use Rattle.hub_model.specs.Outcome.{Stores, StoresAll, merges, stores_all}
@@ -21,7 +21,7 @@ use Rattle.hub_feed.specs.Next.{next_of}
 use Rattle.hub_feed.specs.declared.next.Next.{Next}
 use Rattle.hub_feed.specs.declared.next.Next.TheVariants as next
 use Rattle.hub_feed.specs.declared.host.OpenFault.TheVariants as open_fault
-use Rattle.hub_database.specs.Edits.{edit_of, draft_of, stores_doc, writes}
+use Rattle.hub_database.specs.Edits.{edit_of, draft_of, writes}
 use Rattle.hub_database.specs.Feeds as feeds
 use Rattle.hub_world.specs.Core.{Core, Shows}
 use Rattle.hub_model.specs.Entries.{entry_in, changed, without}
@@ -29,8 +29,8 @@ use Rattle.hub_world.specs.Event.{Event, Write, Interactive, Begin, Hand, Heartb
 use Rattle.hub_world.specs.Lane.{has_room, takes_more, front, without_front, held}
 use Rattle.hub_world.specs.Lane as lane
 use Rattle.hub_world.specs.Step.{Step}
-use Rattle.hub_world.specs.World.{World, Limits, Subscription, subscription, with_subscription, is_finished, has_no_room, is_beat_due, lane_of, merged, drafted, pushed, expired, took, due_of}
-use Rattle.hub_world.proofs.Standing.{IsGone, with_entry, feed_found, feed_gone, entry_changed, changed_same, changed_absent, feed_finished, feed_opened, room_shown, feeds_deleted, journal_changed, gone_expires, gone_takes}
+use Rattle.hub_world.specs.World.{World, Limits, Subscription, subscription, with_subscription, is_finished, is_beat_due, lane_of, merged, drafted, pushed, expired, took, due_of}
+use Rattle.hub_world.proofs.Standing.{IsGone, feed_found, feed_gone, entry_changed, changed_same, changed_absent, feed_finished, feed_opened, room_shown, feeds_deleted, journal_changed, gone_expires, gone_takes}
 
 -- from each world that the core shows the event leads so to one that the other shows
 abbrev pub Leads : Core → Event → Reply → Core → Type 0

@@ -1,5 +1,5 @@
 -- What each event may answer and do, and whole runs (own; feeds by CouchDB API reference, _changes).
-use Rattle.std.specs.Prelude.{◌≡◌, ◌<◌, ◌≤◌, List, [], ◌∷◌, length, map, true, false, Some, slice_get}
+use Rattle.std.specs.Prelude.{◌≡◌, ◌≤◌, List, [], ◌∷◌, length, map, true, false, Some, slice_get}
 use Rattle.hub_model.specs.Feed.{DueNothing, DueGone, after_due, after_nothing, beat_due}
 use Rattle.hub_model.specs.Hand.{due_in, change_due}
 use Rattle.hub_model.specs.RightlyHanded.{ChangeItem}

@@ -1,6 +1,4 @@
-use Rattle.std.proofs.Common.{◌≡◌, ◌∙◌, sym, ap, subst, refl, true, false, ℕ}
-use Rattle.std.specs.Prelude.{Some}
-use Rattle.hub_database.specs.Database.{Database}
+use Rattle.std.proofs.Common.{◌≡◌, ◌∙◌, sym, ap, true, false, ℕ}
 use Rattle.hub_world.specs.Core.{Core}
 use Rattle.hub_world.specs.Event as model
 use Rattle.hub_model.specs.declared.feeds.Item.TheVariants.{Beat}

@@ -1,11 +1,10 @@
-use Rattle.std.proofs.Common.{◌≡◌, ◌∙◌, ◌⊎◌, ◌++◌, ◌∷◌, [], sym, ap, subst, refl, true, false, ℕ, map, length, List, inl, inr}
-use Rattle.std.specs.Prelude.{take, IfOk, Option, Some, None}
+use Rattle.std.proofs.Common.{◌≡◌, ◌∙◌, ◌++◌, ◌∷◌, [], sym, ap, subst, refl, ℕ, inl, inr}
 use Rattle.hub_database.specs.Database.{Database}
 use Rattle.hub_world.specs.Core.{Core}
 use Rattle.hub_world.specs.Event as model
 use Rattle.hub_database.specs.Feeds.{opened}
 use Rattle.hub_params.specs.FeedModel.{params_of}
-use Rattle.hub_world.proofs.Stepping.{Leads, begin_leads, begin_deleted, begin_full, from_same, to_same, still_shows}
+use Rattle.hub_world.proofs.Stepping.{Leads, begin_leads, begin_full, from_same, to_same, still_shows}
 use Rattle.hub_world.proofs.world.World.begin.Goals as goal
 
 -- the step

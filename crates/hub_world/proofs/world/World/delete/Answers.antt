@@ -1,9 +1,8 @@
-use Rattle.std.proofs.Common.{◌≡◌, ◌∙◌, ◌⊎◌, ◌++◌, ◌∷◌, [], sym, ap, subst, refl, true, false, ℕ, map, length, List, inl, inr}
-use Rattle.std.specs.Prelude.{take, IfOk, Option, Some, None}
+use Rattle.std.proofs.Common.{◌∙◌, sym, ap}
 use Rattle.hub_database.specs.Database.{Database}
 use Rattle.hub_world.specs.Core.{Core}
 use Rattle.hub_world.specs.Event as model
-use Rattle.hub_world.proofs.Stepping.{Leads, delete_leads, delete_again, from_same, to_same, still_shows}
+use Rattle.hub_world.proofs.Stepping.{Leads, delete_leads, from_same, to_same, still_shows}
 use Rattle.hub_database.specs.Feeds.{deleted}
 use Rattle.hub_world.proofs.world.World.delete.Goals as goal
 

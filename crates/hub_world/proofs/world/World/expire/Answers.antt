@@ -1,10 +1,6 @@
-use Rattle.std.proofs.Common.{◌≡◌, ◌∙◌, sym, ap, subst, refl, true, false, ℕ}
-use Rattle.std.specs.Prelude.{length, take, IfOk, Option, Some, None}
-use Rattle.hub_database.specs.Database.{Database}
 use Rattle.hub_world.specs.Core.{Core}
 use Rattle.hub_world.specs.Event as model
-use Rattle.hub_database.specs.Feeds.{expired}
-use Rattle.hub_world.proofs.Stepping.{Leads, expire_leads, from_same, still_shows}
+use Rattle.hub_world.proofs.Stepping.{expire_leads, from_same, still_shows}
 use Rattle.hub_world.proofs.world.World.expire.Goals as goal
 
 pub invariant_of-self : goal.invariant_of-self

@@ -1,10 +1,7 @@
-use Rattle.std.proofs.Common.{◌≡◌, ◌∙◌, sym, ap, subst, refl, true, false, ℕ}
-use Rattle.std.specs.Prelude.{length, take, IfOk, Option, Some, None}
-use Rattle.hub_database.specs.Database.{Database}
 use Rattle.hub_world.specs.Core.{Core}
 use Rattle.hub_world.specs.Event as model
 use Rattle.hub_world.proofs.Standing.{lanes_rise}
-use Rattle.hub_world.proofs.Stepping.{Leads, finish_leads, from_same, still_shows}
+use Rattle.hub_world.proofs.Stepping.{finish_leads, from_same, still_shows}
 use Rattle.hub_world.proofs.world.World.finish.Goals as goal
 
 pub remove-requires : goal.remove-requires

@@ -1,9 +1,8 @@
-use Rattle.std.proofs.Common.{◌≡◌, ◌∙◌, sym, ap, subst, refl, true, false, ℕ}
-use Rattle.std.specs.Prelude.{Some}
+use Rattle.std.proofs.Common.{◌∙◌, sym, ap}
 use Rattle.hub_database.specs.Database.{Database}
 use Rattle.hub_world.specs.Core.{Core}
 use Rattle.hub_world.specs.Event as model
-use Rattle.hub_database.specs.Feeds.{behind_answer, answered}
+use Rattle.hub_database.specs.Feeds.{behind_answer}
 use Rattle.hub_feed.specs.declared.next.Next.TheVariants as next
 use Rattle.hub_world.proofs.Stepping.{Leads, hand_nothing, hand_gone, from_same, to_same, still_shows}
 use Rattle.hub_world.proofs.world.World.hand.Goals as goal

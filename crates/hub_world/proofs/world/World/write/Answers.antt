@@ -1,5 +1,5 @@
-use Rattle.std.proofs.Common.{◌≡◌, ◌∙◌, ◌⊎◌, ◌++◌, ◌∷◌, [], sym, ap, subst, refl, true, false, ℕ, map, length, List, inl, inr}
-use Rattle.std.specs.Prelude.{take, IfOk, Option, Some, None}
+use Rattle.std.proofs.Common.{◌∙◌, sym, ap, map, length}
+use Rattle.std.specs.Prelude.{take}
 use Rattle.hub_database.specs.Database.{Database}
 use Rattle.hub_world.specs.Core.{Core}
 use Rattle.hub_world.specs.Event as model
