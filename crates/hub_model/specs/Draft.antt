@@ -70,6 +70,11 @@ makes_on limit J d (Some path) =
 abbrev pub makes : ℕ → List Edit → Draft → Stores
 makes limit J d = makes_on limit J d (extended J d.id (leaves_of J d.id) d.rev)
 
+-- There is a path that the draft extends and a generation behind it, so that its revision is to be made: a draft without
+-- `_rev` has one where its document is unknown or its winner deleted, and none where a winner stands.
+abbrev pub HasNextRevision : List Edit → Draft → Type 0
+HasNextRevision J d = (path : List Revision) × (extended J d.id (leaves_of J d.id) d.rev ≡ Some path) × (generation_of (parent_of path) < 65535)
+
 -- path is what a draft that names this revision extends, or one that names none
 abbrev pub Extends : List Edit → List ℕ → Option Revision → List Revision → Type 0
 Extends J id (Some r) path = IsLeaf J id r × IsFirst path r × IsWalk J id path

@@ -7,6 +7,7 @@ ghost use Rattle.hub_model.specs.Laws.{KnownIsTested, HistoryIsTested, Acceptabl
 ghost use Rattle.hub_model.specs.FeedLaws.{OpenedFits, GrownFits, HandedFits, WaitingFits, BeatFits, ExpiredFits, EndedFits, FinishedFits};
 ghost use Rattle.hub_model.specs.WorkedFeeds.{FallsAfterTwo, FallsAfterAll, FallsOnce};
 
+mod arms;
 mod feeds;
 mod outcomes;
 
