@@ -3,7 +3,7 @@
 ghost use Rattle.std.specs.Prelude.{◌≡◌, ◌⊎◌, Some, None, nat_eq, map, position, IfOk, IfErr, OnErr};
 ghost use Rattle.hub_feed.specs.Next.{IsRowDue};
 ghost use Rattle.hub_params.specs.FeedModel.{params_of};
-ghost use Rattle.hub_database.specs.Feeds.{refuses_feed, opened, entry_in, is_beat_due, expired, ended, item_due, answered, behind_answer, handed, finished, due_to};
+ghost use Rattle.hub_database.specs.Feeds.{is_full, refuses_feed, opened, entry_in, is_beat_due, expired, ended, item_due, answered, behind_answer, handed, finished, due_to};
 
 use crate::database::DbState;
 use crate::rows::Rows;
@@ -30,6 +30,14 @@ pub(crate) fn end_all(feeds: &mut Vec<(u64, FeedState)>)
 }
 
 impl DbState {
+    /// Whether there are as many feeds as there may be, or no number is left for one more. Constant
+    /// time.
+    pub fn feeds_are_full(&self) -> bool
+        ensures { result ≡ is_full self.now }
+    {
+        self.feeds.len() as u64 >= self.store.limits.feeds || self.next_feed == u64::MAX
+    }
+
     /// Opens a feed, which stays until it is finished. `descending` is not looked at. It costs a
     /// search among the feeds.
     pub fn open_feed(&mut self, params: FeedParams) -> Result<FeedId, OpenFault>
@@ -40,7 +48,7 @@ impl DbState {
         if self.deleted {
             return Err(OpenFault::Deleted);
         }
-        if self.feeds.len() as u64 >= self.store.limits.feeds || self.next_feed == u64::MAX {
+        if self.feeds_are_full() {
             return Err(OpenFault::TooManyFeeds);
         }
         let length = self.store.journal.len() as u64;

@@ -332,32 +332,44 @@ fn text_of(
     Ok(out)
 }
 
-#[test]
-fn first_feed(rt: HostRuntime) -> Result<(), Fail> {
-    let alloc = rt.alloc();
+// The row of this text, behind the rows of the sequences before it in a normal feed.
+fn row_text(alloc: Global, seq: u64, text: &str) -> Result<Vec<u8>, Fail> {
+    let item = row(alloc, seq, text, None, false)?;
+    Ok(text_of(alloc, Mode::Normal, seq.saturating_sub(1), &item)?)
+}
+
+// The end of a feed, behind two rows.
+fn end_text(alloc: Global, mode: Mode, last_seq: u64, pending: u64) -> Result<Vec<u8>, AllocError> {
+    text_of(alloc, mode, 2, &Item::End { last_seq, pending })
+}
+
+// Each text as a chunk.
+fn chunked(alloc: Global, texts: &[&[u8]]) -> Result<Vec<u8>, Fail> {
     let mut chunks = ChunkWriter::new(alloc);
     let mut writer = Tally::new(Vec::new(alloc));
-    let first = row(alloc, 1, "{\"_id\":\"a\",\"_rev\":\"1-a\"}", None, false)?;
-    let second = row(alloc, 2, "{\"_id\":\"b\",\"_rev\":\"1-b\"}", None, false)?;
-    let end = Item::End {
-        last_seq: 2,
-        pending: 0,
-    };
-    chunks.write(&mut writer, feed_head(Mode::Normal).as_bytes())?;
-    chunks.write(
-        &mut writer,
-        text_of(alloc, Mode::Normal, 0, &first)?.as_slice(),
+    for text in texts {
+        chunks.write(&mut writer, text)?;
+    }
+    Ok(writer.into_inner())
+}
+
+#[test]
+fn a_feed_of_two_rows_in_chunks(rt: HostRuntime) -> Result<(), Fail> {
+    let alloc = rt.alloc();
+    let first = row_text(alloc, 1, r#"{"_id":"a","_rev":"1-a"}"#)?;
+    let second = row_text(alloc, 2, r#"{"_id":"b","_rev":"1-b"}"#)?;
+    let end = end_text(alloc, Mode::Normal, 2, 0)?;
+    let head = feed_head(Mode::Normal).as_bytes();
+    let sent = chunked(
+        alloc,
+        &[
+            head,
+            first.as_slice(),
+            second.as_slice(),
+            b"",
+            end.as_slice(),
+        ],
     )?;
-    chunks.write(
-        &mut writer,
-        text_of(alloc, Mode::Normal, 1, &second)?.as_slice(),
-    )?;
-    chunks.write(&mut writer, b"")?;
-    chunks.write(
-        &mut writer,
-        text_of(alloc, Mode::Normal, 2, &end)?.as_slice(),
-    )?;
-    let sent = writer.into_inner();
     assert_eq!(rt;
         sent.as_slice(),
         b"d\r\n{\"results\":[\n\r\n2c\r\n{\"seq\":1,\"id\":\"a\",\"changes\":[{\"rev\":\"1-a\"}]}\r\n2e\r\n,\n{\"seq\":2,\"id\":\"b\",\"changes\":[{\"rev\":\"1-b\"}]}\r\n1e\r\n\n],\n\"last_seq\":2,\"pending\":0}\n\r\n".as_slice()
@@ -366,7 +378,7 @@ fn first_feed(rt: HostRuntime) -> Result<(), Fail> {
 }
 
 #[test]
-fn items(rt: HostRuntime) -> Result<(), Fail> {
+fn a_row_with_an_odd_id_and_two_revisions(rt: HostRuntime) -> Result<(), Fail> {
     let alloc = rt.alloc();
     let odd = row(
         alloc,
@@ -380,18 +392,26 @@ fn items(rt: HostRuntime) -> Result<(), Fail> {
         text.as_slice(),
         "{\"seq\":18446744073709551615,\"id\":\"a\\\"\\\\\\u0001\\n\u{e9}/\",\"changes\":[{\"rev\":\"1-Z9z\"},{\"rev\":\"65535-0\"}],\"deleted\":true}\n".as_bytes()
     );
-    let end = Item::End {
-        last_seq: 9,
-        pending: 7,
-    };
+    Ok(())
+}
+
+#[test]
+fn ends_by_mode(rt: HostRuntime) -> Result<(), Fail> {
+    let alloc = rt.alloc();
     assert_eq!(rt;
-        text_of(alloc, Mode::Continuous, 1, &end)?.as_slice(),
+        end_text(alloc, Mode::Continuous, 9, 7)?.as_slice(),
         b"{\"last_seq\":9,\"pending\":7}\n".as_slice()
     );
     assert_eq!(rt;
-        text_of(alloc, Mode::Longpoll, 0, &end)?.as_slice(),
+        end_text(alloc, Mode::Longpoll, 9, 7)?.as_slice(),
         b"\n],\n\"last_seq\":9,\"pending\":7}\n".as_slice()
     );
+    Ok(())
+}
+
+#[test]
+fn heartbeats_and_heads_by_mode(rt: HostRuntime) -> Result<(), Fail> {
+    let alloc = rt.alloc();
     for mode in [Mode::Normal, Mode::Longpoll, Mode::Continuous] {
         assert_eq!(rt;
             text_of(alloc, mode, 1, &Item::Beat)?.as_slice(),

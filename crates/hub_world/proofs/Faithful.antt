@@ -1,6 +1,6 @@
 -- Each feed is faithful to its connection, over every list of events.
 use Rattle.std.proofs.Common.{◌≡◌, ℕ, ◌≤◌, List, [], ◌∷◌, ◌++◌, length, map, take, drop, Bool, true, false, inl, inr, sym, ◌∙◌, ap, subst, refl, append_assoc, arith}
-use Rattle.std.specs.Prelude.{All, Contains, Option, Some, ◌==◌, if◌then◌else◌}
+use Rattle.std.specs.Prelude.{All, Contains, Option, Some, slice_get, ◌==◌, if◌then◌else◌}
 use Rattle.std.proofs.Math.Seq.{take-append_seam}
 use Rattle.std.proofs.lemmas.List.{take-append-drop}
 use Rattle.std.proofs.lemmas.List.Elements.{All-contains, All-weaker, Contains-append_left, Contains-append_right}
@@ -18,7 +18,7 @@ use Rattle.hub_world.specs.Step.{Step}
 use Rattle.hub_world.specs.Answer.{answer, replies_to, after}
 use Rattle.hub_world.specs.Handed.{handed, handed_by}
 use Rattle.hub_world.specs.Laws.{IsRight}
-use Rattle.hub_world.specs.Headline.{reached, handed_out, rows_at, Headline}
+use Rattle.hub_world.specs.Headline.{reached, Headline}
 use Rattle.hub_model.proofs.Items.{rows_of-append}
 use Rattle.hub_model.proofs.Lists.{contains_none, contains_here, contains_there, contains_cases, same_split}
 use Rattle.hub_model.proofs.Shown.{current_is}
@@ -102,7 +102,8 @@ handed-append f w [] rest = refl
 handed-append f w (event ∷ before) rest = ap (λ (xs : List ChangeItem). handed_by f event (answer w event).reply ++ xs) (handed-append f (answer w event).world before rest) ∙ sym (append_assoc (handed_by f event (answer w event).reply) _ _)
 
 -- what a step hands is handed
-rows_in : (limits : Limits) (before later : List Event) (event : Event) (f : ℕ) (row : ChangeRow) → Contains (rows_at limits before event f) row → Contains (rows_of (handed_out limits (before ++ event ∷ later) f)) row
+rows_in : (limits : Limits) (before later : List Event) (event : Event) (f : ℕ) (row : ChangeRow) → Contains (rows_of (handed_by f event (answer (reached limits before) event).reply)) row →
+    Contains (rows_of (handed f (before ++ event ∷ later) (replies_to (empty limits) (before ++ event ∷ later)))) row
 rows_in limits before later event f row c =
     let old = reached limits before in
     let front = handed f before (replies_to (empty limits) before) in
@@ -114,8 +115,9 @@ rows_in limits before later event f row c =
     (subst (λ (rs : List ChangeRow). Contains rs row) (sym (rows_of-append here rest)) (Contains-append_left (rows_of here) (rows_of rest) row c))))
 
 -- each row is current at its step
-current_at : (limits : Limits) (before later : List Event) (event : Event) (f : ℕ) (feed : Feed) → RightlyHanded (reached limits (before ++ event ∷ later)).journal feed (handed_out limits (before ++ event ∷ later) f) →
-    All (IsRow (reached limits before).journal feed.params.style feed.params.include_docs) (rows_at limits before event f)
+current_at : (limits : Limits) (before later : List Event) (event : Event) (f : ℕ) (feed : Feed) →
+    RightlyHanded (reached limits (before ++ event ∷ later)).journal feed (handed f (before ++ event ∷ later) (replies_to (empty limits) (before ++ event ∷ later))) →
+    All (IsRow (reached limits before).journal feed.params.style feed.params.include_docs) (rows_of (handed_by f event (answer (reached limits before) event).reply))
 current_at limits before later event f feed right = all_from _ _ (λ row c.
     let old = reached limits before in
     let new = reached limits (before ++ event ∷ later) in
@@ -126,20 +128,30 @@ current_at limits before later event f feed right = all_from _ _ (λ row c.
     let front : take row.seen new.journal ≡ old.journal = ap (λ (n : ℕ). take n new.journal) seen ∙ (ap (take (length old.journal)) journal ∙ take-append_seam old.journal more.0) in
     subst (λ (J : List Edit). IsRow J feed.params.style feed.params.include_docs row) front of.shown)
 
+-- the reply at the place of an event is its answer
+reply_at : (w : World) (before later : List Event) (event : Event) → slice_get (replies_to w (before ++ event ∷ later)) (length before) ≡ Some (answer (after w before) event).reply
+reply_at w [] later event = refl
+reply_at w (first ∷ before) later event = reply_at (answer w first).world before later event
+
 pub faithful : Headline
 faithful limits events f s e =
     let run = runs (empty limits) events in
     let w = reached limits events in
-    let items = handed_out limits events f in
+    let replies = replies_to (empty limits) events in
+    let items = handed f events replies in
     let right : RightlyHanded w.journal s.feed items = subst (λ (o : Option Subscription). IsRight w.journal o items) e (hands_rightly limits events _ w f run) in
     record {
       prefix = takes_in_order limits events _ w f run;
       rising = λ i k d a b. (right.rising i k d a b).rises;
-      at_step = λ before later event same. current_at limits before later event f s.feed (subst (λ (es : List Event). RightlyHanded (reached limits es).journal s.feed (handed_out limits es f)) same right);
+      at_step = λ before later event reply same there.
+          let right_of = subst (λ (es : List Event). RightlyHanded (reached limits es).journal s.feed (handed f es (replies_to (empty limits) es))) same right in
+          let answered : Some reply ≡ Some (answer (reached limits before) event).reply = sym there ∙ (ap (λ (es : List Event). slice_get (replies_to (empty limits) es) (length before)) same ∙ reply_at (empty limits) before later event) in
+          subst (λ (r : Reply). All (IsRow (reached limits before).journal s.feed.params.style s.feed.params.include_docs) (rows_of (handed_by f event r))) (sym (same_Some _ _ answered)) (current_at limits before later event f s.feed right_of);
       passing = All-weaker (IsRowOf w.journal s.feed) _ (λ row r. r.passes) (rows_of items) right.rows;
       below = λ last n c. let at = ends_place s.feed.place items last n right.ends c in All-weaker (IsRowOf w.journal s.feed) (λ (row : ChangeRow). row.seq ≤ last) (λ row r. omega (arith, r.reached, at)) (rows_of items) right.rows;
       last = λ before later last n same. ends_last s.feed.place before later last n (subst (EndsAt s.feed.place) same right.ends);
       whole = λ c in_rows q a z.
           let found = row_at (rows_of items) c.seq (right.whole c in_rows q a z) in
           (found.0, found.1, found.2, row_document w.journal s.feed found.0 c (All-contains (IsRowOf w.journal s.feed) _ found.0 right.rows found.1) in_rows found.2);
+      right = right;
     }

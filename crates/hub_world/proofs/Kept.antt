@@ -35,12 +35,12 @@ In Q J None h t = (h ≡ []) × (t ≡ [])
 In Q J (Some s) h t = Q J s h t
 
 -- a list with one place written
-get_set_same : (xs : List Subscription) (f : ℕ) (s t : Subscription) → slice_get xs f ≡ Some s → slice_get (slice_set xs f t) f ≡ Some t
+pub get_set_same : (xs : List Subscription) (f : ℕ) (s t : Subscription) → slice_get xs f ≡ Some s → slice_get (slice_set xs f t) f ≡ Some t
 get_set_same [] f s t e = absurd (cc)
 get_set_same (x ∷ xs) zero s t e = refl
 get_set_same (x ∷ xs) (suc f) s t e = get_set_same xs f s t e
 
-get_set_other : (xs : List Subscription) (f g : ℕ) (t : Subscription) → f ≢ g → slice_get (slice_set xs f t) g ≡ slice_get xs g
+pub get_set_other : (xs : List Subscription) (f g : ℕ) (t : Subscription) → f ≢ g → slice_get (slice_set xs f t) g ≡ slice_get xs g
 get_set_other [] f g t n = refl
 get_set_other (x ∷ xs) zero zero t n = absurd (n refl)
 get_set_other (x ∷ xs) zero (suc g) t n = refl
@@ -48,7 +48,7 @@ get_set_other (x ∷ xs) (suc f) zero t n = refl
 get_set_other (x ∷ xs) (suc f) (suc g) t n = get_set_other xs f g t (λ e. n (ap suc e))
 
 -- a list with one more at the back
-get_push : (xs : List Subscription) (t : Subscription) (g : ℕ) → (slice_get (xs ++ t ∷ []) g ≡ slice_get xs g) ⊎ ((slice_get xs g ≡ None) × (slice_get (xs ++ t ∷ []) g ≡ Some t))
+pub get_push : (xs : List Subscription) (t : Subscription) (g : ℕ) → (slice_get (xs ++ t ∷ []) g ≡ slice_get xs g) ⊎ ((slice_get xs g ≡ None) × (slice_get (xs ++ t ∷ []) g ≡ Some t))
 get_push [] t zero = inr (refl, refl)
 get_push [] t (suc g) = inl refl
 get_push (x ∷ xs) t zero = inl refl

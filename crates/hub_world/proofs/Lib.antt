@@ -2,10 +2,11 @@ pub mod Answering
 pub mod Journals
 pub mod Kept
 pub mod Lanes
+pub mod LaneLimits
 pub mod Faithful
 pub mod LaneLemmas
 pub mod StandingLists
 pub mod Standing
 pub mod Stepping
+pub mod Growing
 pub mod Running
-pub mod PlainLemmas

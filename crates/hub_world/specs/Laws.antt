@@ -1,5 +1,5 @@
 -- What holds of every step and of every run of a database with feeds (CouchDB API reference, _changes).
-use Rattle.std.specs.Prelude.{◌≡◌, ◌↔◌, ℕ, List, [], ◌++◌, false, Option, Some, None}
+use Rattle.std.specs.Prelude.{◌≡◌, ◌↔◌, ℕ, ◌≤◌, List, [], ◌++◌, length, false, Option, Some, None}
 use Rattle.hub_model.specs.Journal.{Edit, IsLegal}
 use Rattle.hub_model.specs.RightlyHanded.{ChangeItem, RightlyHanded, Fits}
 use Rattle.hub_world.specs.World.{Limits, World, Subscription, subscription, empty, is_finished}
@@ -53,3 +53,8 @@ TakesInOrder = (limits : Limits) (events : List Event) (replies : List Reply) (w
 abbrev pub HoldsTheRest : Type 0
 HoldsTheRest = (limits : Limits) (events : List Event) (replies : List Reply) (w : World) (f : ℕ) (s : Subscription) →
     Run (empty limits) events replies w → subscription w f ≡ Some s → is_finished s.feed.status ≡ false → taken f events replies ++ s.lane ≡ handed f events replies
+
+-- a lane never holds more items than the limit says
+abbrev pub LanesAreLimited : Type 0
+LanesAreLimited = (limits : Limits) (events : List Event) (replies : List Reply) (w : World) (f : ℕ) (s : Subscription) →
+    Run (empty limits) events replies w → subscription w f ≡ Some s → length s.lane ≤ limits.lane

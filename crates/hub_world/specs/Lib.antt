@@ -9,5 +9,4 @@ pub mod Worked
 pub mod Core
 pub mod Lane
 pub mod Meant
-pub mod PlainFeeds
-pub mod PlainAnswers
+pub mod Growth

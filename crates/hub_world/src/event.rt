@@ -17,7 +17,7 @@ pub enum Event {
     /// A feed is to hand what is due into its lane.
     Hand(FeedId),
     /// It is time for a heartbeat of a feed.
-    Heartbeat(FeedId),
+    Beat(FeedId),
     /// A feed's time without an item is over.
     Expire(FeedId),
     /// The connection of a feed takes the front item of its lane.

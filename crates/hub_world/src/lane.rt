@@ -1,6 +1,6 @@
 //! The lanes of feeds.
 
-ghost use Rattle.std.specs.Prelude.{◌≡◌, [], nat_eq, position, IfOk, OnErr};
+ghost use Rattle.std.specs.Prelude.{◌≡◌, [], true, nat_eq, position, IfOk, OnErr};
 ghost use Rattle.hub_model.specs.Entries.{without};
 ghost use Rattle.hub_world.specs.Lane.{IsRising, has_room, pushed_into, front, without_front, held};
 
@@ -71,7 +71,7 @@ pub(crate) fn push(
 ) -> Result<bool, AllocError>
     requires rising { IsRising lanes.old.items }
     ensures ok { IfOk result (λ done. (done ≡ has_room limit feed lanes.old.items) × (lanes.new.items ≡ pushed_into limit feed item.now lanes.old.items)) }
-    ensures err { OnErr result (lanes.new.items ≡ lanes.old.items) }
+    ensures err { OnErr result ((lanes.new.items ≡ lanes.old.items) × (has_room limit feed lanes.old.items ≡ true)) }
 {
     let Some(at) = place_of(lanes.as_slice(), feed) else {
         return Ok(false);

@@ -1,7 +1,7 @@
 //! What holds of every run, by the definitions alone. Each law is the contract of a function that does
 //! nothing.
 
-ghost use Rattle.hub_world.specs.Laws.{IsAnswered, IsOnlyAnswer, RunsOnce, StaysLegal, KeepsFitting, HandsRightly, TakesInOrder, HoldsTheRest};
+ghost use Rattle.hub_world.specs.Laws.{IsAnswered, IsOnlyAnswer, RunsOnce, StaysLegal, KeepsFitting, HandsRightly, TakesInOrder, HoldsTheRest, LanesAreLimited};
 ghost use Rattle.hub_world.specs.Headline.{Headline};
 ghost use Rattle.hub_world.specs.Worked.{AgainIsLater, StylesList, BoundHolds, LaneFills, TakesAFront, LongpollWaits, TimeEnds, WritesAnswer, BeatsAreAsked, DeletionEnds, LimitCountsRows, FeedsAreCounted};
 
@@ -31,11 +31,13 @@ pub fn keeps_fitting()
 {}
 
 /// Over every run what a feed handed is rightly handed for the journal at the end, what was taken
-/// from it is a prefix of that, and the rest is in its lane until it is finished.
+/// from it is a prefix of that, the rest is in its lane until it is finished, and no lane holds more
+/// than the limit says.
 pub fn hands_and_takes()
     ensures rightly { HandsRightly }
     ensures in_order { TakesInOrder }
     ensures held { HoldsTheRest }
+    ensures limited { LanesAreLimited }
 {}
 
 /// What the definitions say of some small databases.

@@ -5,8 +5,6 @@ mod event;
 mod lane;
 mod laws;
 #[cfg(test)]
-mod plain;
-#[cfg(test)]
 mod random_tests;
 mod reply;
 #[cfg(test)]

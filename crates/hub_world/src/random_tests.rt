@@ -1,10 +1,9 @@
-//! Random events through `World` and through the plain program.
+//! Random events through `World`: each kind of reply comes, and the rows that are left are those that the
+//! replies told.
 
 ghost use Rattle.std.specs.Prelude.{◌<◌};
 
 use crate::event::Event;
-use crate::plain::Plain;
-use crate::plain::same::same;
 use crate::reply::Reply;
 use crate::world::World;
 use hub_document::{ChangeRow, Doc, Limits, RevId};
@@ -239,7 +238,7 @@ fn event(alloc: Global, seen: &Seen, random: &mut Random) -> Result<Event, Fail>
         31..=50 => Ok(Event::Interactive(drafts(alloc, seen, random)?)),
         51..=72 => Ok(Event::Begin(params(alloc, random)?)),
         73..=142 => Ok(Event::Hand(seen.feed(random))),
-        143..=156 => Ok(Event::Heartbeat(seen.feed(random))),
+        143..=156 => Ok(Event::Beat(seen.feed(random))),
         157..=162 => Ok(Event::Expire(seen.feed(random))),
         163..=192 => Ok(Event::Take(seen.feed(random))),
         _ => Ok(Event::Finish(seen.feed(random))),
@@ -355,38 +354,150 @@ fn limits() -> Limits {
     limits
 }
 
-// A hundred events, and what the plain program answers to them.
-fn answered(alloc: Global, random: &mut Random) -> Result<(Vec<Event>, Vec<Reply>), Fail> {
-    let mut plain = Plain::new(alloc, limits());
-    let mut seen = Seen {
-        revs: Vec::new(alloc),
-        feeds: 0,
-    };
-    let mut events = Vec::new(alloc);
-    let mut replies = Vec::new(alloc);
-    for _ in 0..100 {
-        let mut again = *random;
-        events.push(event(alloc, &seen, random)?)?;
-        let reply = plain.answer(event(alloc, &seen, &mut again)?)?;
-        seen.note(&reply)?;
-        replies.push(reply)?;
+// Which of the ids this is.
+fn place_of(id: &str) -> usize {
+    IDS.iter().position(|known| *known == id).unwrap_or(0)
+}
+
+// Which documents an event brings, in order.
+fn places_in(alloc: Global, event: &Event) -> Result<Vec<usize>, AllocError> {
+    let mut places = Vec::new(alloc);
+    match event {
+        Event::Write(docs) | Event::Interactive(docs) => {
+            for doc in docs {
+                places.push(place_of(doc.id.as_str()))?;
+            }
+        }
+        _ => {}
     }
-    Ok((events, replies))
+    Ok(places)
+}
+
+// The journal that the replies told.
+#[derive(Clone, Copy, Default)]
+struct Told {
+    length: u64,
+    /// The last sequence at which each of the ids was stored, 0 where it never was.
+    last: [u64; 4],
+}
+
+impl Told {
+    // A document was stored.
+    fn store(&mut self, place: usize) {
+        self.length = self.length.saturating_add(1);
+        if place < self.last.len() {
+            self.last[place] = self.length;
+        }
+    }
+
+    // Notes which of these documents a reply tells to be stored.
+    fn note(&mut self, places: &[usize], reply: &Reply) {
+        let Reply::Outcomes(batch) = reply else {
+            return;
+        };
+        for (place, outcome) in places.iter().zip(batch.replies.as_slice().iter()) {
+            if let Outcome::Stored(_) = outcome {
+                self.store(*place);
+            }
+        }
+    }
+
+    // How many documents there are.
+    fn count(&self) -> usize {
+        self.last.iter().filter(|seq| **seq > 0).count()
+    }
+}
+
+// A database to which random events happen.
+#[derive(Drop)]
+struct Run {
+    alloc: Global,
+    world: World,
+    seen: Seen,
+    told: Told,
+}
+
+impl Run {
+    fn new(alloc: Global) -> Run {
+        Run {
+            alloc,
+            world: World::new(alloc, limits()),
+            seen: Seen {
+                revs: Vec::new(alloc),
+                feeds: 0,
+            },
+            told: Told::default(),
+        }
+    }
+
+    // One more event.
+    fn step(&mut self, random: &mut Random, counts: &mut Counts) -> Result<(), Fail> {
+        let event = event(self.alloc, &self.seen, random)?;
+        let places = places_in(self.alloc, &event)?;
+        let reply = self.world.apply(event)?;
+        self.seen.note(&reply)?;
+        self.told.note(places.as_slice(), &reply);
+        counts.count(&reply);
+        Ok(())
+    }
+
+    // A feed of all rows, once every other is finished; none where the database is deleted.
+    fn last_feed(&mut self) -> Result<Option<FeedId>, Fail> {
+        for number in 0..self.seen.feeds {
+            self.world.apply(Event::Finish(FeedId { number }))?;
+        }
+        let Ok(params) = FeedParams::read(self.alloc, b"", b"") else {
+            return Err(Fail::new("no parameters"));
+        };
+        match self.world.apply(Event::Begin(params))? {
+            Reply::Opened(feed) => Ok(Some(feed)),
+            Reply::DatabaseDeleted => Ok(None),
+            _ => Err(Fail::new("no feed")),
+        }
+    }
+
+    // The next row of the feed, none at its end: its sequence, and which document it is of.
+    fn next_row(&mut self, feed: FeedId) -> Result<Option<(u64, usize)>, Fail> {
+        match self.world.apply(Event::Hand(feed))? {
+            Reply::Pushed(Item::Row(row)) => {
+                self.world.apply(Event::Take(feed))?;
+                Ok(Some((row.seq, place_of(row.id.as_str()))))
+            }
+            Reply::Pushed(Item::End { .. }) => Ok(None),
+            _ => Err(Fail::new("no item")),
+        }
+    }
+
+    // Whether the rows that are left are the last ones that the replies told, each once and rising.
+    fn rows_are_told(&mut self) -> Result<bool, Fail> {
+        let Some(feed) = self.last_feed()? else {
+            return Ok(true);
+        };
+        let mut last = 0;
+        for _ in 0..self.told.count() {
+            let Some((seq, place)) = self.next_row(feed)? else {
+                return Ok(false);
+            };
+            if seq <= last || place >= self.told.last.len() || self.told.last[place] != seq {
+                return Ok(false);
+            }
+            last = seq;
+        }
+        Ok(self.next_row(feed)?.is_none())
+    }
 }
 
 #[test]
-fn the_world_answers_as_the_plain_program(rt: HostRuntime) -> Result<(), Fail> {
+fn each_reply_comes_and_the_rows_are_those_that_were_told(rt: HostRuntime) -> Result<(), Fail> {
     let alloc = rt.alloc();
     let mut random = Random { state: 20_260_101 };
     let mut counts = Counts::default();
-    for run in 0..200 {
-        let (events, wanted) = answered(alloc, &mut random)?;
-        let (_world, replies) = World::run(alloc, limits(), events)?;
-        assert_eq!(rt; replies.len(), wanted.len(), "in run {run}");
-        for (at, (reply, other)) in replies.iter().zip(wanted.iter()).enumerate() {
-            assert!(rt; same(reply, other), "at event {at} of run {run}");
-            counts.count(reply);
+    for number in 0..20 {
+        let mut run = Run::new(alloc);
+        for _ in 0..100 {
+            run.step(&mut random, &mut counts)?;
         }
+        assert!(rt; run.rows_are_told()?, "in run {number}");
     }
     for (kind, count) in counts.named() {
         assert!(rt; count > 0, "no reply of the kind: {kind}");

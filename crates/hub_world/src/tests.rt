@@ -297,15 +297,15 @@ fn heartbeats_are_handed_where_they_are_asked_for(rt: HostRuntime) -> Result<(),
     script.begin("feed=continuous&heartbeat=1000")?;
     script.begin("feed=longpoll&heartbeat=1000")?;
     for number in 0..5 {
-        script.push(Event::Heartbeat(feed(number)))?;
+        script.push(Event::Beat(feed(number)))?;
     }
     script.push(Event::Hand(feed(2)))?;
-    script.push(Event::Heartbeat(feed(2)))?;
+    script.push(Event::Beat(feed(2)))?;
     script.push(Event::Take(feed(2)))?;
-    script.push(Event::Heartbeat(feed(2)))?;
+    script.push(Event::Beat(feed(2)))?;
     script.push(Event::Take(feed(2)))?;
     script.push(Event::Expire(feed(3)))?;
-    script.push(Event::Heartbeat(feed(3)))?;
+    script.push(Event::Beat(feed(3)))?;
     let wanted =
         "wrote 1-a\nopened 0\nopened 1\nopened 2\nopened 3\nnothing\nnothing\nbeat\nbeat\nnothing\nrow 1 a 1-a\nfull\ntook beat\nbeat\ntook row 1 a 1-a\nnothing\nnothing\n";
     assert_eq!(rt; script.told(limits(4, 2))?.as_str(), wanted);

@@ -3,6 +3,7 @@
 ghost use Rattle.std.specs.Prelude.{◌≡◌, ℕ, Some, false, map, IfOk, OnErr};
 ghost use Rattle.hub_world.specs.Answer.{answer, replies_to};
 ghost use Rattle.hub_world.specs.Core.{Shows, limits_of};
+ghost use Rattle.hub_world.specs.Growth.{MayFail};
 ghost use Rattle.hub_world.specs.Headline.{reached, IsFaithful};
 ghost use Rattle.hub_world.specs.Meant.{event_of, reply_of, Answers, Applies};
 ghost use Rattle.hub_world.specs.World.{World as Shown, Subscription, subscription, empty};
@@ -13,7 +14,7 @@ use crate::lane::{self, Lane};
 use crate::reply::Reply;
 use hub_database::DbState;
 use hub_document::{ChangeRow, Doc, Limits};
-use hub_feed::{FeedId, Next, OpenFault};
+use hub_feed::{FeedId, Next};
 use hub_model::Item;
 use hub_params::FeedParams;
 use std::alloc::{AllocError, Global};
@@ -83,25 +84,27 @@ impl World {
     // A feed is opened, with an empty lane.
     fn begin(&mut self, params: FeedParams) -> Result<Reply, AllocError>
         ensures ok { IfOk result (λ reply. Applies self.old (Event.Begin params) reply self.new) }
-        ensures err { OnErr result (self.new ≡ self.old) }
+        ensures err { OnErr result ((self.new ≡ self.old) × MayFail self.old (Event.Begin params)) }
     {
-        self.lanes.try_reserve(1)?;
-        match self.db.open_feed(params) {
-            Ok(feed) => {
-                self.lanes.push_reserved(Lane::new(self.alloc, feed.number));
-                Ok(Reply::Opened(feed))
-            }
-            Err(OpenFault::NoMemory) => Err(AllocError),
-            Err(OpenFault::Deleted) => Ok(Reply::DatabaseDeleted),
-            Err(OpenFault::TooManyFeeds) => Ok(Reply::TooManyFeeds),
+        if self.db.is_deleted() {
+            return Ok(Reply::DatabaseDeleted);
         }
+        if self.db.feeds_are_full() {
+            return Ok(Reply::TooManyFeeds);
+        }
+        self.lanes.try_reserve(1)?;
+        let Ok(feed) = self.db.open_feed(params) else {
+            return Err(AllocError);
+        };
+        self.lanes.push_reserved(Lane::new(self.alloc, feed.number));
+        Ok(Reply::Opened(feed))
     }
 
     // The item that is due to a feed goes into its lane, and only then the feed goes on.
     fn give(&mut self, feed: FeedId, item: Item<ChangeRow>) -> Result<Reply, AllocError>
         requires due { item_due self.old.db feed.number ≡ Some item }
         ensures ok { IfOk result (λ reply. Applies self.old (Event.Hand feed) reply self.new) }
-        ensures err { OnErr result (self.new ≡ self.old) }
+        ensures err { OnErr result ((self.new ≡ self.old) × MayFail self.old (Event.Hand feed)) }
     {
         if !lane::push(self.alloc, &mut self.lanes, self.lane, feed.number, &item)? {
             return Ok(Reply::Full);
@@ -113,7 +116,7 @@ impl World {
     // What is due to a feed goes into its lane.
     fn hand(&mut self, feed: FeedId) -> Result<Reply, AllocError>
         ensures ok { IfOk result (λ reply. Applies self.old (Event.Hand feed) reply self.new) }
-        ensures err { OnErr result (self.new ≡ self.old) }
+        ensures err { OnErr result ((self.new ≡ self.old) × MayFail self.old (Event.Hand feed)) }
     {
         match self.db.next_item(feed)? {
             Next::Give(item) => self.give(feed, item),
@@ -124,8 +127,8 @@ impl World {
 
     // A heartbeat that may be handed goes into the feed's lane.
     fn beat(&mut self, feed: FeedId) -> Result<Reply, AllocError>
-        ensures ok { IfOk result (λ reply. Applies self.old (Event.Heartbeat feed) reply self.new) }
-        ensures err { OnErr result (self.new ≡ self.old) }
+        ensures ok { IfOk result (λ reply. Applies self.old (Event.Beat feed) reply self.new) }
+        ensures err { OnErr result ((self.new ≡ self.old) × MayFail self.old (Event.Beat feed)) }
     {
         if !self.db.beat_due(feed) {
             return Ok(Reply::Nothing);
@@ -181,14 +184,14 @@ impl World {
     pub fn apply(&mut self, event: Event) -> Result<Reply, AllocError>
         ensures step { IfOk result (λ reply. Applies self.old event reply self.new) }
         ensures batch { IfOk result (λ reply. Answers event reply) }
-        ensures err { OnErr result (self.new ≡ self.old) }
+        ensures err { OnErr result ((self.new ≡ self.old) × MayFail self.old event) }
     {
         match event {
             Event::Write(docs) => self.write(docs),
             Event::Interactive(docs) => self.make(docs),
             Event::Begin(params) => self.begin(params),
             Event::Hand(feed) => self.hand(feed),
-            Event::Heartbeat(feed) => self.beat(feed),
+            Event::Beat(feed) => self.beat(feed),
             Event::Expire(feed) => Ok(self.expire(feed)),
             Event::Take(feed) => Ok(self.take(feed)),
             Event::Finish(feed) => Ok(self.finish(feed)),
@@ -220,7 +223,8 @@ impl World {
     ) -> Result<(World, Vec<Reply>), AllocError>
         ensures replies { IfOk result (λ r. map reply_of r.1.items ≡ replies_to (empty (limits_of limits)) (map event_of events.items)) }
         ensures world { IfOk result (λ r. Shows r.0 (reached (limits_of limits) (map event_of events.items))) }
-        ensures headline { IfOk result (λ r. (f : ℕ) (s : Subscription) → subscription (reached (limits_of limits) (map event_of events.items)) f ≡ Some s → IsFaithful (limits_of limits) (map event_of events.items) f s) }
+        ensures headline { IfOk result (λ r. (f : ℕ) (s : Subscription) → subscription (reached (limits_of limits) (map event_of events.items)) f ≡ Some s →
+            IsFaithful (limits_of limits) (map event_of events.items) (map reply_of r.1.items) f s) }
     {
         let mut world = World::new(alloc, limits);
         let mut replies = Vec::new(alloc);

@@ -3,6 +3,7 @@ use Rattle.std.specs.Prelude.{position, get_or}
 use Rattle.hub_model.specs.RightlyHanded.{ChangeItem}
 use Rattle.hub_model.specs.Entries.{is_of}
 use Rattle.hub_world.proofs.LaneLemmas.{entry_here, changed_here, stays_here, no_entry, no_lane, is_full, has_place}
+use Rattle.hub_database.proofs.StoreLemmas.{on_err}
 use Rattle.hub_world.proofs.lane.push.Goals as goal
 
 pub returns-in_default-clause-ok : goal.returns-in_default-clause-ok
@@ -35,3 +36,24 @@ returns-clause-ok c =
       room.0,
       changed_here c.args.feed lanes at placed p is (λ items. items ++ c.args.item.now ∷ []) c.push_back.new.self.items c.requires.rising new ∙ room.1,
     )
+
+pub returns-in_err-copy-clause-err : goal.returns-in_err-copy-clause-err
+returns-in_err-copy-clause-err c =
+    let lanes = c.args.lanes.now.items in
+    let placed : Some c.in-Some.at ≡ position (is_of c.args.feed) lanes = rw c.as_slice.ensures.value at c.in-Some.ensures in
+    let p : ℕ × List ChangeItem = (c.lane.inside.feed, c.lane.inside.items.items) in
+    let is : p ≡ get_or lanes c.in-Some.at p = rw (sym c.lane.view_is) at c.index_mut-lane.ensures.value in
+    let short : length p.1 < c.args.limit = omega (arith, c.if-len-limit.false, c.len.ensures, c.lane.inside.items.ok.0) in
+    let room = has_place c.args.limit c.args.feed c.args.item.now lanes p.1 (entry_here c.args.feed lanes c.in-Some.at placed p is) short in
+    on_err c.from_residual.result _ (stays_here c.args.feed lanes c.in-Some.at placed c.index_mut-lane.result.now c.index_mut-lane.ensures.value, sym room.0)
+
+pub returns-in_err-push_back-clause-err : goal.returns-in_err-push_back-clause-err
+returns-in_err-push_back-clause-err c =
+    let lanes = c.args.lanes.now.items in
+    let placed : Some c.in-Some.at ≡ position (is_of c.args.feed) lanes = rw c.as_slice.ensures.value at c.in-Some.ensures in
+    let p : ℕ × List ChangeItem = (c.lane.inside.feed, c.lane.inside.items.items) in
+    let is : p ≡ get_or lanes c.in-Some.at p = rw (sym c.lane.view_is) at c.index_mut-lane.ensures.value in
+    let short : length p.1 < c.args.limit = omega (arith, c.if-len-limit.false, c.len.ensures, c.lane.inside.items.ok.0) in
+    let room = has_place c.args.limit c.args.feed c.args.item.now lanes p.1 (entry_here c.args.feed lanes c.in-Some.at placed p is) short in
+    let same : c.push_back.new.self.items ≡ c.lane.inside.items.items = c.in_err-push_back.ensures.items in
+    on_err c.from_residual-in_err-push_back.result _ (rw same (stays_here c.args.feed lanes c.in-Some.at placed p is), sym room.0)

@@ -5,6 +5,9 @@ use Rattle.hub_model.specs.declared.feeds.Item.TheVariants.{Beat}
 use Rattle.hub_world.specs.Lane.{has_room, pushed_into}
 use Rattle.hub_world.proofs.Standing.{lanes_rise}
 use Rattle.hub_world.proofs.Stepping.{Leads, beat_pushed, beat_full, beat_nothing, unpushed, from_same, to_same, still_shows}
+use Rattle.hub_database.proofs.StoreLemmas.{on_err}
+use Rattle.hub_world.specs.declared.event.Event.TheVariants as event
+use Rattle.hub_world.proofs.Growing.{beat_grows, fails_as}
 use Rattle.hub_world.proofs.world.World.beat.Goals as goal
 
 pub returns-then-not-beat_due-clause-ok : goal.returns-then-not-beat_due-clause-ok
@@ -45,3 +48,12 @@ pub returns-clause-ok : goal.returns-clause-ok
 returns-clause-ok c =
     let old : Core = record { db = c.self.inside.db; lanes = c.self.inside.lanes.items } in
     from_same old c.args.self.now (record old { lanes = c.push.new.lanes.items }) (model.Heartbeat c.args.feed.number) (model.Pushed Beat) c.self.view_is (leads c)
+
+pub returns-in_err-push-clause-err : goal.returns-in_err-push-clause-err
+returns-in_err-push-clause-err c =
+    let old : Core = record { db = c.self.inside.db; lanes = c.self.inside.lanes.items } in
+    let f = c.args.feed.number in
+    let err = c.in_err-push.ensures.err in
+    let room : has_room old.db.limits.lane f old.lanes ≡ true = ap (λ (n : ℕ). has_room n f old.lanes) (sym c.self.invariant.0) ∙ err.1 in
+    let same = ap (λ ls. record { db = old.db; lanes = ls }) err.0 ∙ c.self.view_is in
+    on_err c.from_residual.result _ (same, fails_as old c.args.self.now (event.Beat c.args.feed) c.self.view_is (beat_grows old f (sym c.beat_due.ensures ∙ c.if-not-beat_due.false) room))

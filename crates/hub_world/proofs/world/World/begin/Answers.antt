@@ -5,10 +5,14 @@ use Rattle.hub_world.specs.Event as model
 use Rattle.hub_database.specs.Feeds.{opened}
 use Rattle.hub_params.specs.FeedModel.{params_of}
 use Rattle.hub_world.proofs.Stepping.{Leads, begin_leads, begin_full, from_same, to_same, still_shows}
+use Rattle.hub_database.proofs.StoreLemmas.{on_err}
+use Rattle.hub_world.specs.declared.event.Event.TheVariants as event
+use Rattle.hub_world.proofs.Growing.{begin_grows, fails_as, refused_full, unrefused}
 use Rattle.hub_world.proofs.world.World.begin.Goals as goal
+use Rattle.hub_world.proofs.world.World.begin.Goals.{After-push_reserved}
 
 -- the step
-leads : (c : goal.After-push_reserved) → Leads (record { db = c.self.inside.db; lanes = c.self.inside.lanes.items }) (model.Begin (params_of c.args.params)) (model.Opened c.in-Ok.feed.number) (record { db = c.open_feed.new.self; lanes = c.push_reserved.new.self.items })
+leads : (c : After-push_reserved) → Leads (record { db = c.self.inside.db; lanes = c.self.inside.lanes.items }) (model.Begin (params_of c.args.params)) (model.Opened c.in-Ok.feed.number) (record { db = c.open_feed.new.self; lanes = c.push_reserved.new.self.items })
 leads c =
     let old : Core = record { db = c.self.inside.db; lanes = c.self.inside.lanes.items } in
     let own = c.in-Ok.ensures.ok in
@@ -18,21 +22,33 @@ leads c =
     (to_same old (record { db = opened old.db (params_of c.args.params); lanes = old.lanes ++ (old.db.next_feed, []) ∷ [] }) (record { db = c.open_feed.new.self; lanes = c.push_reserved.new.self.items }) (model.Begin (params_of c.args.params)) (model.Opened old.db.next_feed)
     (rw (own.2, lanes) refl) (begin_leads old (params_of c.args.params) own.1))
 
-pub invariant_of-self-in-Ok : goal.invariant_of-self-in-Ok
-invariant_of-self-in-Ok c =
+pub invariant_of-self-2 : goal.invariant_of-self-2
+invariant_of-self-2 c =
     let old : Core = record { db = c.self.inside.db; lanes = c.self.inside.lanes.items } in
     (c.self.invariant.0 ∙ sym (ap (λ (db : Database). db.limits.lane) c.in-Ok.ensures.ok.2), still_shows old (record { db = c.open_feed.new.self; lanes = c.push_reserved.new.self.items }) (model.Begin (params_of c.args.params)) (model.Opened c.in-Ok.feed.number) c.self.invariant.1 (leads c))
 
-pub returns-in-Ok-clause-ok : goal.returns-in-Ok-clause-ok
-returns-in-Ok-clause-ok c =
+pub returns-clause-ok : goal.returns-clause-ok
+returns-clause-ok c =
     let old : Core = record { db = c.self.inside.db; lanes = c.self.inside.lanes.items } in
     from_same old c.args.self.now (record { db = c.open_feed.new.self; lanes = c.push_reserved.new.self.items }) (model.Begin (params_of c.args.params)) (model.Opened c.in-Ok.feed.number) c.self.view_is (leads c)
 
-pub returns-in-Err-TooManyFeeds-clause-ok : goal.returns-in-Err-TooManyFeeds-clause-ok
-returns-in-Err-TooManyFeeds-clause-ok c =
+pub returns-then-feeds_are_full-clause-ok : goal.returns-then-feeds_are_full-clause-ok
+returns-then-feeds_are_full-clause-ok c =
     let old : Core = record { db = c.self.inside.db; lanes = c.self.inside.lanes.items } in
-    let err = rw c.in-Err-TooManyFeeds.field-0-is at c.in-Err-TooManyFeeds.ensures.err in
-    let same : record { db = c.open_feed.new.self; lanes = c.try_reserve.new.self.items } ≡ old = rw (err.0, c.in_ok-try_reserve.ensures.items) refl in
-    from_same old c.args.self.now (record { db = c.open_feed.new.self; lanes = c.try_reserve.new.self.items }) (model.Begin (params_of c.args.params)) model.TooManyFeeds c.self.view_is
-    (to_same old old (record { db = c.open_feed.new.self; lanes = c.try_reserve.new.self.items }) (model.Begin (params_of c.args.params)) model.TooManyFeeds (sym same)
-    (elim err.1 [ inl e ↦ absurd (cc) | inr e ↦ begin_full old (params_of c.args.params) e ]))
+    let refused = refused_full old.db (sym c.is_deleted.ensures ∙ c.if-is_deleted.false) (sym c.feeds_are_full.ensures ∙ c.if-feeds_are_full.true) in
+    from_same old c.args.self.now c.args.self.now (model.Begin (params_of c.args.params)) model.TooManyFeeds c.self.view_is
+    (to_same old old c.args.self.now (model.Begin (params_of c.args.params)) model.TooManyFeeds c.self.view_is (begin_full old (params_of c.args.params) refused))
+
+pub returns-in_err-try_reserve-clause-err : goal.returns-in_err-try_reserve-clause-err
+returns-in_err-try_reserve-clause-err c =
+    let old : Core = record { db = c.self.inside.db; lanes = c.self.inside.lanes.items } in
+    let free = unrefused old.db (sym c.is_deleted.ensures ∙ c.if-is_deleted.false) (sym c.feeds_are_full.ensures ∙ c.if-feeds_are_full.false) in
+    let same = ap (λ ls. record { db = old.db; lanes = ls }) c.try_reserve.ensures.items ∙ c.self.view_is in
+    on_err c.from_residual.result _ (same, fails_as old c.args.self.now (event.Begin c.args.params) c.self.view_is (begin_grows old (params_of c.args.params) free))
+
+pub returns-in_default-clause-err : goal.returns-in_default-clause-err
+returns-in_default-clause-err c =
+    let old : Core = record { db = c.self.inside.db; lanes = c.self.inside.lanes.items } in
+    let free = unrefused old.db (sym c.is_deleted.ensures ∙ c.if-is_deleted.false) (sym c.feeds_are_full.ensures ∙ c.if-feeds_are_full.false) in
+    let here : record { db = c.open_feed.new.self; lanes = c.try_reserve.new.self.items } ≡ old = rw (c.in_default.ensures.err.0, c.try_reserve.ensures.items) refl in
+    (here ∙ c.self.view_is, fails_as old c.args.self.now (event.Begin c.args.params) c.self.view_is (begin_grows old (params_of c.args.params) free))

@@ -7,6 +7,9 @@ use Rattle.hub_database.specs.Feeds.{handed, item_due}
 use Rattle.hub_world.specs.Lane.{has_room, pushed_into}
 use Rattle.hub_world.proofs.Standing.{lanes_rise}
 use Rattle.hub_world.proofs.Stepping.{Leads, hand_pushed, hand_full, unpushed, from_same, to_same, still_shows}
+use Rattle.hub_database.proofs.StoreLemmas.{on_err}
+use Rattle.hub_world.specs.declared.event.Event.TheVariants as event
+use Rattle.hub_world.proofs.Growing.{item_grows, fails_as}
 use Rattle.hub_world.proofs.world.World.give.Goals as goal
 
 pub push-requires : goal.push-requires
@@ -44,3 +47,13 @@ pub returns-clause-ok : goal.returns-clause-ok
 returns-clause-ok c =
     let old : Core = record { db = c.self.inside.db; lanes = c.self.inside.lanes.items } in
     from_same old c.args.self.now (record { db = c.accept_item.new.self; lanes = c.push.new.lanes.items }) (model.Hand c.args.feed.number) (model.Pushed c.args.item) c.self.view_is (leads c)
+
+pub returns-in_err-push-clause-err : goal.returns-in_err-push-clause-err
+returns-in_err-push-clause-err c =
+    let old : Core = record { db = c.self.inside.db; lanes = c.self.inside.lanes.items } in
+    let f = c.args.feed.number in
+    let err = c.in_err-push.ensures.err in
+    let room : has_room old.db.limits.lane f old.lanes ≡ true = ap (λ (n : ℕ). has_room n f old.lanes) (sym c.self.invariant.0) ∙ err.1 in
+    let due = subst (λ (z : Core). item_due z.db f ≡ Some c.args.item) (sym c.self.view_is) c.requires.due in
+    let same = ap (λ ls. record { db = old.db; lanes = ls }) err.0 ∙ c.self.view_is in
+    on_err c.from_residual.result _ (same, fails_as old c.args.self.now (event.Hand c.args.feed) c.self.view_is (item_grows old f c.args.item due room))

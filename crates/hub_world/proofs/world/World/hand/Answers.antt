@@ -5,6 +5,9 @@ use Rattle.hub_world.specs.Event as model
 use Rattle.hub_database.specs.Feeds.{behind_answer}
 use Rattle.hub_feed.specs.declared.next.Next.TheVariants as next
 use Rattle.hub_world.proofs.Stepping.{Leads, hand_nothing, hand_gone, from_same, to_same, still_shows}
+use Rattle.hub_database.proofs.StoreLemmas.{on_err}
+use Rattle.hub_world.specs.declared.event.Event.TheVariants as event
+use Rattle.hub_world.proofs.Growing.{row_grows, fails_as}
 use Rattle.hub_world.proofs.world.World.hand.Goals as goal
 
 -- the step
@@ -32,3 +35,10 @@ returns-in-Gone-clause-ok c =
     let own = rw c.in-Gone.is at c.in_ok-item.ensures.ok in
     from_same old c.args.self.now (record old { db = c.next_item.new.self }) (model.Hand c.args.feed.number) model.Gone c.self.view_is
     (to_same old old (record old { db = c.next_item.new.self }) (model.Hand c.args.feed.number) model.Gone (ap (λ (db : Database). record { db = db; lanes = old.lanes }) (sym own.1)) (hand_gone old f own.0))
+
+pub returns-in_err-item-clause-err : goal.returns-in_err-item-clause-err
+returns-in_err-item-clause-err c =
+    let old : Core = record { db = c.self.inside.db; lanes = c.self.inside.lanes.items } in
+    let err = c.in_err-item.ensures.err in
+    let same = ap (λ (db : Database). record { db = db; lanes = old.lanes }) err.0 ∙ c.self.view_is in
+    on_err c.from_residual.result _ (same, fails_as old c.args.self.now (event.Hand c.args.feed) c.self.view_is (row_grows old c.args.feed.number err.1))

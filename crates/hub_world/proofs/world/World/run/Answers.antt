@@ -1,9 +1,11 @@
-use Rattle.std.proofs.Common.{◌≡◌, ◌∙◌, ◌++◌, ◌∷◌, [], ◌+◌, suc, sym, ap, length, arith, append_assoc, map}
-use Rattle.std.proofs.lemmas.List.{length_push}
-use Rattle.hub_world.specs.Answer.{after}
+use Rattle.std.proofs.Common.{◌≡◌, ◌∙◌, ◌++◌, ◌∷◌, [], ◌+◌, suc, sym, ap, length, arith, append_assoc, map, List, subst}
+use Rattle.std.proofs.lemmas.List.{append-nil, length_push, nil_from_length}
+use Rattle.hub_world.specs.Answer.{replies_to, after}
 use Rattle.hub_world.specs.Core.{limits_of}
-use Rattle.hub_world.specs.Meant.{event_of}
+use Rattle.hub_world.specs.Meant.{event_of, reply_of}
 use Rattle.hub_world.specs.World.{empty}
+use Rattle.hub_world.specs.Event.{Reply}
+use Rattle.hub_world.specs.Headline.{IsFaithful}
 use Rattle.hub_world.proofs.Faithful.{faithful}
 use Rattle.hub_world.proofs.Running.{told_more, world_more}
 use Rattle.hub_world.proofs.world.World.run.Goals as goal
@@ -24,4 +26,10 @@ loop-event-preserved c =
     }
 
 pub returns-clause-headline : goal.returns-clause-headline
-returns-clause-headline c = faithful (limits_of c.args.limits) (map event_of c.args.events.items)
+returns-clause-headline c =
+    let limits = limits_of c.args.limits in
+    let events = map event_of c.args.events.items in
+    let over : c.loop-event.event-iterator.rest.items ≡ [] = nil_from_length c.loop-event.event-iterator.rest.items (search (c.in-None.ensures.steps, c.loop-event.event-iterator.rest)) in
+    let all : c.loop-event.yielded ≡ c.args.events.items = sym (append-nil c.loop-event.yielded) ∙ (ap (λ es. c.loop-event.yielded ++ es) (sym over) ∙ c.loop-event.invariant.events) in
+    let same : replies_to (empty limits) events ≡ map reply_of c.loop-event.replies.items = ap (λ es. replies_to (empty limits) (map event_of es)) (sym all) ∙ sym c.loop-event.invariant.replies in
+    λ f s e. subst (λ (replies : List Reply). IsFaithful limits events replies f s) same (faithful limits events f s e)

@@ -1,5 +1,0 @@
-use Rattle.std.proofs.Common.{length}
-use Rattle.hub_world.proofs.plain.store.+store_all.Given as goal
-
-abbrev pub decreases-store_all : goal.decreases-store_all
-decreases-store_all l = length l.docs.now
