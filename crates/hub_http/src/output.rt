@@ -35,7 +35,7 @@ pub trait Output {
 #[derive(Clone, Copy, Debug, PartialEq, Eq)]
 pub struct IoFault;
 
-/// How often a write that is interrupted is made again.
+/// How often a write or a flush is made, where each is interrupted.
 const TRIES: u32 = 1_000_000;
 
 fn is_interrupted(error: &io::Error) -> bool {
@@ -65,8 +65,27 @@ fn write_some<W: Output>(writer: &mut W, bytes: &[u8]) -> Result<usize, IoFault>
     Err(IoFault)
 }
 
+/// Flushes, again where a flush is interrupted.
+fn flush<W: Output>(writer: &mut W) -> Result<(), IoFault>
+    ensures bytes { Keeps (W.written writer.old) (W.written writer.new) }
+    ensures monotone { W.fault_count writer.old ≤ W.fault_count writer.new }
+    ensures fault { OnErr result (Rose (W.fault_count writer.old) (W.fault_count writer.new)) }
+{
+    for _ in 0..TRIES {
+        match writer.flush() {
+            Ok(()) => return Ok(()),
+            Err(e) => {
+                if !is_interrupted(&e) {
+                    return Err(IoFault);
+                }
+            }
+        }
+    }
+    Err(IoFault)
+}
+
 /// Writes all the bytes, mostly by one write, and does not flush. After a fault a front of them
-/// was written.
+/// was written. A write that is interrupted is made again; 1,000,000 in a row are a fault.
 pub fn write_all<W: Output>(writer: &mut W, bytes: &[u8]) -> Result<(), IoFault>
     ensures ok { OnOk result (Appends (W.written writer.old) (W.written writer.new) bytes.now) }
     ensures front { AppendsFront (W.written writer.old) (W.written writer.new) bytes.now }
@@ -82,15 +101,12 @@ pub fn write_all<W: Output>(writer: &mut W, bytes: &[u8]) -> Result<(), IoFault>
 }
 
 /// Writes all the bytes, mostly by one write, and flushes. After a fault a front of them was
-/// written.
+/// written. A write or a flush that is interrupted is made again; 1,000,000 in a row are a fault.
 pub fn send<W: Output>(writer: &mut W, bytes: &[u8]) -> Result<(), IoFault>
     ensures sent { Sends (is_err result) (W.written writer.old) (W.written writer.new) bytes.now }
     ensures monotone { W.fault_count writer.old ≤ W.fault_count writer.new }
     ensures fault { OnErr result (Rose (W.fault_count writer.old) (W.fault_count writer.new)) }
 {
     write_all(writer, bytes)?;
-    match writer.flush() {
-        Ok(()) => Ok(()),
-        Err(_) => Err(IoFault),
-    }
+    flush(writer)
 }

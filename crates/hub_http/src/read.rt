@@ -10,7 +10,7 @@ use std::io::ErrorKind;
 /// The most bytes of one read.
 pub(crate) const BLOCK: usize = 4096;
 
-/// How often a read that is interrupted is made again.
+/// How often a read is made, where each is interrupted.
 const TRIES: u32 = 1_000_000;
 
 /// Reads some more bytes, at most so many, to the end of those that are held, none only at the
