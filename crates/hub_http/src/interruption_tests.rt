@@ -43,7 +43,7 @@ struct Stopping {
     left: u32,
     times: u32,
     flush_left: u32,
-    flushed: Vec<usize>,
+    flushes: u32,
 }
 
 impl Write for Stopping {
@@ -57,7 +57,7 @@ impl Write for Stopping {
 
     fn flush(&mut self) -> io::Result<()> {
         interrupt(&mut self.flush_left)?;
-        self.flushed.push(self.held.len())?;
+        self.flushes = self.flushes.saturating_add(1);
         Ok(())
     }
 }
@@ -68,7 +68,7 @@ fn writer_of(alloc: Global, left: u32, times: u32, flush_left: u32) -> Tally<Sto
         left,
         times,
         flush_left,
-        flushed: Vec::new(alloc),
+        flushes: 0,
     })
 }
 
@@ -131,41 +131,43 @@ fn reads_interrupted_too_often(rt: HostRuntime) -> Result<(), Fail> {
     Ok(())
 }
 
+/// How `write_all` ends where the writer is interrupted so often, and what it took.
+fn written(alloc: Global, left: u32, times: u32) -> (Result<(), IoFault>, Vec<u8>) {
+    let mut writer = writer_of(alloc, left, times, 0);
+    let outcome = write_all(&mut writer, TEXT);
+    (outcome, writer.into_inner().held)
+}
+
 #[test]
 fn interrupted_writes(rt: HostRuntime) {
-    for times in [1, 3] {
-        let mut writer = writer_of(rt.alloc(), times, times, 0);
-        assert_eq!(rt; write_all(&mut writer, TEXT), Ok(()));
-        assert_eq!(rt;
-            Output::faults(&writer),
-            TEXT.len() as u64 * u64::from(times)
-        );
-        assert_eq!(rt; writer.into_inner().held.as_slice(), TEXT);
+    let cases = [(1, 1), (3, 3), (TRIES - 1, 0)];
+    for (left, times) in cases {
+        let (outcome, held) = written(rt.alloc(), left, times);
+        assert_eq!(rt; outcome, Ok(()));
+        assert_eq!(rt; held.as_slice(), TEXT);
     }
 }
 
 #[test]
 fn writes_interrupted_too_often(rt: HostRuntime) {
-    let mut writer = writer_of(rt.alloc(), TRIES - 1, 0, 0);
-    assert_eq!(rt; write_all(&mut writer, b"ab"), Ok(()));
-    assert_eq!(rt; writer.into_inner().held.as_slice(), b"ab".as_slice());
-    let mut writer = writer_of(rt.alloc(), TRIES, 0, 0);
-    assert_eq!(rt; write_all(&mut writer, b"ab"), Err(IoFault));
-    assert!(rt; writer.into_inner().held.is_empty());
+    let (outcome, held) = written(rt.alloc(), TRIES, 0);
+    assert_eq!(rt; outcome, Err(IoFault));
+    assert!(rt; held.is_empty());
+}
+
+/// How `send` ends where the flush is interrupted so often, and how many bytes were taken and
+/// flushes made.
+fn sent(alloc: Global, times: u32) -> (Result<(), IoFault>, usize, u32) {
+    let mut writer = writer_of(alloc, 0, 1, times);
+    let outcome = send(&mut writer, b"abc");
+    let Stopping { held, flushes, .. } = writer.into_inner();
+    (outcome, held.len(), flushes)
 }
 
 #[test]
 fn interrupted_flushes(rt: HostRuntime) {
-    for times in [0, 3, TRIES - 1] {
-        let mut writer = writer_of(rt.alloc(), 0, 1, times);
-        assert_eq!(rt; send(&mut writer, b"abc"), Ok(()));
-        let Stopping { held, flushed, .. } = writer.into_inner();
-        assert_eq!(rt;
-            (held.as_slice(), flushed.as_slice()),
-            (b"abc".as_slice(), [3usize].as_slice())
-        );
-    }
-    let mut writer = writer_of(rt.alloc(), 0, 0, TRIES);
-    assert_eq!(rt; send(&mut writer, b"abc"), Err(IoFault));
-    assert_eq!(rt; writer.into_inner().held.as_slice(), b"abc".as_slice());
+    assert_eq!(rt; sent(rt.alloc(), 0), (Ok(()), 3, 1));
+    assert_eq!(rt; sent(rt.alloc(), 3), (Ok(()), 3, 1));
+    assert_eq!(rt; sent(rt.alloc(), TRIES - 1), (Ok(()), 3, 1));
+    assert_eq!(rt; sent(rt.alloc(), TRIES), (Err(IoFault), 3, 0));
 }
