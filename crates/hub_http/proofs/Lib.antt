@@ -1,3 +1,4 @@
+pub mod ExclusionLemmas
 pub mod FrontLemmas
 pub mod HeadLemmas
 pub mod ItemLemmas
@@ -6,5 +7,4 @@ pub mod LengthLemmas
 pub mod ReadLemmas
 pub mod RequestLemmas
 pub mod SendLemmas
-pub mod StreamLemmas
 pub mod UniqueLemmas

@@ -2,6 +2,7 @@ pub mod Counts
 pub mod Heads
 pub mod Looking
 pub mod Stream
+pub mod Exclusions
 pub mod Words
 pub mod Refusals
 pub mod Texts

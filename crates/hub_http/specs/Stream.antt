@@ -67,13 +67,3 @@ Leaves bytes (Ok (Some q)) (Some rest) = Spells bytes (asked_by q) rest
 Leaves bytes (Ok None) (Some rest) = (bytes ≡ []) × (rest ≡ [])
 Leaves bytes (Err NoMemory) (Some rest) = rest ≡ bytes
 Leaves bytes (Err e) (Some rest) = Faults bytes e
-
--- how bytes go on after whole requests: not at all, or with this fault
-abbrev pub EndsIn : List ℕ → Option HttpFault → Type 0
-EndsIn bytes None = bytes ≡ []
-EndsIn bytes (Some e) = Faults bytes e
-
--- the bytes spell these requests, one after the other, and then end so
-abbrev pub SpellsAll : List ℕ → List Asked → Option HttpFault → Type 0
-SpellsAll bytes [] end = EndsIn bytes end
-SpellsAll bytes (a ∷ more) end = (rest : List ℕ) × Spells bytes a rest × SpellsAll rest more end

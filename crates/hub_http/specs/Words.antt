@@ -32,6 +32,10 @@ inner_of t = t.inner
 abbrev pub faults_counted : {T : Type 0} → Tally T → ℕ
 faults_counted t = t.faults
 
+-- how many of these were no interruptions
+abbrev pub failures_counted : {T : Type 0} → Tally T → ℕ
+failures_counted t = t.failures
+
 -- how many reads there were
 abbrev pub reads_counted : {T : Type 0} → Tally T → ℕ
 reads_counted t = t.reads

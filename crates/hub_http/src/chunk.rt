@@ -1,6 +1,6 @@
 //! Chunks to a writer.
 
-ghost use Rattle.std.specs.Prelude.{◌≡◌, ◌≤◌, IsErrOf, OnOk};
+ghost use Rattle.std.specs.Prelude.{◌≡◌, ◌<◌, ◌≤◌, length, IsErrOf, OnOk, OnErr};
 ghost use Rattle.hub_http.specs.Counts.{Rose};
 ghost use Rattle.hub_http.specs.Chunks.{Writes, text_chunks};
 ghost use Rattle.hub_http.specs.Texts.{chunk_text};
@@ -46,10 +46,12 @@ impl ChunkWriter {
         }
     }
 
-    /// Writes a text as one chunk, and an empty one not at all. Nothing is flushed. It costs the
-    /// text's length, and memory only where the chunk is longer than each one before.
+    /// Writes a text as one chunk, and an empty one not at all, which needs no memory and no
+    /// writer. Nothing is flushed. It costs the text's length, and memory only where the chunk is
+    /// longer than each one before.
     pub fn write<W: Output>(&mut self, writer: &mut W, text: &[u8]) -> Result<(), ChunkFault>
         ensures bytes { Writes (text_chunks text.now) result (W.written writer.old) (W.written writer.new) }
+        ensures empty { OnErr result (0 < length text.now) }
         ensures monotone { W.fault_count writer.old ≤ W.fault_count writer.new }
         ensures fault { IsErrOf result ChunkFault.IoFault → Rose (W.fault_count writer.old) (W.fault_count writer.new) }
     {

@@ -2,7 +2,7 @@
 ghost use Rattle.std.specs.Prelude.{◌≡◌, ℕ, List, Option, is_err};
 ghost use Rattle.std.specs.Io.{ReadsAtMost};
 ghost use Rattle.std.specs.Io.KnownBytes.{ReadConsumes};
-ghost use Rattle.hub_http.specs.Counts.{bumped, bumped_if};
+ghost use Rattle.hub_http.specs.Counts.{bumped, bumped_if, call_failed};
 
 use std::io;
 
@@ -15,6 +15,9 @@ pub trait Input {
     /// How many reads answered an error.
     ghost fault_count: { Self → ℕ };
 
+    /// How many of these were no interruptions.
+    ghost failure_count: { Self → ℕ };
+
     /// How many reads there were.
     ghost read_count: { Self → ℕ };
 
@@ -23,6 +26,7 @@ pub trait Input {
         ensures bound { ReadsAtMost result buf.new }
         ensures bytes { ReadConsumes (left self.old) (left self.new) result buf.new }
         ensures faults { fault_count self.new ≡ bumped_if (is_err result) (fault_count self.old) }
+        ensures failures { failure_count self.new ≡ bumped_if (call_failed result) (failure_count self.old) }
         ensures reads { read_count self.new ≡ bumped (read_count self.old) };
 
     /// How many reads answered an error. The count stays at 2^64 - 1.

@@ -7,6 +7,8 @@ mod fault;
 mod fixed;
 mod head;
 mod input;
+#[cfg(test)]
+mod interruption_tests;
 mod item;
 mod length;
 mod output;
@@ -32,5 +34,5 @@ pub use output::{IoFault, Output, send, write_all};
 pub use refusal::Refusal;
 pub use reply::{Reply, reply_bytes};
 pub use request::Request;
-pub use requests::{Requests, one_reading};
+pub use requests::{Requests, one_reading, one_verdict};
 pub use tally::Tally;

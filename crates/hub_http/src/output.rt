@@ -1,8 +1,9 @@
 //! Where replies go.
 ghost use Rattle.std.specs.Prelude.{◌≡◌, ◌<◌, ◌≤◌, ℕ, List, Option, is_err, length, IfOk, OnOk, OnErr, take};
 ghost use Rattle.std.specs.Io.{WritesAtMost};
+ghost use Rattle.std.specs.IoError.{error_kind};
 ghost use Rattle.std.specs.Io.KnownBytes.{Keeps, Appends, WriteAppends};
-ghost use Rattle.hub_http.specs.Counts.{bumped_if, write_faulted, Rose, AppendsFront, Sends};
+ghost use Rattle.hub_http.specs.Counts.{bumped_if, write_faulted, write_failed, call_failed, is_interruption, GaveUp, Rose, AppendsFront, Sends};
 
 use std::io;
 use std::io::ErrorKind;
@@ -15,31 +16,42 @@ pub trait Output {
     /// How many calls answered an error or, asked to write something, took no byte.
     ghost fault_count: { Self → ℕ };
 
+    /// How many of these were no interruptions.
+    ghost failure_count: { Self → ℕ };
+
     /// Writes a front of the bytes, and answers how many.
     fn write(&mut self, buf: &[u8]) -> io::Result<usize>
         ensures bound { WritesAtMost result buf.now }
         ensures bytes { WriteAppends (written self.old) (written self.new) result buf.now }
-        ensures faults { fault_count self.new ≡ bumped_if (write_faulted result buf.now) (fault_count self.old) };
+        ensures faults { fault_count self.new ≡ bumped_if (write_faulted result buf.now) (fault_count self.old) }
+        ensures failures { failure_count self.new ≡ bumped_if (write_failed result buf.now) (failure_count self.old) };
 
     /// Hands on what was written and not handed on yet.
     fn flush(&mut self) -> io::Result<()>
         ensures bytes { Keeps (written self.old) (written self.new) }
-        ensures faults { fault_count self.new ≡ bumped_if (is_err result) (fault_count self.old) };
+        ensures faults { fault_count self.new ≡ bumped_if (is_err result) (fault_count self.old) }
+        ensures failures { failure_count self.new ≡ bumped_if (call_failed result) (failure_count self.old) };
 
     /// How many calls faulted. The count stays at 2^64 - 1.
     fn faults(&self) -> u64
         ensures { result ≡ fault_count self.now };
 }
 
-/// The other side can't be written to.
+/// The other side can't be written to, or 1,000,000 calls in a row were interrupted.
 #[derive(Clone, Copy, Debug, PartialEq, Eq)]
 pub struct IoFault;
 
-/// How often a write that is interrupted is made again.
+/// How often a write or a flush is made, where each is interrupted.
 const TRIES: u32 = 1_000_000;
 
-fn is_interrupted(error: &io::Error) -> bool {
-    error.kind() == ErrorKind::Interrupted
+/// Whether the call that answered this error may be made again.
+pub(crate) fn is_interrupted(error: &io::Error) -> bool
+    ensures { result ≡ is_interruption (error_kind error.now) }
+{
+    match error.kind() {
+        ErrorKind::Interrupted => true,
+        _ => false,
+    }
 }
 
 /// Writes a part of the bytes, again where a write is interrupted.
@@ -50,6 +62,8 @@ fn write_some<W: Output>(writer: &mut W, bytes: &[u8]) -> Result<usize, IoFault>
     ensures err { OnErr result (Keeps (W.written writer.old) (W.written writer.new)) }
     ensures monotone { W.fault_count writer.old ≤ W.fault_count writer.new }
     ensures fault { OnErr result (Rose (W.fault_count writer.old) (W.fault_count writer.new)) }
+    ensures tried { OnErr result (GaveUp (W.failure_count writer.old) (W.failure_count writer.new)
+        (W.fault_count writer.old) (W.fault_count writer.new)) }
 {
     for _ in 0..TRIES {
         match writer.write(bytes) {
@@ -65,8 +79,29 @@ fn write_some<W: Output>(writer: &mut W, bytes: &[u8]) -> Result<usize, IoFault>
     Err(IoFault)
 }
 
+/// Flushes, again where a flush is interrupted.
+fn flush<W: Output>(writer: &mut W) -> Result<(), IoFault>
+    ensures bytes { Keeps (W.written writer.old) (W.written writer.new) }
+    ensures monotone { W.fault_count writer.old ≤ W.fault_count writer.new }
+    ensures fault { OnErr result (Rose (W.fault_count writer.old) (W.fault_count writer.new)) }
+    ensures tried { OnErr result (GaveUp (W.failure_count writer.old) (W.failure_count writer.new)
+        (W.fault_count writer.old) (W.fault_count writer.new)) }
+{
+    for _ in 0..TRIES {
+        match writer.flush() {
+            Ok(()) => return Ok(()),
+            Err(e) => {
+                if !is_interrupted(&e) {
+                    return Err(IoFault);
+                }
+            }
+        }
+    }
+    Err(IoFault)
+}
+
 /// Writes all the bytes, mostly by one write, and does not flush. After a fault a front of them
-/// was written.
+/// was written. A write that is interrupted is made again; 1,000,000 in a row are a fault.
 pub fn write_all<W: Output>(writer: &mut W, bytes: &[u8]) -> Result<(), IoFault>
     ensures ok { OnOk result (Appends (W.written writer.old) (W.written writer.new) bytes.now) }
     ensures front { AppendsFront (W.written writer.old) (W.written writer.new) bytes.now }
@@ -82,15 +117,12 @@ pub fn write_all<W: Output>(writer: &mut W, bytes: &[u8]) -> Result<(), IoFault>
 }
 
 /// Writes all the bytes, mostly by one write, and flushes. After a fault a front of them was
-/// written.
+/// written. A write or a flush that is interrupted is made again; 1,000,000 in a row are a fault.
 pub fn send<W: Output>(writer: &mut W, bytes: &[u8]) -> Result<(), IoFault>
     ensures sent { Sends (is_err result) (W.written writer.old) (W.written writer.new) bytes.now }
     ensures monotone { W.fault_count writer.old ≤ W.fault_count writer.new }
     ensures fault { OnErr result (Rose (W.fault_count writer.old) (W.fault_count writer.new)) }
 {
     write_all(writer, bytes)?;
-    match writer.flush() {
-        Ok(()) => Ok(()),
-        Err(_) => Err(IoFault),
-    }
+    flush(writer)
 }

@@ -1,16 +1,16 @@
 //! Reading into a buffer.
 ghost use Rattle.std.specs.Prelude.{◌≡◌, ◌<◌, ◌≤◌, ◌+◌, ◌⊎◌, ℕ, List, [], ◌++◌, length, IfOk, OnErr, IfErr};
 ghost use Rattle.std.specs.Io.KnownBytes.{Keeps, IsAtEnd, prepend_known};
-ghost use Rattle.hub_http.specs.Counts.{Rose};
+ghost use Rattle.hub_http.specs.Counts.{Rose, GaveUp};
 
 use crate::fault::HttpFault;
 use crate::input::Input;
-use std::io::ErrorKind;
+use crate::output::is_interrupted;
 
 /// The most bytes of one read.
 pub(crate) const BLOCK: usize = 4096;
 
-/// How often a read that is interrupted is made again.
+/// How often a read is made, where each is interrupted.
 const TRIES: u32 = 1_000_000;
 
 /// Reads some more bytes, at most so many, to the end of those that are held, none only at the
@@ -32,6 +32,8 @@ pub(crate) fn read_more<R: Input>(
     ensures err { IfErr result (λ e. (e ≡ HttpFault.NoMemory) ⊎ (e ≡ HttpFault.IoFault)) }
     ensures monotone { R.fault_count reader.old ≤ R.fault_count reader.new }
     ensures fault { IfErr result (λ e. e ≡ HttpFault.IoFault → Rose (R.fault_count reader.old) (R.fault_count reader.new)) }
+    ensures tried { IfErr result (λ e. e ≡ HttpFault.IoFault → GaveUp (R.failure_count reader.old) (R.failure_count reader.new)
+        (R.fault_count reader.old) (R.fault_count reader.new)) }
 {
     let size = most.min(BLOCK);
     if held.reserve(size).is_err() {
@@ -47,7 +49,7 @@ pub(crate) fn read_more<R: Input>(
                 return Ok(n);
             }
             Err(e) => {
-                if e.kind() != ErrorKind::Interrupted {
+                if !is_interrupted(&e) {
                     return Err(HttpFault::IoFault);
                 }
             }

@@ -1,3 +1,4 @@
+use crate::requests::fill;
 use crate::{HttpFault, Input, Request, Requests, Tally};
 use std::alloc::Global;
 use std::io;
@@ -37,12 +38,22 @@ impl Read for Failing<'_> {
     }
 }
 
-/// The requests of a text, and why no more came.
+/// The requests of a text, and why no more came. No text of these tests has more than a hundred.
 fn read_all(alloc: Global, text: &[u8]) -> (Vec<Request>, Option<HttpFault>) {
     let mut requests = Requests::new(alloc, Tally::new(text));
     let mut out = Vec::new(alloc);
-    let end = requests.read_all(&mut out);
-    (out, end)
+    for _ in 0..100 {
+        match requests.next() {
+            Ok(Some(request)) => {
+                if out.push(request).is_err() {
+                    return (out, Some(HttpFault::NoMemory));
+                }
+            }
+            Ok(None) => return (out, None),
+            Err(e) => return (out, Some(e)),
+        }
+    }
+    (out, Some(HttpFault::IoFault))
 }
 
 /// How many requests the text has, and why no more came.
@@ -294,6 +305,34 @@ fn long_bodies(rt: HostRuntime) -> Result<(), Fail> {
         assert_eq!(rt; (requests.len(), end), (2, None), "{len}");
         assert_eq!(rt; requests[0].body.as_slice(), body.as_slice());
         assert_eq!(rt; requests[1].body.as_slice(), b"abc".as_slice());
+    }
+    Ok(())
+}
+
+#[test]
+fn room_for_what_came(rt: HostRuntime) -> Result<(), Fail> {
+    let mut text = Vec::new(rt.alloc());
+    for _ in 0..100_000 {
+        text.push(b'a')?;
+    }
+    // So many bytes are announced and come, and for so many there is room then.
+    let cases = [
+        (8_388_608, 3, 65_536),
+        (8_388_608, 65_537, 131_072),
+        (8_388_608, 100_000, 131_072),
+        (100_000, 100_000, 100_000),
+        (100_000, 70_000, 100_000),
+        (5000, 5000, 5000),
+        (5000, 1, 5000),
+    ];
+    for (wanted, come, room) in cases {
+        let mut reader = Tally::new(&text[..come.min(text.len())]);
+        let mut held = Vec::new(rt.alloc());
+        let full = fill(&mut reader, &mut held, wanted)?;
+        assert_eq!(rt;
+            (full, held.len(), held.capacity()),
+            (come == wanted, come, room)
+        );
     }
     Ok(())
 }

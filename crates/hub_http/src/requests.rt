@@ -1,8 +1,9 @@
 //! The requests that a reader's bytes spell.
-ghost use Rattle.std.specs.Prelude.{◌≡◌, ◌<◌, ◌≤◌, ◌+◌, ◌⊎◌, ℕ, List, [], ◌++◌, length, take, drop, IfOk, IfErr, IfSome, IsNone, OnOk, IsTrue, IsFalse, map};
+ghost use Rattle.std.specs.Prelude.{◌≡◌, ◌<◌, ◌≤◌, ◌+◌, ◌⊎◌, ℕ, List, ◌++◌, length, min, max, take, drop, IfOk, IfErr, IfSome, OnOk, IsTrue, IsFalse};
 ghost use Rattle.std.specs.Io.KnownBytes.{Keeps, IsAtEnd, prepend_known};
 ghost use Rattle.hub_http.specs.Counts.{Rose};
-ghost use Rattle.hub_http.specs.Stream.{Asked, Leaves, Spells, SpellsAll, asked_by, known};
+ghost use Rattle.hub_http.specs.Stream.{Asked, Leaves, Spells, known};
+ghost use Rattle.hub_http.specs.Exclusions.{SpelledHasNoFault, NothingSpellsNothing, NothingHasNoFault, HeadHasOneFault, HeadFaultIsNamed, WholeHeadHasOneFault, OtherFaultsAreOpen};
 ghost use Rattle.hub_http.specs.Looking.{Finds};
 
 use crate::fault::HttpFault;
@@ -47,8 +48,19 @@ fn find_head<R: Input>(
     }
 }
 
-/// Reads until so many bytes are held, and answers whether they came.
-fn fill<R: Input>(reader: &mut R, held: &mut Vec<u8>, wanted: usize) -> Result<bool, HttpFault>
+/// The room that is made at once for bytes that did not come yet.
+const FIRST_ROOM: usize = 65_536;
+
+/// To how many bytes what is held may grow, where so many are held: by as many again, by 65,536 at
+/// least, and never past those that are wanted.
+fn room(held: usize, wanted: usize) -> usize
+    ensures { result ≡ min wanted (held + max held 65536) }
+{
+    wanted.min(held.saturating_add(held.max(FIRST_ROOM)))
+}
+
+/// Makes room for so many bytes and reads until they are held, and answers whether they came.
+fn fill_room<R: Input>(reader: &mut R, held: &mut Vec<u8>, wanted: usize) -> Result<bool, HttpFault>
     ensures kept { Keeps (prepend_known held.old.items (R.left reader.old))
         (prepend_known held.new.items (R.left reader.new)) }
     ensures grown { (more : List ℕ) × (held.new.items ≡ held.old.items ++ more) }
@@ -58,13 +70,43 @@ fn fill<R: Input>(reader: &mut R, held: &mut Vec<u8>, wanted: usize) -> Result<b
     ensures monotone { R.fault_count reader.old ≤ R.fault_count reader.new }
     ensures fault { IfErr result (λ e. e ≡ HttpFault.IoFault → Rose (R.fault_count reader.old) (R.fault_count reader.new)) }
 {
-    if held.reserve(wanted.saturating_sub(held.len())).is_err() {
+    if held
+        .reserve_exact(wanted.saturating_sub(held.len()))
+        .is_err()
+    {
         return Err(HttpFault::NoMemory);
     }
     while held.len() < wanted {
         match read_more(reader, held, wanted - held.len()) {
             Ok(0) => return Ok(false),
             Ok(_) => {}
+            Err(e) => return Err(e),
+        }
+    }
+    Ok(true)
+}
+
+/// Reads until so many bytes are held, and answers whether they came. The room for them grows with
+/// those that came.
+pub(crate) fn fill<R: Input>(
+    reader: &mut R,
+    held: &mut Vec<u8>,
+    wanted: usize,
+) -> Result<bool, HttpFault>
+    ensures kept { Keeps (prepend_known held.old.items (R.left reader.old))
+        (prepend_known held.new.items (R.left reader.new)) }
+    ensures grown { (more : List ℕ) × (held.new.items ≡ held.old.items ++ more) }
+    ensures full { IfOk result (λ full. IsTrue full → wanted ≤ length held.new.items) }
+    ensures cut { IfOk result (λ full. IsFalse full → (length held.new.items < wanted) × IsAtEnd (R.left reader.new)) }
+    ensures err { IfErr result (λ e. (e ≡ HttpFault.NoMemory) ⊎ (e ≡ HttpFault.IoFault)) }
+    ensures monotone { R.fault_count reader.old ≤ R.fault_count reader.new }
+    ensures fault { IfErr result (λ e. e ≡ HttpFault.IoFault → Rose (R.fault_count reader.old) (R.fault_count reader.new)) }
+{
+    while held.len() < wanted {
+        let goal = room(held.len(), wanted);
+        match fill_room(reader, held, goal) {
+            Ok(true) => {}
+            Ok(false) => return Ok(false),
             Err(e) => return Err(e),
         }
     }
@@ -197,13 +239,20 @@ impl<R: Input> Requests<R> {
 
     /// The next request, `None` at the end of the input. After a fault but want of memory each
     /// call answers `Ended`, and reads nothing. After want of memory the same call reads on where
-    /// it stood.
+    /// it stood. Each call of one that is open may find no memory, also one that would answer
+    /// `None` or a fault, since a read takes room before it is known what comes.
+    ///
+    /// A read that is interrupted is made again; after 1,000,000 in a row that were, the call
+    /// answers `IoFault`.
     ///
     /// Cost: bytes are read in blocks of at most 4,096 and copied into the held bytes and from
     /// there into the request; a body of more than 4,096 bytes is moved once and not copied again.
     /// A head that comes in k reads is parsed k times, each time from its front,
-    /// over at most 16,384 bytes; the reads of a body parse nothing. Room for a body is reserved
-    /// once, and what is read behind a request, less than a block, is moved to the front once a
+    /// over at most 16,384 bytes; the reads of a body parse nothing. Room for a body is made as its
+    /// bytes come, whatever `Content-Length` says: for 65,536 bytes at first, then for as many
+    /// again as are held, and never for more than the request has. So a body of fewer costs one
+    /// reservation, and a longer one is copied where its room grows, in all less than twice its
+    /// length. What is read behind a request, less than a block, is moved to the front once a
     /// request.
     pub fn next(&mut self) -> Result<Option<Request>, HttpFault>
         ensures told { IsOpen self.old → IfSome (to_come R.left self.old)
@@ -230,34 +279,22 @@ impl<R: Input> Requests<R> {
             }
         }
     }
-
-    /// Reads requests until none comes, and answers why, `None` at the end of the input.
-    /// After 2^64 - 1 requests it answers `IoFault`.
-    pub fn read_all(&mut self, out: &mut Vec<Request>) -> Option<HttpFault>
-        requires open { IsOpen self.old }
-        requires empty { out.old.items ≡ [] }
-        ensures told { IfSome (to_come R.left self.old)
-            (λ bytes. SpellsAll bytes (map asked_by out.new.items) result) }
-        ensures open { IsNone result → IsOpen self.new }
-        ensures closed { IfSome result (λ e. ¬ (e ≡ HttpFault.NoMemory) → HasEnded self.new) }
-    {
-        for _ in 0..u64::MAX {
-            match self.next() {
-                Ok(Some(request)) => {
-                    if out.push(request).is_err() {
-                        return Some(HttpFault::NoMemory);
-                    }
-                }
-                Ok(None) => return None,
-                Err(e) => return Some(e),
-            }
-        }
-        self.ended = true;
-        Some(HttpFault::IoFault)
-    }
 }
 
 /// Bytes spell at most one request at their front.
 pub fn one_reading()
     ensures { (bytes : List ℕ) (a b : Asked) (r q : List ℕ) → Spells bytes a r → Spells bytes b q → (a ≡ b) × (r ≡ q) }
+{}
+
+/// Bytes that spell a request have no fault, nor have no bytes; bytes that begin with a whole head
+/// have at most one. Only of bytes that begin with none more than one fault may be true: a bad
+/// head, a head too long, and an end in the middle.
+pub fn one_verdict()
+    ensures spelled { SpelledHasNoFault }
+    ensures nothing_spelled { NothingSpellsNothing }
+    ensures nothing_faulty { NothingHasNoFault }
+    ensures head { HeadHasOneFault }
+    ensures named { HeadFaultIsNamed }
+    ensures whole { WholeHeadHasOneFault }
+    ensures open { OtherFaultsAreOpen }
 {}

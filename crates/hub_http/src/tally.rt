@@ -3,7 +3,7 @@ ghost use Rattle.std.specs.Prelude.{◌≡◌};
 ghost use Rattle.hub_http.specs.Counts.{bumped};
 
 use crate::input::Input;
-use crate::output::Output;
+use crate::output::{Output, is_interrupted};
 use std::io;
 use std::io::{Read, Write};
 
@@ -12,21 +12,24 @@ use std::io::{Read, Write};
 pub struct Tally<T> {
     inner: T,
     faults: u64,
+    failures: u64,
     reads: u64,
 }
 
 impl<T> Tally<T> {
-    ghost use Rattle.hub_http.specs.Words.{inner_of, faults_counted, reads_counted};
+    ghost use Rattle.hub_http.specs.Words.{inner_of, faults_counted, failures_counted, reads_counted};
 
     /// Nothing is counted yet.
     pub fn new(inner: T) -> Tally<T>
         ensures inner { inner_of result ≡ inner }
         ensures faults { faults_counted result ≡ 0 }
+        ensures failures { failures_counted result ≡ 0 }
         ensures reads { reads_counted result ≡ 0 }
     {
         Tally {
             inner,
             faults: 0,
+            failures: 0,
             reads: 0,
         }
     }
@@ -38,6 +41,7 @@ impl<T> Tally<T> {
         let Tally {
             inner,
             faults: _,
+            failures: _,
             reads: _,
         } = self;
         inner
@@ -56,13 +60,18 @@ impl<T: Read> Input for Tally<T> {
 
     ghost fault_count = { λ t. t.faults };
 
+    ghost failure_count = { λ t. t.failures };
+
     ghost read_count = { λ t. t.reads };
 
     fn read(&mut self, buf: &mut [u8]) -> io::Result<usize> {
         self.reads = bump(self.reads);
         let outcome = self.inner.read(buf);
-        if outcome.is_err() {
+        if let Err(e) = &outcome {
             self.faults = bump(self.faults);
+            if !is_interrupted(e) {
+                self.failures = bump(self.failures);
+            }
         }
         outcome
     }
@@ -81,22 +90,33 @@ impl<T: Write> Output for Tally<T> {
 
     ghost fault_count = { λ t. t.faults };
 
+    ghost failure_count = { λ t. t.failures };
+
     fn write(&mut self, buf: &[u8]) -> io::Result<usize> {
         let outcome = self.inner.write(buf);
-        let faulted = match &outcome {
-            Ok(n) => *n == 0 && !buf.is_empty(),
-            Err(_) => true,
+        let (faulted, failed) = match &outcome {
+            Ok(n) => {
+                let refused = *n == 0 && !buf.is_empty();
+                (refused, refused)
+            }
+            Err(e) => (true, !is_interrupted(e)),
         };
         if faulted {
             self.faults = bump(self.faults);
+        }
+        if failed {
+            self.failures = bump(self.failures);
         }
         outcome
     }
 
     fn flush(&mut self) -> io::Result<()> {
         let outcome = self.inner.flush();
-        if outcome.is_err() {
+        if let Err(e) = &outcome {
             self.faults = bump(self.faults);
+            if !is_interrupted(e) {
+                self.failures = bump(self.failures);
+            }
         }
         outcome
     }

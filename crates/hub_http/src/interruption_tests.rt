@@ -1,0 +1,173 @@
+use crate::{HttpFault, Input, IoFault, Output, Requests, Tally, send, write_all};
+use std::alloc::Global;
+use std::io;
+use std::io::{ErrorKind, Read, Write};
+use std::test::Fail;
+
+/// How often a call that is interrupted is made.
+const TRIES: u32 = 1_000_000;
+
+/// An interruption, where some are left.
+fn interrupt(left: &mut u32) -> io::Result<()> {
+    if *left == 0 {
+        return Ok(());
+    }
+    *left -= 1;
+    Err(io::Error::from(ErrorKind::Interrupted))
+}
+
+/// Gives one byte a read, and is interrupted before: so often before the first, and so often before
+/// each other.
+#[derive(Drop)]
+struct Halting<'a> {
+    text: &'a [u8],
+    left: u32,
+    times: u32,
+}
+
+impl Read for Halting<'_> {
+    fn read(&mut self, buf: &mut [u8]) -> io::Result<usize> {
+        interrupt(&mut self.left)?;
+        self.left = self.times;
+        if buf.is_empty() {
+            return Ok(0);
+        }
+        self.text.read(&mut buf[..1])
+    }
+}
+
+/// Takes one byte a write, and is interrupted before as `Halting` is, and so often before a flush.
+#[derive(Drop)]
+struct Stopping {
+    held: Vec<u8>,
+    left: u32,
+    times: u32,
+    flush_left: u32,
+    flushes: u32,
+}
+
+impl Write for Stopping {
+    fn write(&mut self, buf: &[u8]) -> io::Result<usize> {
+        interrupt(&mut self.left)?;
+        self.left = self.times;
+        let n = buf.len().min(1);
+        self.held.extend_from_slice(&buf[..n])?;
+        Ok(n)
+    }
+
+    fn flush(&mut self) -> io::Result<()> {
+        interrupt(&mut self.flush_left)?;
+        self.flushes = self.flushes.saturating_add(1);
+        Ok(())
+    }
+}
+
+fn writer_of(alloc: Global, left: u32, times: u32, flush_left: u32) -> Tally<Stopping> {
+    Tally::new(Stopping {
+        held: Vec::new(alloc),
+        left,
+        times,
+        flush_left,
+        flushes: 0,
+    })
+}
+
+const TEXT: &[u8] = b"PUT /d HTTP/1.1\r\nContent-Length: 3\r\n\r\nabcGET /e HTTP/1.1\r\n\r\n";
+
+#[test]
+fn interrupted_reads(rt: HostRuntime) -> Result<(), Fail> {
+    for times in [1, 3] {
+        let mut requests = Requests::new(
+            rt.alloc(),
+            Tally::new(Halting {
+                text: TEXT,
+                left: times,
+                times,
+            }),
+        );
+        match requests.next()? {
+            Some(q) => assert_eq!(rt;
+                (q.target.as_slice(), q.body.as_slice()),
+                (b"/d".as_slice(), b"abc".as_slice())
+            ),
+            None => assert!(rt; false),
+        }
+        match requests.next()? {
+            Some(q) => assert_eq!(rt;
+                (q.target.as_slice(), q.body.as_slice()),
+                (b"/e".as_slice(), b"".as_slice())
+            ),
+            None => assert!(rt; false),
+        }
+        assert!(rt; requests.next()?.is_none());
+        let interruptions = (TEXT.len() as u64 + 1) * u64::from(times);
+        assert_eq!(rt; Input::faults(requests.reader()), interruptions);
+    }
+    Ok(())
+}
+
+#[test]
+fn reads_interrupted_too_often(rt: HostRuntime) -> Result<(), Fail> {
+    let mut requests = Requests::new(
+        rt.alloc(),
+        Tally::new(Halting {
+            text: TEXT,
+            left: TRIES - 1,
+            times: 0,
+        }),
+    );
+    assert!(rt; requests.next()?.is_some());
+    let mut requests = Requests::new(
+        rt.alloc(),
+        Tally::new(Halting {
+            text: TEXT,
+            left: TRIES,
+            times: 0,
+        }),
+    );
+    assert!(rt; matches!(requests.next(), Err(HttpFault::IoFault)));
+    assert_eq!(rt; requests.reader().reads(), u64::from(TRIES));
+    assert!(rt; matches!(requests.next(), Err(HttpFault::Ended)));
+    Ok(())
+}
+
+/// How `write_all` ends where the writer is interrupted so often, and what it took.
+fn written(alloc: Global, left: u32, times: u32) -> (Result<(), IoFault>, Vec<u8>) {
+    let mut writer = writer_of(alloc, left, times, 0);
+    let outcome = write_all(&mut writer, TEXT);
+    (outcome, writer.into_inner().held)
+}
+
+#[test]
+fn interrupted_writes(rt: HostRuntime) {
+    let cases = [(1, 1), (3, 3), (TRIES - 1, 0)];
+    for (left, times) in cases {
+        let (outcome, held) = written(rt.alloc(), left, times);
+        assert_eq!(rt; outcome, Ok(()));
+        assert_eq!(rt; held.as_slice(), TEXT);
+    }
+}
+
+#[test]
+fn writes_interrupted_too_often(rt: HostRuntime) {
+    let (outcome, held) = written(rt.alloc(), TRIES, 0);
+    assert_eq!(rt; outcome, Err(IoFault));
+    assert!(rt; held.is_empty());
+}
+
+/// How `send` ends where the flush is interrupted so often, and how many bytes were taken and
+/// flushes made.
+fn sent(alloc: Global, times: u32) -> (Result<(), IoFault>, usize, u32) {
+    let mut writer = writer_of(alloc, 0, 1, times);
+    let outcome = send(&mut writer, b"abc");
+    let Stopping { held, flushes, .. } = writer.into_inner();
+    (outcome, held.len(), flushes)
+}
+
+#[test]
+fn interrupted_flushes(rt: HostRuntime) {
+    assert_eq!(rt; sent(rt.alloc(), 0), (Ok(()), 3, 1));
+    assert_eq!(rt; sent(rt.alloc(), 3), (Ok(()), 3, 1));
+    assert_eq!(rt; sent(rt.alloc(), TRIES - 1), (Ok(()), 3, 1));
+    assert_eq!(rt; sent(rt.alloc(), TRIES), (Err(IoFault), 3, 0));
+}
