@@ -16,6 +16,8 @@ struct Rows {
     next: u64,
     /// The stream stops in place of its End.
     stops: bool,
+    /// How many streams were not sent on.
+    dropped: usize,
 }
 
 fn two_rows(alloc: Global) -> Rows {
@@ -24,6 +26,7 @@ fn two_rows(alloc: Global) -> Rows {
         mode: Mode::Normal,
         next: 0,
         stops: false,
+        dropped: 0,
     }
 }
 
@@ -53,6 +56,8 @@ impl Service for Rows {
     ghost answer_gives = { λ _ _ _ _. Unit {0} };
 
     ghost item_gives = { λ _ _ _. Unit {0} };
+
+    ghost drop_gives = { λ _ _. Unit {0} };
 
     fn answer(&mut self, request: &Request) -> Answer {
         match request.target.as_slice() {
@@ -88,6 +93,10 @@ impl Service for Rows {
                 })
             }
         }
+    }
+
+    fn drop_stream(&mut self) {
+        self.dropped = self.dropped.saturating_add(1);
     }
 }
 
