@@ -40,11 +40,12 @@ abbrev pub Writes : ℕ → Database → Step → Result (Vec ℕ Global) Refusa
 Writes status old step (Ok body) new = (step.said ≡ Body status body.items) × (new ≡ step.state)
 Writes status old step (Err e) new = ((step.said ≡ Refusing e) × (new ≡ step.state)) ⊎ ((e ≡ NoMemory) × ((new ≡ old) ⊎ (new ≡ step.state)))
 
--- a call whose answer is made before what it changes came out so and left the database new: where memory was missing,
--- as it was
+-- a call whose answer is made before what it changes came out so and left the database new: where memory was
+-- missing, as it was
 abbrev pub Keeps : ℕ → Database → Step → Result (Vec ℕ Global) Refusal → Database → Type 0
 Keeps status old step (Ok body) new = (step.said ≡ Body status body.items) × (new ≡ step.state)
-Keeps status old step (Err e) new = ((step.said ≡ Refusing e) × (new ≡ step.state)) ⊎ ((e ≡ NoMemory) × (new ≡ old))
+Keeps status old step (Err e) new =
+    ((step.said ≡ Refusing e) × (new ≡ step.state)) ⊎ ((e ≡ NoMemory) × (new ≡ old))
 
 -- documents were stored one after the other with these outcomes, and left the database new
 pub record HasStored (new_edits : Bool) (old : Database) (docs : List Doc) (outcomes : List (Outcome Revision)) (new : Database) : Type 0 where
@@ -95,11 +96,13 @@ Goes step may (Err e) new = ((step.said ≡ Refusing e) × (new ≡ step.hub)) �
 
 -- the database of the name stands at this place, and calls go to it
 abbrev pub IsFound : Hub → List ℕ → ℕ → Type 0
-IsFound h name at = (d : Named) × StandsAt h name at d × (find (has_name name) h.databases ≡ Some d) × (is_name name ≡ true)
+IsFound h name at = (d : Named) × StandsAt h name at d
+    × (find (has_name name) h.databases ≡ Some d) × (is_name name ≡ true)
     × ((c : Call) (body : List ℕ) → calls_at h name c body ≡ calls_on h name c body (Some d))
 
 -- a call on the database at this place came out so, and left the hub k
 abbrev pub CameAt : Call → List ℕ → Hub → ℕ → Result Response Refusal → Hub → Type 0
 CameAt c body h at result k = (d : Named) → slice_get h.databases at ≡ Some d
-    → (new : Database) × CameOut (calls c d.name body d.state) (MayLeaveStanding c d.name body d.state) result new
+    → (new : Database)
+    × CameOut (calls c d.name body d.state) (MayLeaveStanding c d.name body d.state) result new
     × (k ≡ record h { databases = set h.databases at (record d { state = new }) })

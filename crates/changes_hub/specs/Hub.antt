@@ -141,12 +141,12 @@ Says (Whole (Refused refusal)) (Refusing r) = refusal ≡ r
 Says (Stream mode) (Feeding feed) = mode ≡ Normal
 Says answer said = ⊥
 
--- what a call that found no memory may leave of a database. Three calls may have an effect that is not answered. Of a
--- batch documents from its front may stand. The answer to a document that is put or deleted names the revision that the
--- edit makes, so its text comes behind the edit, which may stand without it. Any other call leaves all as it was: what
--- it answers is made before what it changes.
--- Putting the document a finds no memory for the answer: the edit stands, or it does not; putting the local document
--- a finds none: it was not kept.
+-- what a call that found no memory may leave of a database. Three calls may have an effect that is not
+-- answered. Of a batch documents from its front may stand. The answer to a document that is put or deleted
+-- names the revision that the edit makes, so its text comes behind the edit, which may stand without it. Any
+-- other call leaves all as it was: what it answers is made before what it changes. Putting the document a
+-- finds no memory for the answer: the edit stands, or it does not; putting the local document a finds none:
+-- it was not kept.
 abbrev pub MayLeave : Call → List ℕ → List ℕ → Database → Database → Type 0
 MayLeave BulkDocs name body db new = (new ≡ db) ⊎ ((batch : Batch) × (batch_in body ≡ Ok batch) × HasFront db batch new)
 MayLeave (PutDocument id query) name body db new =
@@ -155,12 +155,13 @@ MayLeave (DeleteDocument id query) name body db new =
     (new ≡ db) ⊎ (new ≡ (calls (DeleteDocument id query) name body db).state)
 MayLeave c name body db new = new ≡ db
 
--- a call finds no memory, and leaves this of a database: never of one that was deleted, which is refused in spite of it
+-- a call finds no memory, and leaves this of a database: never of one that was deleted, which is refused in
+-- spite of it
 abbrev pub MayLeaveStanding : Call → List ℕ → List ℕ → Database → Database → Type 0
 MayLeaveStanding c name body db new = (db.deleted ≡ false) × MayLeave c name body db new
 
--- a call on the database of a name finds no memory, and leaves the hub k: a bad name and one that no database has are
--- refused in spite of it
+-- a call on the database of a name finds no memory, and leaves the hub k: a bad name and one that no database
+-- has are refused in spite of it
 abbrev pub MayLeaveBy : Hub → List ℕ → Call → List ℕ → Hub → Type 0
 MayLeaveBy h name c body k =
     (d : Named) × (new : Database) × (is_name name ≡ true) × (find (has_name name) h.databases ≡ Some d)
@@ -176,7 +177,8 @@ MayLeaveAt h body (AtDatabase name c) k = MayLeaveBy h (string_bytes name) c bod
 MayLeaveAt h body Greeting k = k ≡ h
 MayLeaveAt h body (NewDatabase name) k = MayLeaveUnmade h (string_bytes name) k
 
--- a request that goes there finds no memory, and leaves the hub k: one that goes nowhere is refused in spite of it
+-- a request that goes there finds no memory, and leaves the hub k: one that goes nowhere is refused in spite
+-- of it
 abbrev pub MayLeaveTo : Hub → List ℕ → Result Route RouteFault → Hub → Type 0
 MayLeaveTo h body (Err fault) k = ⊥
 MayLeaveTo h body (Ok route) k = MayLeaveAt h body (target_of route) k
@@ -248,13 +250,15 @@ HubGives h item k =
 
 -- ---- a feed that is not sent on
 
--- the hub once the feed of this number, of the database at a place, is finished: it is not sent, and its database
--- does not keep it, so that it counts no more against the most that may be open
+-- the hub once the feed of this number, of the database at a place, is finished: it is not sent, and its
+-- database does not keep it, so that it counts no more against the most that may be open
 abbrev pub finishes : Hub → ℕ → ℕ → Option Named → Hub
 finishes h at id None = unsent h
-finishes h at id (Some d) = unsent (record h { databases = set h.databases at (record d { state = finished d.state id }) })
+finishes h at id (Some d) =
+    unsent (record h { databases = set h.databases at (record d { state = finished d.state id }) })
 
--- the hub once this feed of the database at a place is given back; an answer that was made at once has nothing there
+-- the hub once this feed of the database at a place is given back; an answer that was made at once has
+-- nothing there
 abbrev pub gives_back : Hub → ℕ → Feed → Hub
 gives_back h at (Listed left) = unsent h
 gives_back h at (Followed id) = finishes h at id.number (slice_get h.databases at)

@@ -337,12 +337,12 @@ fn refused_feeds(rt: HostRuntime) -> Result<(), Fail> {
     Ok(())
 }
 
-/// The answer to HEAD of a feed holds no feed open: with one feed at a time the next is shown.
+/// HEAD is no method of a feed, and holds none open: with one feed at a time the next is shown.
 #[test]
 fn heads_of_feeds(rt: HostRuntime) -> Result<(), Fail> {
     let mut session = Session::new(rt.alloc(), r#"{"docs":[],"new_edits":false}"#)?;
     let head =
-        "HTTP/1.1 200 OK\r\nContent-Type: application/json\r\nTransfer-Encoding: chunked\r\n\r\n";
+        "HTTP/1.1 405 Method Not Allowed\r\nContent-Type: application/json\r\nContent-Length: 61\r\n\r\n";
     for line in ["/d/_changes", "/d/_changes?descending=true", "/d/_changes"] {
         let asked = request(
             rt.alloc(),

@@ -48,15 +48,15 @@ items_text mode rows (item ∷ items) = sent_text mode rows item ++ items_text m
 abbrev pub feed_text : Mode → List (Item ChangeRow) → List ℕ
 feed_text mode items = text_chunks (feed_head mode) ++ items_text mode 0 items
 
--- the stream is not sent on once the service, now at s, gave this item: behind a row or a beat the service gives
--- back what the stream holds, and behind an End the stream holds nothing
+-- the stream is not sent on once the service, now at s, gave this item: behind a row or a beat the service
+-- gives back what the stream holds, and behind an End the stream holds nothing
 abbrev pub GivesBack : {S : Type 0} → Drops S → Item ChangeRow → S → S → Type 0
 GivesBack drops (Row row) s t = drops s t
 GivesBack drops Beat s t = drops s t
 GivesBack drops (End last_seq pending) s t = t ≡ s
 
--- from s, a stream that sent so many items may end so before its End, and leave t: in each case the service gives
--- back what the stream holds. For want of memory an item is lost that the service gave.
+-- from s, a stream that sent so many items may end so before its End, and leave t: in each case the service
+-- gives back what the stream holds. For want of memory an item is lost that the service gave.
 abbrev pub StopsSo : {S : Type 0} → Gives S → Drops S → ℕ → S → StreamEnd → S → Type 0
 StopsSo gives drops sent s Complete t = ⊥
 StopsSo gives drops sent s Stopped t = (mid : _) × gives s None mid × drops mid t

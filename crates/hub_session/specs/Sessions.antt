@@ -56,18 +56,18 @@ after_stream close stream.NoMemory = Some Cut
 after_stream close stream.Broken = Some Broken
 after_stream close stream.Exhausted = Some Exhausted
 
--- behind the head of a stream the service may give these items and leave t, and the session goes on so. The answer
--- to HEAD has no items: the service gives back what the stream holds.
-abbrev pub StreamGoes : {S : Type 0} → Gives S → Drops S → Bool → Bool → S → List (Item ChangeRow) → Option Closing → S
-    → Type 0
+-- behind the head of a stream the service may give these items and leave t, and the session goes on so. The
+-- answer to HEAD has no items: the service gives back what the stream holds.
+abbrev pub StreamGoes : {S : Type 0} → Gives S → Drops S
+    → Bool → Bool → S → List (Item ChangeRow) → Option Closing → S → Type 0
 StreamGoes gives drops true close s items next t = drops s t × (items ≡ []) × (next ≡ after_answer close)
 StreamGoes gives drops false close s items next t =
     (end : StreamEnd) × Streams gives drops 0 s items end t × (next ≡ after_stream close end)
 
--- while such an answer is sent the service may go from s to t, and the session goes on so: where the other side can't
--- be written to, the session closes, and what a stream holds is given back
-abbrev pub Goes : {S : Type 0} → Gives S → Drops S → Answer → Bool → Bool → S → List (Item ChangeRow) → Option Closing
-    → S → Type 0
+-- while such an answer is sent the service may go from s to t, and the session goes on so: where the other
+-- side can't be written to, the session closes, and what a stream holds is given back
+abbrev pub Goes : {S : Type 0} → Gives S → Drops S
+    → Answer → Bool → Bool → S → List (Item ChangeRow) → Option Closing → S → Type 0
 Goes gives drops (Whole reply) head_only close s items next t =
     (t ≡ s) × (items ≡ []) × ((next ≡ after_answer close) ⊎ (next ≡ Some Broken))
 Goes gives drops (Stream mode) head_only close s items next t =
@@ -93,8 +93,8 @@ Closes bytes Exhausted text = ⊥
 abbrev pub GivesUp : ℕ → Closing → List ℕ → Type 0
 GivesUp served closing text = (closing ≡ Exhausted) × (text ≡ []) × (last_count ≤ served)
 
--- the bytes begin with a request that the service may answer so and leave t, the session closes so behind it, and its
--- answer has this text
+-- the bytes begin with a request that the service may answer so and leave t, the session closes so behind it,
+-- and its answer has this text
 pub record AnswersLast {S : Type 0} (answers : Answering S) (gives : Gives S) (drops : Drops S)
     (bytes : List ℕ) (s : S) (closing : Closing) (text : List ℕ) (t : S) : Type 0 where
   pub exchange : Exchange
@@ -103,22 +103,24 @@ pub record AnswersLast {S : Type 0} (answers : Answering S) (gives : Gives S) (d
   pub goes : Answers answers gives drops s exchange (Some closing) t
   pub text_is : text ≡ exchange_text exchange
 
--- behind so many requests a session may close so, with this text, and leave t: behind one more request, or where the
--- bytes begin with none, or where it gives up
+-- behind so many requests a session may close so, with this text, and leave t: behind one more request, or
+-- where the bytes begin with none, or where it gives up
 abbrev pub ClosesBy : {S : Type 0} → Answering S → Gives S → Drops S
     → ℕ → List ℕ → S → Closing → List ℕ → S → Type 0
 ClosesBy answers gives drops served bytes s closing text t =
     AnswersLast answers gives drops bytes s closing text t
     ⊎ ((t ≡ s) × (Closes bytes closing text ⊎ GivesUp served closing text))
 
--- behind so many requests, the bytes spell those of these exchanges, the service may answer them so, one after the
--- other, the session going on behind each, and then it closes so, with this text, and leaves t
+-- behind so many requests, the bytes spell those of these exchanges, the service may answer them so, one
+-- after the other, the session going on behind each, and then it closes so, with this text, and leaves t
 abbrev pub Session : {S : Type 0} → Answering S → Gives S → Drops S
     → ℕ → List ℕ → S → List Exchange → Closing → List ℕ → S → Type 0
-Session answers gives drops served bytes s [] closing text t = ClosesBy answers gives drops served bytes s closing text t
+Session answers gives drops served bytes s [] closing text t =
+    ClosesBy answers gives drops served bytes s closing text t
 Session answers gives drops served bytes s (x ∷ xs) closing text t =
     (rest : List ℕ) × (mid : _) × Spells bytes x.asked rest
-    × Answers answers gives drops s x None mid × Session answers gives drops (served + 1) rest mid xs closing text t
+    × Answers answers gives drops s x None mid
+    × Session answers gives drops (served + 1) rest mid xs closing text t
 
 -- writing to the other side failed
 abbrev pub is_broken : Closing → Bool
@@ -129,10 +131,10 @@ is_broken Cut = false
 is_broken Broken = true
 is_broken Exhausted = false
 
--- such bytes were served so: the texts of the exchanges behind which the session went on were written whole, one after
--- the other, and then the text that it closed with, or where that writing broke a front of it.
--- Two requests of which the second could not be answered, since the other side is gone: the text of the first, and
--- then a front of the text of the second, which is `last`.
+-- such bytes were served so: the texts of the exchanges behind which the session went on were written whole,
+-- one after the other, and then the text that it closed with, or where that writing broke a front of it. Two
+-- requests of which the second could not be answered, since the other side is gone: the text of the first,
+-- and then a front of the text of the second, which is `last`.
 pub record IsSession {S : Type 0} (answers : Answering S) (gives : Gives S) (drops : Drops S)
     (bytes : List ℕ) (s : S) (closing : Closing) (t : S) (old new : Option (List ℕ)) : Type 0 where
   pub exchanges : List Exchange  -- those behind which the session went on
@@ -149,7 +151,8 @@ breaks (Some closing) = is_broken closing
 
 -- the first request was answered so, and the bytes that are left are told
 pub record IsAnswered {S : Type 0} (answers : Answering S) (gives : Gives S) (drops : Drops S)
-    (bytes : List ℕ) (s : S) (next : Option Closing) (left : Option (List ℕ)) (t : S) (old new : Option (List ℕ)) : Type 0 where
+    (bytes : List ℕ) (s : S) (next : Option Closing) (left : Option (List ℕ)) (t : S)
+    (old new : Option (List ℕ)) : Type 0 where
   pub exchange : Exchange
   pub rest : List ℕ
   pub spelt : Spells bytes exchange.asked rest

@@ -197,8 +197,8 @@ fn send_items<W: Output, S: Service>(
 ///
 /// The end of a stream is flushed. In a longpoll or continuous feed the head and each item are
 /// flushed too, since the subscriber waits for them. What a stream wrote that stopped without its
-/// End may not be flushed, and what it holds is given back to the service. An item costs the length of its text, one write, and memory only where
-/// its text is longer than each one before.
+/// End may not be flushed; what it holds is given back to the service. An item costs the length of
+/// its text, one write, and memory only where its text is longer than each one before.
 pub fn stream_feed<W: Output, S: Service>(
     alloc: Global,
     writer: &mut W,
