@@ -16,8 +16,8 @@ use Rattle.changes_hub.specs.Bulk.{Batch, batch_in, readings, read_docs}
 use Rattle.changes_hub.specs.Calls.{HasFront, answers_standing, calls, stores}
 use Rattle.changes_hub.specs.Said.{Said, Body, Step, reads}
 use Rattle.changes_hub.specs.declared.databases.Sent.{Sent}
-use Rattle.changes_hub.specs.Came.{Responds, Reads, Writes, Stores, Begins, CameOut, CameAt, Goes, IsFound, HasStored, with_status}
-use Rattle.changes_hub.specs.Hub.{Hub, Named, MayLeave, MayLeaveBy, Says, after_call, feed_after, place_of, stored_at, with_state, calls_at}
+use Rattle.changes_hub.specs.Came.{Responds, Reads, Writes, Keeps, Stores, Begins, CameOut, CameAt, Goes, IsFound, HasStored, with_status}
+use Rattle.changes_hub.specs.Hub.{Hub, Named, MayLeave, MayLeaveStanding, MayLeaveBy, Says, after_call, feed_after, place_of, stored_at, with_state, calls_at}
 use Rattle.changes_hub.specs.declared.call.Call.{Call}
 use Rattle.changes_hub.specs.declared.call.Call.TheVariants.{BulkDocs}
 use Rattle.changes_hub.specs.declared.response.Response.{Response}
@@ -43,6 +43,11 @@ writes_came status old step (Ok body) new may m n h = (responds status body step
 writes_came status old step (Err e) new may m n (inl h) = inl h
 writes_came status old step (Err e) new may m n (inr (none, inl same)) = inr (none, subst may (sym same) m)
 writes_came status old step (Err e) new may m n (inr (none, inr done)) = inr (none, subst may (sym done) n)
+
+pub keeps_came : (status : ℕ) (old : Database) (step : Step) (r : Result (Vec ℕ Global) Refusal) (new : Database) (may : Database → Type 0) → may old → Keeps status old step r new → CameOut step may (with_status status r) new
+keeps_came status old step (Ok body) new may m h = (responds status body step.said h.0, h.1)
+keeps_came status old step (Err e) new may m (inl h) = inl h
+keeps_came status old step (Err e) new may m (inr (none, same)) = inr (none, subst may (sym same) m)
 
 pub stores_came : (old : Database) (name body : List ℕ) (r : Result (Vec ℕ Global) Refusal) (new : Database) → Stores (batch_in body) old r new
     → CameOut (stores old (batch_in body)) (MayLeave BulkDocs name body old) (with_status 201 r) new
@@ -93,15 +98,15 @@ module _ (h : Hub) (name : List ℕ) (c : Call) (body : List ℕ) (at : ℕ) (fo
       let place : at ≡ place_of h name = sym (ap (λ o. unwrap_or o 0) found.1.first) in
       let whole : final ≡ after_call h name step.said step.state = last ∙ (ap (λ (k : Hub). record k { feed = feed_after k.feed at step.said }) hub
       ∙ ap (λ n. record h { databases = with_state name step.state h.databases; feed = feed_after h.feed n step.said }) place) in
-      rw (found.3 c body) (said, whole)
+      rw (found.4 c body) (said, whole)
 
   pub call_err : (e : Refusal) (mid : Hub) → CameAt c body h at (Err e) mid → Goes (calls_at h name c body) (MayLeaveBy h name c body) (Err e) mid
   call_err e mid came = from (came d found.1.there)
     where
-      from : ((new : Database) × CameOut step (MayLeave c d.name body d.state) (Err e) new × (mid ≡ record h { databases = set h.databases at (record d { state = new }) }))
+      from : ((new : Database) × CameOut step (MayLeaveStanding c d.name body d.state) (Err e) new × (mid ≡ record h { databases = set h.databases at (record d { state = new }) }))
           → Goes (calls_at h name c body) (MayLeaveBy h name c body) (Err e) mid
       from (new, inl (said, state), changed) =
           let hub : mid ≡ stored_at h name step.state = mid_is new mid changed ∙ ap (stored_at h name) state in
           let whole : mid ≡ after_call h name step.said step.state = hub ∙ ap (λ s. after_call h name s step.state) (sym said) in
-          rw (found.3 c body) (inl (said, whole))
-      from (new, inr (none, may), changed) = inr (none, inr (d, new, found.2, may, mid_is new mid changed))
+          rw (found.4 c body) (inl (said, whole))
+      from (new, inr (none, may), changed) = inr (none, (d, new, found.3, found.2, may, mid_is new mid changed))

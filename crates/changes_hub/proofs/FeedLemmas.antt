@@ -15,7 +15,7 @@ use Rattle.hub_database.specs.Feeds.{changed, entry_in, item_due, handed}
 use Rattle.hub_session.specs.declared.closing.StreamEnd.TheVariants.{Complete}
 use Rattle.hub_session.specs.Feeds.{Streams}
 use Rattle.changes_hub.specs.Feeds.{is_end, behind, next_listed}
-use Rattle.changes_hub.specs.Hub.{Hub, Named, Given, HubGives, by_feed, gives_of, stops_of, gives_listed, gives_followed, stops_followed, hands, sent_after}
+use Rattle.changes_hub.specs.Hub.{Hub, Named, Given, HubGives, HubDrops, by_feed, gives_of, stops_of, gives_listed, gives_followed, stops_followed, hands, sent_after}
 use Rattle.changes_hub.specs.Laws.{CompleteFeedIsWhole, CompleteListIsWhole, whole_list}
 use Rattle.changes_hub.specs.declared.response.Feed.TheVariants.{Listed, Followed}
 use Rattle.changes_hub.proofs.DueLemmas.{Comes, begun_whole}
@@ -32,7 +32,7 @@ abbrev left_of : List ChangeRow → ℕ → ℕ → Descending
 left_of rows last_seq pending = record { rows = rows; last_seq = last_seq; pending = pending }
 
 -- it hands what is left, and its end
-list_whole : (items : List (Item ChangeRow)) (n : ℕ) (h t : Hub) (at : ℕ) (rows : List ChangeRow) (last pending : ℕ) → h.feed ≡ Some (record { at = at; feed = Listed (left_of rows last pending) }) → Streams HubGives n h items Complete t → items ≡ whole_list (left_of rows last pending)
+list_whole : (items : List (Item ChangeRow)) (n : ℕ) (h t : Hub) (at : ℕ) (rows : List ChangeRow) (last pending : ℕ) → h.feed ≡ Some (record { at = at; feed = Listed (left_of rows last pending) }) → Streams HubGives HubDrops n h items Complete t → items ≡ whole_list (left_of rows last pending)
 list_whole [] n h t at rows last pending f s = absurd s
 list_whole (Row row ∷ items) n h t at [] last pending f (mid, given, rest) = absurd (let e : Some (Row row) ≡ Some (End last pending) = ap (λ (g : Given). g.item) (listed_gives _ at h mid _ f given) in cc)
 list_whole (Row row ∷ items) n h t at (r ∷ rows) last pending f (mid, given, rest) =
@@ -116,7 +116,7 @@ module _ (h k : Hub) (at id : ℕ) (J : List Edit) (f : Feed) (item : Item Chang
       }
 
 -- the items of its stream come from it
-streams_come : (items : List (Item ChangeRow)) (n : ℕ) (h t : Hub) (at id : ℕ) (J : List Edit) (f : Feed) → IsAt h at id J f → Streams HubGives n h items Complete t → Comes J f items
+streams_come : (items : List (Item ChangeRow)) (n : ℕ) (h t : Hub) (at id : ℕ) (J : List Edit) (f : Feed) → IsAt h at id J f → Streams HubGives HubDrops n h items Complete t → Comes J f items
 streams_come [] n h t at id J f is s = s
 streams_come (Row row ∷ items) n h t at id J f is (mid, given, rest) =
     let hand = hands_due h mid at id J f (Row row) is given in

@@ -1,11 +1,14 @@
--- A session over the bytes of a reader.
+-- A session that a hub served.
 use Rattle.std.proofs.Common.{◌≡◌, List, ℕ, Option, Some, None, subst}
 use Rattle.std.specs.Prelude.{IfSome}
+use Rattle.hub_session.specs.Sessions.{IsSession}
+use Rattle.hub_session.specs.declared.closing.Closing.{Closing}
+use Rattle.changes_hub.specs.Hub.{Hub, HubAnswers, HubGives, HubDrops}
 
--- what holds of the bytes that were to come holds of those of the reader
-pub told_of : (come left : Option (List ℕ)) (P Q : List ℕ → Type 0) → come ≡ left → ((bytes : List ℕ) → P bytes → Q bytes) → IfSome come P → IfSome left Q
-told_of come left P Q e f h = from left (subst (λ o. IfSome o P) e h)
-  where
-    from : (o : Option (List ℕ)) → IfSome o P → IfSome o Q
-    from None h = tt
-    from (Some bytes) h = f bytes h
+module _ (closing : Closing) (old new : Option (List ℕ)) where
+  -- a session from a hub, by what that hub is
+  pub served_from : (bytes : Option (List ℕ)) (h k last : Hub) → h ≡ k
+      → IfSome bytes (λ b. IsSession HubAnswers HubGives HubDrops b h closing last old new)
+      → IfSome bytes (λ b. (last : Hub) × IsSession HubAnswers HubGives HubDrops b k closing last old new)
+  served_from None h k last e s = tt
+  served_from (Some b) h k last e s = (last, subst (λ z. IsSession HubAnswers HubGives HubDrops b z closing last old new) e s)

@@ -1,5 +1,5 @@
 -- How the calls of a database come out in the program (own).
-use Rattle.std.specs.Prelude.{◌≡◌, ◌⊎◌, ℕ, List, take, find, set, slice_get, Bool, Vec, Option, Some, None, Result, Ok, Err}
+use Rattle.std.specs.Prelude.{◌≡◌, ◌⊎◌, ℕ, List, take, find, set, slice_get, Bool, true, Vec, Option, Some, None, Result, Ok, Err}
 use Rattle.hub_model.specs.Revision.{Revision}
 use Rattle.hub_model.specs.declared.outcomes.Outcome.{Outcome}
 use Rattle.hub_document.specs.declared.doc.Doc.{Doc}
@@ -18,7 +18,8 @@ use Rattle.changes_hub.specs.Said.{Said, Body, Refusing, Feeding, Step}
 use Rattle.hub_session.specs.declared.service.Answer.{Answer}
 use Rattle.changes_hub.specs.Calls.{calls}
 use Rattle.changes_hub.specs.Hub as hub
-use Rattle.changes_hub.specs.Hub.{Hub, Named, StandsAt, IsStep, MayLeave, has_name, calls_at, calls_on}
+use Rattle.changes_hub.specs.Hub.{Hub, Named, StandsAt, IsStep, MayLeaveStanding, has_name, calls_at, calls_on}
+use Rattle.changes_hub.specs.Names.{is_name}
 use Rattle.changes_hub.specs.declared.call.Call.{Call}
 use Rattle.changes_hub.specs.declared.response.Response.{Response}
 use Rattle.changes_hub.specs.declared.response.Response.TheVariants as response
@@ -38,6 +39,13 @@ Reads status said (Err e) = (e ≡ NoMemory) ⊎ (said ≡ Refusing e)
 abbrev pub Writes : ℕ → Database → Step → Result (Vec ℕ Global) Refusal → Database → Type 0
 Writes status old step (Ok body) new = (step.said ≡ Body status body.items) × (new ≡ step.state)
 Writes status old step (Err e) new = ((step.said ≡ Refusing e) × (new ≡ step.state)) ⊎ ((e ≡ NoMemory) × ((new ≡ old) ⊎ (new ≡ step.state)))
+
+-- a call whose answer is made before what it changes came out so and left the database new: where memory was
+-- missing, as it was
+abbrev pub Keeps : ℕ → Database → Step → Result (Vec ℕ Global) Refusal → Database → Type 0
+Keeps status old step (Ok body) new = (step.said ≡ Body status body.items) × (new ≡ step.state)
+Keeps status old step (Err e) new =
+    ((step.said ≡ Refusing e) × (new ≡ step.state)) ⊎ ((e ≡ NoMemory) × (new ≡ old))
 
 -- documents were stored one after the other with these outcomes, and left the database new
 pub record HasStored (new_edits : Bool) (old : Database) (docs : List Doc) (outcomes : List (Outcome Revision)) (new : Database) : Type 0 where
@@ -88,11 +96,13 @@ Goes step may (Err e) new = ((step.said ≡ Refusing e) × (new ≡ step.hub)) �
 
 -- the database of the name stands at this place, and calls go to it
 abbrev pub IsFound : Hub → List ℕ → ℕ → Type 0
-IsFound h name at = (d : Named) × StandsAt h name at d × (find (has_name name) h.databases ≡ Some d)
+IsFound h name at = (d : Named) × StandsAt h name at d
+    × (find (has_name name) h.databases ≡ Some d) × (is_name name ≡ true)
     × ((c : Call) (body : List ℕ) → calls_at h name c body ≡ calls_on h name c body (Some d))
 
 -- a call on the database at this place came out so, and left the hub k
 abbrev pub CameAt : Call → List ℕ → Hub → ℕ → Result Response Refusal → Hub → Type 0
 CameAt c body h at result k = (d : Named) → slice_get h.databases at ≡ Some d
-    → (new : Database) × CameOut (calls c d.name body d.state) (MayLeave c d.name body d.state) result new
+    → (new : Database)
+    × CameOut (calls c d.name body d.state) (MayLeaveStanding c d.name body d.state) result new
     × (k ≡ record h { databases = set h.databases at (record d { state = new }) })

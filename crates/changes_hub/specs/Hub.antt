@@ -1,5 +1,5 @@
 -- A hub's databases, and what it answers to a request (CouchDB API reference, the server and its databases; own for the order of refusals).
-use Rattle.std.specs.Prelude.{◌≡◌, ◌⊎◌, ℕ, List, [], ◌∷◌, ◌++◌, length, find, set, slice_get, unwrap_or, option_map, Bool, false, Option, Some, None, Result, Ok, Err, if◌then◌else◌, nat_le, string_bytes}
+use Rattle.std.specs.Prelude.{◌≡◌, ◌⊎◌, ℕ, List, [], ◌∷◌, ◌++◌, length, find, set, slice_get, unwrap_or, option_map, Bool, true, false, Option, Some, None, Result, Ok, Err, if◌then◌else◌, nat_le, string_bytes}
 use Rattle.std.specs.List.{list_any, position_from}
 use Rattle.std.specs.Str.{bytes_eq}
 use Rattle.hub_model.specs.Row.{ChangeRow}
@@ -8,7 +8,7 @@ use Rattle.hub_model.specs.declared.feeds.Item.{Item}
 use Rattle.hub_model.specs.Descending.{Descending}
 use Rattle.hub_document.specs.declared.limits.Limits.{Limits}
 use Rattle.hub_database.specs.Database.{Database}
-use Rattle.hub_database.specs.Feeds.{item_due}
+use Rattle.hub_database.specs.Feeds.{item_due, finished}
 use Rattle.hub_http.specs.Stream.{Asked}
 use Rattle.hub_http.specs.declared.reply.Reply.TheVariants.{Done, Refused}
 use Rattle.hub_http.specs.declared.refusal.Refusal.TheVariants.{NoMemory, BadName, Exists, TooMany, Absent}
@@ -29,7 +29,7 @@ use Rattle.changes_hub.specs.declared.response.Feed.TheVariants.{Listed, Followe
 use Rattle.changes_hub.specs.Names.{is_name}
 use Rattle.changes_hub.specs.Targets.{target_of}
 use Rattle.changes_hub.specs.declared.call.Call.{Call}
-use Rattle.changes_hub.specs.declared.call.Call.TheVariants.{BulkDocs}
+use Rattle.changes_hub.specs.declared.call.Call.TheVariants.{BulkDocs, PutDocument, DeleteDocument}
 use Rattle.changes_hub.specs.declared.call.Target.{Target}
 use Rattle.changes_hub.specs.declared.call.Target.TheVariants.{Greeting, NewDatabase, Database as AtDatabase}
 
@@ -141,26 +141,46 @@ Says (Whole (Refused refusal)) (Refusing r) = refusal ≡ r
 Says (Stream mode) (Feeding feed) = mode ≡ Normal
 Says answer said = ⊥
 
--- what a call that found no memory may leave of a database: as it was, as the call would have left it, or with documents from the front of a batch
+-- what a call that found no memory may leave of a database. Three calls may have an effect that is not
+-- answered. Of a batch documents from its front may stand. The answer to a document that is put or deleted
+-- names the revision that the edit makes, so its text comes behind the edit, which may stand without it. Any
+-- other call leaves all as it was: what it answers is made before what it changes. Putting the document a
+-- finds no memory for the answer: the edit stands, or it does not; putting the local document a finds none:
+-- it was not kept.
 abbrev pub MayLeave : Call → List ℕ → List ℕ → Database → Database → Type 0
 MayLeave BulkDocs name body db new = (new ≡ db) ⊎ ((batch : Batch) × (batch_in body ≡ Ok batch) × HasFront db batch new)
-MayLeave c name body db new = (new ≡ db) ⊎ (new ≡ (calls c name body db).state)
+MayLeave (PutDocument id query) name body db new =
+    (new ≡ db) ⊎ (new ≡ (calls (PutDocument id query) name body db).state)
+MayLeave (DeleteDocument id query) name body db new =
+    (new ≡ db) ⊎ (new ≡ (calls (DeleteDocument id query) name body db).state)
+MayLeave c name body db new = new ≡ db
 
--- the same of a hub and its database of the name
+-- a call finds no memory, and leaves this of a database: never of one that was deleted, which is refused in
+-- spite of it
+abbrev pub MayLeaveStanding : Call → List ℕ → List ℕ → Database → Database → Type 0
+MayLeaveStanding c name body db new = (db.deleted ≡ false) × MayLeave c name body db new
+
+-- a call on the database of a name finds no memory, and leaves the hub k: a bad name and one that no database
+-- has are refused in spite of it
 abbrev pub MayLeaveBy : Hub → List ℕ → Call → List ℕ → Hub → Type 0
 MayLeaveBy h name c body k =
-    (k ≡ h) ⊎ ((d : Named) × (new : Database) × (find (has_name name) h.databases ≡ Some d)
-    × MayLeave c d.name body d.state new × (k ≡ stored_at h name new))
+    (d : Named) × (new : Database) × (is_name name ≡ true) × (find (has_name name) h.databases ≡ Some d)
+    × MayLeaveStanding c d.name body d.state new × (k ≡ stored_at h name new)
 
--- and of a hub that is asked for this
+-- making a database finds no memory, and leaves the hub as it was: only where it would have been made
+abbrev pub MayLeaveUnmade : Hub → List ℕ → Hub → Type 0
+MayLeaveUnmade h name k = ((creates h name).said ≡ Body 201 ok_body) × (k ≡ h)
+
+-- what is asked for finds no memory, and leaves the hub k
 abbrev pub MayLeaveAt : Hub → List ℕ → Target → Hub → Type 0
 MayLeaveAt h body (AtDatabase name c) k = MayLeaveBy h (string_bytes name) c body k
 MayLeaveAt h body Greeting k = k ≡ h
-MayLeaveAt h body (NewDatabase name) k = k ≡ h
+MayLeaveAt h body (NewDatabase name) k = MayLeaveUnmade h (string_bytes name) k
 
--- and of a hub whose request goes there
+-- a request that goes there finds no memory, and leaves the hub k: one that goes nowhere is refused in spite
+-- of it
 abbrev pub MayLeaveTo : Hub → List ℕ → Result Route RouteFault → Hub → Type 0
-MayLeaveTo h body (Err fault) k = k ≡ h
+MayLeaveTo h body (Err fault) k = ⊥
 MayLeaveTo h body (Ok route) k = MayLeaveAt h body (target_of route) k
 
 -- the answer and the hub k are those of the step
@@ -227,3 +247,27 @@ by_feed goes h (Some sent) = goes h sent.at sent.feed
 abbrev pub HubGives : Hub → Option (Item ChangeRow) → Hub → Type 0
 HubGives h item k =
     (record { item = item; hub = k } ≡ by_feed gives_of h h.feed) ⊎ (record { item = item; hub = k } ≡ by_feed stops_of h h.feed)
+
+-- ---- a feed that is not sent on
+
+-- the hub once the feed of this number, of the database at a place, is finished: it is not sent, and its
+-- database does not keep it, so that it counts no more against the most that may be open
+abbrev pub finishes : Hub → ℕ → ℕ → Option Named → Hub
+finishes h at id None = unsent h
+finishes h at id (Some d) =
+    unsent (record h { databases = set h.databases at (record d { state = finished d.state id }) })
+
+-- the hub once this feed of the database at a place is given back; an answer that was made at once has
+-- nothing there
+abbrev pub gives_back : Hub → ℕ → Feed → Hub
+gives_back h at (Listed left) = unsent h
+gives_back h at (Followed id) = finishes h at id.number (slice_get h.databases at)
+
+-- the hub once the feed that is being sent, if there is one, is given back
+abbrev pub given_back : Hub → Option Sent → Hub
+given_back h None = h
+given_back h (Some sent) = gives_back h sent.at sent.feed
+
+-- from the hub h what is being sent is not sent on, which leaves the hub k
+abbrev pub HubDrops : Hub → Hub → Type 0
+HubDrops h k = k ≡ given_back h h.feed

@@ -12,7 +12,7 @@ use Rattle.hub_model.specs.declared.feeds.Mode.TheVariants.{Normal}
 use Rattle.hub_database.specs.Feeds.{entry_in}
 use Rattle.hub_session.specs.declared.closing.StreamEnd.TheVariants.{Complete}
 use Rattle.hub_session.specs.Feeds.{Streams}
-use Rattle.changes_hub.specs.Hub.{Hub, Named, HubGives}
+use Rattle.changes_hub.specs.Hub.{Hub, Named, HubGives, HubDrops}
 use Rattle.changes_hub.specs.declared.response.Feed.TheVariants.{Listed, Followed}
 
 -- the current rows that pass and lie above since, the least sequence first, at most `limit`
@@ -48,7 +48,9 @@ pub record IsBegun (h : Hub) (params : Params) (J : List Edit) : Type 0 where
 
 -- a feed that ends at once and came to its end was the whole feed
 abbrev pub CompleteFeedIsWhole : Type 0
-CompleteFeedIsWhole = (J : List Edit) (params : Params) (h t : Hub) (items : List (Item ChangeRow)) → params.mode ≡ Normal → IsBegun h params J → Streams HubGives 0 h items Complete t → items ≡ whole_feed J params
+CompleteFeedIsWhole = (J : List Edit) (params : Params) (h t : Hub) (items : List (Item ChangeRow))
+    → params.mode ≡ Normal → IsBegun h params J
+    → Streams HubGives HubDrops 0 h items Complete t → items ≡ whole_feed J params
 
 -- the rows that are left of an answer, and its end
 abbrev pub whole_list : Descending → List (Item ChangeRow)
@@ -56,4 +58,6 @@ whole_list answer = map Row answer.rows ++ End answer.last_seq answer.pending �
 
 -- an answer made at once that came to its end was the whole answer
 abbrev pub CompleteListIsWhole : Type 0
-CompleteListIsWhole = (answer : Descending) (at : ℕ) (h t : Hub) (items : List (Item ChangeRow)) → h.feed ≡ Some (record { at = at; feed = Listed answer }) → Streams HubGives 0 h items Complete t → items ≡ whole_list answer
+CompleteListIsWhole = (answer : Descending) (at : ℕ) (h t : Hub) (items : List (Item ChangeRow))
+    → h.feed ≡ Some (record { at = at; feed = Listed answer })
+    → Streams HubGives HubDrops 0 h items Complete t → items ≡ whole_list answer

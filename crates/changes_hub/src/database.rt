@@ -1,9 +1,10 @@
 //! A database by its name, and its answers to calls.
 
 ghost use Rattle.std.specs.Prelude.{◌≡◌, false};
+ghost use Rattle.hub_database.specs.Feeds.{finished};
 ghost use Rattle.changes_hub.specs.Calls.{calls, answers_standing, says_info, says_commit};
 ghost use Rattle.changes_hub.specs.Came.{Reads, CameOut, Hands, with_status};
-ghost use Rattle.changes_hub.specs.Hub.{MayLeave, has_name};
+ghost use Rattle.changes_hub.specs.Hub.{MayLeave, MayLeaveStanding, has_name};
 
 use crate::call::Call;
 use crate::refusal::refusal_of;
@@ -106,7 +107,7 @@ fn answer(
     call: Call,
     body: &[u8],
 ) -> Result<Response, Refusal>
-    ensures { CameOut (calls call name.now body.now state.old) (MayLeave call name.now body.now state.old) result state.new }
+    ensures { CameOut (calls call name.now body.now state.old) (MayLeaveStanding call name.now body.now state.old) result state.new }
 {
     if state.is_deleted() {
         return Err(Refusal::Deleted);
@@ -129,7 +130,7 @@ impl Database {
         call: Call,
         body: &[u8],
     ) -> Result<Response, Refusal>
-        ensures came { CameOut (calls call self.old.name body.now self.old.state) (MayLeave call self.old.name body.now self.old.state) result self.new.state }
+        ensures came { CameOut (calls call self.old.name body.now self.old.state) (MayLeaveStanding call self.old.name body.now self.old.state) result self.new.state }
         ensures name { self.new.name ≡ self.old.name }
     {
         answer(alloc, self.name.as_str(), &mut self.state, call, body)
@@ -141,5 +142,13 @@ impl Database {
         ensures name { self.new.name ≡ self.old.name }
     {
         feeds::hand(&mut self.state, feed)
+    }
+
+    /// Forgets its feed.
+    pub(crate) fn finish(&mut self, feed: FeedId)
+        ensures state { self.new.state ≡ finished self.old.state feed.number }
+        ensures name { self.new.name ≡ self.old.name }
+    {
+        self.state.finish(feed);
     }
 }

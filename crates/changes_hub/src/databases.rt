@@ -8,7 +8,7 @@ ghost use Rattle.hub_routes.specs.declared.route.Route.{Route};
 ghost use Rattle.hub_routes.specs.declared.route.RouteFault.{RouteFault};
 ghost use Rattle.changes_hub.specs.Said.{Said, Refusing};
 ghost use Rattle.changes_hub.specs.Came.{Responds, Goes, IsSame, IsFound, CameAt};
-ghost use Rattle.changes_hub.specs.Hub.{HubAnswers, HubGives, MayLeaveBy, MayLeaveAt, MayLeaveTo, Says, has_name, says, greets, creates, calls_at, goes, goes_to, with_database, feed_after, by_feed, gives_of, stops_of, gives_listed, gives_followed, stops_followed, unsent, place_of};
+ghost use Rattle.changes_hub.specs.Hub.{HubAnswers, HubGives, HubDrops, finishes, given_back, MayLeaveBy, MayLeaveUnmade, MayLeaveAt, MayLeaveTo, Says, has_name, says, greets, creates, calls_at, goes, goes_to, with_database, feed_after, by_feed, gives_of, stops_of, gives_listed, gives_followed, stops_followed, unsent, place_of};
 ghost use Rattle.changes_hub.specs.declared.call.Call.{Call};
 ghost use Rattle.changes_hub.specs.Feeds.{next_listed};
 ghost use Rattle.changes_hub.specs.Laws.{CompleteFeedIsWhole, CompleteListIsWhole};
@@ -105,7 +105,7 @@ impl Databases {
 
     /// Makes a database.
     fn create(&mut self, name: String) -> Result<Answer, Refusal>
-        ensures { Goes (creates self.old (string_bytes name)) (IsSame self.old) result self.new }
+        ensures { Goes (creates self.old (string_bytes name)) (MayLeaveUnmade self.old (string_bytes name)) result self.new }
     {
         if !is_name(name.as_str()) {
             return Err(Refusal::BadName);
@@ -217,6 +217,16 @@ impl Databases {
         Some(item)
     }
 
+    /// Forgets a feed of the database at this place.
+    fn finish_followed(&mut self, at: usize, id: FeedId)
+        ensures { self.new ≡ finishes self.old at id.number (slice_get self.old.databases at) }
+    {
+        self.feed = None;
+        if let Some(database) = self.list.get_mut(at) {
+            database.finish(id);
+        }
+    }
+
     /// The answer to a request that asks for this.
     fn go(&mut self, target: Target, body: &[u8]) -> Result<Answer, Refusal>
         ensures { Goes (goes_to self.old body.now target) (MayLeaveAt self.old body.now target) result self.new }
@@ -245,6 +255,8 @@ impl Service for Databases {
 
     ghost item_gives = { HubGives };
 
+    ghost drop_gives = { HubDrops };
+
     fn answer(&mut self, request: &Request) -> Answer {
         match self.answered(request) {
             Ok(answer) => answer,
@@ -257,6 +269,15 @@ impl Service for Databases {
         match feed {
             Feed::Listed(listed) => Some(self.give_listed(at, listed)),
             Feed::Followed(id) => self.give_followed(at, id),
+        }
+    }
+
+    fn drop_stream(&mut self) {
+        if let Some(Sent { at, feed }) = self.feed.take() {
+            match feed {
+                Feed::Listed(_) => {}
+                Feed::Followed(id) => self.finish_followed(at, id),
+            }
         }
     }
 }

@@ -1,8 +1,13 @@
 //! The hub over bytes: feeds of changes.
 
+use crate::databases::Databases;
 use crate::tests::{answered, request, whole};
 use hub_document::Limits;
+use hub_http::{Requests, Tally};
+use hub_session::{Closing, serve};
 use std::alloc::{AllocError, Global};
+use std::io;
+use std::io::Write;
 use std::test::Fail;
 
 /// A chunk (RFC 9112, section 7.1).
@@ -329,5 +334,73 @@ fn refused_feeds(rt: HostRuntime) -> Result<(), Fail> {
     }
     let (output, _) = answered(alloc, input.as_bytes(), Limits::full())?;
     assert_eq!(rt; output.as_slice(), expected.as_bytes());
+    Ok(())
+}
+
+/// HEAD is no method of a feed, and holds none open: with one feed at a time the next is shown.
+#[test]
+fn heads_of_feeds(rt: HostRuntime) -> Result<(), Fail> {
+    let mut session = Session::new(rt.alloc(), r#"{"docs":[],"new_edits":false}"#)?;
+    let head =
+        "HTTP/1.1 405 Method Not Allowed\r\nContent-Type: application/json\r\nContent-Length: 61\r\n\r\n";
+    for line in ["/d/_changes", "/d/_changes?descending=true", "/d/_changes"] {
+        let asked = request(
+            rt.alloc(),
+            format!(in rt.alloc(); "HEAD {line}")?.as_str(),
+            "",
+        )?;
+        session.input.push_str(asked.as_str())?;
+        session.expected.push_str(head)?;
+    }
+    session.shows("GET /d/_changes", "", &[], r#""last_seq":0,"pending":0}"#)?;
+    assert!(rt; session.is_answered()?);
+    Ok(())
+}
+
+/// Takes so many bytes, and then none.
+#[derive(Drop)]
+struct Narrow {
+    room: usize,
+}
+
+impl Write for Narrow {
+    fn write(&mut self, buf: &[u8]) -> io::Result<usize> {
+        let n = buf.len().min(self.room);
+        self.room -= n;
+        Ok(n)
+    }
+
+    fn flush(&mut self) -> io::Result<()> {
+        Ok(())
+    }
+}
+
+/// Why a session over these bytes closes whose writer has so much room.
+fn closed(alloc: Global, databases: &mut Databases, input: &[u8], room: usize) -> Closing {
+    let mut requests = Requests::new(alloc, Tally::new(input));
+    let mut writer = Tally::new(Narrow { room });
+    serve(alloc, &mut requests, &mut writer, databases)
+}
+
+/// Wherever the writing of a feed breaks, it is not held open: with one feed at a time the next is
+/// shown.
+#[test]
+fn broken_feeds(rt: HostRuntime) -> Result<(), Fail> {
+    let alloc = rt.alloc();
+    let mut limits = Limits::full();
+    limits.feeds = 1;
+    let mut databases = Databases::new(alloc, limits)?;
+    let made = closed(alloc, &mut databases, b"PUT /d HTTP/1.1\r\n\r\n", 1000);
+    assert!(rt; made == Closing::Finished);
+    let shown = feed(alloc, &[], r#""last_seq":0,"pending":0}"#)?;
+    let asked = b"GET /d/_changes HTTP/1.1\r\n\r\n";
+    for room in 0..shown.len() {
+        let broken = closed(alloc, &mut databases, asked, room);
+        assert!(rt; broken == Closing::Broken);
+    }
+    let mut requests = Requests::new(alloc, Tally::new(asked.as_slice()));
+    let mut writer = Tally::new(Vec::new(alloc));
+    serve(alloc, &mut requests, &mut writer, &mut databases);
+    assert!(rt; writer.into_inner().as_slice() == shown.as_bytes());
     Ok(())
 }

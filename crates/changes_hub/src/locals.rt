@@ -1,10 +1,10 @@
 //! Local documents by their ids (CouchDB API reference, `/{db}/_local/{docid}`).
 
-ghost use Rattle.std.specs.Prelude.{◌≡◌, false};
-ghost use Rattle.hub_database.specs.Locals.{local_of};
+ghost use Rattle.std.specs.Prelude.{◌≡◌, ◌≤◌, ◌^◌, false, IfOk, IfErr};
+ghost use Rattle.hub_database.specs.Locals.{local_of, next_count, written};
 ghost use Rattle.hub_document.specs.Local.{local_in};
 ghost use Rattle.changes_hub.specs.Calls.{says_local, keeps, puts_local};
-ghost use Rattle.changes_hub.specs.Came.{Reads, Writes};
+ghost use Rattle.changes_hub.specs.Came.{Reads, Keeps};
 
 use crate::refusal::refusal_of;
 use hub_database::DbState;
@@ -24,7 +24,34 @@ pub(crate) fn get(alloc: Global, state: &DbState, id: &str) -> Result<Vec<u8>, R
     }
 }
 
-/// Keeps a local document in place of the one of its id. It costs the body's length.
+// How often a local document of this id will have been written with one more, unless that can't be
+// counted.
+fn count_after(state: &DbState, id: &str) -> Result<u64, Refusal>
+    requires stands { state.now.deleted ≡ false }
+    ensures ok { IfOk result (λ count. count ≡ next_count (local_of state.now.locals id.now)) }
+    ensures err { IfErr result (λ e. (e ≡ Refusal.SequenceFull) × (2 ^ 64 ≤ next_count (local_of state.now.locals id.now))) }
+{
+    match state.local_get(id).map_err(refusal_of)? {
+        Some(local) => local.count.checked_add(1).ok_or(Refusal::SequenceFull),
+        None => Ok(1),
+    }
+}
+
+// Keeps a local document. The answer is made first, so that nothing is kept that is not answered.
+fn keep(alloc: Global, state: &mut DbState, doc: LocalDoc) -> Result<Vec<u8>, Refusal>
+    requires stands { state.old.deleted ≡ false }
+    ensures { Keeps 201 state.old (keeps state.old (written state.old.locals doc)) result state.new }
+{
+    let count = count_after(state, doc.id.as_str())?;
+    let text = local_edit_body(alloc, doc.id.as_str(), count)?;
+    match state.local_put(doc) {
+        Ok(_) => Ok(text),
+        Err(fault) => Err(refusal_of(fault)),
+    }
+}
+
+/// Keeps a local document in place of the one of its id. It costs the body's length, and three looks
+/// in the map of local documents.
 pub(crate) fn put(
     alloc: Global,
     state: &mut DbState,
@@ -32,13 +59,10 @@ pub(crate) fn put(
     body: &[u8],
 ) -> Result<Vec<u8>, Refusal>
     requires stands { state.old.deleted ≡ false }
-    ensures { Writes 201 state.old (puts_local state.old (local_in id.now body.now)) result state.new }
+    ensures { Keeps 201 state.old (puts_local state.old (local_in id.now body.now)) result state.new }
 {
     match LocalDoc::read(alloc, id, body) {
-        Ok(doc) => match state.local_put(doc) {
-            Ok(count) => Ok(local_edit_body(alloc, id, count)?),
-            Err(fault) => Err(refusal_of(fault)),
-        },
+        Ok(doc) => keep(alloc, state, doc),
         Err(fault) => Err(Refusal::from(fault)),
     }
 }

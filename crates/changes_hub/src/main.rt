@@ -26,7 +26,7 @@ mod tests;
 
 use crate::stream::answer_stream;
 use hub_document::Limits;
-use hub_http::{Output, Tally};
+use hub_http::{Output, Requests, Tally};
 use hub_session::Closing;
 use std::io::BufWriter;
 use std::process::ExitCode;
@@ -67,9 +67,9 @@ fn is_success(closing: Closing) -> bool
 /// Answers the requests on standard input.
 fn serve_stdin(rt: &HostRuntime) -> io::Result<ExitCode> {
     let alloc = rt.alloc();
-    let reader = Tally::new(rt.stdin());
+    let mut requests = Requests::new(alloc, Tally::new(rt.stdin()));
     let mut writer = Tally::new(BufWriter::with_capacity(alloc, OUTPUT, rt.stdout())?);
-    let closing = answer_stream(alloc, reader, &mut writer, Limits::full())?;
+    let closing = answer_stream(alloc, &mut requests, &mut writer, Limits::full())?;
     // A stream that was cut short is not flushed by its session.
     Output::flush(&mut writer)?;
     if is_success(closing) {

@@ -2,7 +2,7 @@
 
 use crate::stream::answer_stream;
 use hub_document::Limits;
-use hub_http::Tally;
+use hub_http::{Requests, Tally};
 use hub_session::Closing;
 use std::alloc::{AllocError, Global};
 use std::test::Fail;
@@ -14,7 +14,8 @@ pub(crate) fn answered(
     limits: Limits,
 ) -> Result<(Vec<u8>, Closing), AllocError> {
     let mut writer = Tally::new(Vec::new(alloc));
-    let closing = answer_stream(alloc, Tally::new(input), &mut writer, limits)?;
+    let mut requests = Requests::new(alloc, Tally::new(input));
+    let closing = answer_stream(alloc, &mut requests, &mut writer, limits)?;
     Ok((writer.into_inner(), closing))
 }
 

@@ -14,18 +14,18 @@ use Rattle.hub_model.specs.declared.feeds.Item.TheVariants.{Row, Beat, End}
 use Rattle.hub_http.specs.Items.{feed_head}
 use Rattle.hub_session.specs.declared.closing.StreamEnd.{StreamEnd}
 use Rattle.hub_session.specs.declared.closing.StreamEnd.TheVariants.{Complete, Broken}
-use Rattle.hub_session.specs.Feeds.{Gives, Streams, sent_text, rows_after, is_end, items_text, feed_text, is_broken}
+use Rattle.hub_session.specs.Feeds.{Gives, Drops, GivesBack, Streams, sent_text, rows_after, is_end, items_text, feed_text, is_broken}
 
 -- no End came yet: how the stream goes on is how it goes from its start
-pub record Went {S : Type 0} (gives : Gives S) (mode : Mode) (s : S) (sent : ℕ) (now : S) (rows : ℕ) (old new : Option (List ℕ)) : Type 0 where
+pub record Went {S : Type 0} (gives : Gives S) (drops : Drops S) (mode : Mode) (s : S) (sent : ℕ) (now : S) (rows : ℕ) (old new : Option (List ℕ)) : Type 0 where
   pub before : List (Item ChangeRow)
-  pub leads : (more : List (Item ChangeRow)) (end : StreamEnd) (t : S) → Streams gives sent now more end t → Streams gives 0 s (before ++ more) end t
+  pub leads : (more : List (Item ChangeRow)) (end : StreamEnd) (t : S) → Streams gives drops sent now more end t → Streams gives drops 0 s (before ++ more) end t
   pub done : List ℕ
   pub texts : (more : List (Item ChangeRow)) → items_text mode 0 (before ++ more) ≡ done ++ items_text mode rows more
   pub written : Appends old new done
 
-pub went_none : {S : Type 0} (gives : Gives S) (mode : Mode) (s : S) (w : Option (List ℕ)) → Went gives mode s 0 s 0 w w
-went_none gives mode s w = record {
+pub went_none : {S : Type 0} (gives : Gives S) (drops : Drops S) (mode : Mode) (s : S) (w : Option (List ℕ)) → Went gives drops mode s 0 s 0 w w
+went_none gives drops mode s w = record {
   before = [];
   leads = λ more end t h. h;
   done = [];
@@ -34,51 +34,51 @@ went_none gives mode s w = record {
 }
 
 -- one more item that is no End
-module _ {S : Type 0} (gives : Gives S) (mode : Mode) (s : S) (sent : ℕ) (now next : S) (rows : ℕ) (old mid new : Option (List ℕ)) where
-  went_text : (w : Went gives mode s sent now rows old mid) (item : Item ChangeRow) (more : List (Item ChangeRow))
+module _ {S : Type 0} (gives : Gives S) (drops : Drops S) (mode : Mode) (s : S) (sent : ℕ) (now next : S) (rows : ℕ) (old mid new : Option (List ℕ)) where
+  went_text : (w : Went gives drops mode s sent now rows old mid) (item : Item ChangeRow) (more : List (Item ChangeRow))
       → items_text mode 0 ((w.before ++ item ∷ []) ++ more) ≡ (w.done ++ sent_text mode rows item) ++ items_text mode (rows_after rows item) more
   went_text w item more =
       ap (items_text mode 0) (append_assoc w.before (item ∷ []) more) ∙ w.texts (item ∷ more)
       ∙ sym (append_assoc w.done (sent_text mode rows item) (items_text mode (rows_after rows item) more))
 
-  pub went_more : (item : Item ChangeRow) → Went gives mode s sent now rows old mid
-      → ((more : List (Item ChangeRow)) (end : StreamEnd) (t : S) → Streams gives (sent + 1) next more end t → Streams gives sent now (item ∷ more) end t)
-      → Appends mid new (sent_text mode rows item) → Went gives mode s (sent + 1) next (rows_after rows item) old new
+  pub went_more : (item : Item ChangeRow) → Went gives drops mode s sent now rows old mid
+      → ((more : List (Item ChangeRow)) (end : StreamEnd) (t : S) → Streams gives drops (sent + 1) next more end t → Streams gives drops sent now (item ∷ more) end t)
+      → Appends mid new (sent_text mode rows item) → Went gives drops mode s (sent + 1) next (rows_after rows item) old new
   went_more item w step p = record {
     before = w.before ++ item ∷ [];
-    leads = λ more end t h. subst (λ l. Streams gives 0 s l end t) (sym (append_assoc w.before (item ∷ []) more)) (w.leads (item ∷ more) end t (step more end t h));
+    leads = λ more end t h. subst (λ l. Streams gives drops 0 s l end t) (sym (append_assoc w.before (item ∷ []) more)) (w.leads (item ∷ more) end t (step more end t h));
     done = w.done ++ sent_text mode rows item;
     texts = went_text w item;
     written = Appends-trans old mid new w.done (sent_text mode rows item) w.written p;
   }
 
 -- how the sending of the items of a stream ended
-abbrev pub Fed : {S : Type 0} → Gives S → Mode → S → StreamEnd → S → Option (List ℕ) → Option (List ℕ) → Type 0
-Fed gives mode s end t old new = (items : List (Item ChangeRow)) × Streams gives 0 s items end t × Sends (is_broken end) old new (items_text mode 0 items)
+abbrev pub Fed : {S : Type 0} → Gives S → Drops S → Mode → S → StreamEnd → S → Option (List ℕ) → Option (List ℕ) → Type 0
+Fed gives drops mode s end t old new = (items : List (Item ChangeRow)) × Streams gives drops 0 s items end t × Sends (is_broken end) old new (items_text mode 0 items)
 
-module _ {S : Type 0} (gives : Gives S) (mode : Mode) (s : S) (sent : ℕ) (now t : S) (rows : ℕ) (old mid new : Option (List ℕ)) where
+module _ {S : Type 0} (gives : Gives S) (drops : Drops S) (mode : Mode) (s : S) (sent : ℕ) (now t : S) (rows : ℕ) (old mid new : Option (List ℕ)) where
   -- the stream ends behind these more items
-  pub fed_by : (w : Went gives mode s sent now rows old mid) (more : List (Item ChangeRow)) (end : StreamEnd) → Streams gives sent now more end t
-      → Sends (is_broken end) mid new (items_text mode rows more) → Fed gives mode s end t old new
+  pub fed_by : (w : Went gives drops mode s sent now rows old mid) (more : List (Item ChangeRow)) (end : StreamEnd) → Streams gives drops sent now more end t
+      → Sends (is_broken end) mid new (items_text mode rows more) → Fed gives drops mode s end t old new
   fed_by w more end h p =
       (w.before ++ more, w.leads more end t h, subst (Sends (is_broken end) old new) (sym (w.texts more)) (sends_after (is_broken end) old mid new w.done _ w.written p))
 
-module _ {S : Type 0} (gives : Gives S) (sent : ℕ) (now next : S) where
+module _ {S : Type 0} (gives : Gives S) (drops : Drops S) (sent : ℕ) (now next : S) where
   pub stream_step : (item : Item ChangeRow) → is_end item ≡ false → gives now (Some item) next
-      → (more : List (Item ChangeRow)) (end : StreamEnd) (t : S) → Streams gives (sent + 1) next more end t → Streams gives sent now (item ∷ more) end t
+      → (more : List (Item ChangeRow)) (end : StreamEnd) (t : S) → Streams gives drops (sent + 1) next more end t → Streams gives drops sent now (item ∷ more) end t
   stream_step (Row row) e p more end t h = (next, p, h)
   stream_step Beat e p more end t h = (next, p, h)
   stream_step (End last pending) e p more end t h = cc
 
-  pub stream_end : (item : Item ChangeRow) → is_end item ≡ true → gives now (Some item) next → Streams gives sent now (item ∷ []) Complete next
+  pub stream_end : (item : Item ChangeRow) → is_end item ≡ true → gives now (Some item) next → Streams gives drops sent now (item ∷ []) Complete next
   stream_end (Row row) e p = cc
   stream_end Beat e p = cc
   stream_end (End last pending) e p = (p, refl, tt)
 
-  pub stream_fails : (item : Item ChangeRow) → gives now (Some item) next → Streams gives sent now (item ∷ []) Broken next
-  stream_fails (Row row) p = (next, p, refl)
-  stream_fails Beat p = (next, p, refl)
-  stream_fails (End last pending) p = (p, refl, tt)
+  pub stream_fails : (item : Item ChangeRow) (t : S) → gives now (Some item) next → GivesBack drops item next t → Streams gives drops sent now (item ∷ []) Broken t
+  stream_fails (Row row) t p q = (next, p, q)
+  stream_fails Beat t p q = (next, p, q)
+  stream_fails (End last pending) t p q = (subst (λ u. gives now (Some (End last pending)) u) (sym q) p, refl, tt)
 
 -- what a fault says of the front it says of the whole
 pub front_written : (e : ChunkFault) (x y : List ℕ) (a b : Option (List ℕ)) → Writes x (Err e) a b → Writes (x ++ y) (Err e) a b
@@ -90,14 +90,14 @@ pub one_sent : (mode : Mode) (rows : ℕ) (item : Item ChangeRow) (broken : Bool
     → Sends broken a b (items_text mode rows (item ∷ []))
 one_sent mode rows item broken a b p = subst (Sends broken a b) (sym (append-nil (sent_text mode rows item))) p
 
-abbrev pub FedWhole : {S : Type 0} → Gives S → Mode → S → StreamEnd → S → Option (List ℕ) → Option (List ℕ) → Type 0
-FedWhole gives mode s end t old new = (items : List (Item ChangeRow)) × Streams gives 0 s items end t × Sends (is_broken end) old new (feed_text mode items)
+abbrev pub FedWhole : {S : Type 0} → Gives S → Drops S → Mode → S → StreamEnd → S → Option (List ℕ) → Option (List ℕ) → Type 0
+FedWhole gives drops mode s end t old new = (items : List (Item ChangeRow)) × Streams gives drops 0 s items end t × Sends (is_broken end) old new (feed_text mode items)
 
 -- the items behind the head
-pub fed_behind : {S : Type 0} (gives : Gives S) (mode : Mode) (s : S) (end : StreamEnd) (t : S) (old mid new : Option (List ℕ))
-    → Appends old mid (text_chunks (feed_head mode)) → Fed gives mode s end t mid new → FedWhole gives mode s end t old new
-fed_behind gives mode s end t old mid new p f = (f.0, f.1, sends_after (is_broken end) old mid new (text_chunks (feed_head mode)) _ p f.2)
+pub fed_behind : {S : Type 0} (gives : Gives S) (drops : Drops S) (mode : Mode) (s : S) (end : StreamEnd) (t : S) (old mid new : Option (List ℕ))
+    → Appends old mid (text_chunks (feed_head mode)) → Fed gives drops mode s end t mid new → FedWhole gives drops mode s end t old new
+fed_behind gives drops mode s end t old mid new p f = (f.0, f.1, sends_after (is_broken end) old mid new (text_chunks (feed_head mode)) _ p f.2)
 
-pub fed_not : {S : Type 0} (gives : Gives S) (mode : Mode) (s : S) (old new : Option (List ℕ))
-    → AppendsFront old new (text_chunks (feed_head mode)) → FedWhole gives mode s Broken s old new
-fed_not gives mode s old new p = ([], refl, front_of_more old new (text_chunks (feed_head mode)) [] p)
+pub fed_not : {S : Type 0} (gives : Gives S) (drops : Drops S) (mode : Mode) (s t : S) (old new : Option (List ℕ))
+    → AppendsFront old new (text_chunks (feed_head mode)) → drops s t → FedWhole gives drops mode s Broken t old new
+fed_not gives drops mode s t old new p d = ([], d, front_of_more old new (text_chunks (feed_head mode)) [] p)

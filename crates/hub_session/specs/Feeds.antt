@@ -15,6 +15,10 @@ use Rattle.hub_session.specs.declared.closing.StreamEnd.TheVariants.{Complete, S
 abbrev pub Gives : Type 0 → Type 1
 Gives S = S → Option (Item ChangeRow) → S → Type 0
 
+-- from a state a service may give back what its stream holds, and leave that state
+abbrev pub Drops : Type 0 → Type 1
+Drops S = S → S → Type 0
+
 -- the last chunk of a stream
 abbrev pub last_chunk : List ℕ
 last_chunk = codes "0\r\n\r\n"
@@ -44,13 +48,22 @@ items_text mode rows (item ∷ items) = sent_text mode rows item ++ items_text m
 abbrev pub feed_text : Mode → List (Item ChangeRow) → List ℕ
 feed_text mode items = text_chunks (feed_head mode) ++ items_text mode 0 items
 
--- from s, a stream that sent so many items may end so before its End, and leave t
-abbrev pub StopsSo : {S : Type 0} → Gives S → ℕ → S → StreamEnd → S → Type 0
-StopsSo gives sent s Complete t = ⊥
-StopsSo gives sent s Stopped t = gives s None t
-StopsSo gives sent s NoMemory t = (lost : Item ChangeRow) × gives s (Some lost) t
-StopsSo gives sent s Broken t = t ≡ s
-StopsSo gives sent s Exhausted t = (t ≡ s) × (last_count ≤ sent)
+-- the stream is not sent on once the service, now at s, gave this item: behind a row or a beat the service
+-- gives back what the stream holds, and behind an End the stream holds nothing
+abbrev pub GivesBack : {S : Type 0} → Drops S → Item ChangeRow → S → S → Type 0
+GivesBack drops (Row row) s t = drops s t
+GivesBack drops Beat s t = drops s t
+GivesBack drops (End last_seq pending) s t = t ≡ s
+
+-- from s, a stream that sent so many items may end so before its End, and leave t: in each case the service
+-- gives back what the stream holds. For want of memory an item is lost that the service gave.
+abbrev pub StopsSo : {S : Type 0} → Gives S → Drops S → ℕ → S → StreamEnd → S → Type 0
+StopsSo gives drops sent s Complete t = ⊥
+StopsSo gives drops sent s Stopped t = (mid : _) × gives s None mid × drops mid t
+StopsSo gives drops sent s NoMemory t =
+    (lost : Item ChangeRow) × (mid : _) × gives s (Some lost) mid × GivesBack drops lost mid t
+StopsSo gives drops sent s Broken t = drops s t
+StopsSo gives drops sent s Exhausted t = drops s t × (last_count ≤ sent)
 
 -- a stream whose End came ends so
 abbrev pub EndsSo : StreamEnd → Type 0
@@ -61,13 +74,13 @@ EndsSo Broken = ⊤
 EndsSo Exhausted = ⊥
 
 -- from s, behind so many items, the service may give these, none behind an End, and leave t, and the stream then ends so
-abbrev pub Streams : {S : Type 0} → Gives S → ℕ → S → List (Item ChangeRow) → StreamEnd → S → Type 0
-Streams gives sent s [] end t = StopsSo gives sent s end t
-Streams gives sent s (Row row ∷ items) end t =
-    (mid : _) × gives s (Some (Row row)) mid × Streams gives (sent + 1) mid items end t
-Streams gives sent s (Beat ∷ items) end t =
-    (mid : _) × gives s (Some Beat) mid × Streams gives (sent + 1) mid items end t
-Streams gives sent s (End last_seq pending ∷ items) end t =
+abbrev pub Streams : {S : Type 0} → Gives S → Drops S → ℕ → S → List (Item ChangeRow) → StreamEnd → S → Type 0
+Streams gives drops sent s [] end t = StopsSo gives drops sent s end t
+Streams gives drops sent s (Row row ∷ items) end t =
+    (mid : _) × gives s (Some (Row row)) mid × Streams gives drops (sent + 1) mid items end t
+Streams gives drops sent s (Beat ∷ items) end t =
+    (mid : _) × gives s (Some Beat) mid × Streams gives drops (sent + 1) mid items end t
+Streams gives drops sent s (End last_seq pending ∷ items) end t =
     gives s (Some (End last_seq pending)) t × (items ≡ []) × EndsSo end
 
 -- writing to the other side failed

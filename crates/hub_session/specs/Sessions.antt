@@ -3,6 +3,7 @@ use Rattle.std.specs.Prelude.{◌≡◌, ◌≤◌, ◌⊎◌, ℕ, ◌+◌, Lis
 use Rattle.std.specs.List.{flat_map}
 use Rattle.hub_model.specs.Row.{ChangeRow}
 use Rattle.hub_model.specs.declared.feeds.Item.{Item}
+use Rattle.std.specs.Io.KnownBytes.{Appends}
 use Rattle.hub_http.specs.Counts.{last_count, Sends}
 use Rattle.hub_http.specs.Texts.{head_text, chunked_line}
 use Rattle.hub_http.specs.declared.fault.HttpFault.{HttpFault}
@@ -13,7 +14,7 @@ use Rattle.hub_session.specs.declared.closing.StreamEnd.{StreamEnd}
 use Rattle.hub_session.specs.declared.closing.StreamEnd.TheVariants as stream
 use Rattle.hub_session.specs.declared.closing.Closing.{Closing}
 use Rattle.hub_session.specs.declared.closing.Closing.TheVariants.{Finished, Requested, Fault, Cut, Broken, Exhausted}
-use Rattle.hub_session.specs.Feeds.{Gives, feed_text, Streams}
+use Rattle.hub_session.specs.Feeds.{Gives, Drops, feed_text, Streams}
 use Rattle.hub_session.specs.Replies.{fault_text, whole_text}
 
 -- from a state a service may answer this request so, and leave that state
@@ -55,28 +56,29 @@ after_stream close stream.NoMemory = Some Cut
 after_stream close stream.Broken = Some Broken
 after_stream close stream.Exhausted = Some Exhausted
 
--- behind the head of a stream the service may give these items and leave t, and the session goes on so
-abbrev pub StreamGoes : {S : Type 0} → Gives S → Bool → Bool → S → List (Item ChangeRow) → Option Closing → S → Type 0
-StreamGoes gives true close s items next t = (t ≡ s) × (items ≡ []) × (next ≡ after_answer close)
-StreamGoes gives false close s items next t =
-    (end : StreamEnd) × Streams gives 0 s items end t × (next ≡ after_stream close end)
+-- behind the head of a stream the service may give these items and leave t, and the session goes on so. The
+-- answer to HEAD has no items: the service gives back what the stream holds.
+abbrev pub StreamGoes : {S : Type 0} → Gives S → Drops S
+    → Bool → Bool → S → List (Item ChangeRow) → Option Closing → S → Type 0
+StreamGoes gives drops true close s items next t = drops s t × (items ≡ []) × (next ≡ after_answer close)
+StreamGoes gives drops false close s items next t =
+    (end : StreamEnd) × Streams gives drops 0 s items end t × (next ≡ after_stream close end)
 
--- the answer was not written whole, since the other side can't be written to
-abbrev pub BreaksAtOnce : {S : Type 0} → S → List (Item ChangeRow) → Option Closing → S → Type 0
-BreaksAtOnce s items next t = (t ≡ s) × (items ≡ []) × (next ≡ Some Broken)
-
--- while such an answer is sent the service may go from s to t, and the session goes on so
-abbrev pub Goes : {S : Type 0} → Gives S → Answer → Bool → Bool → S → List (Item ChangeRow) → Option Closing → S → Type 0
-Goes gives (Whole reply) head_only close s items next t =
-    ((t ≡ s) × (items ≡ []) × (next ≡ after_answer close)) ⊎ BreaksAtOnce s items next t
-Goes gives (Stream mode) head_only close s items next t =
-    StreamGoes gives head_only close s items next t ⊎ BreaksAtOnce s items next t
+-- while such an answer is sent the service may go from s to t, and the session goes on so: where the other
+-- side can't be written to, the session closes, and what a stream holds is given back
+abbrev pub Goes : {S : Type 0} → Gives S → Drops S
+    → Answer → Bool → Bool → S → List (Item ChangeRow) → Option Closing → S → Type 0
+Goes gives drops (Whole reply) head_only close s items next t =
+    (t ≡ s) × (items ≡ []) × ((next ≡ after_answer close) ⊎ (next ≡ Some Broken))
+Goes gives drops (Stream mode) head_only close s items next t =
+    StreamGoes gives drops head_only close s items next t ⊎ (drops s t × (items ≡ []) × (next ≡ Some Broken))
 
 -- from s the service may answer the request so and leave t, and the session goes on so
-pub record Answers {S : Type 0} (answers : Answering S) (gives : Gives S) (s : S) (x : Exchange) (next : Option Closing) (t : S) : Type 0 where
+pub record Answers {S : Type 0} (answers : Answering S) (gives : Gives S) (drops : Drops S)
+    (s : S) (x : Exchange) (next : Option Closing) (t : S) : Type 0 where
   pub mid : S
   pub answered : answers s x.asked x.answer mid
-  pub goes : Goes gives x.answer (is_head x.asked) x.asked.close mid x.items next t
+  pub goes : Goes gives drops x.answer (is_head x.asked) x.asked.close mid x.items next t
 
 -- where bytes begin with no request a session closes so, with this text
 abbrev pub Closes : List ℕ → Closing → List ℕ → Type 0
@@ -91,15 +93,34 @@ Closes bytes Exhausted text = ⊥
 abbrev pub GivesUp : ℕ → Closing → List ℕ → Type 0
 GivesUp served closing text = (closing ≡ Exhausted) × (text ≡ []) × (last_count ≤ served)
 
--- behind so many requests, the bytes spell those of these exchanges, and the service may answer them so, one after the other
--- and none behind a closing, and leave t, and the session closes so, with this text behind theirs
-abbrev pub Session : {S : Type 0} → Answering S → Gives S → ℕ → List ℕ → S → List Exchange → Closing → List ℕ → S → Type 0
-Session answers gives served bytes s [] closing text t =
-    (t ≡ s) × (Closes bytes closing text ⊎ GivesUp served closing text)
-Session answers gives served bytes s (x ∷ xs) closing text t =
+-- the bytes begin with a request that the service may answer so and leave t, the session closes so behind it,
+-- and its answer has this text
+pub record AnswersLast {S : Type 0} (answers : Answering S) (gives : Gives S) (drops : Drops S)
+    (bytes : List ℕ) (s : S) (closing : Closing) (text : List ℕ) (t : S) : Type 0 where
+  pub exchange : Exchange
+  pub rest : List ℕ
+  pub spelt : Spells bytes exchange.asked rest
+  pub goes : Answers answers gives drops s exchange (Some closing) t
+  pub text_is : text ≡ exchange_text exchange
+
+-- behind so many requests a session may close so, with this text, and leave t: behind one more request, or
+-- where the bytes begin with none, or where it gives up
+abbrev pub ClosesBy : {S : Type 0} → Answering S → Gives S → Drops S
+    → ℕ → List ℕ → S → Closing → List ℕ → S → Type 0
+ClosesBy answers gives drops served bytes s closing text t =
+    AnswersLast answers gives drops bytes s closing text t
+    ⊎ ((t ≡ s) × (Closes bytes closing text ⊎ GivesUp served closing text))
+
+-- behind so many requests, the bytes spell those of these exchanges, the service may answer them so, one
+-- after the other, the session going on behind each, and then it closes so, with this text, and leaves t
+abbrev pub Session : {S : Type 0} → Answering S → Gives S → Drops S
+    → ℕ → List ℕ → S → List Exchange → Closing → List ℕ → S → Type 0
+Session answers gives drops served bytes s [] closing text t =
+    ClosesBy answers gives drops served bytes s closing text t
+Session answers gives drops served bytes s (x ∷ xs) closing text t =
     (rest : List ℕ) × (mid : _) × Spells bytes x.asked rest
-    × ((Answers answers gives s x None mid × Session answers gives (served + 1) rest mid xs closing text t)
-    ⊎ (Answers answers gives s x (Some closing) mid × (xs ≡ []) × (text ≡ []) × (t ≡ mid)))
+    × Answers answers gives drops s x None mid
+    × Session answers gives drops (served + 1) rest mid xs closing text t
 
 -- writing to the other side failed
 abbrev pub is_broken : Closing → Bool
@@ -110,12 +131,18 @@ is_broken Cut = false
 is_broken Broken = true
 is_broken Exhausted = false
 
--- such bytes were served so: what was written are the texts of a session, or where the writing broke a front of them
-pub record IsSession {S : Type 0} (answers : Answering S) (gives : Gives S) (bytes : List ℕ) (s : S) (closing : Closing) (t : S) (old new : Option (List ℕ)) : Type 0 where
-  pub exchanges : List Exchange
-  pub last : List ℕ
-  pub goes : Session answers gives 0 bytes s exchanges closing last t
-  pub written : Sends (is_broken closing) old new (flat_map exchange_text exchanges ++ last)
+-- such bytes were served so: the texts of the exchanges behind which the session went on were written whole,
+-- one after the other, and then the text that it closed with, or where that writing broke a front of it. Two
+-- requests of which the second could not be answered, since the other side is gone: the text of the first,
+-- and then a front of the text of the second, which is `last`.
+pub record IsSession {S : Type 0} (answers : Answering S) (gives : Gives S) (drops : Drops S)
+    (bytes : List ℕ) (s : S) (closing : Closing) (t : S) (old new : Option (List ℕ)) : Type 0 where
+  pub exchanges : List Exchange  -- those behind which the session went on
+  pub last : List ℕ  -- the text that it closed with
+  pub mid : Option (List ℕ)  -- the known bytes before that text
+  pub goes : Session answers gives drops 0 bytes s exchanges closing last t
+  pub whole : Appends old mid (flat_map exchange_text exchanges)
+  pub written : Sends (is_broken closing) mid new last
 
 -- writing failed, if the session closes
 abbrev pub breaks : Option Closing → Bool
@@ -123,12 +150,14 @@ breaks None = false
 breaks (Some closing) = is_broken closing
 
 -- the first request was answered so, and the bytes that are left are told
-pub record IsAnswered {S : Type 0} (answers : Answering S) (gives : Gives S) (bytes : List ℕ) (s : S) (next : Option Closing) (left : Option (List ℕ)) (t : S) (old new : Option (List ℕ)) : Type 0 where
+pub record IsAnswered {S : Type 0} (answers : Answering S) (gives : Gives S) (drops : Drops S)
+    (bytes : List ℕ) (s : S) (next : Option Closing) (left : Option (List ℕ)) (t : S)
+    (old new : Option (List ℕ)) : Type 0 where
   pub exchange : Exchange
   pub rest : List ℕ
   pub spelt : Spells bytes exchange.asked rest
   pub left_is : left ≡ Some rest
-  pub goes : Answers answers gives s exchange next t
+  pub goes : Answers answers gives drops s exchange next t
   pub written : Sends (breaks next) old new (exchange_text exchange)
 
 -- there was no request, and the session closes

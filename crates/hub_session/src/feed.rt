@@ -5,7 +5,7 @@ ghost use Rattle.hub_model.specs.declared.feeds.Item.{Item as FeedItem};
 ghost use Rattle.hub_http.specs.Counts.{Rose, Sends};
 ghost use Rattle.hub_http.specs.Items.{item_text, feed_head};
 ghost use Rattle.hub_http.specs.Chunks.{Writes, text_chunks};
-ghost use Rattle.hub_session.specs.Feeds.{feed_text, items_text, sent_text, behind_item, rows_after, Streams, is_broken, last_chunk, is_end};
+ghost use Rattle.hub_session.specs.Feeds.{feed_text, items_text, sent_text, behind_item, rows_after, GivesBack, Streams, is_broken, last_chunk, is_end};
 
 use crate::closing::StreamEnd;
 use crate::service::Service;
@@ -143,6 +143,16 @@ impl ItemWriter {
     }
 }
 
+/// Gives back what a stream holds of which this item was not sent. Behind an End it holds nothing.
+fn give_back<S: Service>(service: &mut S, item: &Item<ChangeRow>)
+    ensures { GivesBack S.drop_gives item.now service.old service.new }
+{
+    match item {
+        Item::Row(_) | Item::Beat => service.drop_stream(),
+        Item::End { .. } => {}
+    }
+}
+
 /// Sends the items of the stream that the service answered last.
 fn send_items<W: Output, S: Service>(
     alloc: Global,
@@ -150,7 +160,7 @@ fn send_items<W: Output, S: Service>(
     service: &mut S,
     mode: Mode,
 ) -> StreamEnd
-    ensures fed { (items : List (FeedItem Row)) × Streams S.item_gives 0 service.old items result service.new
+    ensures fed { (items : List (FeedItem Row)) × Streams S.item_gives S.drop_gives 0 service.old items result service.new
         × Sends (is_broken result) (W.written writer.old) (W.written writer.new) (items_text mode 0 items) }
     ensures monotone { W.fault_count writer.old ≤ W.fault_count writer.new }
     ensures fault { result ≡ StreamEnd.Broken → Rose (W.fault_count writer.old) (W.fault_count writer.new) }
@@ -159,18 +169,26 @@ fn send_items<W: Output, S: Service>(
     let mut rows = 0;
     for _ in 0..u64::MAX {
         let Some(item) = service.item() else {
+            service.drop_stream();
             return StreamEnd::Stopped;
         };
         match items.send(writer, mode, rows, &item) {
             Ok(()) => {}
-            Err(ChunkFault::NoMemory) => return StreamEnd::NoMemory,
-            Err(ChunkFault::IoFault) => return StreamEnd::Broken,
+            Err(ChunkFault::NoMemory) => {
+                give_back(service, &item);
+                return StreamEnd::NoMemory;
+            }
+            Err(ChunkFault::IoFault) => {
+                give_back(service, &item);
+                return StreamEnd::Broken;
+            }
         }
         if is_end(&item) {
             return StreamEnd::Complete;
         }
         rows = rows_after(rows, &item);
     }
+    service.drop_stream();
     StreamEnd::Exhausted
 }
 
@@ -179,21 +197,24 @@ fn send_items<W: Output, S: Service>(
 ///
 /// The end of a stream is flushed. In a longpoll or continuous feed the head and each item are
 /// flushed too, since the subscriber waits for them. What a stream wrote that stopped without its
-/// End may not be flushed. An item costs the length of its text, one write, and memory only where
-/// its text is longer than each one before.
+/// End may not be flushed; what it holds is given back to the service. An item costs the length of
+/// its text, one write, and memory only where its text is longer than each one before.
 pub fn stream_feed<W: Output, S: Service>(
     alloc: Global,
     writer: &mut W,
     service: &mut S,
     mode: Mode,
 ) -> StreamEnd
-    ensures fed { (items : List (FeedItem Row)) × Streams S.item_gives 0 service.old items result service.new
+    ensures fed { (items : List (FeedItem Row)) × Streams S.item_gives S.drop_gives 0 service.old items result service.new
         × Sends (is_broken result) (W.written writer.old) (W.written writer.new) (feed_text mode items) }
     ensures monotone { W.fault_count writer.old ≤ W.fault_count writer.new }
     ensures fault { result ≡ StreamEnd.Broken → Rose (W.fault_count writer.old) (W.fault_count writer.new) }
 {
     match send_head(writer, mode) {
         Ok(()) => send_items(alloc, writer, service, mode),
-        Err(_) => StreamEnd::Broken,
+        Err(_) => {
+            service.drop_stream();
+            StreamEnd::Broken
+        }
     }
 }

@@ -26,6 +26,9 @@ pub trait Service {
     /// From a state, a stream may go on with this item, or stop, and leave that state.
     ghost item_gives: { Self → Option (FeedItem Row) → Self → Type 0 };
 
+    /// From a state, what the stream holds may be given back, and leave that state.
+    ghost drop_gives: { Self → Self → Type 0 };
+
     /// The answer to a request. Want of memory is an answer too.
     fn answer(&mut self, request: &Request) -> Answer
         ensures { answer_gives self.old (asked_by request.now) result self.new };
@@ -34,4 +37,9 @@ pub trait Service {
     /// want of memory. It may wait for one; after an End it is not called.
     fn item(&mut self) -> Option<Item<ChangeRow>>
         ensures { item_gives self.old result self.new };
+
+    /// The stream that was answered last is not sent on: what it holds is given back. After the End
+    /// of a stream it is not called.
+    fn drop_stream(&mut self)
+        ensures { drop_gives self.old self.new };
 }

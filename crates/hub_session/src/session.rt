@@ -3,7 +3,7 @@ ghost use Rattle.std.specs.Prelude.{◌≡◌, ◌≤◌, ◌⊎◌, IfSome, Som
 ghost use Rattle.hub_http.specs.Counts.{Rose, Sends};
 ghost use Rattle.hub_http.specs.declared.fault.HttpFault.{HttpFault};
 ghost use Rattle.hub_http.specs.Stream.{asked_by};
-ghost use Rattle.hub_http.specs.Words.{to_come, IsOpen, faults_of};
+ghost use Rattle.hub_http.specs.Words.{to_come, IsOpen, HasEnded, faults_of};
 ghost use Rattle.hub_session.specs.Sessions.{Exchange, exchange_text, Answers, IsAnswered, IsClosed, IsSession, breaks, after_answer, after_stream, is_head};
 
 use crate::closing::{Closing, StreamEnd};
@@ -48,7 +48,7 @@ fn answer_one<W: Output, S: Service>(
     service: &mut S,
     request: &Request,
 ) -> Option<Closing>
-    ensures told { (x : Exchange) × (x.asked ≡ asked_by request.now) × Answers S.answer_gives S.item_gives service.old x result service.new
+    ensures told { (x : Exchange) × (x.asked ≡ asked_by request.now) × Answers S.answer_gives S.item_gives S.drop_gives service.old x result service.new
         × Sends (breaks result) (W.written writer.old) (W.written writer.new) (exchange_text x) }
     ensures monotone { W.fault_count writer.old ≤ W.fault_count writer.new }
     ensures fault { result ≡ Some Closing.Broken → Rose (W.fault_count writer.old) (W.fault_count writer.new) }
@@ -62,6 +62,7 @@ fn answer_one<W: Output, S: Service>(
         },
         Answer::Stream(mode) => {
             if head_only {
+                service.drop_stream();
                 return match send(writer, stream_head_text(close).as_bytes()) {
                     Ok(()) => after_answer(close),
                     Err(_) => Some(Closing::Broken),
@@ -69,25 +70,30 @@ fn answer_one<W: Output, S: Service>(
             }
             match write_all(writer, stream_head_text(close).as_bytes()) {
                 Ok(()) => after_stream(close, stream_feed(alloc, writer, service, mode)),
-                Err(_) => Some(Closing::Broken),
+                Err(_) => {
+                    service.drop_stream();
+                    Some(Closing::Broken)
+                }
             }
         }
     }
 }
 
 /// Serves the next request, and says why the session closes, if it does. A fault of reading a
-/// request is answered where it has a reply, and closes the session.
+/// request is answered where it has a reply, and closes the session. Requests that ended close it
+/// at once.
 pub fn serve_one<R: Input, W: Output, S: Service>(
     alloc: Global,
     requests: &mut Requests<R>,
     writer: &mut W,
     service: &mut S,
 ) -> Option<Closing>
-    requires { IsOpen requests.old }
-    ensures told { IfSome (to_come R.left requests.old) (λ bytes.
-        IsAnswered S.answer_gives S.item_gives bytes service.old result (to_come R.left requests.new) service.new (W.written writer.old) (W.written writer.new)
+    ensures told { IsOpen requests.old → IfSome (to_come R.left requests.old) (λ bytes.
+        IsAnswered S.answer_gives S.item_gives S.drop_gives bytes service.old result (to_come R.left requests.new) service.new (W.written writer.old) (W.written writer.new)
         ⊎ IsClosed bytes service.old result service.new (W.written writer.old) (W.written writer.new)) }
-    ensures stays { result ≡ None → IsOpen requests.new }
+    ensures stays { IsOpen requests.old → result ≡ None → IsOpen requests.new }
+    ensures ended { HasEnded requests.old → (result ≡ Some (Closing.Fault HttpFault.Ended))
+        × (requests.new ≡ requests.old) × (service.new ≡ service.old) × (writer.new ≡ writer.old) }
     ensures monotone { W.fault_count writer.old ≤ W.fault_count writer.new }
     ensures reads { faults_of R.fault_count requests.old ≤ faults_of R.fault_count requests.new }
     ensures broken { result ≡ Some Closing.Broken → Rose (W.fault_count writer.old) (W.fault_count writer.new) }
@@ -97,6 +103,7 @@ pub fn serve_one<R: Input, W: Output, S: Service>(
     match requests.next() {
         Ok(Some(request)) => answer_one(alloc, writer, service, &request),
         Ok(None) => Some(Closing::Finished),
+        Err(HttpFault::Ended) => Some(Closing::Fault(HttpFault::Ended)),
         Err(fault) => match send(writer, fault_text(fault).as_bytes()) {
             Ok(()) => Some(Closing::Fault(fault)),
             Err(_) => Some(Closing::Broken),
@@ -112,10 +119,12 @@ pub fn serve<R: Input, W: Output, S: Service>(
     writer: &mut W,
     service: &mut S,
 ) -> Closing
-    requires { IsOpen requests.old }
-    ensures session { IfSome (to_come R.left requests.old) (λ bytes.
-        IsSession S.answer_gives S.item_gives bytes service.old result service.new (W.written writer.old) (W.written writer.new)) }
+    ensures session { IsOpen requests.old → IfSome (to_come R.left requests.old) (λ bytes.
+        IsSession S.answer_gives S.item_gives S.drop_gives bytes service.old result service.new (W.written writer.old) (W.written writer.new)) }
+    ensures ended { HasEnded requests.old → (result ≡ Closing.Fault HttpFault.Ended)
+        × (requests.new ≡ requests.old) × (service.new ≡ service.old) × (writer.new ≡ writer.old) }
     ensures monotone { W.fault_count writer.old ≤ W.fault_count writer.new }
+    ensures reads { faults_of R.fault_count requests.old ≤ faults_of R.fault_count requests.new }
     ensures broken { result ≡ Closing.Broken → Rose (W.fault_count writer.old) (W.fault_count writer.new) }
     ensures fault { result ≡ Closing.Fault HttpFault.IoFault
         → Rose (faults_of R.fault_count requests.old) (faults_of R.fault_count requests.new) }

@@ -16,6 +16,8 @@ struct Rows {
     next: u64,
     /// The stream stops in place of its End.
     stops: bool,
+    /// How many streams were not sent on.
+    dropped: usize,
 }
 
 fn two_rows(alloc: Global) -> Rows {
@@ -24,6 +26,7 @@ fn two_rows(alloc: Global) -> Rows {
         mode: Mode::Normal,
         next: 0,
         stops: false,
+        dropped: 0,
     }
 }
 
@@ -53,6 +56,8 @@ impl Service for Rows {
     ghost answer_gives = { λ _ _ _ _. Unit {0} };
 
     ghost item_gives = { λ _ _ _. Unit {0} };
+
+    ghost drop_gives = { λ _ _. Unit {0} };
 
     fn answer(&mut self, request: &Request) -> Answer {
         match request.target.as_slice() {
@@ -89,6 +94,10 @@ impl Service for Rows {
             }
         }
     }
+
+    fn drop_stream(&mut self) {
+        self.dropped = self.dropped.saturating_add(1);
+    }
 }
 
 /// Gives one byte a read.
@@ -101,6 +110,62 @@ impl Read for Slow<'_> {
             return Ok(0);
         }
         self.0.read(&mut buf[..1])
+    }
+}
+
+/// Interrupts each call so often before it goes on, and then gives or takes one byte.
+#[derive(Drop)]
+struct Hesitant<T> {
+    inner: T,
+    interrupts: u32,
+    left: u32,
+}
+
+impl<T> Hesitant<T> {
+    fn new(inner: T, interrupts: u32) -> Hesitant<T> {
+        Hesitant {
+            inner,
+            interrupts,
+            left: interrupts,
+        }
+    }
+
+    /// The next call is interrupted.
+    fn hesitates(&mut self) -> bool {
+        match self.left.checked_sub(1) {
+            Some(left) => {
+                self.left = left;
+                true
+            }
+            None => {
+                self.left = self.interrupts;
+                false
+            }
+        }
+    }
+}
+
+impl<T: Read> Read for Hesitant<T> {
+    fn read(&mut self, buf: &mut [u8]) -> io::Result<usize> {
+        if self.hesitates() {
+            return Err(io::Error::from(ErrorKind::Interrupted));
+        }
+        let size = buf.len().min(1);
+        self.inner.read(&mut buf[..size])
+    }
+}
+
+impl<T: Write> Write for Hesitant<T> {
+    fn write(&mut self, buf: &[u8]) -> io::Result<usize> {
+        if self.hesitates() {
+            return Err(io::Error::from(ErrorKind::Interrupted));
+        }
+        let size = buf.len().min(1);
+        self.inner.write(&buf[..size])
+    }
+
+    fn flush(&mut self) -> io::Result<()> {
+        self.inner.flush()
     }
 }
 
@@ -315,4 +380,65 @@ fn one_step(rt: HostRuntime) {
     let end = stream_feed(alloc, &mut writer, &mut service, Mode::Normal);
     assert_eq!(rt; end, StreamEnd::Complete);
     assert_eq!(rt; writer.into_inner().as_slice(), NORMAL.as_bytes());
+}
+
+/// Interrupted reads and writes are made again.
+#[test]
+fn interrupted_calls_change_no_byte(rt: HostRuntime) {
+    let alloc = rt.alloc();
+    let input: &[u8] =
+        b"PUT /d HTTP/1.1\r\ncontent-length: 2\r\n\r\n{}GET /longpoll HTTP/1.1\r\n\r\nHEAD /x HTTP/1.1\r\n\r\n";
+    let (_, whole) = served(alloc, input, two_rows(alloc));
+    for interrupts in 0..4 {
+        let mut requests = Requests::new(alloc, Tally::new(Hesitant::new(input, interrupts)));
+        let mut writer = Tally::new(Hesitant::new(Vec::new(alloc), interrupts));
+        let mut service = two_rows(alloc);
+        let closing = serve(alloc, &mut requests, &mut writer, &mut service);
+        assert_eq!(rt; closing, Closing::Finished);
+        let Hesitant { inner, .. } = writer.into_inner();
+        assert_eq!(rt; inner.as_slice(), whole.as_slice());
+    }
+}
+
+/// A stream is given back wherever it is not sent on, and once; behind its End there is nothing to
+/// give back, and no whole answer gives anything back.
+#[test]
+fn streams_that_are_not_sent_on(rt: HostRuntime) {
+    let alloc = rt.alloc();
+    // The head has 79 bytes, the head of the feed 18, and its rows 50 and 67: the End begins at 214.
+    let cases: [(&[u8], usize, bool, usize); 9] = [
+        (b"GET /normal HTTP/1.1\r\n\r\n", 255, false, 0),
+        (b"GET /normal HTTP/1.1\r\n\r\n", 255, true, 1),
+        (b"GET /normal HTTP/1.1\r\n\r\n", 20, false, 1),
+        (b"GET /normal HTTP/1.1\r\n\r\n", 85, false, 1),
+        (b"GET /normal HTTP/1.1\r\n\r\n", 120, false, 1),
+        (b"GET /normal HTTP/1.1\r\n\r\n", 254, false, 0),
+        (b"HEAD /normal HTTP/1.1\r\n\r\n", 255, false, 1),
+        (b"HEAD /normal HTTP/1.1\r\n\r\n", 20, false, 1),
+        (b"PUT /d HTTP/1.1\r\n\r\n", 20, false, 0),
+    ];
+    for (input, room, stops, dropped) in cases {
+        let mut requests = Requests::new(alloc, Tally::new(input));
+        let mut writer = Tally::new(Taker::new(alloc, room));
+        let mut service = two_rows(alloc);
+        service.stops = stops;
+        serve(alloc, &mut requests, &mut writer, &mut service);
+        assert_eq!(rt; service.dropped, dropped);
+    }
+}
+
+/// Requests that ended are not answered, and nothing is written.
+#[test]
+fn ended_requests(rt: HostRuntime) {
+    let alloc = rt.alloc();
+    let input: &[u8] = b"GET / HTTP/1.0\r\n\r\nPUT /d HTTP/1.1\r\n\r\n";
+    let mut requests = Requests::new(alloc, Tally::new(input));
+    let mut writer = Tally::new(Vec::new(alloc));
+    let mut service = two_rows(alloc);
+    let first = serve(alloc, &mut requests, &mut writer, &mut service);
+    assert_eq!(rt; first, Closing::Fault(HttpFault::Version));
+    let mut writer = Tally::new(Taker::new(alloc, 0));
+    let again = serve(alloc, &mut requests, &mut writer, &mut service);
+    assert_eq!(rt; again, Closing::Fault(HttpFault::Ended));
+    assert_eq!(rt; Output::faults(&writer), 0);
 }

@@ -5,34 +5,34 @@ use Rattle.hub_session.proofs.FeedLemmas.{went_none, went_more, fed_by, stream_s
 use Rattle.hub_session.proofs.feed.send_items.Goals as goal
 
 pub loop-init : goal.loop-init
-loop-init g c = (went_none _ _ _ _, omega arith, omega arith)
+loop-init g c = (went_none _ _ _ _ _, omega arith, omega arith)
 
 pub returns-in_default-clause-fed : goal.returns-in_default-clause-fed
 returns-in_default-clause-fed g c =
-    fed_by _ _ _ _ _ _ _ _ _ _ c.loop.invariant.0 [] Stopped c.in_default.ensures (Appends-nil _)
+    fed_by _ _ _ _ _ _ _ _ _ _ _ c.loop.invariant.0 [] Stopped (_, c.in_default.ensures, c.drop_stream.ensures) (Appends-nil _)
 
 pub returns-in-Err-NoMemory-clause-fed : goal.returns-in-Err-NoMemory-clause-fed
 returns-in-Err-NoMemory-clause-fed g c =
     let kept = rw c.in-Err-NoMemory.field-0-is at c.in-Err-NoMemory.ensures.bytes in
-    fed_by _ _ _ _ _ _ _ _ _ _ c.loop.invariant.0 [] NoMemory (c.in-Some.item, c.in-Some.ensures) (Appends-kept _ _ _ [] (Appends-nil _) kept)
+    fed_by _ _ _ _ _ _ _ _ _ _ _ c.loop.invariant.0 [] NoMemory (c.in-Some.item, _, c.in-Some.ensures, c.give_back.ensures) (Appends-kept _ _ _ [] (Appends-nil _) kept)
 
 pub returns-in-Err-IoFault-clause-fed : goal.returns-in-Err-IoFault-clause-fed
 returns-in-Err-IoFault-clause-fed g c =
     let item = c.in-Some.item in
     let front = rw c.in-Err-IoFault.field-0-is at c.in-Err-IoFault.ensures.bytes in
-    fed_by _ _ _ _ _ _ _ _ _ _ c.loop.invariant.0 (item ∷ []) Broken (stream_fails g.S.Service.item_gives c.loop.counter c.loop.service c.item.new.self item c.in-Some.ensures)
+    fed_by _ _ _ _ _ _ _ _ _ _ _ c.loop.invariant.0 (item ∷ []) Broken (stream_fails g.S.Service.item_gives g.S.Service.drop_gives c.loop.counter c.loop.service c.item.new.self item _ c.in-Some.ensures c.give_back-in-Err-IoFault.ensures)
     (one_sent _ _ item true _ _ front)
 
 pub returns-then-is_end-clause-fed : goal.returns-then-is_end-clause-fed
 returns-then-is_end-clause-fed g c =
     let item = c.in-Some.item in
-    fed_by _ _ _ _ _ _ _ _ _ _ c.loop.invariant.0 (item ∷ []) Complete (stream_end g.S.Service.item_gives c.loop.counter c.loop.service c.item.new.self item (cc) c.in-Some.ensures)
+    fed_by _ _ _ _ _ _ _ _ _ _ _ c.loop.invariant.0 (item ∷ []) Complete (stream_end g.S.Service.item_gives g.S.Service.drop_gives c.loop.counter c.loop.service c.item.new.self item (cc) c.in-Some.ensures)
     (one_sent _ _ item false _ _ c.in-Ok.ensures.bytes)
 
 pub loop-preserved : goal.loop-preserved
 loop-preserved g c =
     let item = c.in-Some.item in (
-      rw c.rows_after-rows.ensures.rows (went_more _ _ _ _ _ _ _ _ _ _ item c.loop.invariant.0 (stream_step g.S.Service.item_gives c.loop.counter c.loop.service c.item.new.self item (cc) c.in-Some.ensures) c.in-Ok.ensures.bytes),
+      rw c.rows_after-rows.ensures.rows (went_more _ _ _ _ _ _ _ _ _ _ _ item c.loop.invariant.0 (stream_step g.S.Service.item_gives g.S.Service.drop_gives c.loop.counter c.loop.service c.item.new.self item (cc) c.in-Some.ensures) c.in-Ok.ensures.bytes),
       omega (arith, c.loop.invariant.1, c.send.ensures.monotone),
       omega (arith, c.loop.invariant.2, c.rows_after-rows.ensures.bound),
     )
@@ -42,4 +42,4 @@ rows_after-rows-requires g c = omega (arith, c.loop.invariant.2, c.loop-test.tru
 
 pub returns-clause-fed : goal.returns-clause-fed
 returns-clause-fed g c =
-    fed_by _ _ _ _ _ _ _ _ _ _ c.loop.invariant.0 [] Exhausted (refl, c.loop-test.false) (Appends-nil _)
+    fed_by _ _ _ _ _ _ _ _ _ _ _ c.loop.invariant.0 [] Exhausted (c.drop_stream-2.ensures, c.loop-test.false) (Appends-nil _)

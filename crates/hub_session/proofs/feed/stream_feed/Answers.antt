@@ -2,4 +2,4 @@ use Rattle.hub_session.proofs.FeedLemmas.{fed_behind}
 use Rattle.hub_session.proofs.feed.stream_feed.Goals as goal
 
 pub returns-in-Ok-clause-fed : goal.returns-in-Ok-clause-fed
-returns-in-Ok-clause-fed g c = fed_behind g.S.Service.item_gives c.args.mode _ _ _ _ _ _ c.in-Ok.ensures.sent c.send_items.ensures.fed
+returns-in-Ok-clause-fed g c = fed_behind g.S.Service.item_gives g.S.Service.drop_gives c.args.mode _ _ _ _ _ _ c.in-Ok.ensures.sent c.send_items.ensures.fed

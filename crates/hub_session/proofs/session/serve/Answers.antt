@@ -1,27 +1,48 @@
-use Rattle.std.proofs.Common.{arith, refl}
+use Rattle.std.proofs.Common.{◌≡◌, Some, arith, refl, sym, subst, ◌∙◌}
+use Rattle.hub_http.specs.Words.{HasEnded}
 use Rattle.hub_session.proofs.SessionLemmas.{served_none, serves_more, serves_so, serves_all}
 use Rattle.hub_session.proofs.session.serve.Goals as goal
 
 pub returns-in-Some-clause-session : goal.returns-in-Some-clause-session
-returns-in-Some-clause-session g c =
-    serves_so g.S.Service.answer_gives g.S.Service.item_gives _ _ _ c.loop.counter _ _ _ _ _ _ c.in-Some.closing c.loop.invariant.served c.in-Some.ensures.told
+returns-in-Some-clause-session g c = λ is_open.
+    serves_so g.S.Service.answer_gives g.S.Service.item_gives g.S.Service.drop_gives _ _ _ c.loop.counter _ _ _ _ _ _ c.in-Some.closing
+    (c.loop.invariant.served is_open) (c.in-Some.ensures.told (c.loop.invariant.is_open is_open))
+
+pub returns-in-Some-clause-ended : goal.returns-in-Some-clause-ended
+returns-in-Some-clause-ended g c = λ ended.
+    let same = c.loop.invariant.ended ended in
+    let at = c.in-Some.ensures.ended (subst HasEnded (sym same.0) ended) in
+    let closing = at.0 in
+    (cc, at.1 ∙ same.0, at.2 ∙ same.1, at.3 ∙ same.2)
 
 pub returns-clause-session : goal.returns-clause-session
-returns-clause-session g c =
-    serves_all g.S.Service.answer_gives g.S.Service.item_gives _ _ c.loop.counter _ _ _ _ c.loop-test.false c.loop.invariant.served
+returns-clause-session g c = λ is_open.
+    serves_all g.S.Service.answer_gives g.S.Service.item_gives g.S.Service.drop_gives _ _ c.loop.counter _ _ _ _ c.loop-test.false
+    (c.loop.invariant.served is_open)
+
+pub returns-clause-ended : goal.returns-clause-ended
+returns-clause-ended g c = λ ended.
+    let none = (c.loop.invariant.ended ended).3 in
+    absurd (omega (arith, none, c.loop-test.false))
 
 pub loop-init : goal.loop-init
 loop-init g c = record {
-  served = served_none g.S.Service.answer_gives g.S.Service.item_gives _ _ _;
-  is_open = c.requires;
+  served = λ is_open. served_none g.S.Service.answer_gives g.S.Service.item_gives g.S.Service.drop_gives _ _ _;
+  is_open = λ is_open. is_open;
+  ended = λ ended. (refl, refl, refl, refl);
   writes = omega arith;
   reads = omega arith;
 }
 
 pub loop-preserved : goal.loop-preserved
 loop-preserved g c = record {
-  served = serves_more g.S.Service.answer_gives g.S.Service.item_gives _ _ _ c.loop.counter _ _ _ _ _ _ c.loop.invariant.served c.in_default.ensures.told;
-  is_open = c.in_default.ensures.stays refl;
+  served = λ is_open. serves_more g.S.Service.answer_gives g.S.Service.item_gives g.S.Service.drop_gives _ _ _ c.loop.counter _ _ _ _ _ _
+      (c.loop.invariant.served is_open) (c.in_default.ensures.told (c.loop.invariant.is_open is_open));
+  is_open = λ is_open. c.in_default.ensures.stays (c.loop.invariant.is_open is_open) refl;
+  ended = λ ended.
+      let same = c.loop.invariant.ended ended in
+      let closed = (c.in_default.ensures.ended (subst HasEnded (sym same.0) ended)).0 in
+      cc;
   writes = omega (arith, c.loop.invariant.writes, c.serve_one.ensures.monotone);
   reads = omega (arith, c.loop.invariant.reads, c.serve_one.ensures.reads);
 }

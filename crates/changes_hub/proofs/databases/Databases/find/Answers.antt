@@ -11,7 +11,7 @@ returns-in-Some-clause-ok c =
     let is : position_from (has_name c.args.name.now) 0 c.args.self.now.databases ≡ Some c.in-Some.at = search rules in
     let at = found_at (has_name c.args.name.now) c.args.self.now.databases c.in-Some.at is in
     let good : is_name c.args.name.now ≡ true = search rules in
-    (at.0, record { first = is; there = at.1 }, at.2, λ call body. rw (good, at.2) refl)
+    (at.0, record { first = is; there = at.1 }, at.2, good, λ call body. rw (good, at.2) refl)
 
 pub returns-in-Some-clause-within : goal.returns-in-Some-clause-within
 returns-in-Some-clause-within c =
