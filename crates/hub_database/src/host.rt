@@ -9,10 +9,16 @@ use std::alloc::AllocError;
 
 impl FeedHost for DbState {
     ghost use Rattle.hub_database.specs.Hosting.{hosted_of};
+    ghost use Rattle.hub_database.specs.Laid.{rows_below};
+    ghost use Rattle.hub_model.proofs.Laws.{rows_rise};
 
     type Row = ChangeRow;
 
     ghost hosted = { hosted_of };
+
+    ghost rise = { λ db. rows_rise db.journal };
+
+    ghost within = { λ db c. rows_below db.journal c };
 
     /// It costs a search among the feeds.
     fn open_feed(&mut self, params: FeedParams) -> Result<FeedId, OpenFault> {
