@@ -35,7 +35,7 @@ impl DbState {
     pub fn open_feed(&mut self, params: FeedParams) -> Result<FeedId, OpenFault>
         ensures ok { IfOk result (λ id. (id.number ≡ self.old.next_feed) × (refuses_feed self.old ≡ None) × (self.new ≡ opened self.old (params_of params))) }
         ensures new { IfOk result (λ id. entry_in id.number self.old.feeds ≡ None) }
-        ensures err { IfErr result (λ e. (self.new ≡ self.old) × (((e ≡ OpenFault.NoMemory) × (refuses_feed self.old ≡ None)) ⊎ (refuses_feed self.old ≡ Some e))) }
+        ensures err { IfErr result (λ e. (self.new ≡ self.old) × ((e ≡ OpenFault.NoMemory) ⊎ (refuses_feed self.old ≡ Some e))) }
     {
         if self.deleted {
             return Err(OpenFault::Deleted);

@@ -1,11 +1,30 @@
 //! A database as what keeps feeds.
 
+ghost use Rattle.std.specs.Prelude.{◌≡◌};
+ghost use Rattle.hub_feed.specs.Host.{refuses};
+ghost use Rattle.hub_database.specs.Hosting.{hosted_of};
+
 use crate::database::DbState;
 use hub_document::ChangeRow;
 use hub_feed::{FeedHost, FeedId, Next, OpenFault};
 use hub_model::Item;
 use hub_params::FeedParams;
 use std::alloc::AllocError;
+
+impl DbState {
+    // Why no feed is opened now, where none is.
+    fn refusal(&self) -> Option<OpenFault>
+        ensures { result ≡ refuses (hosted_of self.now) }
+    {
+        if self.deleted {
+            return Some(OpenFault::Deleted);
+        }
+        if self.feeds.len() as u64 >= self.store.limits.feeds || self.next_feed == u64::MAX {
+            return Some(OpenFault::TooManyFeeds);
+        }
+        None
+    }
+}
 
 impl FeedHost for DbState {
     ghost use Rattle.hub_database.specs.Hosting.{hosted_of};
@@ -22,7 +41,10 @@ impl FeedHost for DbState {
 
     /// It costs a search among the feeds.
     fn open_feed(&mut self, params: FeedParams) -> Result<FeedId, OpenFault> {
-        DbState::open_feed(self, params)
+        match self.refusal() {
+            Some(fault) => Err(fault),
+            None => DbState::open_feed(self, params),
+        }
     }
 
     /// It costs a search among the feeds and what `FeedState::next_item` does.
