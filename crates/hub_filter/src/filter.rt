@@ -32,7 +32,7 @@ impl Filter {
         )
     }
 
-    /// A copy. It costs the length of the listed ids, and only a copy of them takes memory.
+    /// A copy. It costs the length of the listed ids, and takes no memory where there are none.
     pub fn copy(&self, alloc: Global) -> Result<Filter, AllocError>
         ensures ok { IfOk result (λ filter. filter_of filter ≡ filter_of self.now) }
         ensures err { OnErr result (HasIds (filter_of self.now)) }
