@@ -1,5 +1,9 @@
 //! A database as what keeps feeds.
 
+ghost use Rattle.std.specs.Prelude.{◌≡◌};
+ghost use Rattle.hub_feed.specs.Host.{refuses};
+ghost use Rattle.hub_database.specs.Hosting.{hosted_of};
+
 use crate::database::DbState;
 use hub_document::ChangeRow;
 use hub_feed::{FeedHost, FeedId, Next, OpenFault};
@@ -7,16 +11,40 @@ use hub_model::Item;
 use hub_params::FeedParams;
 use std::alloc::AllocError;
 
+impl DbState {
+    // Why no feed is opened now, where none is.
+    fn refusal(&self) -> Option<OpenFault>
+        ensures { result ≡ refuses (hosted_of self.now) }
+    {
+        if self.deleted {
+            return Some(OpenFault::Deleted);
+        }
+        if self.feeds.len() as u64 >= self.store.limits.feeds || self.next_feed == u64::MAX {
+            return Some(OpenFault::TooManyFeeds);
+        }
+        None
+    }
+}
+
 impl FeedHost for DbState {
     ghost use Rattle.hub_database.specs.Hosting.{hosted_of};
+    ghost use Rattle.hub_database.specs.Laid.{rows_below};
+    ghost use Rattle.hub_model.proofs.Laws.{rows_rise};
 
     type Row = ChangeRow;
 
     ghost hosted = { hosted_of };
 
+    ghost rise = { λ db. rows_rise db.journal };
+
+    ghost within = { λ db c. rows_below db.journal c };
+
     /// It costs a search among the feeds.
     fn open_feed(&mut self, params: FeedParams) -> Result<FeedId, OpenFault> {
-        DbState::open_feed(self, params)
+        match self.refusal() {
+            Some(fault) => Err(fault),
+            None => DbState::open_feed(self, params),
+        }
     }
 
     /// It costs a search among the feeds and what `FeedState::next_item` does.

@@ -1,12 +1,14 @@
 -- What keeps feeds, as its callers see it (own; feeds by CouchDB API reference, _changes and _db_updates).
-use Rattle.std.specs.Prelude.{◌≡◌, ℕ, List, Bool, false, Option, Some, None, nat_eq, if◌then◌else◌}
+use Rattle.std.specs.Prelude.{ℕ, ◌+◌, ◌-◌, ◌^◌, List, [], ◌∷◌, ◌++◌, length, Bool, false, ◌||◌, Option, Some, None, nat_le, unwrap_or, if◌then◌else◌}
 use Rattle.hub_model.specs.Current.{Current}
-use Rattle.hub_model.specs.Feed.{Feed, Due, DueGone, due, after_due, beat_due}
+use Rattle.hub_model.specs.Entries.{entry_in, changed, without}
+use Rattle.hub_model.specs.Feed.{Feed, Params, Due, DueRow, DueEnd, DueNothing, DueGone, begin, due, after_due, after_nothing, beat_due, expire}
 use Rattle.hub_model.specs.Hand.{item_of}
 use Rattle.hub_model.specs.declared.feeds.Item.{Item}
 use Rattle.hub_model.specs.declared.feeds.Style.{Style}
-use Rattle.hub_feed.specs.Next.{next_of, after_next}
+use Rattle.hub_feed.specs.Next.{next_of}
 use Rattle.hub_feed.specs.declared.host.OpenFault.{OpenFault}
+use Rattle.hub_feed.specs.declared.host.OpenFault.TheVariants.{NoMemory, Deleted, TooManyFeeds}
 use Rattle.hub_feed.specs.declared.next.Next.{Next}
 use Rattle.hub_feed.specs.declared.next.Next.TheVariants.{Gone}
 
@@ -15,40 +17,79 @@ pub record Hosted (R : Type 0) : Type 0 where
   pub length : ℕ  -- how many edits there are
   pub current : List Current
   pub shown : Style → Bool → Current → R  -- a current row as it is shown now, in a style, with its document or without
-  pub feeds : ℕ → Option Feed  -- by their numbers, those that are not finished
-  pub refuses : Option OpenFault  -- why no feed is opened now, where none is
+  pub feeds : List (ℕ × Feed)  -- those that are not finished, with their numbers, as they were opened
+  pub next_feed : ℕ  -- the number of the next feed: only lower ones were given
+  pub deleted : Bool  -- whether what they follow was deleted
+  pub limit : ℕ  -- how many feeds there may be at most
 
--- the feed of this number is now so, and nothing else changed but whether one more is opened
-pub record Becomes (R : Type 0) (id : ℕ) (feed : Option Feed) (old new : Hosted R) : Type 0 where
-  pub length : new.length ≡ old.length
-  pub current : new.current ≡ old.current
-  pub shown : new.shown ≡ old.shown
-  pub feeds : (q : ℕ) → new.feeds q ≡ (if nat_eq q id then feed else old.feeds q)
+-- whether there are as many feeds as there may be, or no number of 64 bits is left for those that come
+abbrev pub is_full : {R : Type 0} → Hosted R → Bool
+is_full h = nat_le h.limit (length h.feeds) || nat_le (2 ^ 64 - 1) h.next_feed
 
--- what is due to a feed: nothing any more where there is none
+-- why no feed is opened, where none is: a deletion is told before there being too many
+abbrev pub refuses : {R : Type 0} → Hosted R → Option OpenFault
+refuses h = if h.deleted then Some Deleted else if is_full h then Some TooManyFeeds else None
+
+-- why an opening fails: for want of memory only where nothing refuses it
+abbrev pub opening_fault : {R : Type 0} → Hosted R → OpenFault
+opening_fault h = unwrap_or (refuses h) NoMemory
+
+-- one feed more: it gets the next number, which is raised, so none is given twice
+-- with feeds 3 and 5, of which 5 was the last to come, the next one gets 6, and the one behind it 7
+abbrev pub opened : {R : Type 0} → Hosted R → Params → Hosted R
+opened h params = record h { feeds = h.feeds ++ (h.next_feed, begin params h.length) ∷ []; next_feed = h.next_feed + 1 }
+
+-- what is due to a feed of these rows: nothing any more where there is no feed
 abbrev pub due_of : List Current → Option Feed → Due
 due_of rows None = DueGone
 due_of rows (Some f) = due rows f
 
--- what it answers
+-- what is due to the feed of this number
+abbrev pub due_to : {R : Type 0} → Hosted R → ℕ → Due
+due_to h id = due_of h.current (entry_in id h.feeds)
+
+-- what a feed answers: nothing any more where there is no feed
 abbrev pub answer_of : {R : Type 0} → Hosted R → Option Feed → Next R
 answer_of h None = Gone
 answer_of h (Some f) = next_of (h.shown f.params.style f.params.include_docs) h.current (due h.current f)
 
--- the item that it has to hand, if there is one
-abbrev pub item_due : {R : Type 0} → Hosted R → Option Feed → Option (Item R)
-item_due h None = None
-item_due h (Some f) = item_of (h.shown f.params.style f.params.include_docs) h.current (due h.current f)
+-- what the feed of this number answers
+abbrev pub answered : {R : Type 0} → Hosted R → ℕ → Next R
+answered h id = answer_of h (entry_in id h.feeds)
 
--- the feed behind its answer
-abbrev pub answered : {R : Type 0} → Hosted R → Feed → Feed
-answered h f = after_next f (due h.current f) h.length
+-- the item that a feed has to hand, if there is one
+abbrev pub item_for : {R : Type 0} → Hosted R → Option Feed → Option (Item R)
+item_for h None = None
+item_for h (Some f) = item_of (h.shown f.params.style f.params.include_docs) h.current (due h.current f)
 
--- the feed behind the item that is due
-abbrev pub accepted : {R : Type 0} → Hosted R → Feed → Feed
-accepted h f = after_due f (due h.current f) h.length
+-- the item that is due to the feed of this number, if there is one
+abbrev pub item_due : {R : Type 0} → Hosted R → ℕ → Option (Item R)
+item_due h id = item_for h (entry_in id h.feeds)
 
--- whether a heartbeat may be handed
+-- the feeds once that of this number answered what was due: only where nothing was due it moves, to the length
+abbrev pub feeds_behind : ℕ → ℕ → Due → List (ℕ × Feed) → List (ℕ × Feed)
+feeds_behind id len (DueRow c) feeds = feeds
+feeds_behind id len (DueEnd last_seq) feeds = feeds
+feeds_behind id len DueNothing feeds = changed id (λ f. after_nothing f len) feeds
+feeds_behind id len DueGone feeds = feeds
+
+-- once the feed of this number answered
+abbrev pub behind_answer : {R : Type 0} → Hosted R → ℕ → Hosted R
+behind_answer h id = record h { feeds = feeds_behind id h.length (due_to h id) h.feeds }
+
+-- once the feed of this number handed the item that was due to it
+abbrev pub handed : {R : Type 0} → Hosted R → ℕ → Hosted R
+handed h id = record h { feeds = changed id (λ f. after_due f (due h.current f) h.length) h.feeds }
+
+-- whether a heartbeat may be handed to a feed
 abbrev pub is_beat_due : Option Feed → Bool
 is_beat_due None = false
 is_beat_due (Some f) = beat_due f
+
+-- once the time of the feed of this number is over
+abbrev pub expired : {R : Type 0} → Hosted R → ℕ → Hosted R
+expired h id = record h { feeds = changed id expire h.feeds }
+
+-- once the feed of this number is finished: its number stays given
+abbrev pub finished : {R : Type 0} → Hosted R → ℕ → Hosted R
+finished h id = record h { feeds = without id h.feeds }

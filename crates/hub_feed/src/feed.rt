@@ -11,7 +11,7 @@ ghost use Rattle.hub_feed.specs.Shown.{status_of};
 
 use crate::next::Next;
 use crate::source::Source;
-use hub_model::{Item, Mode, Since};
+use hub_model::{Item, Mode, Since, by_mode};
 use hub_params::FeedParams;
 use std::alloc::AllocError;
 use std::marker::Model;
@@ -70,33 +70,36 @@ fn since_of(since: Since, length: u64) -> u64
 fn bound_of(mode: Mode, length: u64) -> Option<u64>
     ensures { result ≡ bound_of mode length }
 {
-    match mode {
-        Mode::Normal => Some(length),
-        Mode::Longpoll => None,
-        Mode::Continuous => None,
-    }
+    by_mode!(
+        mode,
+        normal: Some(length),
+        longpoll: None,
+        continuous: None,
+    )
 }
 
 // Whether such a feed waits for edits to come.
 fn waits(mode: Mode) -> bool
     ensures { result ≡ waits mode }
 {
-    match mode {
-        Mode::Normal => false,
-        Mode::Longpoll => true,
-        Mode::Continuous => true,
-    }
+    by_mode!(
+        mode,
+        normal: false,
+        longpoll: true,
+        continuous: true,
+    )
 }
 
 // The bound of a feed after a row, while there are `length` edits.
 fn bound_after(mode: Mode, bound: Option<u64>, length: u64) -> Option<u64>
     ensures { result ≡ bound_after mode bound length }
 {
-    match mode {
-        Mode::Normal => bound,
-        Mode::Longpoll => bound.or(Some(length)),
-        Mode::Continuous => bound,
-    }
+    by_mode!(
+        mode,
+        normal: bound,
+        longpoll: bound.or(Some(length)),
+        continuous: bound,
+    )
 }
 
 // Whether a feed that has handed so many rows may hand more.

@@ -1,10 +1,12 @@
 //! What keeps feeds.
 
-ghost use Rattle.std.specs.Prelude.{◌≡◌, ◌⊎◌, Some, None, option_map, IfOk, IfErr, OnOk, OnErr};
-ghost use Rattle.hub_model.specs.Feed.{begin, expire};
+ghost use Rattle.std.specs.Prelude.{◌≡◌, ◌<◌, ◌≤◌, Some, None, Contains, IfOk, IfErr, OnOk, OnErr};
+ghost use Rattle.std.specs.List.{AllPairs};
+ghost use Rattle.hub_model.specs.Current.{Current};
+ghost use Rattle.hub_model.specs.Entries.{entry_in};
 ghost use Rattle.hub_params.specs.FeedModel.{params_of};
 ghost use Rattle.hub_feed.specs.Next.{IsRowDue};
-ghost use Rattle.hub_feed.specs.Host.{Hosted, Becomes, due_of, answer_of, item_due, answered, accepted, is_beat_due};
+ghost use Rattle.hub_feed.specs.Host.{Hosted, refuses, opening_fault, opened, due_to, answered, item_due, behind_answer, handed, is_beat_due, expired, finished};
 
 use crate::next::Next;
 use hub_model::Item;
@@ -37,35 +39,43 @@ pub trait FeedHost {
     /// What the feeds follow, and the feeds.
     ghost hosted: { Self → Hosted Self.Row };
 
-    /// Opens a feed, which stays until it is finished. `descending` is not looked at.
+    /// Opens a feed, which stays until it is finished, under a number that no feed had before.
+    /// `descending` is not looked at. A refusal takes no memory.
     fn open_feed(&mut self, params: FeedParams) -> Result<FeedId, OpenFault>
-        ensures new { IfOk result (λ id. (hosted self.old).feeds id.number ≡ None) }
-        ensures ok { IfOk result (λ id. Becomes Self.Row id.number (Some (begin (params_of params) (hosted self.old).length)) (hosted self.old) (hosted self.new)) }
-        ensures free { OnOk result ((hosted self.old).refuses ≡ None) }
-        ensures err { IfErr result (λ e. (self.new ≡ self.old) × ((e ≡ OpenFault.NoMemory) ⊎ ((hosted self.old).refuses ≡ Some e))) };
+        ensures free { OnOk result (refuses (hosted self.old) ≡ None) }
+        ensures new { IfOk result (λ id. entry_in id.number (hosted self.old).feeds ≡ None) }
+        ensures number { IfOk result (λ id. id.number ≡ (hosted self.old).next_feed) }
+        ensures ok { OnOk result (hosted self.new ≡ opened (hosted self.old) (params_of params)) }
+        ensures err { IfErr result (λ e. (self.new ≡ self.old) × (e ≡ opening_fault (hosted self.old))) };
 
     /// What a feed has to hand now. An item is made and nothing changes: `accept_item` goes on. A
     /// feed that has nothing to hand goes to the length of what it follows. Only a row takes memory.
     fn next_item(&mut self, feed: FeedId) -> Result<Next<Self::Row>, AllocError>
-        ensures ok { IfOk result (λ next. next ≡ answer_of (hosted self.old) ((hosted self.old).feeds feed.number)) }
-        ensures new { IfOk result (λ _. Becomes Self.Row feed.number (option_map (answered (hosted self.old)) ((hosted self.old).feeds feed.number)) (hosted self.old) (hosted self.new)) }
-        ensures err { OnErr result ((self.new ≡ self.old) × IsRowDue (due_of (hosted self.old).current ((hosted self.old).feeds feed.number))) };
+        ensures ok { IfOk result (λ next. next ≡ answered (hosted self.old) feed.number) }
+        ensures new { OnOk result (hosted self.new ≡ behind_answer (hosted self.old) feed.number) }
+        ensures err { OnErr result ((self.new ≡ self.old) × IsRowDue (due_to (hosted self.old) feed.number)) };
 
     /// Goes on behind the item that `next_item` gives now. It takes no memory.
     fn accept_item(&mut self, feed: FeedId, item: &Item<Self::Row>)
-        requires due { item_due (hosted self.old) ((hosted self.old).feeds feed.number) ≡ Some item.now }
-        ensures { Becomes Self.Row feed.number (option_map (accepted (hosted self.old)) ((hosted self.old).feeds feed.number)) (hosted self.old) (hosted self.new) };
+        requires due { item_due (hosted self.old) feed.number ≡ Some item.now }
+        ensures { hosted self.new ≡ handed (hosted self.old) feed.number };
 
     /// Whether a heartbeat may be handed to a feed now: one was asked for, and the feed is open and
     /// waits. It takes no memory.
     fn beat_due(&self, feed: FeedId) -> bool
-        ensures { result ≡ is_beat_due ((hosted self.now).feeds feed.number) };
+        ensures { result ≡ is_beat_due (entry_in feed.number (hosted self.now).feeds) };
 
     /// A feed's time without an item is over: an open feed that waits is ending. It takes no memory.
     fn expire(&mut self, feed: FeedId)
-        ensures { Becomes Self.Row feed.number (option_map expire ((hosted self.old).feeds feed.number)) (hosted self.old) (hosted self.new) };
+        ensures { hosted self.new ≡ expired (hosted self.old) feed.number };
 
     /// Forgets a feed, if there is one of this number. It takes no memory.
     fn finish(&mut self, feed: FeedId)
-        ensures { Becomes Self.Row feed.number None (hosted self.old) (hosted self.new) };
+        ensures { hosted self.new ≡ finished (hosted self.old) feed.number };
+
+    /// The current rows rise.
+    ghost rise: { (s : Self) → AllPairs (λ (c d : Current). c.seq < d.seq) (hosted s).current };
+
+    /// Each is one of the edits.
+    ghost within: { (s : Self) (c : Current) → Contains (hosted s).current c → c.seq ≤ (hosted s).length };
 }

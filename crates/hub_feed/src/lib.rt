@@ -11,5 +11,7 @@ mod tests;
 
 pub use feed::FeedState;
 pub use host::{FeedHost, FeedId, OpenFault};
+pub use hub_document::ChangeRow;
+pub use hub_model::Item;
 pub use next::Next;
 pub use source::Source;

@@ -1,4 +1,5 @@
 -- A filter as the definitions know it (own).
+use Rattle.std.specs.Prelude.{◌<◌, length}
 use Rattle.hub_model.specs.Filter as model
 use Rattle.hub_filter.specs.declared.filter.Filter.{Filter}
 use Rattle.hub_filter.specs.declared.filter.Filter.TheVariants.{All, DocIds, Design}
@@ -8,3 +9,9 @@ abbrev pub filter_of : Filter → model.Filter
 filter_of All = model.Everything
 filter_of (DocIds ids) = model.DocIds ids
 filter_of Design = model.Design
+
+-- it lists ids: a list of none is not meant
+abbrev pub HasIds : model.Filter → Type 0
+HasIds model.Everything = ⊥
+HasIds (model.DocIds ids) = 0 < length ids
+HasIds model.Design = ⊥

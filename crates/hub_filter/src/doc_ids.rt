@@ -1,6 +1,6 @@
 //! The documents that a subscriber lists.
 
-ghost use Rattle.std.specs.Prelude.{ℕ, List, ◌≡◌, map, string_bytes, IfOk};
+ghost use Rattle.std.specs.Prelude.{ℕ, List, ◌≡◌, ◌<◌, length, map, string_bytes, IfOk, OnErr};
 ghost use Rattle.hub_filter.specs.Listed.{is_listed, in_order};
 
 use std::alloc::{AllocError, Global};
@@ -46,10 +46,15 @@ impl DocIds {
             .is_ok()
     }
 
-    /// A copy. It costs the length of the ids.
+    /// A copy. It costs the length of the ids, and takes no memory where none is listed.
     pub fn copy(&self, alloc: Global) -> Result<DocIds, AllocError>
-        ensures { IfOk result (λ ids. ids ≡ self.now) }
+        ensures ok { IfOk result (λ ids. ids ≡ self.now) }
+        ensures err { OnErr result (0 < length self.now) }
     {
+        if self.sorted.is_empty() {
+            let sorted = Vec::new(alloc);
+            return Ok(DocIds { sorted });
+        }
         let sorted = self.sorted.to_vec(alloc)?;
         Ok(DocIds { sorted })
     }

@@ -2,6 +2,7 @@
 //! `filter`).
 #![tactic(auto)]
 
+mod arms;
 mod doc_ids;
 mod filter;
 #[cfg(test)]

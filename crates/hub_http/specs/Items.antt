@@ -5,7 +5,7 @@ use Rattle.json.specs.Print.{quoted}
 use Rattle.hub_model.specs.Revision.{Revision, text_of}
 use Rattle.hub_model.specs.Row.{ChangeRow}
 use Rattle.hub_model.specs.declared.feeds.Mode.{Mode}
-use Rattle.hub_model.specs.declared.feeds.Mode.TheVariants.{Continuous}
+use Rattle.hub_model.specs.declared.feeds.Mode.TheVariants.{Normal, Longpoll, Continuous}
 use Rattle.hub_model.specs.declared.feeds.Item.{Item}
 use Rattle.hub_model.specs.declared.feeds.Item.TheVariants.{Row, Beat, End}
 use Rattle.hub_document.specs.DocText.{doc_text, row_doc}
@@ -40,21 +40,28 @@ row_head seq id = codes "{\"seq\":" ++ (decimal seq ++ (codes ",\"id\":" ++ quot
 unfoldable pub row_text : ChangeRow → List ℕ
 row_text row = row_head row.seq row.id ++ (codes ",\"changes\":[" ++ (revisions_text row.changes ++ row_end row))
 
--- what stands before a row, of which so many came before it
+-- what stands in a list between a row and those before it, of which there are so many
+unfoldable pub separator : ℕ → List ℕ
+separator zero = []
+separator (suc n) = codes ",\n"
+
+-- what stands before a row, before which so many came: a continuous feed is no list
 unfoldable pub before_row : Mode → ℕ → List ℕ
+before_row Normal n = separator n
+before_row Longpoll n = separator n
 before_row Continuous n = []
-before_row _ zero = []
-before_row _ (suc n) = codes ",\n"
 
--- what stands after a row
+-- what stands after a row: each row of a continuous feed is a line
 unfoldable pub after_row : Mode → List ℕ
+after_row Normal = []
+after_row Longpoll = []
 after_row Continuous = codes "\n"
-after_row _ = []
 
--- what stands before the members that end a feed
+-- what stands before the members that end a feed: it closes the list of the rows, where there is one
 unfoldable pub before_end : Mode → List ℕ
+before_end Normal = codes "\n],\n"
+before_end Longpoll = codes "\n],\n"
 before_end Continuous = codes "{"
-before_end _ = codes "\n],\n"
 
 -- the members that end a feed, and the brace that closes it
 unfoldable pub end_text : ℕ → ℕ → List ℕ
@@ -67,7 +74,8 @@ item_text mode rows_before (Row row) = before_row mode rows_before ++ (row_text 
 item_text mode rows_before Beat = codes "\n"
 item_text mode rows_before (End last_seq pending) = before_end mode ++ end_text last_seq pending
 
--- the text at the head of a feed
+-- the text at the head of a feed: a continuous one has none
 abbrev pub feed_head : Mode → List ℕ
+feed_head Normal = codes "{\"results\":[\n"
+feed_head Longpoll = codes "{\"results\":[\n"
 feed_head Continuous = []
-feed_head _ = codes "{\"results\":[\n"

@@ -2,10 +2,10 @@
 
 ghost use Rattle.std.specs.Prelude.{◌≡◌, ◌++◌, length, take, OnOk};
 ghost use Rattle.json.specs.Print.{quoted};
-ghost use Rattle.hub_http.specs.Items.{revision_text, revisions_text, row_mark, doc_member, row_end, row_head, row_text, before_row, after_row, before_end, end_text, item_text, feed_head};
+ghost use Rattle.hub_http.specs.Items.{revision_text, revisions_text, row_mark, doc_member, row_end, row_head, row_text, separator, before_row, after_row, before_end, end_text, item_text, feed_head};
 
 use hub_document::{ChangeRow, RevId};
-use hub_model::{Item, Mode};
+use hub_model::{Item, Mode, by_mode};
 use itoa::Buffer;
 use json::Writer;
 use std::alloc::AllocError;
@@ -104,34 +104,42 @@ fn put_row(out: &mut Vec<u8>, row: &ChangeRow) -> Result<(), AllocError>
     Ok(())
 }
 
+#[tactic(auto, unfolding(crate::specs::Items::separator))]
+fn separator(rows_before: u64) -> &'static str
+    ensures { result.now ≡ separator rows_before }
+{
+    if rows_before == 0 { "" } else { ",\n" }
+}
+
 #[tactic(auto, unfolding(crate::specs::Items::before_row))]
 fn before_row(mode: Mode, rows_before: u64) -> &'static str
     ensures { result.now ≡ before_row mode rows_before }
 {
-    match mode {
-        Mode::Continuous => "",
-        _ => { if rows_before == 0 { "" } else { ",\n" } }
-    }
+    by_mode!(mode, normal: separator(rows_before), longpoll: separator(rows_before), continuous: "")
 }
 
 #[tactic(auto, unfolding(crate::specs::Items::after_row))]
 fn after_row(mode: Mode) -> &'static str
     ensures { result.now ≡ after_row mode }
 {
-    match mode {
-        Mode::Continuous => "\n",
-        _ => "",
-    }
+    by_mode!(
+        mode,
+        normal: "",
+        longpoll: "",
+        continuous: "\n",
+    )
 }
 
 #[tactic(auto, unfolding(crate::specs::Items::before_end))]
 fn before_end(mode: Mode) -> &'static str
     ensures { result.now ≡ before_end mode }
 {
-    match mode {
-        Mode::Continuous => "{",
-        _ => "\n],\n",
-    }
+    by_mode!(
+        mode,
+        normal: "\n],\n",
+        longpoll: "\n],\n",
+        continuous: "{",
+    )
 }
 
 fn put_end(out: &mut Vec<u8>, last_seq: u64, pending: u64) -> Result<(), AllocError>
@@ -179,8 +187,10 @@ pub fn item_text(
 pub fn feed_head(mode: Mode) -> &'static str
     ensures { result.now ≡ feed_head mode }
 {
-    match mode {
-        Mode::Continuous => "",
-        _ => "{\"results\":[\n",
-    }
+    by_mode!(
+        mode,
+        normal: "{\"results\":[\n",
+        longpoll: "{\"results\":[\n",
+        continuous: "",
+    )
 }

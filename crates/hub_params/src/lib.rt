@@ -15,3 +15,4 @@ mod tests;
 pub use doc_params::DocParams;
 pub use feed_fault::ParamFault;
 pub use feed_params::FeedParams;
+pub use hub_model::Mode;
