@@ -8,7 +8,7 @@ use Rattle.std.proofs.lemmas.Grind.{common_steps}
 use Rattle.std.proofs.lemmas.Bool.Decides.{nat_tests}
 use Rattle.hub_http.specs.Stream.{Asked}
 use Rattle.hub_routes.specs.Paths.{path_of, query_of, name_part, id_part, HasPercent, NeedsRoomForKind}
-use Rattle.hub_routes.specs.Routes.{service_of, database_of, document_of, IsOfTable, IsBadId, AsksFor, IsWhole, NeedsRoom, kind, name, document, copies, route_to, GoesTo}
+use Rattle.hub_routes.specs.Routes.{service_of, database_of, document_of, IsOfTable, IsBadId, AsksFor, kind, name, document, copies, route_to, GoesTo}
 use Rattle.hub_routes.specs.declared.service.Access.{Access}
 use Rattle.hub_routes.specs.declared.service.Access.TheVariants as access
 use Rattle.hub_routes.specs.declared.service.Service.{Service}

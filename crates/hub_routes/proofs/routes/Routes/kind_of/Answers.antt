@@ -1,4 +1,4 @@
-use Rattle.std.proofs.Common.{◌≡◌, ◌≢◌, Some, Err, inl, inr, rules, subst, sym, ◌∙◌}
+use Rattle.std.proofs.Common.{◌≡◌, ◌≢◌, Some, inl, inr, rules, subst, sym, ◌∙◌}
 use Rattle.std.specs.List.{All}
 use Rattle.percent_encoding.specs.Percent.{percent_sign}
 use Rattle.percent_encoding.specs.Iter.{undecoded_input}
