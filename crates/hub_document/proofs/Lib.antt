@@ -1,3 +1,4 @@
+mod AskedLemmas
 pub mod MadeLemmas
 pub mod PartLemmas
 mod PathLemmas

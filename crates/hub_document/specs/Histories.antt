@@ -20,6 +20,10 @@ abbrev pub rev_of : Bool → Data → Option (Option Revision)
 rev_of new_edits d =
     read_or (if new_edits || is_some (get (codes "_revisions") d) then Some None else None) (λ r. option_map Some (rev_in r)) (get (codes "_rev") d)
 
+-- the revision of generation n whose hash an item writes; there is no generation 0
+abbrev pub hashed_at : ℕ → Data → Option Revision
+hashed_at n d = if n == 0 then None else option_and_then (with_hash n) (as_str d)
+
 -- the hashes of generations n, n - 1, .., 1
 abbrev pub falling : ℕ → Items → Option (List Revision)
 falling n no_items = if n == 0 then Some [] else None

@@ -1,12 +1,12 @@
 //! Revisions of several documents that are asked for.
 
-ghost use Rattle.std.specs.Prelude.{◌≡◌, ◌⊎◌, IfOk, IfErr, Ok, Err, option_map};
+ghost use Rattle.std.specs.Prelude.{◌≡◌, ◌⊎◌, ◌<◌, length, is_some, IfOk, IfErr, IsOkAnd, Ok, Err, option_map};
 ghost use Rattle.serde_json.specs.View.{view, items_view, members_view};
 ghost use Rattle.serde_json.specs.Find.{as_array};
 ghost use Rattle.hub_document.specs.Asking.{asked_in, asked_of as asked_of_members, are_lists as are_lists_of, are_texts as are_texts_of};
 
 use crate::doc::DocFault;
-use crate::open_revs::revs_in;
+use crate::open_revs::{are_revs, revs_in};
 use crate::revisions::Revisions;
 use serde_json::{Map, Value};
 use std::alloc::{AllocError, Global};
@@ -41,10 +41,13 @@ impl Asked {
 
     /// What an object of arrays of revisions asks for, in the byte order of its keys. A value of
     /// another shape is `NotObject`, then a text that is no revision is `BadRev`. It costs the
-    /// value's size.
+    /// value's size. A fault is found without memory, and nothing that is asked takes none.
+    #[tactic(auto, using(crate::proofs::AskedLemmas::asks_some))]
     pub fn read_all(alloc: Global, value: &Value) -> Result<Vec<Asked>, DocFault>
         ensures ok { IfOk result (λ v. asked_in (view value.now) ≡ Ok v.items) }
         ensures err { IfErr result (λ e. (e ≡ DocFault.NoMemory) ⊎ (asked_in (view value.now) ≡ Err e)) }
+        ensures memory { IfErr result (λ e. e ≡ DocFault.NoMemory
+            → IsOkAnd (asked_in (view value.now)) (λ asked. 0 < length asked)) }
     {
         let Some(members) = value.as_object() else {
             return Err(DocFault::NotObject);
@@ -52,9 +55,10 @@ impl Asked {
         if !are_lists(members) {
             return Err(DocFault::NotObject);
         }
-        match asked_of(alloc, members)? {
-            Some(asked) => Ok(asked),
-            None => Err(DocFault::BadRev),
+        match asked_of(alloc, members) {
+            Ok(Some(asked)) => Ok(asked),
+            Err(_) if list_revs(members) => Err(DocFault::NoMemory),
+            _ => Err(DocFault::BadRev),
         }
     }
 }
@@ -85,10 +89,23 @@ fn are_lists(members: &Map<String, Value>) -> bool
     true
 }
 
+// Whether each member is an array of revisions.
+fn list_revs(members: &Map<String, Value>) -> bool
+    ensures { result ≡ is_some (asked_of_members (members_view members.now.entries)) }
+{
+    for (_, member) in members.iter() {
+        if !are_revs(member) {
+            return false;
+        }
+    }
+    true
+}
+
 // The members' ids with their revisions, where each is an array of them.
 fn asked_of(alloc: Global, members: &Map<String, Value>) -> Result<Option<Vec<Asked>>, AllocError>
-    ensures { IfOk result (λ o. option_map (λ v. v.items) o
+    ensures value { IfOk result (λ o. option_map (λ v. v.items) o
         ≡ asked_of_members (members_view members.now.entries)) }
+    ensures memory { IfErr result (λ _. 0 < length members.now.entries) }
 {
     let mut asked = Vec::new(alloc);
     for (key, member) in members.iter() {

@@ -1,6 +1,6 @@
 //! The ids of documents.
 
-ghost use Rattle.std.specs.Prelude.{◌≡◌, true, codes, IfOk, IfSome, option_map};
+ghost use Rattle.std.specs.Prelude.{◌≡◌, true, codes, IfOk, IfErr, IfSome, IsSome, option_map};
 ghost use Rattle.serde_json.specs.View.{view};
 ghost use Rattle.serde_json.specs.Find.{get};
 ghost use Rattle.hub_document.specs.Local.{is_named_so as is_named_as};
@@ -30,9 +30,11 @@ impl Model for DocId {
 }
 
 impl DocId {
-    /// The id that a text is; None where no document can have it. It costs the text's length.
+    /// The id that a text is; None where no document can have it. It costs the text's length, and
+    /// takes memory only for an id.
     pub fn read(alloc: Global, text: &str) -> Result<Option<DocId>, AllocError>
-        ensures { IfOk result (λ o. o ≡ short_id text.now) }
+        ensures value { IfOk result (λ o. o ≡ short_id text.now) }
+        ensures memory { IfErr result (λ _. IsSome (short_id text.now)) }
     {
         if !is_id(text) || text.len() > 512 {
             return Ok(None);

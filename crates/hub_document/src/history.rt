@@ -1,8 +1,8 @@
 //! The revision and the history that a document's members name.
 
-ghost use Rattle.std.specs.Prelude.{◌≡◌, IfOk, option_map};
+ghost use Rattle.std.specs.Prelude.{◌≡◌, IfOk, IfSome, is_some, option_map, option_and_then};
 ghost use Rattle.serde_json.specs.View.{view, items_view};
-ghost use Rattle.hub_document.specs.Histories.{rev_of as rev_in, falling, history_in, is_head as is_head_of, alone as alone_of, path_of as path_in};
+ghost use Rattle.hub_document.specs.Histories.{rev_of as rev_in, hashed_at, falling, history_in, is_head as is_head_of, if_head, alone as alone_of, path_of as path_in};
 
 use crate::path::Path;
 use crate::revision::RevId;
@@ -25,6 +25,32 @@ pub(crate) fn rev_of(value: &Value, new_edits: bool) -> Option<Option<RevId>>
     Some(Some(rev))
 }
 
+// The revision of the generation `left` whose hash an item writes. None is a fault: there is no
+// generation 0.
+fn fallen(left: u16, id: &Value) -> Option<RevId>
+    ensures { result ≡ hashed_at left (view id.now) }
+{
+    if left == 0 {
+        return None;
+    }
+    let hash = id.as_str()?;
+    RevId::from_parts(left, hash.as_bytes())
+}
+
+// Whether these are the hashes of a full history from the generation `start` on.
+fn is_falling(start: u16, ids: &Vec<Value>) -> bool
+    ensures { result ≡ is_some (falling start (items_view ids.now.items)) }
+{
+    let mut left = start;
+    for id in ids {
+        if fallen(left, id).is_none() {
+            return false;
+        }
+        left -= 1;
+    }
+    left == 0
+}
+
 // The revisions of these hashes, of which the first has the generation `start` and the last the first.
 fn falling_from(
     alloc: Global,
@@ -37,13 +63,7 @@ fn falling_from(
     let mut revisions = Vec::new(alloc);
     let mut left = start;
     for id in ids {
-        if left == 0 {
-            return Ok(None);
-        }
-        let Some(hash) = id.as_str() else {
-            return Ok(None);
-        };
-        let Some(rev) = RevId::from_parts(left, hash.as_bytes()) else {
+        let Some(rev) = fallen(left, id) else {
             return Ok(None);
         };
         revisions.push(rev)?;
@@ -100,6 +120,38 @@ fn alone(alloc: Global, rev: Option<RevId>) -> Result<Option<Path>, AllocError>
     Ok(Some(Path::new(revisions)))
 }
 
+// Whether a full history of these hashes begins with the revision, where one is named.
+fn begins_with(rev: Option<RevId>, start: u16, ids: &Vec<Value>) -> bool
+    ensures { IfSome (falling start (items_view ids.now.items)) (λ path. result ≡ is_head_of rev path) }
+{
+    let Some(named) = rev else {
+        return true;
+    };
+    let Some(id) = ids.first() else {
+        return false;
+    };
+    match fallen(start, id) {
+        Some(first) => named.is_same(&first),
+        None => false,
+    }
+}
+
+// Whether `_revisions` writes a history whose first revision this is, where one is named.
+fn is_history(rev: Option<RevId>, value: &Value) -> bool
+    ensures { result ≡ is_some (option_and_then (if_head rev) (history_in (view value.now))) }
+{
+    let Some(start) = value.get("start").and_then(Value::as_u64) else {
+        return false;
+    };
+    let Some(ids) = value.get("ids").and_then(Value::as_array) else {
+        return false;
+    };
+    if start == 0 || start > 65535 || !is_falling(start as u16, ids) {
+        return false;
+    }
+    begins_with(rev, start as u16, ids)
+}
+
 /// The path of an edit that another database made. None is a fault. It costs the history's length.
 pub(crate) fn path_of(
     alloc: Global,
@@ -118,5 +170,16 @@ pub(crate) fn path_of(
         Ok(Some(Path::new(revisions)))
     } else {
         Ok(None)
+    }
+}
+
+/// Whether the members name a path, which `path_of` then gives. It takes no memory, and costs the
+/// history's length.
+pub(crate) fn is_path(rev: Option<RevId>, value: &Value) -> bool
+    ensures { result ≡ is_some (path_in rev (view value.now)) }
+{
+    match value.get("_revisions") {
+        Some(history) => is_history(rev, history),
+        None => rev.is_some_and(|r| r.generation() == 1),
     }
 }

@@ -1,6 +1,6 @@
 //! Local documents.
 
-ghost use Rattle.std.specs.Prelude.{◌≡◌, ◌⊎◌, ◌++◌, length, take, IfOk, IfErr, OnOk, OnErr, Ok, Err, string_bytes};
+ghost use Rattle.std.specs.Prelude.{◌≡◌, ◌⊎◌, ◌++◌, length, take, IfOk, IfErr, IsOk, OnOk, OnErr, Ok, Err, string_bytes};
 ghost use Rattle.hub_document.specs.DocText.{local_text};
 ghost use Rattle.serde_json.specs.View.{view, members_view};
 ghost use Rattle.hub_document.specs.Local.{IsLocalId, is_local_id as is_local, local_of, local_in};
@@ -84,6 +84,7 @@ fn local_from(
     ensures ok { IfOk result (λ d. local_of id.now (view value.now) (members_view members.now.entries) ≡ Ok d) }
     ensures err { IfErr result (λ e. (e ≡ DocFault.NoMemory)
         ⊎ (local_of id.now (view value.now) (members_view members.now.entries) ≡ Err e)) }
+    ensures memory { IfErr result (λ e. e ≡ DocFault.NoMemory → IsOk (local_of id.now (view value.now) (members_view members.now.entries))) }
 {
     if members_have_float(members) {
         return Err(DocFault::BadNumber);
@@ -104,7 +105,8 @@ fn local_from(
 
 impl LocalDoc {
     /// The local document that a JSON text is under the id that the request names, or the first
-    /// fault. Its `_rev` is not looked at. It costs the text's length.
+    /// fault. Its `_rev` is not looked at. It costs the text's length, and takes room before it is known
+    /// what the text is.
     pub fn read(alloc: Global, id: &str, bytes: &[u8]) -> Result<LocalDoc, DocFault>
         ensures ok { IfOk result (λ d. local_in id.now bytes.now ≡ Ok d) }
         ensures err { IfErr result (λ e. (e ≡ DocFault.NoMemory) ⊎ (local_in id.now bytes.now ≡ Err e)) }

@@ -1,6 +1,7 @@
 //! Revisions of one document that are asked for.
 
-ghost use Rattle.std.specs.Prelude.{◌≡◌, IfOk, option_map};
+ghost use Rattle.std.specs.Prelude.{◌≡◌, IfOk, IfErr, is_some, false, codes, option_map};
+ghost use Rattle.std.specs.Str.{bytes_eq};
 ghost use Rattle.serde_json.specs.View.{view, items_view};
 ghost use Rattle.hub_document.specs.Asking.{open_revs_in, revs_of as revs_of_items, revs_in as revs_in_value};
 ghost use Rattle.hub_document.specs.Histories.{rev_in as rev_in_value};
@@ -24,9 +25,11 @@ pub enum OpenRevs {
 
 impl OpenRevs {
     /// What a value of `open_revs` asks for: `all`, or a JSON array of revisions. None is a fault.
-    /// It costs the text's length.
+    /// It costs the text's length. `all` takes no memory; any other text is parsed, which takes room
+    /// before it is known what it is.
     pub fn read(alloc: Global, text: &str) -> Result<Option<OpenRevs>, AllocError>
-        ensures { IfOk result (λ o. o ≡ open_revs_in text.now) }
+        ensures value { IfOk result (λ o. o ≡ open_revs_in text.now) }
+        ensures memory { IfErr result (λ _. bytes_eq text.now (codes "all") ≡ false) }
     {
         if text == "all" {
             return Ok(Some(OpenRevs::All));
@@ -58,6 +61,18 @@ fn rev_in(value: &Value) -> Option<RevId>
     RevId::read(text)
 }
 
+// Whether each of an array's items writes a revision.
+fn write_revs(items: &Vec<Value>) -> bool
+    ensures { result ≡ is_some (revs_of_items (items_view items.now.items)) }
+{
+    for item in items {
+        if rev_in(item).is_none() {
+            return false;
+        }
+    }
+    true
+}
+
 // The revisions of an array's items, where each writes one.
 fn revs_of(alloc: Global, items: &Vec<Value>) -> Result<Option<Revisions>, AllocError>
     ensures { IfOk result (λ o. o ≡ revs_of_items (items_view items.now.items)) }
@@ -79,5 +94,15 @@ pub(crate) fn revs_in(alloc: Global, value: &Value) -> Result<Option<Revisions>,
     match value.as_array() {
         Some(items) => revs_of(alloc, items),
         None => Ok(None),
+    }
+}
+
+/// Whether a value is an array of revisions. It takes no memory.
+pub(crate) fn are_revs(value: &Value) -> bool
+    ensures { result ≡ is_some (revs_in_value (view value.now)) }
+{
+    match value.as_array() {
+        Some(items) => write_revs(items),
+        None => false,
     }
 }

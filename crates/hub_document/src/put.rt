@@ -1,6 +1,6 @@
 //! Documents that are put under an id.
 
-ghost use Rattle.std.specs.Prelude.{◌≡◌, ◌⊎◌, IfOk, IfErr, Ok, Err, option_map, false, true};
+ghost use Rattle.std.specs.Prelude.{◌≡◌, ◌⊎◌, IfOk, IfErr, IsOk, Ok, Err, option_map, false, true};
 ghost use Rattle.serde_json.specs.View.{view, members_view};
 ghost use Rattle.serde_json.specs.Written.{members_have_float as members_have_float_in};
 ghost use Rattle.hub_document.specs.Ids.{is_id as is_id_text};
@@ -53,6 +53,7 @@ fn put_from(
     ensures ok { IfOk result (λ d. put_of id.now (option_map (λ s. s.now) rev.entry) new_edits (view value.now) (members_view members.now.entries) ≡ Ok d) }
     ensures err { IfErr result (λ e. (e ≡ DocFault.NoMemory)
         ⊎ (put_of id.now (option_map (λ s. s.now) rev.entry) new_edits (view value.now) (members_view members.now.entries) ≡ Err e)) }
+    ensures memory { IfErr result (λ e. e ≡ DocFault.NoMemory → IsOk (put_of id.now (option_map (λ s. s.now) rev.entry) new_edits (view value.now) (members_view members.now.entries))) }
 {
     if members_have_float(members) {
         return Err(DocFault::BadNumber);
@@ -72,7 +73,8 @@ fn put_from(
 impl Doc {
     /// The document that a JSON text is under the id that a request names, or the first fault. The
     /// leaf that it edits may be named by the request too, by `rev`; an edit that was not made here
-    /// (`new_edits` is false) is a bad member. It costs the text's length.
+    /// (`new_edits` is false) is a bad member. It costs the text's length, and takes room before it is
+    /// known what the text is.
     pub fn read_put(
         alloc: Global,
         id: &str,

@@ -1,15 +1,16 @@
 //! Documents from JSON texts and values.
 
-ghost use Rattle.std.specs.Prelude.{is_some, not, IfSome, ◌≡◌, ◌⊎◌, IfOk, IfErr, Ok, Err, Some, None, true, false};
+ghost use Rattle.std.specs.Prelude.{is_some, not, IfSome, ◌≡◌, ◌<◌, length, nat_lt, if◌then◌else◌, ◌⊎◌, IfOk, IfErr, IsOk, Ok, Err, Some, None, true, false};
 ghost use Rattle.hub_document.specs.Ids.{is_id};
 ghost use Rattle.serde_json.specs.View.{view, members_view};
 ghost use Rattle.hub_document.specs.Read.{with_path as path_gives, with_rev as rev_gives, with_id as id_gives, document_of, history_of as history_in, doc_of, doc_in, json_of};
+ghost use Rattle.hub_document.specs.SpecialMembers.{are_good_members as are_good};
 ghost use Rattle.serde_json.specs.Written.{members_have_float as members_have_float_in};
 
 use crate::body::body_of;
 use crate::doc::{Doc, DocFault};
 use crate::doc_id::{DocId, id_of};
-use crate::history::{path_of, rev_of};
+use crate::history::{is_path, path_of, rev_of};
 use crate::members::{are_good_members, is_deleted};
 use crate::numbers::members_have_float;
 use crate::path::Path;
@@ -28,6 +29,7 @@ fn history_of(
     value: &Value,
 ) -> Result<Option<History>, AllocError>
     ensures value { IfOk result (λ o. o ≡ history_in new_edits rev (view value.now)) }
+    ensures memory { IfErr result (λ _. new_edits ≡ false) }
     ensures some { IfOk result (λ o. IfSome o (λ h. is_some h.1 ≡ not new_edits)) }
 {
     if new_edits {
@@ -38,6 +40,20 @@ fn history_of(
     };
     let head = path.head();
     Ok(Some((Some(head), Some(path))))
+}
+
+// The first of the faults that are looked for last.
+fn last_fault(members: &Map<String, Value>, id: &str) -> Option<DocFault>
+    ensures { result ≡ (if are_good (members_view members.now.entries)
+        then (if nat_lt 512 (length id.now) then Some DocFault.TooLong else None) else Some DocFault.BadMember) }
+{
+    if !are_good_members(members) {
+        return Some(DocFault::BadMember);
+    }
+    if id.len() > 512 {
+        return Some(DocFault::TooLong);
+    }
+    None
 }
 
 /// The rest, where the head and the path are known.
@@ -54,13 +70,11 @@ pub(crate) fn with_path(
     ensures ok { IfOk result (λ d. path_gives (view value.now) (members_view members.now.entries) id.now rev path ≡ Ok d) }
     ensures err { IfErr result (λ e. (e ≡ DocFault.NoMemory)
         ⊎ (path_gives (view value.now) (members_view members.now.entries) id.now rev path ≡ Err e)) }
+    ensures memory { IfErr result (λ e. e ≡ DocFault.NoMemory → IsOk (path_gives (view value.now) (members_view members.now.entries) id.now rev path)) }
     ensures history { IfOk result (λ d. d.path ≡ path) }
 {
-    if !are_good_members(members) {
-        return Err(DocFault::BadMember);
-    }
-    if id.len() > 512 {
-        return Err(DocFault::TooLong);
+    if let Some(fault) = last_fault(members, id) {
+        return Err(fault);
     }
     let id = DocId::copied(alloc, id)?;
     let body = body_of(alloc, members)?;
@@ -72,6 +86,28 @@ pub(crate) fn with_path(
         deleted,
         body,
     })
+}
+
+// The first fault of an edit that came whose path has no room; else it is want of memory. It takes
+// no memory.
+fn without_path(
+    value: &Value,
+    members: &Map<String, Value>,
+    id: &str,
+    rev: &Option<RevId>,
+) -> DocFault
+    ensures fault { (result ≡ DocFault.NoMemory)
+        ⊎ (rev_gives false (view value.now) (members_view members.now.entries) id.now rev.now ≡ Err result) }
+    ensures memory { result ≡ DocFault.NoMemory
+        → IsOk (rev_gives false (view value.now) (members_view members.now.entries) id.now rev.now) }
+{
+    if !is_path(*rev, value) {
+        return DocFault::BadRevisions;
+    }
+    match last_fault(members, id) {
+        Some(fault) => fault,
+        None => DocFault::NoMemory,
+    }
 }
 
 // The rest, where `_rev` is known.
@@ -88,9 +124,14 @@ fn with_rev(
     ensures ok { IfOk result (λ d. rev_gives new_edits (view value.now) (members_view members.now.entries) id.now rev ≡ Ok d) }
     ensures err { IfErr result (λ e. (e ≡ DocFault.NoMemory)
         ⊎ (rev_gives new_edits (view value.now) (members_view members.now.entries) id.now rev ≡ Err e)) }
+    ensures memory { IfErr result (λ e. e ≡ DocFault.NoMemory → IsOk (rev_gives new_edits (view value.now) (members_view members.now.entries) id.now rev)) }
     ensures history { IfOk result (λ d. is_some d.path ≡ not new_edits) }
 {
-    let Some((head, path)) = history_of(alloc, new_edits, rev, value)? else {
+    let history = match history_of(alloc, new_edits, rev, value) {
+        Ok(history) => history,
+        Err(_) => return Err(without_path(value, members, id, &rev)),
+    };
+    let Some((head, path)) = history else {
         return Err(DocFault::BadRevisions);
     };
     with_path(alloc, value, members, id, head, path)
@@ -109,6 +150,7 @@ fn with_id(
     ensures ok { IfOk result (λ d. id_gives new_edits (view value.now) (members_view members.now.entries) id.now ≡ Ok d) }
     ensures err { IfErr result (λ e. (e ≡ DocFault.NoMemory)
         ⊎ (id_gives new_edits (view value.now) (members_view members.now.entries) id.now ≡ Err e)) }
+    ensures memory { IfErr result (λ e. e ≡ DocFault.NoMemory → IsOk (id_gives new_edits (view value.now) (members_view members.now.entries) id.now)) }
     ensures history { IfOk result (λ d. is_some d.path ≡ not new_edits) }
 {
     let Some(rev) = rev_of(value, new_edits) else {
@@ -127,6 +169,7 @@ fn document_from(
     ensures ok { IfOk result (λ d. document_of new_edits (view value.now) (members_view members.now.entries) ≡ Ok d) }
     ensures err { IfErr result (λ e. (e ≡ DocFault.NoMemory)
         ⊎ (document_of new_edits (view value.now) (members_view members.now.entries) ≡ Err e)) }
+    ensures memory { IfErr result (λ e. e ≡ DocFault.NoMemory → IsOk (document_of new_edits (view value.now) (members_view members.now.entries))) }
     ensures history { IfOk result (λ d. is_some d.path ≡ not new_edits) }
 {
     if members_have_float(members) {
@@ -138,11 +181,13 @@ fn document_from(
     with_id(alloc, new_edits, value, members, id)
 }
 
-/// The JSON value that a text is. It costs the text's length.
+/// The JSON value that a text is. It costs the text's length. Whatever the text is, it takes room
+/// before that is known; an empty one takes none.
 pub fn read_value(alloc: Global, bytes: &[u8]) -> Result<Value, DocFault>
     ensures ok { IfOk result (λ v. json_of bytes.now ≡ Some (view v)) }
     ensures err { IfErr result (λ e. (e ≡ DocFault.NoMemory)
         ⊎ ((e ≡ DocFault.NotJson) × (json_of bytes.now ≡ None))) }
+    ensures memory { IfErr result (λ e. e ≡ DocFault.NoMemory → 0 < length bytes.now) }
 {
     match Value::from_slice(alloc, bytes) {
         Ok(value) => Ok(value),
@@ -159,11 +204,13 @@ pub fn read_value(alloc: Global, bytes: &[u8]) -> Result<Value, DocFault>
 impl Doc {
     /// The document that a JSON value is, or the first fault in it. With `new_edits` the edit is
     /// made here: `_rev` names the leaf that it edits, if one, and `_revisions` is not looked at.
-    /// Without it `_rev` and `_revisions` are the edit's own. It costs the value's size.
+    /// Without it `_rev` and `_revisions` are the edit's own. It costs the value's size. A fault is
+    /// found without memory.
     pub fn of_value(alloc: Global, value: &Value, new_edits: bool) -> Result<Doc, DocFault>
         ensures ok { IfOk result (λ d. doc_of new_edits (view value.now) ≡ Ok d) }
         ensures err { IfErr result (λ e. (e ≡ DocFault.NoMemory)
             ⊎ (doc_of new_edits (view value.now) ≡ Err e)) }
+        ensures memory { IfErr result (λ e. e ≡ DocFault.NoMemory → IsOk (doc_of new_edits (view value.now))) }
         ensures history { IfOk result (λ d. is_some d.path ≡ not new_edits) }
     {
         let Some(members) = value.as_object() else {
@@ -172,7 +219,8 @@ impl Doc {
         document_from(alloc, new_edits, value, members)
     }
 
-    /// The document that a JSON text is. It costs the text's length.
+    /// The document that a JSON text is. It costs the text's length, and takes room before it is
+    /// known what it is.
     pub fn read(alloc: Global, bytes: &[u8], new_edits: bool) -> Result<Doc, DocFault>
         ensures ok { IfOk result (λ d. doc_in new_edits bytes.now ≡ Ok d) }
         ensures err { IfErr result (λ e. (e ≡ DocFault.NoMemory)

@@ -1,6 +1,6 @@
 //! Lists of revisions.
 
-ghost use Rattle.std.specs.Prelude.{◌≡◌, IfOk};
+ghost use Rattle.std.specs.Prelude.{◌≡◌, ◌<◌, length, IfOk, IfErr};
 
 use crate::revision::RevId;
 use std::alloc::{AllocError, Global};
@@ -36,10 +36,14 @@ impl Revisions {
         self.list.as_slice()
     }
 
-    /// A copy. It costs the list's length.
+    /// A copy. It costs the list's length, and of an empty list takes no memory.
     pub fn copy(&self, alloc: Global) -> Result<Revisions, AllocError>
-        ensures { IfOk result (λ list. list ≡ self.now) }
+        ensures value { IfOk result (λ list. list ≡ self.now) }
+        ensures memory { IfErr result (λ _. 0 < length self.now) }
     {
+        if self.list.is_empty() {
+            return Ok(Revisions::new(Vec::new(alloc)));
+        }
         let list = Vec::from_slice(alloc, self.list.as_slice())?;
         Ok(Revisions { list })
     }

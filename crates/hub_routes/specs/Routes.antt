@@ -1,9 +1,9 @@
 -- Where requests go (CouchDB API reference, the paths of the server, databases and documents; own for the order of refusals).
-use Rattle.std.specs.Prelude.{◌≡◌, ⊤, ◌⊎◌, ℕ, true, false, List, Result, Ok, Err, IsOk, String, Vec, string_bytes}
+use Rattle.std.specs.Prelude.{◌≡◌, ◌≢◌, ◌⊎◌, ℕ, true, false, List, Result, Ok, Err, IsOk, String, Vec, string_bytes}
 use Rattle.std.specs.declared.alloc.Global.{Global}
 use Rattle.std.specs.Str.{IsUtf8}
 use Rattle.hub_http.specs.Stream.{Asked}
-use Rattle.hub_routes.specs.Paths.{path_of, query_of, name_of, id_of, kind_of}
+use Rattle.hub_routes.specs.Paths.{path_of, query_of, name_part, id_part, name_of, id_of, kind_of, HasPercent, NeedsRoomForKind}
 use Rattle.hub_routes.specs.Services.{method_of, asked_at, takes, takes_body}
 use Rattle.hub_routes.specs.declared.service.Access.{Access}
 use Rattle.hub_routes.specs.declared.service.Access.TheVariants as access
@@ -49,7 +49,20 @@ route_to access.DeleteDocument db id query = DeleteDocument db id query
 route_to access.GetLocal db id query = GetLocal db id
 route_to access.PutLocal db id query = PutLocal db id
 
--- where a request goes, or why nowhere; want of memory may come in place of any
+-- no fault that is looked for behind the table's: the name is text, a length that is needed is there, and the document may be asked for so
+pub record IsWhole (a : Asked) (s : Service) : Type 0 where
+  pub name : IsUtf8 (database_of a)
+  pub length : (takes_body s ≡ true) → (a.has_length ≡ true)
+  pub document : (access : Access) → (s ≡ service.One access) → ((IsUtf8 (document_of a)) × (takes access (document_of a) ≡ true))
+
+-- What may fail for want of memory: finding the kind of the path; decoding a name, or the id of one document; and copying the name and what else a route has, where nothing refuses the request. The greeting has no name.
+pub data NeedsRoom (a : Asked) : Type 0 where
+  kind : NeedsRoomForKind (path_of a.target) → NeedsRoom a
+  name : IsOk (service_of a) → HasPercent (name_part (path_of a.target)) → NeedsRoom a
+  document : (access : Access) → service_of a ≡ Ok (service.One access) → IsUtf8 (database_of a) → HasPercent (id_part (path_of a.target)) → NeedsRoom a
+  copies : (s : Service) → service_of a ≡ Ok s → s ≢ service.Welcome → IsWhole a s → NeedsRoom a
+
+-- where a request goes, or why nowhere
 abbrev pub GoesTo : Asked → Result Route RouteFault → Type 0
 GoesTo a (Ok Welcome) = service_of a ≡ Ok service.Welcome
 GoesTo a (Ok (GetDatabase db)) = (service_of a ≡ Ok service.GetDatabase) × (string_bytes db ≡ database_of a)
@@ -63,7 +76,7 @@ GoesTo a (Ok (PutDocument db id query)) = AsksFor a access.PutDocument (string_b
 GoesTo a (Ok (DeleteDocument db id query)) = AsksFor a access.DeleteDocument (string_bytes db) (string_bytes id) × (query.items ≡ query_of a.target)
 GoesTo a (Ok (GetLocal db id)) = AsksFor a access.GetLocal (string_bytes db) (string_bytes id)
 GoesTo a (Ok (PutLocal db id)) = AsksFor a access.PutLocal (string_bytes db) (string_bytes id)
-GoesTo a (Err NoMemory) = ⊤
+GoesTo a (Err NoMemory) = NeedsRoom a
 GoesTo a (Err Missing) = service_of a ≡ Err Missing
 GoesTo a (Err MethodNotAllowed) = service_of a ≡ Err MethodNotAllowed
 GoesTo a (Err BadName) = IsOk (service_of a) × ¬ IsUtf8 (database_of a)

@@ -1,15 +1,17 @@
 //! The parts of a target (RFC 3986, sections 2.1 and 3).
 
-ghost use Rattle.std.specs.Prelude.{◌≡◌, ◌==◌, ◌⊎◌, position, Some, None, IfOk, IfErr, OnOk, string_bytes, codes};
+ghost use Rattle.std.specs.Prelude.{◌≡◌, ◌==◌, ◌⊎◌, position, Some, None, IfOk, IfErr, OnOk, codes};
 ghost use Rattle.std.specs.List.{before_first, after_first};
+ghost use Rattle.std.specs.Cow.{cow_str_bytes};
 ghost use Rattle.std.specs.Str.{IsUtf8};
 ghost use Rattle.percent_encoding.specs.Percent.{percent_decode};
 ghost use Rattle.hub_document.specs.Ids.{is_id};
-ghost use Rattle.hub_routes.specs.Paths.{name_part, id_part, is_local};
+ghost use Rattle.hub_routes.specs.Paths.{name_part, id_part, is_local, HasPercent};
 
 use crate::route::RouteFault;
 use percent_encoding::{DecodeError, percent_decode};
 use std::alloc::Global;
+use std::borrow::CowStr;
 
 fn index_of(bytes: &[u8], at: u8) -> Option<usize>
     ensures { result ≡ position (λ b. b == at) bytes.now }
@@ -39,20 +41,22 @@ pub fn parts(path: &[u8]) -> (&[u8], &[u8])
     }
 }
 
-/// The text that a part is once its escapes are read; the fault where it is none.
-pub fn decoded(alloc: Global, part: &[u8], fault: RouteFault) -> Result<String, RouteFault>
-    ensures value { IfOk result (λ s. string_bytes s ≡ percent_decode part.now) }
+/// The text that a part is once its escapes are read; the fault where it is none. A part without
+/// escapes is lent, and takes no memory.
+pub fn decoded<'p>(
+    alloc: Global,
+    part: &'p [u8],
+    fault: RouteFault,
+) -> Result<CowStr<'p>, RouteFault>
+    ensures value { IfOk result (λ s. cow_str_bytes s ≡ percent_decode part.now) }
     ensures text { OnOk result (IsUtf8 (percent_decode part.now)) }
-    ensures none { IfErr result (λ e. (e ≡ RouteFault.NoMemory) ⊎ ((e ≡ fault) × ¬ IsUtf8 (percent_decode part.now))) }
+    ensures none { IfErr result (λ e. ((e ≡ RouteFault.NoMemory) × HasPercent part.now)
+        ⊎ ((e ≡ fault) × ¬ IsUtf8 (percent_decode part.now))) }
 {
-    let text = match percent_decode(part).decode_utf8(alloc) {
-        Ok(text) => text,
-        Err(DecodeError::Utf8(_)) => return Err(fault),
-        Err(DecodeError::OutOfMemory) => return Err(RouteFault::NoMemory),
-    };
-    match text.into_owned(alloc) {
-        Ok(name) => Ok(name),
-        Err(_) => Err(RouteFault::NoMemory),
+    match percent_decode(part).decode_utf8(alloc) {
+        Ok(text) => Ok(text),
+        Err(DecodeError::Utf8(_)) => Err(fault),
+        Err(DecodeError::OutOfMemory) => Err(RouteFault::NoMemory),
     }
 }
 

@@ -1,11 +1,12 @@
 //! Where requests go (CouchDB API reference, the paths of the server, databases and documents).
 
 ghost use Rattle.std.specs.Prelude.{◌≡◌, ◌⊎◌, Some, None, IfOk, IfErr, OnOk, Ok, Err, true, string_bytes};
+ghost use Rattle.std.specs.Cow.{cow_str_bytes};
 ghost use Rattle.std.specs.Str.{IsUtf8};
 ghost use Rattle.percent_encoding.specs.Percent.{percent_decode};
 ghost use Rattle.hub_http.specs.Stream.{asked_by};
 ghost use Rattle.hub_routes.specs.Table.{table, kind_at};
-ghost use Rattle.hub_routes.specs.Paths.{path_of, query_of, kind_of};
+ghost use Rattle.hub_routes.specs.Paths.{path_of, query_of, kind_of, HasPercent, NeedsRoomForKind};
 ghost use Rattle.hub_routes.specs.Services.{method_of, asked_at, takes};
 ghost use Rattle.hub_routes.specs.Routes.{IsOfTable, IsBadId, route_to, GoesTo};
 
@@ -17,6 +18,7 @@ use hub_http::Request;
 use matchit::Router;
 use percent_encoding::{AsciiSet, percent_decode, percent_encode};
 use std::alloc::{AllocError, Global};
+use std::borrow::CowStr;
 
 // The path of a request, and its query.
 fn target_of(request: &Request) -> (&[u8], &[u8])
@@ -27,16 +29,18 @@ fn target_of(request: &Request) -> (&[u8], &[u8])
 }
 
 // The id of a document, where it may be asked for so.
-fn document_id(alloc: Global, access: Access, part: &[u8]) -> Result<String, RouteFault>
-    ensures value { IfOk result (λ s. string_bytes s ≡ percent_decode part.now) }
+fn document_id<'p>(alloc: Global, access: Access, part: &'p [u8]) -> Result<CowStr<'p>, RouteFault>
+    ensures value { IfOk result (λ s. cow_str_bytes s ≡ percent_decode part.now) }
+    ensures text { OnOk result (IsUtf8 (percent_decode part.now)) }
     ensures good { OnOk result (takes access (percent_decode part.now) ≡ true) }
-    ensures none { IfErr result (λ e. (e ≡ RouteFault.NoMemory) ⊎ ((e ≡ RouteFault.BadId) × IsBadId access (percent_decode part.now))) }
+    ensures none { IfErr result (λ e. ((e ≡ RouteFault.NoMemory) × HasPercent part.now)
+        ⊎ ((e ≡ RouteFault.BadId) × IsBadId access (percent_decode part.now))) }
 {
     let id = match decoded(alloc, part, RouteFault::BadId) {
         Ok(id) => id,
         Err(e) => return Err(e),
     };
-    if takes(access, id.as_bytes()) {
+    if takes(access, id.as_str().as_bytes()) {
         Ok(id)
     } else {
         Err(RouteFault::BadId)
@@ -79,22 +83,27 @@ impl Routes {
         }
     }
 
+    // An id is decoded only where it may be a local document's.
     #[tactic(auto, unfolding(crate::specs::Paths::ascii_path))]
     fn kind_of(&self, alloc: Global, path: &[u8]) -> Result<Option<Kind>, AllocError>
-        ensures { IfOk result (λ k. k ≡ kind_of path.now) }
+        ensures value { IfOk result (λ k. k ≡ kind_of path.now) }
+        ensures memory { IfErr result (λ _. NeedsRoomForKind path.now) }
     {
         let text = percent_encode(path, AsciiSet::EMPTY).into_cow(alloc)?;
-        let (_, part) = parts(path);
-        let id = percent_decode(part).into_cow(alloc)?;
         match self.kind_at(text.as_str()) {
-            Some(kind) => Ok(Some(refined(kind, id.as_slice()))),
-            None => Ok(None),
+            Some(Kind::Document) => {
+                let (_, part) = parts(path);
+                let id = percent_decode(part).into_cow(alloc)?;
+                Ok(Some(refined(Kind::Document, id.as_slice())))
+            }
+            other => Ok(other),
         }
     }
 
     fn service_at(&self, alloc: Global, path: &[u8], method: &[u8]) -> Result<Service, RouteFault>
         ensures ok { IfOk result (λ s. asked_at (kind_of path.now) (method_of method.now) ≡ Ok s) }
-        ensures err { IfErr result (λ e. (e ≡ RouteFault.NoMemory) ⊎ ((asked_at (kind_of path.now) (method_of method.now) ≡ Err e) × IsOfTable e)) }
+        ensures err { IfErr result (λ e. ((e ≡ RouteFault.NoMemory) × NeedsRoomForKind path.now)
+            ⊎ ((asked_at (kind_of path.now) (method_of method.now) ≡ Err e) × IsOfTable e)) }
     {
         match self.kind_of(alloc, path)? {
             Some(kind) => asked_of(kind, method_of(method)),
@@ -105,7 +114,7 @@ impl Routes {
     /// Where a request goes. The first of these refuses it: no such path; a method that the path
     /// does not take; a name that is no text; an id that is no text or that no document may have;
     /// a length that is missing. It costs the target's length, and copies the name, the id and the
-    /// query.
+    /// query. A refusal takes memory only where the path has escapes, or bytes outside ASCII.
     pub fn route(&self, alloc: Global, request: &Request) -> Result<Route, RouteFault>
         ensures { GoesTo (asked_by request.now) result }
     {
@@ -115,8 +124,8 @@ impl Routes {
             Err(e) => return Err(e),
         };
         let (name, part) = parts(path);
-        let db = match decoded(alloc, name, RouteFault::BadName) {
-            Ok(db) => db,
+        let name = match decoded(alloc, name, RouteFault::BadName) {
+            Ok(name) => name,
             Err(e) => return Err(e),
         };
         if takes_body(service) && !request.has_length {
@@ -124,20 +133,38 @@ impl Routes {
         }
         match service {
             Service::Welcome => Ok(Route::Welcome),
-            Service::GetDatabase => Ok(Route::GetDatabase { db }),
-            Service::PutDatabase => Ok(Route::PutDatabase { db }),
-            Service::BulkDocs => Ok(Route::BulkDocs { db }),
+            Service::GetDatabase => {
+                let db = name.into_owned(alloc)?;
+                Ok(Route::GetDatabase { db })
+            }
+            Service::PutDatabase => {
+                let db = name.into_owned(alloc)?;
+                Ok(Route::PutDatabase { db })
+            }
+            Service::BulkDocs => {
+                let db = name.into_owned(alloc)?;
+                Ok(Route::BulkDocs { db })
+            }
             Service::Changes => {
+                let db = name.into_owned(alloc)?;
                 let query = Vec::from_slice(alloc, query)?;
                 Ok(Route::Changes { db, query })
             }
-            Service::RevsDiff => Ok(Route::RevsDiff { db }),
-            Service::FullCommit => Ok(Route::FullCommit { db }),
+            Service::RevsDiff => {
+                let db = name.into_owned(alloc)?;
+                Ok(Route::RevsDiff { db })
+            }
+            Service::FullCommit => {
+                let db = name.into_owned(alloc)?;
+                Ok(Route::FullCommit { db })
+            }
             Service::One(access) => {
                 let id = match document_id(alloc, access, part) {
                     Ok(id) => id,
                     Err(e) => return Err(e),
                 };
+                let db = name.into_owned(alloc)?;
+                let id = id.into_owned(alloc)?;
                 let query = Vec::from_slice(alloc, query)?;
                 Ok(route_to(access, db, id, query))
             }

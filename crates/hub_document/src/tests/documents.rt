@@ -75,6 +75,15 @@ fn a_list_of_revisions(rt: HostRuntime) -> Result<(), Fail> {
     list.push(RevId::read("1-a").expect(&rt, "a revision"))?;
     let revisions = Revisions::new(list);
     assert_eq!(rt; revisions.as_slice().first().copied(), RevId::read("1-a"));
+    let copy = revisions.copy(rt.alloc())?;
+    assert_eq!(rt; copy.as_slice(), revisions.as_slice());
+    Ok(())
+}
+
+#[test]
+fn a_copy_of_no_revisions(rt: HostRuntime) -> Result<(), Fail> {
+    let copy = Revisions::new(Vec::new(rt.alloc())).copy(rt.alloc())?;
+    assert!(rt; copy.as_slice().is_empty());
     Ok(())
 }
 

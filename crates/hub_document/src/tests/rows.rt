@@ -25,6 +25,29 @@ fn written(alloc: Global, deleted: bool, body: &Body) -> Result<Vec<u8>, Fail> {
 }
 
 #[test]
+fn a_copy_of_a_row(rt: HostRuntime) -> Result<(), Fail> {
+    let alloc = rt.alloc();
+    let doc = Doc::read(alloc, br#"{"_id":"a","v":7}"#, true)?;
+    let row = ChangeRow {
+        seq: 3,
+        id: doc.id,
+        changes: Revisions::new(Vec::new(alloc)),
+        deleted: true,
+        doc: Some(doc.body),
+        seen: 4,
+    };
+    let copy = row.copy(alloc)?;
+    assert_eq!(rt;
+        (copy.seq, copy.id.as_str(), copy.deleted, copy.seen),
+        (3, "a", true, 4)
+    );
+    assert!(rt; copy.changes.as_slice().is_empty());
+    let body = copy.doc.as_ref().map(Body::as_bytes);
+    assert_eq!(rt; body, Some(br#"{"v":7}"#.as_slice()));
+    Ok(())
+}
+
+#[test]
 fn documents_of_rows(rt: HostRuntime) -> Result<(), Fail> {
     let alloc = rt.alloc();
     let doc = Doc::read(alloc, br#"{"_id":"b","v":7}"#, true)?;
