@@ -22,7 +22,7 @@ use Rattle.hub_revtree.specs.declared.fault.EditFault.TheVariants as edit_fault
 use Rattle.hub_database.specs.declared.batch.DbFault.TheVariants as db_fault
 use Rattle.hub_database.specs.Edits.{reply_of}
 use Rattle.hub_database.specs.Filed.{named}
-use Rattle.hub_database.specs.Looked.{stores_from, stores_edit, look_by, look_made, look_from, look_at, unless_full, outcome_of, joined}
+use Rattle.hub_database.specs.Looked.{NeedsRoomFrom, stores_from, stores_edit, look_by, look_made, look_from, look_at, unless_full, outcome_of, joined}
 use Rattle.hub_database.specs.declared.document.Incoming.{Incoming}
 use Rattle.hub_database.specs.declared.document.Origin.{Origin}
 use Rattle.hub_database.specs.declared.document.Origin.TheVariants.{Elsewhere, Here}
@@ -59,6 +59,11 @@ module _ (J : List Edit) (id : List ℕ) (edits : List Edit) (kept : edits_of J 
   acceptable_in e legal none ok =
       let same : nameless e.path e.deleted e.body ≡ e = ap (λ (i : List ℕ). record { id = i; path = e.path; deleted = e.deleted; body = e.body }) (sym none) in
       acceptable_is J (named id e) legal (same_acceptable e.path e.deleted e.body ∙ (ap (is_acceptable edits) same ∙ is_acceptable_from edits e ok))
+
+  -- what takes memory on the tree takes it in the journal
+  pub needs_in : (origin : Origin) (deleted : Bool) (body : List ℕ) → IsLegal J → NeedsRoomFrom edits [] origin deleted body → NeedsRoomFrom J id origin deleted body
+  needs_in (Elsewhere path) deleted body legal ok = acceptable_in (nameless path deleted body) legal refl ok
+  needs_in (Here rev) deleted body legal (path, on, low) = (path, extended_named J id edits kept one rev ∙ on, low)
 
   -- an answer with the journal after it, by what a look says
   abbrev said : Looked → Stores

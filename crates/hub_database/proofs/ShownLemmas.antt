@@ -25,7 +25,7 @@ use Rattle.hub_database.specs.declared.entry.Entry.{Entry}
 use Rattle.hub_database.specs.Filed.{Filed, named, journal_of, IsFiled}
 use Rattle.hub_database.specs.Store.{filed, files}
 use Rattle.hub_database.specs.Found.{IsFound, shown_in, history_of}
-use Rattle.hub_database.specs.Reads.{doc_shown, lookup, lookup_of, open_rev_of, open_rev, open_revs}
+use Rattle.hub_database.specs.Reads.{HasDocument, doc_shown, lookup, lookup_of, open_rev_of, open_rev, open_revs}
 use Rattle.hub_database.proofs.NamedLemmas.{renamed, revisions_named, leaves_named, shown_named}
 use Rattle.hub_database.proofs.StoreLemmas.{number_below, get_at}
 
@@ -127,9 +127,22 @@ module _ (J : List Edit) (id : List ℕ) (legal : IsLegal J) where
           ∙ (ap (λ o. option_map looked.Found (option_map (doc_shown revs) o)) (leaf_shown l (subst (λ z. Contains z l) (sym q) (contains_here l ls)))
           ∙ ap (λ b. Some (if b then looked.Deleted else looked.Found (doc_shown revs (record { id = id; path = line_of J id l.rev; deleted = l.edit.deleted; body = l.edit.body })))) (sym mark))
 
+  -- it is found
+  lookup_found : (revs : Bool) (w : Winner) → Some w ≡ winner_of (leaves_of J id) → w.deleted ≡ false → HasDocument J id revs
+  lookup_found revs w is live = from (leaves_of J id) is
+    where
+      from : (ls : List Leaf) → Some w ≡ winner_of ls → (doc : Doc) × (lookup_of J id revs ls ≡ looked.Found doc)
+      from [] e = absurd (cc)
+      from (l ∷ ls) e =
+          let mark : l.edit.deleted ≡ false = ap (λ (z : Winner). z.deleted) (same_Some _ w (sym e)) ∙ live in
+          (doc_shown revs (record { id = id; path = line_of J id l.rev; deleted = l.edit.deleted; body = l.edit.body }), ap (λ b. if b then looked.Deleted else looked.Found (doc_shown revs (record { id = id; path = line_of J id l.rev; deleted = l.edit.deleted; body = l.edit.body }))) mark)
+
   module _ (d : Document) (f : IsFound J id d) (revs : Bool) (w : Winner) (is : Some w ≡ winner_of (leaves_of d.tree.edits [])) where
     pub deleted_found : w.deleted ≡ true → looked.Deleted ≡ lookup J id revs
     deleted_found = lookup_deleted revs w (is ∙ sym (winner_found J id d f))
+
+    pub is_there : w.deleted ≡ false → HasDocument J id revs
+    is_there = lookup_found revs w (is ∙ sym (winner_found J id d f))
 
     live : (o : Option Doc) → o ≡ option_map (doc_shown revs) (shown_in d w.rev) → w.deleted ≡ false → option_map looked.Found o ≡ Some (lookup J id revs)
     live o e m = ap (option_map looked.Found) (e ∙ ap (option_map (doc_shown revs)) (sym (shown_found J id d f w.rev))) ∙ lookup_live revs w (is ∙ sym (winner_found J id d f)) m

@@ -27,13 +27,13 @@ use Rattle.hub_database.specs.declared.document.Looked.{Looked}
 use Rattle.hub_database.specs.declared.document.Looked.TheVariants.{Known, Refused, Ready}
 use Rattle.hub_database.specs.declared.store.Store.{Store}
 use Rattle.hub_database.specs.Filed.{Filed, named, edit_at, journal_of, IsFiled}
-use Rattle.hub_database.specs.Looked.{Extends, IsStorable, stores_edit, look_at, unless_full, outcome_of, grown, joined, after, numbered, rowed}
+use Rattle.hub_database.specs.Looked.{Extends, NeedsRoomFor, IsStorable, stores_edit, look_at, unless_full, outcome_of, grown, joined, after, numbered, rowed}
 use Rattle.hub_database.specs.Indexed.{IsIndexed}
 use Rattle.hub_database.specs.Store.{filed, files, IsStore, IsCounted, HasRows, IsSameStore, Inserts, edits_of_store, deleted_in, one_if}
 use Rattle.hub_database.proofs.ListLemmas.{get_push, get_push_other, get_set, get_set_other, text_same, text_apart, count_filter}
 use Rattle.hub_database.proofs.CountLemmas.{deleted_more, deleted_some}
 use Rattle.hub_database.proofs.NamedLemmas.{leaves_named, deleted_named}
-use Rattle.hub_database.proofs.MergeLemmas.{acceptable_in, stores_by}
+use Rattle.hub_database.proofs.MergeLemmas.{acceptable_in, needs_in, stores_by}
 use Rattle.hub_database.proofs.FiledLemmas.{Was, kept_of, journal_is, filed_more}
 use Rattle.hub_database.proofs.IndexedLemmas.{indexed_more}
 
@@ -115,6 +115,13 @@ module _ (limit : ℕ) (numbers : List ℕ → Option ℕ) (documents : List Doc
   pub unchanged : (index index' : List (ℕ × ℕ)) → IsIndexed (files documents) entries index → (d' : Document) (entries' : List Entry) → filed d' ≡ filed d → entries' ≡ entries → index' ≡ index
       → IsFiled limit numbers (files (slice_set documents k d')) entries' × (journal_of (files (slice_set documents k d')) entries' ≡ journal_of (files documents) entries) × IsIndexed (files (slice_set documents k d')) entries' index'
   unchanged index index' ix d' entries' e es is = rw (same_files d' e, es, is) (st, refl, ix)
+
+  -- what takes memory on its tree takes it in the journal
+  pub needs_at : (id : List ℕ) → numbers id ≡ Some k → IsRevTree d.tree.edits → (edit : Incoming) → NeedsRoomFor d.tree.edits [] edit → NeedsRoomFor (journal_of (files documents) entries) id edit
+  needs_at id there tree edit n =
+      let f = st.found id k there in
+      let this : d.id ≡ id = ap (λ (z : Filed). z.id) (same_Some (filed d) f.0 (sym filed_at ∙ f.1)) ∙ f.2 in
+      subst (λ i. NeedsRoomFor (journal_of (files documents) entries) i edit) this (needs_in (journal_of (files documents) entries) d.id d.tree.edits kept_at tree.one edit.origin edit.deleted edit.body st.legal n)
 
   leaves_so : (index index' : List (ℕ × ℕ)) → IsIndexed (files documents) entries index → (tree : IsRevTree d.tree.edits) (l : Looked) (room : (e : Edit) → l ≡ Ready e → length entries < limit) (d' : Document) (entries' : List Entry)
       → IsStorable d.tree.edits l → filed d' ≡ after l (filed d) (length entries + 1) → entries' ≡ grown l entries (record { document = k; revision = length d.tree.edits }) → index' ≡ rowed l index k (length entries + 1)
@@ -269,6 +276,15 @@ number_below limit numbers documents entries st id k there = let f = st.found id
 pub on_err : {T E : Type 0} (result : Result T E) (P : Type 0) → P → OnErr result P
 on_err (Ok x) P p = tt
 on_err (Err e) P p = p
+
+-- what follows from what holds of an error
+pub err_then : {T E P Q : Type 0} (result : Result T E) → (P → Q) → OnErr result P → OnErr result Q
+err_then (Ok x) f p = tt
+err_then (Err e) f p = f p
+
+-- what takes memory of a new document takes it in the journal
+pub needs_first : (store : Store) → IsStore store → (id : List ℕ) → get_by_text store.numbers id ≡ None → (edit : Incoming) → NeedsRoomFor [] [] edit → NeedsRoomFor (edits_of_store store) id edit
+needs_first store st id absent edit n = needs_in (edits_of_store store) id [] (st.others id absent) refl edit.origin edit.deleted edit.body st.legal n
 
 -- a number past the documents has no row
 pub no_row : (store : Store) → HasRows store → seq_of (length store.documents.items) store.index ≡ None

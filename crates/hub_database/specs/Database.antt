@@ -1,5 +1,5 @@
 -- One database as its callers see it (own).
-use Rattle.std.specs.Prelude.{ℕ, List, Bool, if◌then◌else◌}
+use Rattle.std.specs.Prelude.{◌≡◌, ◌⊎◌, ℕ, List, Bool, true, false, if◌then◌else◌}
 use Rattle.hub_model.specs.Journal.{Edit}
 use Rattle.hub_model.specs.Feed.{Feed}
 use Rattle.hub_model.specs.declared.outcomes.Fault.TheVariants as fault
@@ -25,3 +25,8 @@ pub record Database : Type 0 where
 -- why a call that reads gives up: once the database is deleted that is told before anything else
 abbrev pub reading_fault : Database → DbFault
 reading_fault db = if db.deleted then Refused fault.Deleted else NoMemory
+
+-- Why a call that reads gives up, where `needs` says that its answer takes memory: a deleted database is always told, and
+-- want of memory only by one that stands and whose answer takes memory. So an unknown document is never want of memory.
+abbrev pub GivesUp : Database → Type 0 → DbFault → Type 0
+GivesUp db needs e = ((db.deleted ≡ true) × (e ≡ Refused fault.Deleted)) ⊎ ((db.deleted ≡ false) × (e ≡ NoMemory) × needs)

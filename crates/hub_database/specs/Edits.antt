@@ -1,7 +1,7 @@
 -- What becomes of documents that are stored (CouchDB API reference, _bulk_docs, PUT and DELETE of a document).
-use Rattle.std.specs.Prelude.{ℕ, List, [], Bool, unwrap_or, Result, Ok, Err, if◌then◌else◌}
-use Rattle.hub_model.specs.Journal.{Edit}
-use Rattle.hub_model.specs.Draft.{Draft, makes}
+use Rattle.std.specs.Prelude.{◌≡◌, ℕ, List, [], Bool, true, false, unwrap_or, slice_get, Some, Result, Ok, Err, if◌then◌else◌}
+use Rattle.hub_model.specs.Journal.{Edit, IsAcceptable}
+use Rattle.hub_model.specs.Draft.{Draft, HasNextRevision, makes}
 use Rattle.hub_model.specs.Outcome.{Stores, StoresAll, merges, refuses, stores_all}
 use Rattle.hub_model.specs.Revision.{Revision}
 use Rattle.hub_model.specs.declared.outcomes.Fault.TheVariants as fault
@@ -30,6 +30,20 @@ writes new_edits deleted limit J docs = stores_all (stores_doc new_edits limit) 
 -- one document as a new edit
 abbrev pub makes_one : Bool → ℕ → List Edit → Doc → Stores
 makes_one deleted limit J doc = if deleted then refuses J fault.Deleted else makes limit J (draft_of doc)
+
+-- Storing the document takes memory: an edit of another database that may be stored; one that is made here once it has a
+-- leaf and a generation left. A document whose revision is known, that contradicts, or that names no leaf needs none.
+abbrev pub NeedsRoom : Bool → List Edit → Doc → Type 0
+NeedsRoom true J doc = HasNextRevision J (draft_of doc)
+NeedsRoom false J doc = IsAcceptable J (edit_of doc)
+
+-- A batch stopped at this place: the database stands, and the document there, after those before it made up this journal,
+-- needed room. Of five documents with a known one in the middle a batch may stop at 0, 1, 3 or 4, and never at 2.
+pub record StopsAt (new_edits deleted : Bool) (J : List Edit) (at : ℕ) (docs : List Doc) : Type 0 where
+  pub stands : deleted ≡ false
+  pub doc : Doc
+  pub there : slice_get docs at ≡ Some doc
+  pub needs : NeedsRoom new_edits J doc
 
 -- what a call answers whose one edit came so: as an edit that is made is never known before, Known is told as a conflict
 abbrev pub reply_of : Outcome Revision → Result Revision DbFault

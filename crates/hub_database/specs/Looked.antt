@@ -8,7 +8,7 @@ use Rattle.hub_model.specs.declared.outcomes.Fault.TheVariants as fault
 use Rattle.hub_model.specs.declared.outcomes.Outcome.{Outcome}
 use Rattle.hub_model.specs.declared.outcomes.Outcome.TheVariants as outcome
 use Rattle.hub_model.specs.Outcome.{Stores, merges}
-use Rattle.hub_model.specs.Draft.{makes}
+use Rattle.hub_model.specs.Draft.{HasNextRevision, makes}
 use Rattle.hub_index.specs.Rows.{moved}
 use Rattle.hub_revtree.specs.Extend.{draft, extends}
 use Rattle.hub_revtree.specs.Tree.{nameless}
@@ -64,6 +64,16 @@ IsStorable edits l = Unit {0}
 abbrev pub HasRoom : ℕ → Looked → Type 0
 HasRoom room (Ready e) = length e.path ≤ room
 HasRoom room l = Unit {0}
+
+-- storing it takes memory: an edit with its history may be stored, and one that is made here has a leaf to extend and a
+-- generation left
+abbrev pub NeedsRoomFrom : List Edit → List ℕ → Origin → Bool → List ℕ → Type 0
+NeedsRoomFrom J id (Elsewhere path) deleted body = IsAcceptable J (named id (nameless path deleted body))
+NeedsRoomFrom J id (Here rev) deleted body = HasNextRevision J (draft id rev deleted body)
+
+-- the same of a document's part of a write
+abbrev pub NeedsRoomFor : List Edit → List ℕ → Incoming → Type 0
+NeedsRoomFor J id edit = NeedsRoomFrom J id edit.origin edit.deleted edit.body
 
 -- the answer
 abbrev pub outcome_of : Looked → Outcome Revision

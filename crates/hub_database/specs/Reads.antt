@@ -1,5 +1,5 @@
 -- What a database shows of its documents (CouchDB API reference: documents, open_revs, GET /{db}).
-use Rattle.std.specs.Prelude.{ℕ, suc, zero, List, [], ◌∷◌, length, map, slice_get, count_by, Bool, true, not, if◌then◌else◌, Option, Some, None, option_map, option_and_then}
+use Rattle.std.specs.Prelude.{◌≡◌, ℕ, suc, zero, List, [], ◌∷◌, length, map, slice_get, count_by, Bool, true, not, if◌then◌else◌, Option, Some, None, option_map, option_and_then}
 use Rattle.hub_model.specs.Revision.{Revision}
 use Rattle.hub_model.specs.Journal.{Edit, head_of}
 use Rattle.hub_model.specs.Leaves.{Leaf, leaves_of, revisions_of}
@@ -45,6 +45,10 @@ lookup_of J id revs (winner ∷ others) = if winner.edit.deleted then looked.Del
 -- the same of the journal's document
 abbrev pub lookup : List Edit → List ℕ → Bool → Lookup
 lookup J id revs = lookup_of J id revs (leaves_of J id)
+
+-- the document is found: it has a winner that is not deleted
+abbrev pub HasDocument : List Edit → List ℕ → Bool → Type 0
+HasDocument J id revs = (doc : Doc) × (lookup J id revs ≡ looked.Found doc)
 
 -- how many documents have a winner that is not deleted, how many have a deleted one, and how many edits there are
 abbrev pub info_of : List Edit → Info

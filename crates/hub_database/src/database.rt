@@ -1,13 +1,13 @@
 //! One database.
 
-ghost use Rattle.std.specs.Prelude.{◌≡◌, ◌⊎◌, ◌<◌, ◌≤◌, [], false, true, length, take, replicate, IfOk, IfErr, OnOk, IsTrue};
+ghost use Rattle.std.specs.Prelude.{◌≡◌, ◌⊎◌, ◌<◌, ◌≤◌, [], false, true, length, take, replicate, Err, IfOk, IfErr, OnErr, OnOk, IsTrue};
 ghost use Rattle.hub_model.specs.Journal.{IsLegal};
-ghost use Rattle.hub_model.specs.Draft.{makes};
+ghost use Rattle.hub_model.specs.Draft.{HasNextRevision, makes};
 ghost use Rattle.hub_model.specs.Outcome.{refuses};
 ghost use Rattle.hub_model.specs.declared.outcomes.Fault.{Fault};
 ghost use Rattle.hub_model.specs.declared.outcomes.Fault.TheVariants.{Deleted};
 ghost use Rattle.hub_model.specs.declared.outcomes.Outcome.TheVariants.{Stored, Refused};
-ghost use Rattle.hub_database.specs.Edits.{draft_of, writes, makes_one, reply_of};
+ghost use Rattle.hub_database.specs.Edits.{StopsAt, draft_of, writes, makes_one, reply_of};
 ghost use Rattle.hub_database.specs.Feeds.{deleted};
 ghost use Rattle.hub_database.specs.Reads.{info_of};
 
@@ -127,6 +127,7 @@ impl DbState {
         ensures ok { IfOk result (λ batch. writes new_edits false self.old.limits.journal self.old.journal (take (length batch.replies) docs.items) ≡ record { outcomes = batch.replies; journal = self.new.journal }) }
         ensures whole { IfOk result (λ batch. batch.stopped ≡ false → length batch.replies ≡ length docs.items) }
         ensures stopped { IfOk result (λ batch. IsTrue batch.stopped → length batch.replies < length docs.items) }
+        ensures stops { IfOk result (λ batch. IsTrue batch.stopped → StopsAt new_edits false self.new.journal (length batch.replies) docs.items) }
         ensures rest { self.new ≡ record self.old { journal = self.new.journal } }
         ensures err { IfErr result (λ e. (e ≡ DbFault.NoMemory) × (self.new ≡ self.old)) }
     {
@@ -154,16 +155,25 @@ impl DbState {
     /// them (CouchDB API reference, `_bulk_docs`). There a document that has no history is refused as
     /// one that contradicts. Once the database is deleted each is refused as that. The call fails
     /// only where the list of replies finds no memory; where it runs out at a document, the batch
-    /// stops there, and the documents before it stay stored. Each document costs a look in the map
+    /// stops there, and the documents before it stay stored: only a document that is to be stored, or
+    /// whose revision is to be made, needs any. Each document costs a look in the map
     /// of ids, what `RevTree::look_extend` or `RevTree::look_merge` does, a move in the index of
     /// rows, and what `RevTree::best` does.
     pub fn write_edits(&mut self, docs: Vec<Doc>, new_edits: bool) -> Result<Batch, DbFault>
         ensures ok { IfOk result (λ batch. writes new_edits self.old.deleted self.old.limits.journal self.old.journal (take (length batch.replies) docs.items) ≡ record { outcomes = batch.replies; journal = self.new.journal }) }
         ensures whole { IfOk result (λ batch. batch.stopped ≡ false → length batch.replies ≡ length docs.items) }
         ensures stopped { IfOk result (λ batch. IsTrue batch.stopped → length batch.replies < length docs.items) }
+        ensures stops { IfOk result (λ batch. IsTrue batch.stopped → StopsAt new_edits self.old.deleted self.new.journal (length batch.replies) docs.items) }
         ensures rest { self.new ≡ record self.old { journal = self.new.journal } }
         ensures err { IfErr result (λ e. (e ≡ DbFault.NoMemory) × (self.new ≡ self.old)) }
+        ensures memory { OnErr result (0 < length docs.items) }
     {
+        if docs.is_empty() {
+            return Ok(Batch {
+                replies: Replies::new(Vec::new(self.store.alloc)),
+                stopped: false,
+            });
+        }
         if self.deleted {
             return self.refuse_all(docs.len());
         }
@@ -176,6 +186,7 @@ impl DbState {
         ensures rest { self.new ≡ record self.old { journal = self.new.journal } }
         ensures err { IfErr result (λ e. (self.new ≡ self.old) × ((e ≡ DbFault.NoMemory)
             ⊎ ((fault : Fault) × (e ≡ DbFault.Refused fault) × (makes self.old.limits.journal self.old.journal (draft_of doc) ≡ refuses self.old.journal fault)))) }
+        ensures memory { result ≡ Err DbFault.NoMemory → HasNextRevision self.old.journal (draft_of doc) }
     {
         let outcome = self.store.write(doc, true)?;
         reply(outcome)
@@ -192,6 +203,7 @@ impl DbState {
         ensures rest { self.new ≡ record self.old { journal = self.new.journal } }
         ensures err { IfErr result (λ e. (self.new ≡ self.old) × ((e ≡ DbFault.NoMemory)
             ⊎ ((fault : Fault) × (e ≡ DbFault.Refused fault) × (makes_one self.old.deleted self.old.limits.journal self.old.journal doc ≡ refuses self.old.journal fault)))) }
+        ensures memory { result ≡ Err DbFault.NoMemory → (self.old.deleted ≡ false) × HasNextRevision self.old.journal (draft_of doc) }
     {
         self.check()?;
         self.make_one(doc)

@@ -7,7 +7,7 @@ ghost use Rattle.hub_model.specs.Journal.{IsAcceptable, head_of};
 ghost use Rattle.hub_model.specs.Leaves.{leaves_of};
 ghost use Rattle.hub_model.specs.Row.{is_deleted};
 ghost use Rattle.hub_revtree.specs.Tree.{IsRevTree};
-ghost use Rattle.hub_database.specs.Looked.{IsStorable, HasRoom, look_from, look_at, unless_full, Extends};
+ghost use Rattle.hub_database.specs.Looked.{IsStorable, NeedsRoomFrom, NeedsRoomFor, HasRoom, look_from, look_at, unless_full, Extends};
 ghost use Rattle.hub_database.specs.Store.{filed};
 ghost use Rattle.hub_database.specs.declared.document.Origin.TheVariants.{Elsewhere, Here};
 
@@ -82,6 +82,7 @@ fn look_merge(
     ensures looked { IfOk result (λ l. l ≡ look_from [] tree.old.edits (Elsewhere path) deleted body) }
     ensures storable { IfOk result (IsStorable tree.old.edits) }
     ensures room { IfOk result (HasRoom tree.new.room) }
+    ensures memory { OnErr result (NeedsRoomFrom tree.old.edits [] (Elsewhere path) deleted body) }
 {
     match tree.look_merge(path, deleted, body) {
         Ok(None) => Ok(Looked::Known),
@@ -104,6 +105,7 @@ fn look_extend(
     ensures looked { IfOk result (λ l. l ≡ look_from id.now tree.old.edits (Here parent) deleted body) }
     ensures storable { IfOk result (IsStorable tree.old.edits) }
     ensures room { IfOk result (HasRoom tree.new.room) }
+    ensures memory { OnErr result (NeedsRoomFrom tree.old.edits [] (Here parent) deleted body) }
 {
     match tree.look_extend(id, parent, deleted, body) {
         Ok(ready) => Ok(Looked::Ready(ready)),
@@ -126,6 +128,7 @@ pub(crate) fn look(
     ensures looked { IfOk result (λ l. l ≡ unless_full full (look_at id.now tree.old.edits edit)) }
     ensures storable { IfOk result (IsStorable tree.old.edits) }
     ensures room { IfOk result (HasRoom tree.new.room) }
+    ensures memory { OnErr result (NeedsRoomFor tree.old.edits [] edit) }
 {
     let Incoming {
         origin,
@@ -207,6 +210,7 @@ impl Document {
         ensures tree { IsRevTree self.old.tree.edits }
         ensures extended { IfOk result (Extends (nat_le limit (length journal.old.items)) number edit (filed self.old) (filed self.new) journal.old.items journal.new.items index.old index.new) }
         ensures err { OnErr result ((filed self.new ≡ filed self.old) × (journal.new.items ≡ journal.old.items) × (index.new ≡ index.old)) }
+        ensures memory { OnErr result (NeedsRoomFor self.old.tree.edits [] edit) }
     {
         let full = journal.len() as u64 >= limit;
         match look(&mut self.tree, &self.id, full, edit)? {

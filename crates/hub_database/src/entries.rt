@@ -1,6 +1,6 @@
 //! The edits of a database by their sequences.
 
-ghost use Rattle.std.specs.Prelude.{◌≡◌, IfOk, option_map};
+ghost use Rattle.std.specs.Prelude.{◌≡◌, IfOk, IsSome, OnErr, option_map};
 ghost use Rattle.hub_revtree.specs.Tree.{nameless};
 ghost use Rattle.hub_database.specs.Filed.{named};
 ghost use Rattle.hub_database.specs.Reads.{entry_at, entry_of, entry_doc_of};
@@ -40,7 +40,8 @@ impl DbState {
     /// The edit of this sequence, with its history; None of a sequence that no edit has. It costs
     /// a copy of the edit.
     pub fn entry_doc(&self, seq: u64) -> Result<Option<Doc>, AllocError>
-        ensures { IfOk result (λ doc. doc ≡ entry_doc_of self.now.journal seq) }
+        ensures doc { IfOk result (λ doc. doc ≡ entry_doc_of self.now.journal seq) }
+        ensures memory { OnErr result (IsSome (entry_at self.now.journal seq)) }
     {
         let alloc = self.store.alloc;
         let Some((document, edit)) = self.store.edit(seq) else {

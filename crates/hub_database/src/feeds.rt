@@ -1,6 +1,6 @@
 //! The feeds of a database.
 
-ghost use Rattle.std.specs.Prelude.{◌≡◌, ◌⊎◌, Some, None, nat_eq, map, position, IfOk, IfErr, OnErr};
+ghost use Rattle.std.specs.Prelude.{◌≡◌, ◌⊎◌, Some, None, Err, nat_eq, map, position, IfOk, IfErr, OnErr};
 ghost use Rattle.hub_feed.specs.Next.{IsRowDue};
 ghost use Rattle.hub_params.specs.FeedModel.{params_of};
 ghost use Rattle.hub_database.specs.Feeds.{is_full, refuses_feed, opened, entry_in, is_beat_due, expired, ended, item_due, answered, behind_answer, handed, finished, due_to};
@@ -44,6 +44,7 @@ impl DbState {
         ensures ok { IfOk result (λ id. (id.number ≡ self.old.next_feed) × (refuses_feed self.old ≡ None) × (self.new ≡ opened self.old (params_of params))) }
         ensures new { IfOk result (λ id. entry_in id.number self.old.feeds ≡ None) }
         ensures err { IfErr result (λ e. (self.new ≡ self.old) × ((e ≡ OpenFault.NoMemory) ⊎ (refuses_feed self.old ≡ Some e))) }
+        ensures memory { result ≡ Err OpenFault.NoMemory → refuses_feed self.old ≡ None }
     {
         if self.deleted {
             return Err(OpenFault::Deleted);

@@ -1,6 +1,6 @@
 //! Local documents.
 
-ghost use Rattle.std.specs.Prelude.{◌≡◌, ◌⊎◌, ◌≤◌, ◌^◌, false, true, option_map, IfSome, IfNone, IfOk, IfErr, OnOk, OnErr};
+ghost use Rattle.std.specs.Prelude.{◌≡◌, ◌⊎◌, ◌<◌, ◌≤◌, ◌^◌, false, true, option_map, Err, IfSome, IfNone, IfOk, IfErr, OnOk, OnErr};
 ghost use Rattle.hub_model.specs.declared.outcomes.Fault.TheVariants.{Deleted, SequenceFull};
 ghost use Rattle.hub_database.specs.Kept.{kept};
 ghost use Rattle.hub_database.specs.Locals.{local_of, next_count, put_local, written};
@@ -68,6 +68,7 @@ impl DbState {
         ensures err { IfErr result (λ e. (self.new ≡ self.old)
             × (((self.old.deleted ≡ true) × (e ≡ DbFault.Refused Deleted)) ⊎ ((self.old.deleted ≡ false) × ((e ≡ DbFault.NoMemory)
             ⊎ ((e ≡ DbFault.Refused SequenceFull) × (2 ^ 64 ≤ (written self.old.locals doc).count)))))) }
+        ensures memory { result ≡ Err DbFault.NoMemory → (self.old.deleted ≡ false) × ((written self.old.locals doc).count < 2 ^ 64) }
     {
         self.check()?;
         let LocalDoc { id, body } = doc;

@@ -1,13 +1,13 @@
 //! What a database is asked.
 
-ghost use Rattle.std.specs.Prelude.{◌≡◌, [], IfOk, IfSome, IfNone, false, IfErr};
+ghost use Rattle.std.specs.Prelude.{◌≡◌, [], IfOk, IfSome, IfNone, false, IfErr, OnErr};
 ghost use Rattle.hub_model.specs.Journal.{edits_of};
 ghost use Rattle.hub_model.specs.Leaves.{leaves_of};
 ghost use Rattle.hub_revtree.specs.Winner.{winner_of};
 ghost use Rattle.hub_database.specs.Found.{IsFound};
-ghost use Rattle.hub_database.specs.Reads.{lookup};
+ghost use Rattle.hub_database.specs.Reads.{HasDocument, lookup};
 ghost use Rattle.hub_database.specs.Store.{IsStore, edits_of_store};
-ghost use Rattle.hub_database.specs.Database.{reading_fault};
+ghost use Rattle.hub_database.specs.Database.{GivesUp, reading_fault};
 
 use crate::answers::Lookup;
 use crate::batch::DbFault;
@@ -43,7 +43,8 @@ impl DbState {
 
     // A document of a database that stands.
     fn look_up(&self, id: &str, revs: bool) -> Result<Lookup, AllocError>
-        ensures { IfOk result (λ found. found ≡ lookup self.now.journal id.now revs) }
+        ensures found { IfOk result (λ found. found ≡ lookup self.now.journal id.now revs) }
+        ensures memory { OnErr result (HasDocument self.now.journal id.now revs) }
     {
         let Some(document) = self.store.document(id) else {
             return Ok(Lookup::Unknown);
@@ -65,6 +66,7 @@ impl DbState {
     pub fn get(&self, id: &str, revs: bool) -> Result<Lookup, DbFault>
         ensures ok { IfOk result (λ found. (self.now.deleted ≡ false) × (found ≡ lookup self.now.journal id.now revs)) }
         ensures err { IfErr result (λ e. e ≡ reading_fault self.now) }
+        ensures memory { IfErr result (GivesUp self.now (HasDocument self.now.journal id.now revs)) }
     {
         self.check()?;
         let found = self.look_up(id, revs)?;

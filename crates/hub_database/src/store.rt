@@ -6,8 +6,8 @@ ghost use Rattle.std.specs.List.{All};
 ghost use Rattle.std.specs.Map.{update};
 ghost use Rattle.std.specs.Str.{bytes_eq};
 ghost use Rattle.hub_index.specs.Rows.{seq_of, moved};
-ghost use Rattle.hub_database.specs.Edits.{stores_doc};
-ghost use Rattle.hub_database.specs.Looked.{stores_edit};
+ghost use Rattle.hub_database.specs.Edits.{NeedsRoom, stores_doc};
+ghost use Rattle.hub_database.specs.Looked.{NeedsRoomFor, stores_edit};
 ghost use Rattle.hub_database.specs.Store.{IsStore, IsCounted, HasRows, IsSameStore, Inserts, edits_of_store, one_if};
 
 use crate::document::{Document, Incoming, Looked, Origin, look};
@@ -104,6 +104,7 @@ impl Store {
         ensures inserted { IfOk result (Inserts (nat_le self.old.limits.journal (length self.old.journal.items)) id edit self.old self.new) }
         ensures limits { self.new.limits ≡ self.old.limits }
         ensures err { OnErr result (IsSameStore self.old self.new) }
+        ensures memory { OnErr result (NeedsRoomFor [] [] edit) }
     {
         let full = self.journal.len() as u64 >= self.limits.journal;
         let mut document = Document::new(self.alloc, id);
@@ -150,6 +151,7 @@ impl Store {
         ensures limits { self.new.limits ≡ self.old.limits }
         ensures ok { IfOk result (λ o. stores_edit self.old.limits.journal (edits_of_store self.old) id edit ≡ record { outcome = o; journal = edits_of_store self.new }) }
         ensures err { OnErr result (edits_of_store self.new ≡ edits_of_store self.old) }
+        ensures memory { OnErr result (NeedsRoomFor (edits_of_store self.old) id edit) }
     {
         match self.number_of(id.as_str()) {
             Some(number) => {
@@ -182,6 +184,7 @@ impl Store {
         ensures limits { self.new.limits ≡ self.old.limits }
         ensures ok { IfOk result (λ o. stores_doc new_edits self.old.limits.journal (edits_of_store self.old) doc ≡ record { outcome = o; journal = edits_of_store self.new }) }
         ensures err { OnErr result (edits_of_store self.new ≡ edits_of_store self.old) }
+        ensures memory { OnErr result (NeedsRoom new_edits (edits_of_store self.old) doc) }
     {
         let Doc {
             id,

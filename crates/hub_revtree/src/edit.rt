@@ -1,7 +1,7 @@
 //! Edits that are made here.
 
 ghost use Rattle.std.specs.Prelude.{◌≡◌, ◌⊎◌, ◌≤◌, ◌<◌, ◌++◌, ◌∷◌, [], length, option_map, Some, Ok, Err, IfOk, IfErr, OnOk};
-ghost use Rattle.hub_model.specs.Draft.{extended as extended_in, generation_of, made, parent_of};
+ghost use Rattle.hub_model.specs.Draft.{HasNextRevision, extended as extended_in, generation_of, made, parent_of};
 ghost use Rattle.hub_model.specs.Journal.{Edit, IsAcceptable, head_of};
 ghost use Rattle.hub_model.specs.Leaves.{leaves_of};
 ghost use Rattle.hub_model.specs.Path.{IsHistory};
@@ -35,6 +35,7 @@ fn next_rev(
     ensures ok { IfOk result (λ rev. rev ≡ made (draft id.now (parent_of older.now) deleted body.now) (parent_of older.now)) }
     ensures below { OnOk result (generation_of (parent_of older.now) < 65535) }
     ensures err { IfErr result (λ e. (e ≡ EditFault.NoMemory) ⊎ ((e ≡ EditFault.GenerationLimit) × (65535 ≤ generation_of (parent_of older.now)))) }
+    ensures memory { result ≡ Err EditFault.NoMemory → generation_of (parent_of older.now) < 65535 }
 {
     if generation(older) == u16::MAX {
         return Err(EditFault::GenerationLimit);
@@ -108,6 +109,7 @@ impl RevTree {
         ensures acceptable { IfOk result (IsAcceptable self.old.edits) }
         ensures room { IfOk result (λ ready. length ready.path ≤ self.new.room) }
         ensures err { IfErr result (λ e. (e ≡ EditFault.NoMemory) ⊎ (extends self.old.edits (draft id.now parent deleted body) ≡ Err e)) }
+        ensures memory { result ≡ Err EditFault.NoMemory → HasNextRevision self.old.edits (draft [] parent deleted body) }
     {
         let alloc = self.allocator();
         let Some(older) = self.extended(parent) else {
@@ -138,6 +140,7 @@ impl RevTree {
             × (head_of made ≡ Some rev) × (self.new.edits ≡ self.old.edits ++ made ∷ [])) }
         ensures err { IfErr result (λ e. ((e ≡ EditFault.NoMemory) ⊎ (extends self.old.edits (draft id.now parent deleted body) ≡ Err e))
             × (self.new.edits ≡ self.old.edits)) }
+        ensures memory { result ≡ Err EditFault.NoMemory → HasNextRevision self.old.edits (draft [] parent deleted body) }
     {
         match self.look_extend(id, parent, deleted, body) {
             Ok(ready) => {

@@ -180,6 +180,7 @@ impl RevTree {
         ensures acceptable { IfOk result (λ looked. IfSome looked (IsAcceptable self.old.edits)) }
         ensures room { IfOk result (λ looked. IfSome looked (λ ready. length ready.path ≤ self.new.room)) }
         ensures contradicts { result ≡ Err MergeFault.Contradicts → (¬ HasKnownHead self.old.edits path) × (¬ IsAcceptable self.old.edits (nameless path deleted body)) }
+        ensures memory { result ≡ Err MergeFault.NoMemory → IsAcceptable self.old.edits (nameless path deleted body) }
     {
         let head = path.head();
         if is_named(self.branches.as_slice(), &head) {
@@ -209,6 +210,7 @@ impl RevTree {
         ensures known { result ≡ Ok Merged.Known → HasKnownHead self.old.edits path × (self.new.edits ≡ self.old.edits) }
         ensures err { OnErr result (self.new.edits ≡ self.old.edits) }
         ensures contradicts { result ≡ Err MergeFault.Contradicts → (¬ HasKnownHead self.old.edits path) × (¬ IsAcceptable self.old.edits (nameless path deleted body)) }
+        ensures memory { result ≡ Err MergeFault.NoMemory → IsAcceptable self.old.edits (nameless path deleted body) }
     {
         match self.look_merge(path, deleted, body)? {
             Some(ready) => {

@@ -3,7 +3,7 @@ use Rattle.std.proofs.Common.{Some, slice_get}
 use Rattle.std.specs.BTreeMap.{get_by_text}
 use Rattle.hub_database.specs.Store.{deleted_in, filed, files}
 use Rattle.hub_database.proofs.IndexedLemmas.{rows_within}
-use Rattle.hub_database.proofs.StoreLemmas.{filed_at, no_row, number_below, get_at, few_edits, mark_counted, unchanged, extended, inserted_all, on_err}
+use Rattle.hub_database.proofs.StoreLemmas.{filed_at, no_row, number_below, get_at, few_edits, mark_counted, unchanged, extended, inserted_all, on_err, err_then, needs_at, needs_first}
 use Rattle.hub_database.proofs.store.Store.store.Goals as goal
 
 pub extend-requires-clause-few : goal.extend-requires-clause-few
@@ -107,3 +107,13 @@ insert-requires-clause-own c = no_row c.args.self.now c.requires.rows
 
 pub insert-requires-clause-above : goal.insert-requires-clause-above
 insert-requires-clause-above c = rows_within (files c.args.self.now.documents.items) c.args.self.now.journal.items c.args.self.now.index c.requires.rows
+
+pub returns-in_err-outcome-in-Some-clause-memory : goal.returns-in_err-outcome-in-Some-clause-memory
+returns-in_err-outcome-in-Some-clause-memory c =
+    let there : get_by_text c.args.self.now.numbers c.args.id ≡ Some c.in-Some.number = sym (rw c.as_str.ensures.value at c.in-Some.ensures) in
+    let low = number_below c.args.self.now.limits.journal (get_by_text c.args.self.now.numbers) c.args.self.now.documents.items c.args.self.now.journal.items c.requires.state c.args.id c.in-Some.number there in
+    let at : slice_get c.args.self.now.documents.items c.in-Some.number ≡ Some c.index_mut-document.result.now = get_at c.args.self.now.documents.items c.in-Some.number c.index_mut-document.result.now low c.index_mut-document.ensures.value in
+    on_err c.from_residual.result _ (needs_at c.args.self.now.limits.journal (get_by_text c.args.self.now.numbers) c.args.self.now.documents.items c.args.self.now.journal.items c.requires.state c.in-Some.number c.index_mut-document.result.now at c.args.id there c.is_deleted-was.ensures.tree c.args.edit c.in_err-outcome-in-Some.ensures.memory)
+
+pub returns-in-None-clause-memory : goal.returns-in-None-clause-memory
+returns-in-None-clause-memory c = err_then c.insert.result (needs_first c.args.self.now c.requires.state c.args.id (sym (rw c.as_str.ensures.value at c.in-None.ensures)) c.args.edit) c.insert.ensures.memory

@@ -26,6 +26,10 @@ returns-then-not-agrees_with_all-clause-contradicts c =
 pub returns-in_err-ready-clause-tree : goal.returns-in_err-ready-clause-tree
 returns-in_err-ready-clause-tree c = rw (c.made_ready.ensures.edits, sym c.self.view_is) (rev_tree _ c.self.invariant)
 
+pub returns-in_err-ready-clause-memory : goal.returns-in_err-ready-clause-memory
+returns-in_err-ready-clause-memory c =
+    rw (sym c.self.view_is) (λ _. acceptable c.self.inside.branches.items _ c.as_slice.ensures.value c.args.path c.head-head.result c.head-head.ensures.value c.is_named.result c.is_named.ensures _ c.as_slice-2.ensures.value c.agrees_with_all.result c.agrees_with_all.ensures c.args.deleted c.args.body c.self.invariant c.head-head.ensures.good c.if-is_named.false c.if-not-agrees_with_all.false)
+
 pub returns-clause-tree : goal.returns-clause-tree
 returns-clause-tree c = rw (c.made_ready.ensures.edits, sym c.self.view_is) (rev_tree _ c.self.invariant)
 
