@@ -35,25 +35,25 @@ new_shows c limits journal deleted feeds next_feed same lanes = record {
 whole_docs : {A : Type 0} (f : Doc → A) (docs : List Doc) (n : ℕ) → n ≡ length docs → map f (take n docs) ≡ map f docs
 whole_docs f docs n e = ap (map f) (ap (λ (k : ℕ). take k docs) e ∙ take-length docs)
 
-happened_whole : (e : Event) (r : Reply) → Answers e r → is_stopped r ≡ false → happened e r ≡ event_of e
-happened_whole (event.Write docs) (reply.Outcomes batch) a s = ap model.Write (whole_docs edit_of docs.items (length batch.replies) (a.whole s))
-happened_whole (event.Write docs) _ a s = refl
-happened_whole (event.Interactive docs) (reply.Outcomes batch) a s = ap model.Interactive (whole_docs draft_of docs.items (length batch.replies) (a.whole s))
-happened_whole (event.Interactive docs) _ a s = refl
-happened_whole (event.Begin params) r a s = refl
-happened_whole (event.Hand feed) r a s = refl
-happened_whole (event.Beat feed) r a s = refl
-happened_whole (event.Expire feed) r a s = refl
-happened_whole (event.Take feed) r a s = refl
-happened_whole (event.Finish feed) r a s = refl
-happened_whole event.Delete r a s = refl
+happened_whole : (old new : Core) (e : Event) (r : Reply) → Answers old e r new → is_stopped r ≡ false → happened e r ≡ event_of e
+happened_whole old new (event.Write docs) (reply.Outcomes batch) a s = ap model.Write (whole_docs edit_of docs.items (length batch.replies) (a.whole s))
+happened_whole old new (event.Write docs) _ a s = refl
+happened_whole old new (event.Interactive docs) (reply.Outcomes batch) a s = ap model.Interactive (whole_docs draft_of docs.items (length batch.replies) (a.whole s))
+happened_whole old new (event.Interactive docs) _ a s = refl
+happened_whole old new (event.Begin params) r a s = refl
+happened_whole old new (event.Hand feed) r a s = refl
+happened_whole old new (event.Beat feed) r a s = refl
+happened_whole old new (event.Expire feed) r a s = refl
+happened_whole old new (event.Take feed) r a s = refl
+happened_whole old new (event.Finish feed) r a s = refl
+happened_whole old new event.Delete r a s = refl
 
 -- so it has the answer of the definitions
-pub applied_whole : (old new : Core) (e : Event) (r : Reply) → Applies old e r new → Answers e r → is_stopped r ≡ false
+pub applied_whole : (old new : Core) (e : Event) (r : Reply) → Applies old e r new → Answers old e r new → is_stopped r ≡ false
     → (w : World) → Shows old w → (reply_of r ≡ (answer w (event_of e)).reply) × Shows new (answer w (event_of e)).world
 applied_whole old new e r applies answers whole w h =
     let s = applies w h in
-    let step : Step w (event_of e) (reply_of r) s.0 = subst (λ x. Step w x (reply_of r) s.0) (happened_whole e r answers whole) s.1 in
+    let step : Step w (event_of e) (reply_of r) s.0 = subst (λ x. Step w x (reply_of r) s.0) (happened_whole old new e r answers whole) s.1 in
     let only = is_only_answer w s.0 (event_of e) (reply_of r) step in
     (only.0, subst (Shows new) only.1 s.2)
 

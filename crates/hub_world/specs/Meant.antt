@@ -1,6 +1,6 @@
 -- What the program's events and replies mean (own).
-use Rattle.std.specs.Prelude.{◌≡◌, ◌<◌, List, length, map, take, Bool, false, IsTrue, ⊤}
-use Rattle.hub_database.specs.Edits.{edit_of, draft_of}
+use Rattle.std.specs.Prelude.{◌≡◌, ◌<◌, List, length, map, take, Bool, true, false, IsTrue, ⊤}
+use Rattle.hub_database.specs.Edits.{edit_of, draft_of, StopsAt}
 use Rattle.hub_params.specs.FeedModel.{params_of}
 use Rattle.hub_document.specs.declared.doc.Doc.{Doc}
 use Rattle.hub_database.specs.declared.batch.Batch.{Batch}
@@ -44,16 +44,18 @@ happened (event.Write docs) (reply.Outcomes batch) = model.Write (map edit_of (t
 happened (event.Interactive docs) (reply.Outcomes batch) = model.Interactive (map draft_of (take (length batch.replies) docs.items))
 happened event reply = event_of event
 
--- a batch that did not stop answers for each document, one that stopped for fewer
-pub record IsAnsweredFor (docs : List Doc) (batch : Batch) : Type 0 where
+-- A batch that did not stop answers for each document. One that stopped answers for fewer, and the document behind those
+-- needed room: of five documents with a known one in the middle it may answer for 0, 1, 3 or 4, and never for 2.
+pub record IsAnsweredFor (new_edits : Bool) (old : Core) (docs : List Doc) (batch : Batch) (new : Core) : Type 0 where
   pub whole : batch.stopped ≡ false → length batch.replies ≡ length docs
   pub stopped : IsTrue batch.stopped → length batch.replies < length docs
+  pub stops : IsTrue batch.stopped → StopsAt new_edits old.db.deleted new.db.journal (length batch.replies) docs
 
--- so a reply to a write
-abbrev pub Answers : Event → Reply → Type 0
-Answers (event.Write docs) (reply.Outcomes batch) = IsAnsweredFor docs.items batch
-Answers (event.Interactive docs) (reply.Outcomes batch) = IsAnsweredFor docs.items batch
-Answers event reply = ⊤
+-- so the reply to a write that led from the old core to the new one
+abbrev pub Answers : Core → Event → Reply → Core → Type 0
+Answers old (event.Write docs) (reply.Outcomes batch) new = IsAnsweredFor false old docs.items batch new
+Answers old (event.Interactive docs) (reply.Outcomes batch) new = IsAnsweredFor true old docs.items batch new
+Answers old event reply new = ⊤
 
 -- whether it is that of a batch that stopped
 abbrev pub is_stopped : Reply → Bool

@@ -61,8 +61,8 @@ impl World {
 
     // Documents come with their histories.
     fn write(&mut self, docs: Vec<Doc>) -> Result<Reply, AllocError>
-        ensures ok { IfOk result (λ reply. Applies self.old (Event.Write docs) reply self.new × Answers (Event.Write docs) reply) }
-        ensures err { OnErr result (self.new ≡ self.old) }
+        ensures ok { IfOk result (λ reply. Applies self.old (Event.Write docs) reply self.new × Answers self.old (Event.Write docs) reply self.new) }
+        ensures err { OnErr result ((self.new ≡ self.old) × MayFail self.old (Event.Write docs)) }
     {
         let Ok(batch) = self.db.write_edits(docs, false) else {
             return Err(AllocError);
@@ -72,8 +72,8 @@ impl World {
 
     // Documents come whose revisions are made here.
     fn make(&mut self, docs: Vec<Doc>) -> Result<Reply, AllocError>
-        ensures ok { IfOk result (λ reply. Applies self.old (Event.Interactive docs) reply self.new × Answers (Event.Interactive docs) reply) }
-        ensures err { OnErr result (self.new ≡ self.old) }
+        ensures ok { IfOk result (λ reply. Applies self.old (Event.Interactive docs) reply self.new × Answers self.old (Event.Interactive docs) reply self.new) }
+        ensures err { OnErr result ((self.new ≡ self.old) × MayFail self.old (Event.Interactive docs)) }
     {
         let Ok(batch) = self.db.write_edits(docs, true) else {
             return Err(AllocError);
@@ -183,7 +183,7 @@ impl World {
     /// It costs what the call of `DbState` does, a search among the lanes, and for a row a copy.
     pub fn apply(&mut self, event: Event) -> Result<Reply, AllocError>
         ensures step { IfOk result (λ reply. Applies self.old event reply self.new) }
-        ensures batch { IfOk result (λ reply. Answers event reply) }
+        ensures batch { IfOk result (λ reply. Answers self.old event reply self.new) }
         ensures err { OnErr result ((self.new ≡ self.old) × MayFail self.old event) }
     {
         match event {

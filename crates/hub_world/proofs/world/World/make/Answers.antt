@@ -1,9 +1,10 @@
-use Rattle.std.proofs.Common.{◌∙◌, sym, ap, map, length}
+use Rattle.std.proofs.Common.{◌∙◌, sym, ap, subst, map, length, arith, true, false}
+use Rattle.std.proofs.lemmas.List.{length-map}
 use Rattle.std.specs.Prelude.{take}
 use Rattle.hub_database.specs.Database.{Database}
 use Rattle.hub_world.specs.Core.{Core}
 use Rattle.hub_world.specs.Event as model
-use Rattle.hub_database.specs.Edits.{draft_of}
+use Rattle.hub_database.specs.Edits.{draft_of, StopsAt}
 use Rattle.hub_world.proofs.Stepping.{Leads, make_leads, from_same, to_same, still_shows}
 use Rattle.hub_world.proofs.world.World.make.Goals as goal
 
@@ -25,5 +26,15 @@ pub returns-clause-ok : goal.returns-clause-ok
 returns-clause-ok c =
     let old : Core = record { db = c.self.inside.db; lanes = c.self.inside.lanes.items } in (
       from_same old c.args.self.now (record old { db = c.write_edits.new.self }) (model.Interactive (map draft_of (take (length c.in-Ok.batch.replies) c.args.docs.items))) (model.Outcomes c.in-Ok.batch.replies) c.self.view_is (leads c),
-      record { whole = c.in-Ok.ensures.whole; stopped = c.in-Ok.ensures.stopped },
+      record {
+        whole = c.in-Ok.ensures.whole;
+        stopped = c.in-Ok.ensures.stopped;
+        stops = λ stopped. subst (λ (z : Core). StopsAt true z.db.deleted c.write_edits.new.self.journal (length c.in-Ok.batch.replies) c.args.docs.items) c.self.view_is (c.in-Ok.ensures.stops stopped);
+      },
     )
+
+pub returns-in_default-clause-err : goal.returns-in_default-clause-err
+returns-in_default-clause-err c =
+    let old : Core = record { db = c.self.inside.db; lanes = c.self.inside.lanes.items } in
+    let same = ap (λ (db : Database). record { db = db; lanes = old.lanes }) c.in_default.ensures.err.1 ∙ c.self.view_is in
+    (same, λ w h. omega (arith, c.in_default.ensures.memory, length-map c.args.docs.items draft_of))
