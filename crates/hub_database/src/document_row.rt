@@ -7,7 +7,7 @@ ghost use Rattle.hub_revtree.specs.Tree.{IsRevTree};
 
 use crate::document::Document;
 use hub_document::{Body, ChangeRow, Revisions};
-use hub_model::Style;
+use hub_model::{Style, by_style};
 use std::alloc::{AllocError, Global};
 
 impl Document {
@@ -26,10 +26,10 @@ impl Document {
     fn changes(&self, alloc: Global, style: Style) -> Result<Revisions, AllocError>
         ensures { IfOk result (λ revs. revs ≡ changes_of style (leaves_of self.now.tree.edits [])) }
     {
-        match style {
-            Style::MainOnly => self.main_change(alloc),
-            Style::AllDocs => self.tree.leaves(alloc),
-        }
+        by_style!(style,
+            main_only: self.main_change(alloc),
+            all_docs: self.tree.leaves(alloc),
+        )
     }
 
     // The members of the winner.

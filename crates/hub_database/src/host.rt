@@ -19,7 +19,7 @@ impl DbState {
         if self.deleted {
             return Some(OpenFault::Deleted);
         }
-        if self.feeds.len() as u64 >= self.store.limits.feeds || self.next_feed == u64::MAX {
+        if self.feeds_are_full() {
             return Some(OpenFault::TooManyFeeds);
         }
         None

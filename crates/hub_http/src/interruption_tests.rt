@@ -1,4 +1,4 @@
-use crate::{HttpFault, Input, IoFault, Output, Requests, Tally, send, write_all};
+use crate::{HttpFault, Input, IoFault, Output, Request, Requests, Tally, send, write_all};
 use std::alloc::Global;
 use std::io;
 use std::io::{ErrorKind, Read, Write};
@@ -74,34 +74,40 @@ fn writer_of(alloc: Global, left: u32, times: u32, flush_left: u32) -> Tally<Sto
 
 const TEXT: &[u8] = b"PUT /d HTTP/1.1\r\nContent-Length: 3\r\n\r\nabcGET /e HTTP/1.1\r\n\r\n";
 
+/// The two requests of a text whose reader is interrupted so often before each byte, and how many
+/// reads faulted.
+fn read_two(alloc: Global, times: u32) -> Result<(Vec<Request>, u64), Fail> {
+    let mut requests = Requests::new(
+        alloc,
+        Tally::new(Halting {
+            text: TEXT,
+            left: times,
+            times,
+        }),
+    );
+    let mut found = Vec::new(alloc);
+    for _ in 0..2 {
+        match requests.next()? {
+            Some(request) => found.push(request)?,
+            None => return Err(Fail::new("no request")),
+        }
+    }
+    if requests.next()?.is_some() {
+        return Err(Fail::new("a third request"));
+    }
+    Ok((found, Input::faults(requests.reader())))
+}
+
 #[test]
 fn interrupted_reads(rt: HostRuntime) -> Result<(), Fail> {
     for times in [1, 3] {
-        let mut requests = Requests::new(
-            rt.alloc(),
-            Tally::new(Halting {
-                text: TEXT,
-                left: times,
-                times,
-            }),
-        );
-        match requests.next()? {
-            Some(q) => assert_eq!(rt;
-                (q.target.as_slice(), q.body.as_slice()),
-                (b"/d".as_slice(), b"abc".as_slice())
-            ),
-            None => assert!(rt; false),
-        }
-        match requests.next()? {
-            Some(q) => assert_eq!(rt;
-                (q.target.as_slice(), q.body.as_slice()),
-                (b"/e".as_slice(), b"".as_slice())
-            ),
-            None => assert!(rt; false),
-        }
-        assert!(rt; requests.next()?.is_none());
-        let interruptions = (TEXT.len() as u64 + 1) * u64::from(times);
-        assert_eq!(rt; Input::faults(requests.reader()), interruptions);
+        let (found, faults) = read_two(rt.alloc(), times)?;
+        assert_eq!(rt; found.len(), 2);
+        assert_eq!(rt; found[0].target.as_slice(), b"/d".as_slice());
+        assert_eq!(rt; found[0].body.as_slice(), b"abc".as_slice());
+        assert_eq!(rt; found[1].target.as_slice(), b"/e".as_slice());
+        assert!(rt; found[1].body.is_empty());
+        assert_eq!(rt; faults, (TEXT.len() as u64 + 1) * u64::from(times));
     }
     Ok(())
 }

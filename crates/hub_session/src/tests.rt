@@ -113,7 +113,7 @@ impl Read for Slow<'_> {
     }
 }
 
-/// Interrupts each call so often before it goes on, and then gives or takes one byte.
+/// Interrupts each call so often before it goes on, and then gives or takes one byte, or flushes.
 #[derive(Drop)]
 struct Hesitant<T> {
     inner: T,
@@ -165,6 +165,9 @@ impl<T: Write> Write for Hesitant<T> {
     }
 
     fn flush(&mut self) -> io::Result<()> {
+        if self.hesitates() {
+            return Err(io::Error::from(ErrorKind::Interrupted));
+        }
         self.inner.flush()
     }
 }
