@@ -8,14 +8,27 @@ use Rattle.hub_http.specs.Counts.{AppendsFront, Sends, last_count}
 use Rattle.hub_http.proofs.SendLemmas.{sends_after}
 use Rattle.hub_http.specs.declared.request.Request.{Request}
 use Rattle.hub_http.specs.declared.fault.HttpFault.{HttpFault}
-use Rattle.hub_http.specs.Stream.{asked_by, Spells, Leaves}
-use Rattle.hub_http.proofs.StreamLemmas.{ends_faulty}
+use Rattle.hub_http.specs.Stream.{asked_by, Spells, Leaves, Faults}
+use Rattle.hub_http.specs.declared.fault.HttpFault.TheVariants.{NoMemory, BadHead, HeadTooLong, BodyTooLong, Version, Coding, Ended, IoFault}
 use Rattle.hub_session.specs.declared.closing.Closing.{Closing}
 use Rattle.hub_session.specs.declared.closing.Closing.TheVariants.{Finished, Fault, Broken, Exhausted}
 use Rattle.hub_session.specs.Feeds.{Gives, Drops}
 use Rattle.hub_session.specs.Replies.{fault_text}
 use Rattle.hub_session.specs.Sessions.{Answering, Exchange, exchange_text, Session, IsSession, IsAnswered, IsClosed, Closes, ClosesBy, is_broken}
 use Rattle.hub_session.proofs.AnswerLemmas.{Told}
+
+-- a fault of the next request is one that its bytes have
+ends_faulty : (b c : Option (List ℕ)) (e : HttpFault) → IfSome b (λ bytes. Leaves bytes (Err e) c) → IfSome b (λ bytes. Faults bytes e)
+ends_faulty None c e s = tt
+ends_faulty (Some y) None e s = absurd s
+ends_faulty (Some y) (Some z) NoMemory s = tt
+ends_faulty (Some y) (Some z) BadHead s = s
+ends_faulty (Some y) (Some z) HeadTooLong s = s
+ends_faulty (Some y) (Some z) BodyTooLong s = s
+ends_faulty (Some y) (Some z) Version s = s
+ends_faulty (Some y) (Some z) Coding s = s
+ends_faulty (Some y) (Some z) Ended s = s
+ends_faulty (Some y) (Some z) IoFault s = tt
 
 -- what serving one request says of the bytes
 abbrev pub One : {S : Type 0} → Answering S → Gives S → Drops S
