@@ -15,7 +15,6 @@ ghost use Rattle.changes_hub.specs.Laws.{CompleteFeedIsWhole, CompleteListIsWhol
 
 use crate::call::{Call, Target, target_of};
 use crate::database::Database;
-use crate::feeds::is_end;
 use crate::name::is_name;
 use crate::response::{Feed, Listed, Response};
 use http::StatusCode;
@@ -208,7 +207,7 @@ impl Databases {
         self.feed = None;
         let database = self.list.get_mut(at)?;
         let item = database.hand(id)?;
-        if !is_end(&item) {
+        if !item.is_end() {
             self.feed = Some(Sent {
                 at,
                 feed: Feed::Followed(id),

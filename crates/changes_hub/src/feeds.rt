@@ -7,7 +7,7 @@ ghost use Rattle.hub_params.specs.FeedModel.{params_of};
 ghost use Rattle.hub_params.specs.FeedParams.{feed_asked};
 ghost use Rattle.hub_params.specs.FeedShown.{params_asked};
 ghost use Rattle.changes_hub.specs.Came.{Begins, CameOut, Hands};
-ghost use Rattle.changes_hub.specs.Feeds.{lists, opens, begins_asked, begins, of_param_fault, of_open_fault, is_end, behind};
+ghost use Rattle.changes_hub.specs.Feeds.{lists, opens, begins_asked, begins, of_param_fault, of_open_fault, behind};
 
 use crate::refusal::refusal_of;
 use crate::response::{Feed, Listed, Response};
@@ -99,20 +99,13 @@ pub(crate) fn begin(
     }
 }
 
-/// Whether an item ends its feed.
-pub(crate) fn is_end(item: &Item<ChangeRow>) -> bool
-    ensures { result ≡ is_end item.now }
-{
-    matches!(item, Item::End { .. })
-}
-
 // Goes on behind the item that is due to a feed.
 fn accept(state: &mut DbState, feed: FeedId, item: &Item<ChangeRow>)
     requires due { item_due state.old feed.number ≡ Some item.now }
     ensures { state.new ≡ behind state.old feed.number (Some item.now) }
 {
     state.accept_item(feed, item);
-    if is_end(item) {
+    if item.is_end() {
         state.finish(feed);
     }
 }

@@ -194,6 +194,17 @@ module _ (J : List Edit) (asked : Params) (since : ℕ) where
       h ∙ (ap (λ cs. rows ++ map show (take (most - length rows) cs)) e ∙ (ap (λ n. rows ++ map show (take n (c ∷ left c.seq))) one
       ∙ (sym (append_assoc rows (show c ∷ []) (map show (take (most - length rows') (left c.seq)))) ∙ ap (λ rs. rs ++ map show (take (most - length rows') (left c.seq))) (ap (λ r. rows ++ r ∷ []) (sym is) ∙ sym more))))
 
+  more_than_none : (rows : List ChangeRow) (row : ChangeRow) (more : List ChangeRow) → rows ++ row ∷ more ≡ [] → ⊥
+  more_than_none [] row more e = absurd (cc)
+  more_than_none (x ∷ rows) row more e = absurd (cc)
+
+  -- a row that is taken up while there are too few is one of those that are shown
+  row_shown : (most : ℕ) (rows : List ChangeRow) (place : ℕ) (c : Current) → length rows < most → all_shown most ≡ rows ++ map show (take (most - length rows) (left place)) → left place ≡ c ∷ left c.seq → ¬ (all_shown most ≡ [])
+  row_shown most rows place c few h e = λ none.
+      let one : most - length rows ≡ suc (most - length rows - 1) = omega (arith, few) in
+      more_than_none rows (show c) (map show (take (most - length rows - 1) (left c.seq)))
+      (ap (λ n. rows ++ map show (take n (c ∷ left c.seq))) (sym one) ∙ (ap (λ cs. rows ++ map show (take (most - length rows) cs)) (sym e) ∙ (sym h ∙ none)))
+
   -- what is shown in all is the answer
   pub shown_all : all_shown (most_of asked.limit (length J)) ≡ map show (falling_rows J asked since)
   shown_all = ap (map show) (ap (take (most_of asked.limit (length J))) (filter_reverse (is_shown asked since) (current J)) ∙ from asked.limit)
@@ -204,6 +215,19 @@ module _ (J : List Edit) (asked : Params) (since : ℕ) where
       from : (limit : Option ℕ) → take (most_of limit (length J)) (reverse (filter (is_shown asked since) (current J))) ≡ at_most limit (reverse (filter (is_shown asked since) (current J)))
       from None = take_all (length J) (reverse (filter (is_shown asked since) (current J))) few
       from (Some limit) = refl
+
+  -- so where a row is taken up the answer has one
+  pub row_due : (most : ℕ) (rows : List ChangeRow) (place : ℕ) (c : Current) → most ≡ most_of asked.limit (length J) → length rows < most → all_shown most ≡ rows ++ map show (take (most - length rows) (left place)) → left place ≡ c ∷ left c.seq
+      → ¬ (falling_rows J asked since ≡ [])
+  row_due most rows place c is few h e = λ none. row_shown most rows place c few h e (ap all_shown is ∙ (shown_all ∙ ap (map show) none))
+
+  nothing_shown : (cs : List Current) → map show cs ≡ [] → cs ≡ []
+  nothing_shown [] e = refl
+  nothing_shown (c ∷ cs) e = absurd (cc)
+
+  -- and has one where one is due
+  pub answer_some : since ≡ since_of asked.since (length J) → ¬ (falling_rows J asked since ≡ []) → ¬ ((descending J asked).rows ≡ [])
+  answer_some begin some = λ e. some (nothing_shown (falling_rows J asked since) (ap (λ n. map (row_of J asked.style asked.include_docs) (falling_rows J asked n)) begin ∙ e))
 
   -- and lies above where the feed begins
   pub rows_above : (c : Current) → Contains (falling_rows J asked since) c → since < c.seq

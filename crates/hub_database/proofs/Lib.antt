@@ -7,6 +7,7 @@ pub mod IndexedLemmas
 pub mod StoreLemmas
 pub mod RowLemmas
 pub mod ShownLemmas
+pub mod ShortLemmas
 pub mod EntryLemmas
 pub mod MissingLemmas
 pub mod InfoLemmas

@@ -21,6 +21,9 @@ chosen_some : (id : List ℕ) (ns os : List Revision) → ns ≢ [] → Some (re
 chosen_some id [] os some = absurd (some refl)
 chosen_some id (n ∷ ns) os some = let long : nat_lt 0 (length (n ∷ ns)) ≡ true = lt-ltb 0 (length (n ∷ ns)) (omega arith) in sym (ap (λ (b : Bool). if b then Some (record { id = id; missing = n ∷ ns; possible_ancestors = os }) else None) long)
 
+chosen_not : (id : List ℕ) (ns os : List Revision) → ns ≢ [] → ¬ (chosen id ns os ≡ None)
+chosen_not id ns os some = λ e. absurd (let never = chosen_some id ns os some ∙ e in cc)
+
 -- what a test for an empty list says
 pub none_of : (rs : List Revision) → true ≡ (length rs == 0) → rs ≡ []
 none_of [] e = refl
@@ -50,6 +53,10 @@ module _ (J : List Edit) (id : List ℕ) (d : Document) (f : IsFound J id d) whe
   -- something
   pub diff_found : (rs ms ancestors : List Revision) → ms ≡ missing d.tree.edits [] rs → ancestors ≡ possible_ancestors d.tree.edits [] rs → ms ≢ [] → Some (record { id = id; missing = ms; possible_ancestors = ancestors }) ≡ wanted_diff J (record { id = id; revs = rs })
   diff_found rs ms ancestors is same some = chosen_some id ms ancestors some ∙ (ap (chosen id ms) (same ∙ ancestors_same rs) ∙ ap (λ ns. chosen id ns (possible_ancestors J id rs)) (is ∙ missing_same rs))
+
+  -- where a revision is missing, there is a difference
+  pub some_wanted : (rs : List Revision) → ¬ (missing d.tree.edits [] rs ≡ []) → ¬ (wanted_diff J (record { id = id; revs = rs }) ≡ None)
+  some_wanted rs some = chosen_not id (missing J id rs) (possible_ancestors J id rs) (λ e. some (missing_same rs ∙ e))
 
 -- of an unknown document all are missing
 module _ (J : List Edit) (id : List ℕ) (none : edits_of J id ≡ []) where

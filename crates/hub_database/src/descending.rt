@@ -1,20 +1,18 @@
 //! Descending answers.
 
-ghost use Rattle.std.specs.Prelude.{◌≡◌, ◌≤◌, ◌&&◌, map, count_by, nat_lt, IfOk, false, IfErr};
+ghost use Rattle.std.specs.Prelude.{◌≡◌, ◌≤◌, ◌&&◌, [], map, count_by, nat_lt, IfOk, false, IfErr, OnErr};
 ghost use Rattle.hub_model.specs.Current.{Current, current};
 ghost use Rattle.hub_model.specs.Descending.{descending, falling_rows};
-ghost use Rattle.hub_model.specs.Feed.{since_of};
 ghost use Rattle.hub_model.specs.Row.{row_of};
 ghost use Rattle.hub_database.specs.Falling.{lowest_row, most_of};
 ghost use Rattle.hub_params.specs.FeedModel.{params_of};
-ghost use Rattle.hub_database.specs.Database.{reading_fault};
+ghost use Rattle.hub_database.specs.Database.{GivesUp, reading_fault};
 
 use crate::batch::DbFault;
 use crate::database::DbState;
 use crate::rows::Rows;
 use hub_document::ChangeRow;
 use hub_feed::Source;
-use hub_model::Since;
 use hub_params::FeedParams;
 use std::alloc::AllocError;
 use std::marker::Model;
@@ -38,16 +36,6 @@ impl Model for Descending {
     ghost Value = { Falling };
 
     ghost view = { λ a. record { rows = a.rows.items; last_seq = a.last_seq; pending = a.pending } };
-}
-
-// What a feed shows that lies above, while there are `length` edits.
-fn since_of(since: Since, length: u64) -> u64
-    ensures { result ≡ since_of since length }
-{
-    match since {
-        Since::From(seq) => seq.min(length),
-        Since::Now => length,
-    }
 }
 
 // How many rows are shown at most, of so many.
@@ -82,7 +70,8 @@ impl Rows<'_> {
 
     // The current rows above `since` that pass, the greatest sequence first, up to the limit.
     fn falling(&self, params: &FeedParams, since: u64) -> Result<Vec<ChangeRow>, AllocError>
-        ensures { let asked = params_of params.now in IfOk result (λ rows. rows.items ≡ map (row_of self.now asked.style asked.include_docs) (falling_rows self.now asked since)) }
+        ensures ok { let asked = params_of params.now in IfOk result (λ rows. rows.items ≡ map (row_of self.now asked.style asked.include_docs) (falling_rows self.now asked since)) }
+        ensures memory { OnErr result (¬ (falling_rows self.now (params_of params.now) since ≡ [])) }
     {
         let most = most_of(params.limit, self.length());
         let mut rows = Vec::new(self.store.alloc);
@@ -107,10 +96,11 @@ impl Rows<'_> {
 impl DbState {
     // The current rows that pass, of a database that stands.
     fn falling_answer(&self, params: &FeedParams) -> Result<Descending, AllocError>
-        ensures { IfOk result (λ answer. answer ≡ descending self.now.journal (params_of params.now)) }
+        ensures ok { IfOk result (λ answer. answer ≡ descending self.now.journal (params_of params.now)) }
+        ensures memory { OnErr result (¬ ((descending self.now.journal (params_of params.now)).rows ≡ [])) }
     {
         let rows = Rows { store: &self.store };
-        let since = since_of(params.since, rows.length());
+        let since = params.since.within(rows.length());
         let falling = rows.falling(params, since)?;
         let last_seq = lowest_row(falling.as_slice(), since);
         let pending = rows.count_between(since, last_seq);
@@ -128,6 +118,7 @@ impl DbState {
     pub fn changes_descending(&self, params: &FeedParams) -> Result<Descending, DbFault>
         ensures ok { IfOk result (λ answer. (self.now.deleted ≡ false) × (answer ≡ descending self.now.journal (params_of params.now))) }
         ensures err { IfErr result (λ e. e ≡ reading_fault self.now) }
+        ensures memory { IfErr result (GivesUp self.now (¬ ((descending self.now.journal (params_of params.now)).rows ≡ []))) }
     {
         self.check()?;
         let answer = self.falling_answer(params)?;

@@ -1,9 +1,9 @@
 //! Revisions that are missing.
 
-ghost use Rattle.std.specs.Prelude.{◌≡◌, IfOk, false, IfErr};
+ghost use Rattle.std.specs.Prelude.{◌≡◌, [], IfOk, None, false, IfErr, OnErr};
 ghost use Rattle.hub_model.specs.Missing.{diffs};
 ghost use Rattle.hub_database.specs.Found.{wanted_diff};
-ghost use Rattle.hub_database.specs.Database.{reading_fault};
+ghost use Rattle.hub_database.specs.Database.{GivesUp, reading_fault};
 
 use crate::answers::Diff;
 use crate::batch::DbFault;
@@ -14,7 +14,8 @@ use std::alloc::AllocError;
 impl DbState {
     // What a document misses of the revisions asked for; None where it misses nothing.
     fn diff(&self, asked: Asked) -> Result<Option<Diff>, AllocError>
-        ensures { IfOk result (λ diff. diff ≡ wanted_diff self.now.journal asked) }
+        ensures ok { IfOk result (λ diff. diff ≡ wanted_diff self.now.journal asked) }
+        ensures memory { OnErr result (¬ (wanted_diff self.now.journal asked ≡ None)) }
     {
         let alloc = self.store.alloc;
         let Asked { id, revs } = asked;
@@ -42,7 +43,8 @@ impl DbState {
 
     // Which of the revisions asked for are missing in a database that stands.
     fn differences(&self, asked: Vec<Asked>) -> Result<Vec<Diff>, AllocError>
-        ensures { IfOk result (λ found. found.items ≡ diffs self.now.journal asked.items) }
+        ensures ok { IfOk result (λ found. found.items ≡ diffs self.now.journal asked.items) }
+        ensures memory { OnErr result (¬ (diffs self.now.journal asked.items ≡ [])) }
     {
         let mut found = Vec::new(self.store.alloc);
         for asked in asked {
@@ -59,6 +61,7 @@ impl DbState {
     pub fn revs_diff(&self, asked: Vec<Asked>) -> Result<Vec<Diff>, DbFault>
         ensures ok { IfOk result (λ found. (self.now.deleted ≡ false) × (found.items ≡ diffs self.now.journal asked.items)) }
         ensures err { IfErr result (λ e. e ≡ reading_fault self.now) }
+        ensures memory { IfErr result (GivesUp self.now (¬ (diffs self.now.journal asked.items ≡ []))) }
     {
         self.check()?;
         let found = self.differences(asked)?;

@@ -1,8 +1,8 @@
 //! A database whose feeds are driven as those of any host.
 
 use crate::database::DbState;
-use crate::feed_tests::{asked, is_gone, open, put, row};
-use hub_document::{ChangeRow, Limits};
+use crate::feed_tests::{asked, hands_rows, holds, is_gone, open};
+use hub_document::ChangeRow;
 use hub_feed::{FeedHost, FeedId, Next, OpenFault};
 use hub_model::Item;
 use hub_params::FeedParams;
@@ -38,8 +38,36 @@ fn take<H: FeedHost<Row = ChangeRow>>(host: &mut H, feed: FeedId) -> Result<Step
     Ok(step_of(&next))
 }
 
-// What a feed does that is opened at a host: three steps, then a beat where one is due, a step once
-// its time is over, and a step once it is finished.
+// Notes the next step of a feed.
+fn note<H: FeedHost<Row = ChangeRow>>(
+    host: &mut H,
+    feed: FeedId,
+    steps: &mut Vec<Step>,
+) -> Result<(), Fail> {
+    steps.push(take(host, feed)?)?;
+    Ok(())
+}
+
+// Notes what a feed does: three steps, then a beat where one is due, a step once its time is over,
+// and a step once it is finished.
+fn run<H: FeedHost<Row = ChangeRow>>(
+    host: &mut H,
+    feed: FeedId,
+    steps: &mut Vec<Step>,
+) -> Result<(), Fail> {
+    for _ in 0..3 {
+        note(host, feed, steps)?;
+    }
+    if host.beat_due(feed) {
+        steps.push(Step::Beat)?;
+    }
+    host.expire(feed);
+    note(host, feed, steps)?;
+    host.finish(feed);
+    note(host, feed, steps)
+}
+
+// What a feed does that is opened at a host.
 fn drive<H: FeedHost<Row = ChangeRow>>(
     alloc: Global,
     host: &mut H,
@@ -49,56 +77,53 @@ fn drive<H: FeedHost<Row = ChangeRow>>(
         return Err(Fail::new("no feed"));
     };
     let mut steps = Vec::new(alloc);
-    for _ in 0..3 {
-        steps.push(take(host, feed)?)?;
-    }
-    if host.beat_due(feed) {
-        steps.push(Step::Beat)?;
-    }
-    host.expire(feed);
-    steps.push(take(host, feed)?)?;
-    host.finish(feed);
-    steps.push(take(host, feed)?)?;
+    run(host, feed, &mut steps)?;
     Ok(steps)
 }
 
-// A database with two documents.
-fn database(alloc: Global) -> Result<DbState, Fail> {
-    let mut state = DbState::new(alloc, Limits::full());
-    for text in [r#"{"_id":"a","_rev":"1-a"}"#, r#"{"_id":"b","_rev":"1-b"}"#] {
-        put(alloc, &mut state, text)?;
-    }
-    Ok(state)
+// Whether a feed that is opened at a database does these steps.
+fn does(alloc: Global, state: &mut DbState, query: &str, wanted: &[Step]) -> Result<bool, Fail> {
+    let steps = drive(alloc, state, asked(alloc, query)?)?;
+    Ok(steps.as_slice() == wanted)
+}
+
+// The documents of each database here.
+const DOCS: [&str; 2] = [r#"{"_id":"a","_rev":"1-a"}"#, r#"{"_id":"b","_rev":"1-b"}"#];
+
+const FIRST: Step = Step::Row(1);
+
+const SECOND: Step = Step::Row(2);
+
+const END: Step = Step::End(2, 0);
+
+// Whether a host drives feeds until the deletion.
+fn drives(alloc: Global, state: &mut DbState) -> Result<bool, Fail> {
+    let wanted = [FIRST, SECOND, END, Step::Gone, Step::Gone];
+    let normal = does(alloc, state, "", &wanted)?;
+    let wanted = [FIRST, SECOND, Step::Nothing, Step::Beat, END, Step::Gone];
+    let continuous = does(alloc, state, "feed=continuous&heartbeat=1000", &wanted)?;
+    state.delete()?;
+    let refused = FeedHost::open_feed(state, asked(alloc, "")?);
+    Ok(normal && continuous && refused == Err(OpenFault::Deleted))
 }
 
 #[test]
 fn a_host_drives_the_feeds_of_a_database(rt: HostRuntime) -> Result<(), Fail> {
-    let alloc = rt.alloc();
-    let mut state = database(alloc)?;
-    let (first, second, end) = (Step::Row(1), Step::Row(2), Step::End(2, 0));
-    let steps = drive(alloc, &mut state, asked(alloc, "")?)?;
-    let wanted = [first, second, end, Step::Gone, Step::Gone];
-    assert_eq!(rt; steps.as_slice(), wanted.as_slice());
-    let params = asked(alloc, "feed=continuous&heartbeat=1000")?;
-    let steps = drive(alloc, &mut state, params)?;
-    let wanted = [first, second, Step::Nothing, Step::Beat, end, Step::Gone];
-    assert_eq!(rt; steps.as_slice(), wanted.as_slice());
-    assert_eq!(rt; state.delete(), Ok(()));
-    assert_eq!(rt;
-        FeedHost::open_feed(&mut state, asked(alloc, "")?),
-        Err(OpenFault::Deleted)
-    );
+    assert!(rt; holds(rt.alloc(), &DOCS, drives)?);
     Ok(())
+}
+
+// Whether a feed goes on where its host left it.
+fn goes_on(alloc: Global, state: &mut DbState) -> Result<bool, Fail> {
+    let feed = open(alloc, state, "")?;
+    let first = take(state, feed)? == FIRST;
+    let second = hands_rows(state, feed, &[2])?;
+    let end = take(state, feed)? == END;
+    Ok(first && second && end && is_gone(state, feed)?)
 }
 
 #[test]
 fn a_feed_goes_on_where_its_host_left_it(rt: HostRuntime) -> Result<(), Fail> {
-    let alloc = rt.alloc();
-    let mut state = database(alloc)?;
-    let feed = open(alloc, &mut state, "")?;
-    assert_eq!(rt; take(&mut state, feed)?, Step::Row(1));
-    assert_eq!(rt; row(&mut state, feed)?.seq, 2);
-    assert_eq!(rt; take(&mut state, feed)?, Step::End(2, 0));
-    assert!(rt; is_gone(&mut state, feed)?);
+    assert!(rt; holds(rt.alloc(), &DOCS, goes_on)?);
     Ok(())
 }

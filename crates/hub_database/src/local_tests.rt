@@ -2,8 +2,9 @@
 
 use crate::batch::DbFault;
 use crate::database::DbState;
+use crate::feed_tests::holds;
 use crate::local::Local;
-use hub_document::{Body, Limits, LocalDoc};
+use hub_document::{Body, LocalDoc};
 use hub_model::Fault;
 use std::alloc::Global;
 use std::test::Fail;
@@ -20,42 +21,77 @@ fn keeps(state: &DbState, id: &str, count: u64, body: &str) -> bool {
     }
 }
 
-#[test]
-fn local_documents_are_counted_one_by_one(rt: HostRuntime) -> Result<(), Fail> {
-    let alloc = rt.alloc();
-    let mut state = DbState::new(alloc, Limits::full());
-    assert!(rt; state.local_get("_local/x")?.is_none());
-    assert_eq!(rt;
-        put(alloc, &mut state, "_local/x", "{\"v\":1}"),
-        Some(Ok(1))
-    );
-    assert_eq!(rt;
-        put(alloc, &mut state, "_local/x", "{\"v\":2}"),
-        Some(Ok(2))
-    );
-    assert_eq!(rt; put(alloc, &mut state, "_local/a", "{}"), Some(Ok(1)));
-    assert!(rt; keeps(&state, "_local/x", 2, "{\"v\":2}"));
-    assert!(rt; keeps(&state, "_local/a", 1, "{}"));
-    assert!(rt; state.local_get("_local/y")?.is_none());
-    assert_eq!(rt; state.update_seq(), 0);
-    assert_eq!(rt; state.info()?.doc_count, 0);
-    Ok(())
+// Whether a local document is stored, and was then written this often.
+fn counts(alloc: Global, state: &mut DbState, id: &str, text: &str, count: u64) -> bool {
+    put(alloc, state, id, text) == Some(Ok(count))
+}
+
+// Whether there is no local document of this id.
+fn is_unknown(state: &DbState, id: &str) -> bool {
+    match state.local_get(id) {
+        Ok(found) => found.is_none(),
+        Err(_) => false,
+    }
+}
+
+// Whether each local document is counted, and its last text is kept.
+fn counts_one_by_one(alloc: Global, state: &mut DbState) -> Result<bool, Fail> {
+    for (id, text, count) in [
+        ("_local/x", r#"{"v":1}"#, 1),
+        ("_local/x", r#"{"v":2}"#, 2),
+        ("_local/a", "{}", 1),
+    ] {
+        if !counts(alloc, state, id, text, count) {
+            return Ok(false);
+        }
+    }
+    Ok(keeps(state, "_local/x", 2, r#"{"v":2}"#) && keeps(state, "_local/a", 1, "{}"))
+}
+
+// Whether a local document is found once it is stored, and no other.
+fn finds_what_is_stored(alloc: Global, state: &mut DbState) -> Result<bool, Fail> {
+    let unknown = is_unknown(state, "_local/x");
+    let stored = counts(alloc, state, "_local/x", "{}", 1);
+    Ok(unknown && stored && !is_unknown(state, "_local/x") && is_unknown(state, "_local/y"))
+}
+
+// Whether a local document is no edit, and no document that is counted.
+fn counts_no_edit(alloc: Global, state: &mut DbState) -> Result<bool, Fail> {
+    let stored = counts(alloc, state, "_local/x", "{}", 1);
+    Ok(stored && state.update_seq() == 0 && state.info()?.doc_count == 0)
 }
 
 #[test]
-fn the_last_count_is_kept(rt: HostRuntime) -> Result<(), Fail> {
+fn local_documents_are_counted_one_by_one(rt: HostRuntime) -> Result<(), Fail> {
     let alloc = rt.alloc();
-    let mut state = DbState::new(alloc, Limits::full());
+    assert!(rt; holds(alloc, &[], counts_one_by_one)?);
+    assert!(rt; holds(alloc, &[], finds_what_is_stored)?);
+    assert!(rt; holds(alloc, &[], counts_no_edit)?);
+    Ok(())
+}
+
+// Gives a database a local document `_local/x` of the last count.
+fn fill(alloc: Global, state: &mut DbState) -> Result<(), Fail> {
     let body = Body::empty(alloc)?;
     let last = Local {
         count: u64::MAX,
         body,
     };
-    state
-        .locals
-        .insert(String::from_str(alloc, "_local/x")?, last)?;
+    let id = String::from_str(alloc, "_local/x")?;
+    state.locals.insert(id, last)?;
+    Ok(())
+}
+
+// Whether a local document of the last count is not stored again.
+fn keeps_the_last(alloc: Global, state: &mut DbState) -> Result<bool, Fail> {
+    fill(alloc, state)?;
     let full = Some(Err(DbFault::Refused(Fault::SequenceFull)));
-    assert_eq!(rt; put(alloc, &mut state, "_local/x", "{\"v\":1}"), full);
-    assert!(rt; keeps(&state, "_local/x", u64::MAX, "{}"));
+    let refused = put(alloc, state, "_local/x", r#"{"v":1}"#) == full;
+    Ok(refused && keeps(state, "_local/x", u64::MAX, "{}"))
+}
+
+#[test]
+fn the_last_count_is_kept(rt: HostRuntime) -> Result<(), Fail> {
+    assert!(rt; holds(rt.alloc(), &[], keeps_the_last)?);
     Ok(())
 }

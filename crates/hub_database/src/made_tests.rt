@@ -1,7 +1,9 @@
 //! Edits whose revisions are made here, and the counts after them. The digests are those of `md5sum`.
 
-use crate::{DbFault, DbState, Info};
-use hub_document::{Doc, Limits, RevId};
+use crate::feed_tests::{holds, holds_in};
+use crate::tests::{docs, refused, short, stored, writes};
+use crate::{Batch, DbFault, DbState, Info};
+use hub_document::{Doc, RevId};
 use hub_model::{Fault, Outcome};
 use std::alloc::Global;
 use std::test::Fail;
@@ -26,185 +28,240 @@ fn refuses(alloc: Global, state: &mut DbState, text: &str, wanted: Fault) -> boo
     }
 }
 
-// Whether the document that the text is, with its history, is stored.
-fn replicates(alloc: Global, state: &mut DbState, text: &str) -> bool {
-    let Ok(doc) = Doc::read(alloc, text.as_bytes(), false) else {
-        return false;
-    };
-    let mut docs = Vec::new(alloc);
-    if docs.push(doc).is_err() {
-        return false;
-    }
-    match state.write_edits(docs, false) {
-        Ok(batch) => match batch.replies.as_slice().first() {
-            Some(Outcome::Stored(_)) => !batch.stopped,
-            _ => false,
-        },
-        Err(_) => false,
+// Whether the only document of a batch is stored.
+fn is_stored(batch: &Batch) -> bool {
+    match batch.replies.as_slice().first() {
+        Some(Outcome::Stored(_)) => !batch.stopped,
+        _ => false,
     }
 }
 
-fn counts(doc_count: u64, doc_del_count: u64, update_seq: u64) -> Info {
-    Info {
+// Whether the document that the text is, with its history, is stored.
+fn replicates(alloc: Global, state: &mut DbState, text: &str) -> Result<bool, Fail> {
+    let docs = docs(alloc, &[text], false)?;
+    let batch = state.write_edits(docs, false)?;
+    Ok(is_stored(&batch))
+}
+
+// Whether these are the counts of a database.
+fn has_counts(state: &DbState, counts: (u64, u64, u64)) -> bool {
+    let (doc_count, doc_del_count, update_seq) = counts;
+    let counts = Info {
         doc_count,
         doc_del_count,
         update_seq,
-    }
+    };
+    state.info() == Ok(counts)
 }
 
-const A: &str = "{\"_id\":\"a\"}";
+const A: &str = r#"{"_id":"a"}"#;
 
 const A1: &str = "1-dfddbf319adb018d1e5ac3465b83542c";
 
 const A_DELETED: &str =
-    "{\"_id\":\"a\",\"_rev\":\"1-dfddbf319adb018d1e5ac3465b83542c\",\"_deleted\":true}";
+    r#"{"_id":"a","_rev":"1-dfddbf319adb018d1e5ac3465b83542c","_deleted":true}"#;
 
 const A2: &str = "2-870d76c302165a079d4197c8440353e5";
 
 const A3: &str = "3-4c5ef0d207f3957b7fd603081c6ea42d";
 
-const B: &str = "{\"_id\":\"b\",\"v\":1}";
+const B: &str = r#"{"_id":"b","v":1}"#;
 
 const B1: &str = "1-1285e04b3042a31dee48aaa22a8253db";
 
-const B_NEWER: &str = "{\"_id\":\"b\",\"_rev\":\"1-1285e04b3042a31dee48aaa22a8253db\",\"v\":2}";
+const B_NEWER: &str = r#"{"_id":"b","_rev":"1-1285e04b3042a31dee48aaa22a8253db","v":2}"#;
 
 const B2: &str = "2-ef9706f00d5204d4b73e97b9394cf4b1";
+
+const C: &str = r#"{"_id":"c"}"#;
+
+const C1: &str = "1-fb9ac373006d562c3ba1cd99e8474820";
+
+// Whether an edit is stored: one whose revision is made here where `new_edits` asks for it.
+fn stores(alloc: Global, state: &mut DbState, text: &str, new_edits: bool) -> Result<bool, Fail> {
+    if new_edits {
+        return Ok(matches!(write(alloc, state, text), Some(Ok(_))));
+    }
+    replicates(alloc, state, text)
+}
+
+// Whether a document is made, deleted and made again, each with the counts after it.
+fn makes_again(alloc: Global, state: &mut DbState) -> Result<bool, Fail> {
+    for (text, rev, counts) in [
+        (A, A1, (1, 0, 1)),
+        (A_DELETED, A2, (0, 1, 2)),
+        (A, A3, (1, 0, 3)),
+    ] {
+        if !makes(alloc, state, text, rev) || !has_counts(state, counts) {
+            return Ok(false);
+        }
+    }
+    Ok(true)
+}
+
+// Whether a document is not made twice, and then deleted.
+fn makes_once(alloc: Global, state: &mut DbState) -> Result<bool, Fail> {
+    let none = has_counts(state, (0, 0, 0));
+    let made = makes(alloc, state, A, A1);
+    let refused = refuses(alloc, state, A, Fault::Conflict) && has_counts(state, (1, 0, 1));
+    Ok(none && made && refused && makes(alloc, state, A_DELETED, A2))
+}
 
 #[test]
 fn a_document_is_made_deleted_and_made_again(rt: HostRuntime) -> Result<(), Fail> {
     let alloc = rt.alloc();
-    let mut state = DbState::new(alloc, Limits::full());
-    assert_eq!(rt; state.info()?, counts(0, 0, 0));
-    assert!(rt; makes(alloc, &mut state, A, A1));
-    assert_eq!(rt; state.info()?, counts(1, 0, 1));
-    assert!(rt; refuses(alloc, &mut state, A, Fault::Conflict));
-    assert_eq!(rt; state.info()?, counts(1, 0, 1));
-    assert!(rt; makes(alloc, &mut state, A_DELETED, A2));
-    assert_eq!(rt; state.info()?, counts(0, 1, 2));
-    assert!(rt; makes(alloc, &mut state, A, A3));
-    assert_eq!(rt; state.info()?, counts(1, 0, 3));
+    assert!(rt; holds(alloc, &[], makes_again)?);
+    assert!(rt; holds(alloc, &[], makes_once)?);
     Ok(())
+}
+
+// Whether an edit is stored behind a leaf alone.
+fn extends_leaves(alloc: Global, state: &mut DbState) -> Result<bool, Fail> {
+    let before = refuses(alloc, state, B_NEWER, Fault::Conflict) && has_counts(state, (0, 0, 0));
+    let made = makes(alloc, state, B, B1) && makes(alloc, state, B_NEWER, B2);
+    let again = refuses(alloc, state, B_NEWER, Fault::Conflict) && has_counts(state, (1, 0, 2));
+    Ok(before && made && again)
 }
 
 #[test]
 fn only_a_leaf_is_extended(rt: HostRuntime) -> Result<(), Fail> {
-    let alloc = rt.alloc();
-    let mut state = DbState::new(alloc, Limits::full());
-    assert!(rt; refuses(alloc, &mut state, B_NEWER, Fault::Conflict));
-    assert_eq!(rt; state.info()?, counts(0, 0, 0));
-    assert!(rt; makes(alloc, &mut state, B, B1));
-    assert!(rt; makes(alloc, &mut state, B_NEWER, B2));
-    assert!(rt; refuses(alloc, &mut state, B_NEWER, Fault::Conflict));
-    assert_eq!(rt; state.info()?, counts(1, 0, 2));
+    assert!(rt; holds(rt.alloc(), &[], extends_leaves)?);
     Ok(())
+}
+
+// Whether the documents beside a conflict are stored.
+fn stores_the_others(alloc: Global, state: &mut DbState) -> Result<bool, Fail> {
+    let made = makes(alloc, state, A, A1);
+    let wanted = [stored(B1), refused(Fault::Conflict), stored(C1)];
+    let told = writes(alloc, state, &[B, A, C], true, &wanted)?;
+    Ok(made && told && has_counts(state, (3, 0, 3)))
 }
 
 #[test]
 fn a_conflict_stops_no_others(rt: HostRuntime) -> Result<(), Fail> {
-    let alloc = rt.alloc();
-    let mut state = DbState::new(alloc, Limits::full());
-    assert!(rt; makes(alloc, &mut state, A, A1));
-    let mut docs = Vec::new(alloc);
-    for text in [B, A, "{\"_id\":\"c\"}"] {
-        docs.push(Doc::read(alloc, text.as_bytes(), true)?)?;
-    }
-    let batch = state.write_edits(docs, true)?;
-    assert!(rt; !batch.stopped);
-    let replies = batch.replies.as_slice();
-    assert_eq!(rt; replies.len(), 3);
-    assert_eq!(rt; Some(replies[0]), RevId::read(B1).map(Outcome::Stored));
-    assert_eq!(rt; replies[1], Outcome::Refused(Fault::Conflict));
-    let c1 = RevId::read("1-fb9ac373006d562c3ba1cd99e8474820");
-    assert_eq!(rt; Some(replies[2]), c1.map(Outcome::Stored));
-    assert_eq!(rt; state.info()?, counts(3, 0, 3));
+    assert!(rt; holds(rt.alloc(), &[], stores_the_others)?);
     Ok(())
+}
+
+const FIRST: &str = r#"{"_id":"a","_rev":"1-a"}"#;
+
+// An edit whose revision is the one that would be made behind the first one.
+const MADE: &str =
+    r#"{"_id":"a","_revisions":{"start":2,"ids":["5b422ec71a54e904129dfa7cff6017b4","b"]}}"#;
+
+const FIRST_DELETED: &str = r#"{"_id":"a","_rev":"1-a","_deleted":true}"#;
+
+// Whether an edit whose revision is known is a conflict, and its deletion is none.
+fn refuses_known(alloc: Global, state: &mut DbState) -> Result<bool, Fail> {
+    let first = replicates(alloc, state, FIRST)?;
+    let made = replicates(alloc, state, MADE)?;
+    let refused = refuses(alloc, state, FIRST, Fault::Conflict);
+    let deleted = makes(
+        alloc,
+        state,
+        FIRST_DELETED,
+        "2-5bffa76456a463a52635906fedc1dd54",
+    );
+    Ok(first && made && refused && deleted)
 }
 
 #[test]
 fn a_made_revision_that_is_known_is_a_conflict(rt: HostRuntime) -> Result<(), Fail> {
-    let alloc = rt.alloc();
-    let mut state = DbState::new(alloc, Limits::full());
-    let other =
-        "{\"_id\":\"a\",\"_revisions\":{\"start\":2,\"ids\":[\"5b422ec71a54e904129dfa7cff6017b4\",\"b\"]}}";
-    assert!(rt; replicates(alloc, &mut state, "{\"_id\":\"a\",\"_rev\":\"1-a\"}"));
-    assert!(rt; replicates(alloc, &mut state, other));
-    let edit = "{\"_id\":\"a\",\"_rev\":\"1-a\"}";
-    assert!(rt; refuses(alloc, &mut state, edit, Fault::Conflict));
-    let deletion = "{\"_id\":\"a\",\"_rev\":\"1-a\",\"_deleted\":true}";
-    assert!(rt;
-        makes(
-            alloc,
-            &mut state,
-            deletion,
-            "2-5bffa76456a463a52635906fedc1dd54"
-        )
-    );
+    assert!(rt; holds(rt.alloc(), &[], refuses_known)?);
     Ok(())
+}
+
+// An edit of the last generation, with its history.
+fn last_generation(alloc: Global) -> Result<String, Fail> {
+    let head = r#"{"_id":"a","_revisions":{"start":65535,"ids":["x""#;
+    let mut text = String::from_str(alloc, head)?;
+    for _ in 1..65535 {
+        text.push_str(r#","x""#)?;
+    }
+    text.push_str("]}}")?;
+    Ok(text)
+}
+
+// Whether an edit of the last generation is not extended.
+fn stops_at_the_last(alloc: Global, state: &mut DbState) -> Result<bool, Fail> {
+    let text = last_generation(alloc)?;
+    let stored = replicates(alloc, state, text.as_str())?;
+    let edit = r#"{"_id":"a","_rev":"65535-x"}"#;
+    let refused = refuses(alloc, state, edit, Fault::GenerationLimit);
+    Ok(stored && refused && has_counts(state, (1, 0, 1)))
 }
 
 #[test]
 fn the_last_generation_is_not_extended(rt: HostRuntime) -> Result<(), Fail> {
-    let alloc = rt.alloc();
-    let mut state = DbState::new(alloc, Limits::full());
-    let mut text = String::from_str(
-        alloc,
-        "{\"_id\":\"a\",\"_revisions\":{\"start\":65535,\"ids\":[\"x\"",
-    )?;
-    for _ in 1..65535 {
-        text.push_str(",\"x\"")?;
-    }
-    text.push_str("]}}")?;
-    assert!(rt; replicates(alloc, &mut state, text.as_str()));
-    let edit = "{\"_id\":\"a\",\"_rev\":\"65535-x\"}";
-    assert!(rt; refuses(alloc, &mut state, edit, Fault::GenerationLimit));
-    assert_eq!(rt; state.info()?, counts(1, 0, 1));
+    assert!(rt; holds(rt.alloc(), &[], stops_at_the_last)?);
     Ok(())
+}
+
+// Whether a database of one edit makes no second one.
+fn is_full(alloc: Global, state: &mut DbState) -> Result<bool, Fail> {
+    let made = makes(alloc, state, A, A1);
+    let other = refuses(alloc, state, B, Fault::SequenceFull);
+    let deletion = refuses(alloc, state, A_DELETED, Fault::SequenceFull);
+    let conflict = refuses(alloc, state, A, Fault::Conflict);
+    let kept = has_counts(state, (1, 0, 1)) && state.update_seq() == 1;
+    Ok(made && other && deletion && conflict && kept)
 }
 
 #[test]
 fn a_full_journal_takes_no_made_edit(rt: HostRuntime) -> Result<(), Fail> {
     let alloc = rt.alloc();
-    let mut limits = Limits::full();
-    limits.journal = 1;
-    let mut state = DbState::new(alloc, limits);
-    assert!(rt; makes(alloc, &mut state, A, A1));
-    assert!(rt; refuses(alloc, &mut state, B, Fault::SequenceFull));
-    assert!(rt; refuses(alloc, &mut state, A_DELETED, Fault::SequenceFull));
-    assert!(rt; refuses(alloc, &mut state, A, Fault::Conflict));
-    assert_eq!(rt; state.info()?, counts(1, 0, 1));
-    assert_eq!(rt; state.update_seq(), 1);
+    assert!(rt; holds_in(alloc, short(alloc), is_full)?);
     Ok(())
+}
+
+// Two leaves of a document and their deletions, the winner's first; another document that comes
+// deleted and is then extended. Each with whether its revision is made here, and the counts after it.
+const EDITS: [(&str, bool, (u64, u64, u64)); 6] = [
+    (X, false, (1, 0, 1)),
+    (Y, false, (1, 0, 2)),
+    (Y_DELETED, true, (1, 0, 3)),
+    (X_DELETED, true, (0, 1, 4)),
+    (
+        r#"{"_id":"b","_revisions":{"start":2,"ids":["d","c"]},"_deleted":true}"#,
+        false,
+        (0, 2, 5),
+    ),
+    (
+        r#"{"_id":"b","_revisions":{"start":3,"ids":["e","d","c"]}}"#,
+        false,
+        (1, 1, 6),
+    ),
+];
+
+const X: &str = r#"{"_id":"a","_revisions":{"start":2,"ids":["x","a"]}}"#;
+
+const Y: &str = r#"{"_id":"a","_revisions":{"start":2,"ids":["y","a"]}}"#;
+
+const X_DELETED: &str = r#"{"_id":"a","_rev":"2-x","_deleted":true}"#;
+
+const Y_DELETED: &str = r#"{"_id":"a","_rev":"2-y","_deleted":true}"#;
+
+// Whether the counts follow the winners, edit by edit.
+fn counts_winners(alloc: Global, state: &mut DbState) -> Result<bool, Fail> {
+    for (text, new_edits, counts) in EDITS {
+        if !stores(alloc, state, text, new_edits)? || !has_counts(state, counts) {
+            return Ok(false);
+        }
+    }
+    Ok(true)
+}
+
+// Whether a deletion is made behind the leaf that it names, the winner being deleted.
+fn deletes_behind_leaf(alloc: Global, state: &mut DbState) -> Result<bool, Fail> {
+    let stored = stores(alloc, state, Y_DELETED, true)?;
+    let made = "3-55e177f153a8a4da2eda5908a10772f9";
+    Ok(stored && makes(alloc, state, X_DELETED, made))
 }
 
 #[test]
 fn the_counts_follow_the_winners(rt: HostRuntime) -> Result<(), Fail> {
     let alloc = rt.alloc();
-    let mut state = DbState::new(alloc, Limits::full());
-    let x = "{\"_id\":\"a\",\"_revisions\":{\"start\":2,\"ids\":[\"x\",\"a\"]}}";
-    let y = "{\"_id\":\"a\",\"_revisions\":{\"start\":2,\"ids\":[\"y\",\"a\"]}}";
-    assert!(rt; replicates(alloc, &mut state, x));
-    assert!(rt; replicates(alloc, &mut state, y));
-    assert_eq!(rt; state.info()?, counts(1, 0, 2));
-    let winner = "{\"_id\":\"a\",\"_rev\":\"2-y\",\"_deleted\":true}";
-    assert!(rt; write(alloc, &mut state, winner).is_some());
-    assert_eq!(rt; state.info()?, counts(1, 0, 3));
-    let other = "{\"_id\":\"a\",\"_rev\":\"2-x\",\"_deleted\":true}";
-    assert!(rt;
-        makes(
-            alloc,
-            &mut state,
-            other,
-            "3-55e177f153a8a4da2eda5908a10772f9"
-        )
-    );
-    assert_eq!(rt; state.info()?, counts(0, 1, 4));
-    let gone =
-        "{\"_id\":\"b\",\"_revisions\":{\"start\":2,\"ids\":[\"d\",\"c\"]},\"_deleted\":true}";
-    assert!(rt; replicates(alloc, &mut state, gone));
-    assert_eq!(rt; state.info()?, counts(0, 2, 5));
-    let back = "{\"_id\":\"b\",\"_revisions\":{\"start\":3,\"ids\":[\"e\",\"d\",\"c\"]}}";
-    assert!(rt; replicates(alloc, &mut state, back));
-    assert_eq!(rt; state.info()?, counts(1, 1, 6));
+    assert!(rt; holds(alloc, &[], counts_winners)?);
+    assert!(rt; holds(alloc, &[X, Y], deletes_behind_leaf)?);
     Ok(())
 }

@@ -1,10 +1,10 @@
 //! Revisions that are asked for.
 
-ghost use Rattle.std.specs.Prelude.{◌≡◌, map, option_map, IfOk, false, IfErr};
+ghost use Rattle.std.specs.Prelude.{◌≡◌, [], map, option_map, IfOk, false, IfErr, OnErr};
 ghost use Rattle.hub_database.specs.Found.{history_of, shown_in};
 ghost use Rattle.hub_database.specs.Reads.{doc_shown, open_rev_of, open_revs as open_revs_of};
 ghost use Rattle.hub_database.specs.declared.answers.OpenRev.TheVariants.{Missing};
-ghost use Rattle.hub_database.specs.Database.{reading_fault};
+ghost use Rattle.hub_database.specs.Database.{GivesUp, reading_fault};
 
 use crate::answers::OpenRev;
 use crate::batch::DbFault;
@@ -64,7 +64,8 @@ impl Document {
         asked: &[RevId],
         revs: bool,
     ) -> Result<Vec<OpenRev>, AllocError>
-        ensures { IfOk result (λ found. found.items ≡ map (λ r. open_rev_of revs r (shown_in self.now r)) asked.now) }
+        ensures ok { IfOk result (λ found. found.items ≡ map (λ r. open_rev_of revs r (shown_in self.now r)) asked.now) }
+        ensures memory { OnErr result (¬ (asked.now ≡ [])) }
     {
         let mut found = Vec::new(alloc);
         for rev in asked {
@@ -76,9 +77,14 @@ impl Document {
 
 // What is shown of revisions of which none is known.
 fn all_missing(alloc: Global, asked: &[RevId]) -> Result<Vec<OpenRev>, AllocError>
-    ensures { IfOk result (λ found. found.items ≡ map Missing asked.now) }
+    ensures ok { IfOk result (λ found. found.items ≡ map Missing asked.now) }
+    ensures memory { OnErr result (¬ (asked.now ≡ [])) }
 {
-    asked.iter().copied().map(OpenRev::Missing).collect(alloc)
+    let mut found = Vec::new(alloc);
+    for rev in asked {
+        found.push(OpenRev::Missing(*rev))?;
+    }
+    Ok(found)
 }
 
 impl DbState {
@@ -89,7 +95,8 @@ impl DbState {
         which: &OpenRevs,
         revs: bool,
     ) -> Result<Vec<OpenRev>, AllocError>
-        ensures { IfOk result (λ found. found.items ≡ open_revs_of self.now.journal id.now which.now revs) }
+        ensures ok { IfOk result (λ found. found.items ≡ open_revs_of self.now.journal id.now which.now revs) }
+        ensures memory { OnErr result (¬ (open_revs_of self.now.journal id.now which.now revs ≡ [])) }
     {
         let alloc = self.store.alloc;
         match (self.store.document(id), which) {
@@ -111,6 +118,7 @@ impl DbState {
     pub fn open_revs(&self, id: &str, which: &OpenRevs, revs: bool) -> Result<Vec<OpenRev>, DbFault>
         ensures ok { IfOk result (λ found. (self.now.deleted ≡ false) × (found.items ≡ open_revs_of self.now.journal id.now which.now revs)) }
         ensures err { IfErr result (λ e. e ≡ reading_fault self.now) }
+        ensures memory { IfErr result (GivesUp self.now (¬ (open_revs_of self.now.journal id.now which.now revs ≡ []))) }
     {
         self.check()?;
         let found = self.revisions_of(id, which, revs)?;

@@ -15,6 +15,5 @@ pub mod Put
 pub mod Read
 pub mod RevisionLaws
 pub mod RevisionText
-pub mod RoundTrip
 pub mod SpecialMembers
 pub mod SpecialText

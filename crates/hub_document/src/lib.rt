@@ -20,9 +20,6 @@ mod put;
 mod read;
 mod revision;
 mod revisions;
-mod round_trip;
-#[cfg(test)]
-mod round_trip_tests;
 #[cfg(test)]
 mod tests;
 mod text;
@@ -42,4 +39,4 @@ pub use path::Path;
 pub use read::read_value;
 pub use revision::{RevId, revision_texts};
 pub use revisions::Revisions;
-pub use round_trip::documents_read_back;
+pub use text::put_quoted;

@@ -161,7 +161,7 @@ impl RevId {
 
     /// Writes its text as a JSON string behind what the vector holds. After an error what was held
     /// still stands in front, and a part of the string may stand behind it.
-    pub(crate) fn print_quoted(&self, out: &mut Vec<u8>) -> Result<(), AllocError>
+    pub fn print_quoted(&self, out: &mut Vec<u8>) -> Result<(), AllocError>
         ensures ok { OnOk result (out.new.items ≡ out.old.items ++ quoted (text_of self.now)) }
         ensures front { take (length out.old.items) out.new.items ≡ out.old.items }
     {

@@ -13,10 +13,10 @@ use json::Writer;
 use std::alloc::AllocError;
 use std::mem;
 
-/// Writes the JSON string of a text. Where that needs more memory than there is, what was held
+/// Appends the JSON string of a text. Where that needs more memory than there is, what was held
 /// still stands in front, and a part may stand behind it; so it is with all that is written here. It
-/// costs the text's length.
-pub(crate) fn put_quoted(out: &mut Vec<u8>, text: &str) -> Result<(), AllocError>
+/// costs the text's length, and copies nothing else.
+pub fn put_quoted(out: &mut Vec<u8>, text: &str) -> Result<(), AllocError>
     ensures ok { OnOk result (out.new.items ≡ out.old.items ++ quoted text.now) }
     ensures front { take (length out.old.items) out.new.items ≡ out.old.items }
 {

@@ -1,7 +1,7 @@
 //! A feed's state.
 
 ghost use Rattle.std.specs.Prelude.{◌≡◌, ◌<◌, ◌≤◌, option_map, find, Some, IfSome, IfOk, OnErr};
-ghost use Rattle.hub_model.specs.Feed.{Open, begin, due, is_in_reach, bound_of, since_of, bound_after, status_after, after_due, after_row, beat_due, expire, end, waits};
+ghost use Rattle.hub_model.specs.Feed.{Open, begin, due, is_in_reach, bound_of, bound_after, status_after, after_due, after_row, beat_due, expire, end};
 ghost use Rattle.hub_model.specs.Hand.{item_of};
 ghost use Rattle.hub_model.specs.declared.feeds.Item.TheVariants.{End};
 ghost use Rattle.hub_model.specs.Current.{pending};
@@ -11,7 +11,7 @@ ghost use Rattle.hub_feed.specs.Shown.{status_of};
 
 use crate::next::Next;
 use crate::source::Source;
-use hub_model::{Item, Mode, Since, by_mode};
+use hub_model::{Item, Mode, by_mode};
 use hub_params::FeedParams;
 use std::alloc::AllocError;
 use std::marker::Model;
@@ -56,16 +56,6 @@ impl Model for FeedState {
     ghost invariant = { λ f. (f.since + f.rows ≤ f.place) × IfSome f.bound (λ bound. f.place ≤ bound) };
 }
 
-// What a feed begins after, while there are `length` edits.
-fn since_of(since: Since, length: u64) -> u64
-    ensures { result ≡ since_of since length }
-{
-    match since {
-        Since::From(seq) => seq.min(length),
-        Since::Now => length,
-    }
-}
-
 // Where a feed stops, while there are `length` edits.
 fn bound_of(mode: Mode, length: u64) -> Option<u64>
     ensures { result ≡ bound_of mode length }
@@ -75,18 +65,6 @@ fn bound_of(mode: Mode, length: u64) -> Option<u64>
         normal: Some(length),
         longpoll: None,
         continuous: None,
-    )
-}
-
-// Whether such a feed waits for edits to come.
-fn waits(mode: Mode) -> bool
-    ensures { result ≡ waits mode }
-{
-    by_mode!(
-        mode,
-        normal: false,
-        longpoll: true,
-        continuous: true,
     )
 }
 
@@ -127,7 +105,7 @@ impl FeedState {
     pub fn begin(params: FeedParams, length: u64) -> FeedState
         ensures { result ≡ begin (params_of params) length }
     {
-        let since = since_of(params.since, length);
+        let since = params.since.within(length);
         let bound = bound_of(params.mode, length);
         FeedState {
             params,
@@ -225,14 +203,14 @@ impl FeedState {
     pub fn beat_due(&self) -> bool
         ensures { result ≡ beat_due self.now }
     {
-        self.status == Status::Open && waits(self.params.mode) && self.params.heartbeat.is_some()
+        self.status == Status::Open && self.params.mode.waits() && self.params.heartbeat.is_some()
     }
 
     /// Its time without an item is over: an open feed that waits is ending.
     pub fn expire(&mut self)
         ensures { self.new ≡ expire self.old }
     {
-        if self.status == Status::Open && waits(self.params.mode) {
+        if self.status == Status::Open && self.params.mode.waits() {
             self.status = Status::Ending;
         }
     }

@@ -2,7 +2,6 @@ pub mod ExclusionLemmas
 pub mod FrontLemmas
 pub mod HeadLemmas
 pub mod ItemLemmas
-pub mod JoinLemmas
 pub mod LengthLemmas
 pub mod ReadLemmas
 pub mod RequestLemmas

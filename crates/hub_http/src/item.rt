@@ -1,38 +1,20 @@
 //! The texts of a feed's items.
 
 ghost use Rattle.std.specs.Prelude.{◌≡◌, ◌++◌, length, take, OnOk};
-ghost use Rattle.json.specs.Print.{quoted};
 ghost use Rattle.hub_http.specs.Items.{revision_text, revisions_text, row_mark, doc_member, row_end, row_head, row_text, separator, before_row, after_row, before_end, end_text, item_text, feed_head};
 
-use hub_document::{ChangeRow, RevId};
+use hub_document::{ChangeRow, RevId, put_quoted};
 use hub_model::{Item, Mode, by_mode};
 use itoa::Buffer;
-use json::Writer;
 use std::alloc::AllocError;
-use std::mem;
-
-/// Appends the JSON string of a text. It costs the text's length, and copies nothing else.
-pub fn put_quoted(out: &mut Vec<u8>, text: &str) -> Result<(), AllocError>
-    ensures ok { OnOk result (out.new.items ≡ out.old.items ++ quoted text.now) }
-    ensures front { take (length out.old.items) out.new.items ≡ out.old.items }
-{
-    let alloc = *out.allocator();
-    let mut writer = Writer::new(mem::replace(out, Vec::new(alloc)));
-    let done = writer.string(text);
-    *out = writer.into_inner();
-    done
-}
 
 fn put_revision(out: &mut Vec<u8>, rev: &RevId) -> Result<(), AllocError>
     ensures ok { OnOk result (out.new.items ≡ out.old.items ++ revision_text rev.now) }
     ensures front { take (length out.old.items) out.new.items ≡ out.old.items }
 {
-    let mut number = Buffer::new();
-    out.extend_from_slice(b"{\"rev\":\"")?;
-    out.extend_from_slice(number.format(rev.generation()).as_bytes())?;
-    out.extend_from_slice(b"-")?;
-    out.extend_from_slice(rev.hash())?;
-    out.extend_from_slice(b"\"}")?;
+    out.extend_from_slice(b"{\"rev\":")?;
+    rev.print_quoted(out)?;
+    out.extend_from_slice(b"}")?;
     Ok(())
 }
 

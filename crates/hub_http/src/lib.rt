@@ -29,7 +29,7 @@ pub use chunk::{ChunkFault, ChunkWriter};
 pub use fault::HttpFault;
 pub use fixed::{no_memory_text, stream_head_text};
 pub use input::Input;
-pub use item::{feed_head, item_text, put_quoted};
+pub use item::{feed_head, item_text};
 pub use output::{IoFault, Output, send, write_all};
 pub use refusal::Refusal;
 pub use reply::{Reply, reply_bytes};

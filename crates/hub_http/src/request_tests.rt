@@ -3,6 +3,7 @@ use crate::{HttpFault, Input, Request, Requests, Tally};
 use std::alloc::Global;
 use std::io;
 use std::io::{ErrorKind, Read};
+use std::process::Abort;
 use std::test::Fail;
 
 /// Gives one byte a read.
@@ -88,43 +89,80 @@ fn head_of(alloc: Global, fields: usize, len: usize) -> Result<Vec<u8>, Fail> {
 
 const BODY: &[u8] = b"PUT /d HTTP/1.1\r\nHost: h\r\ncontent-length: 3\r\n\r\nabc";
 
-#[test]
-fn pipelined(rt: HostRuntime) -> Result<(), Fail> {
-    let text =
-        b"PUT /d HTTP/1.1\r\nHost: h\r\ncontent-length: 3\r\n\r\nabcGET /d/_changes HTTP/1.1\r\nConnection: Close\r\n\r\nGET / HTTP/1.0\r\n\r\n";
-    let mut requests = Requests::new(rt.alloc(), Tally::new(Slow(text.as_slice())));
-    match requests.next()? {
-        Some(q) => {
-            assert_eq!(rt; q.method.as_slice(), b"PUT".as_slice());
-            assert_eq!(rt; q.target.as_slice(), b"/d".as_slice());
-            assert_eq!(rt; q.body.as_slice(), b"abc".as_slice());
-            assert!(rt; q.has_length);
-            assert!(rt; !q.close);
-        }
-        None => assert!(rt; false),
-    }
-    match requests.next()? {
-        Some(q) => {
-            assert_eq!(rt; q.target.as_slice(), b"/d/_changes".as_slice());
-            assert!(rt; q.body.is_empty());
-            assert!(rt; !q.has_length);
-            assert!(rt; q.close);
-        }
-        None => assert!(rt; false),
-    }
-    assert!(rt; matches!(requests.next(), Err(HttpFault::Version)));
-    assert!(rt; matches!(requests.next(), Err(HttpFault::Ended)));
+/// A text has so many requests, and no more came for this reason.
+fn has_outcome(rt: &impl Abort, alloc: Global, text: &[u8], count: usize, end: Option<HttpFault>) {
     assert_eq!(rt;
-        outcome(rt.alloc(), text.as_slice()),
-        (2, Some(HttpFault::Version))
+        outcome(alloc, text),
+        (count, end),
+        "{}",
+        text.escape_ascii()
     );
+}
+
+const PIPELINED: &str = concat!(
+    "PUT /d HTTP/1.1\r\nHost: h\r\ncontent-length: 3\r\n\r\nabc",
+    "GET /d/_changes HTTP/1.1\r\nConnection: Close\r\n\r\n",
+    "GET / HTTP/1.0\r\n\r\n"
+);
+
+/// Three requests of which the last is refused, read byte by byte.
+fn pipelined() -> Slow<'static> {
+    Slow(PIPELINED.as_bytes())
+}
+
+/// The next request of a reader.
+fn next_of(requests: &mut Requests<Tally<Slow<'_>>>) -> Result<Request, Fail> {
+    match requests.next()? {
+        Some(request) => Ok(request),
+        None => Err(Fail::new("no request")),
+    }
+}
+
+/// Why no request comes.
+fn fault_of<R: Read>(requests: &mut Requests<Tally<R>>) -> Option<HttpFault> {
+    requests.next().err()
+}
+
+fn same_bytes(rt: &impl Abort, found: &[u8], wanted: &[u8]) {
+    assert_eq!(rt; found, wanted);
+}
+
+fn is_put(rt: &impl Abort, request: &Request) {
+    same_bytes(rt, request.method.as_slice(), b"PUT");
+    same_bytes(rt, request.target.as_slice(), b"/d");
+    same_bytes(rt, request.body.as_slice(), b"abc");
+    assert_eq!(rt; (request.has_length, request.close), (true, false));
+}
+
+fn is_get(rt: &impl Abort, request: &Request) {
+    same_bytes(rt, request.target.as_slice(), b"/d/_changes");
+    same_bytes(rt, request.body.as_slice(), b"");
+    assert_eq!(rt; (request.has_length, request.close), (false, true));
+}
+
+#[test]
+fn pipelined_requests(rt: HostRuntime) -> Result<(), Fail> {
+    let mut requests = Requests::new(rt.alloc(), Tally::new(pipelined()));
+    is_put(&rt, &next_of(&mut requests)?);
+    is_get(&rt, &next_of(&mut requests)?);
+    let faults = (fault_of(&mut requests), fault_of(&mut requests));
+    assert_eq!(rt; faults, (Some(HttpFault::Version), Some(HttpFault::Ended)));
     Ok(())
 }
 
 #[test]
+fn pipelined_requests_at_once(rt: HostRuntime) {
+    has_outcome(
+        &rt,
+        rt.alloc(),
+        PIPELINED.as_bytes(),
+        2,
+        Some(HttpFault::Version),
+    );
+}
+
+#[test]
 fn cut_at_each_byte(rt: HostRuntime) {
-    assert_eq!(rt; outcome(rt.alloc(), BODY), (1, None));
-    assert_eq!(rt; outcome(rt.alloc(), &BODY[..0]), (0, None));
     for n in 1..BODY.len() {
         assert_eq!(rt;
             outcome(rt.alloc(), &BODY[..n]),
@@ -132,207 +170,267 @@ fn cut_at_each_byte(rt: HostRuntime) {
             "cut at {n}"
         );
     }
-    assert_eq!(rt; outcome(rt.alloc(), b"\r\n"), (0, Some(HttpFault::Ended)));
-    assert_eq!(rt;
-        outcome(rt.alloc(), b"\r\nGET / HTTP/1.1\r\n\r\n"),
-        (1, None)
-    );
 }
+
+const WHOLE_OR_CUT: &[(&[u8], usize, Option<HttpFault>)] = &[
+    (BODY, 1, None),
+    (b"", 0, None),
+    (b"\r\n", 0, Some(HttpFault::Ended)),
+    (b"\r\nGET / HTTP/1.1\r\n\r\n", 1, None),
+];
+
+#[test]
+fn whole_requests_and_cut_ones(rt: HostRuntime) {
+    for (text, count, end) in WHOLE_OR_CUT {
+        has_outcome(&rt, rt.alloc(), text, *count, *end);
+    }
+}
+
+const FAULTS: &[(&[u8], HttpFault)] = &[
+    (b"GET / HTTP/1.0\r\n\r\n", HttpFault::Version),
+    (b"GET / HTTP/2.0\r\n\r\n", HttpFault::BadHead),
+    (
+        b"GET / HTTP/1.0\r\nTransfer-Encoding: chunked\r\n\r\n",
+        HttpFault::Version,
+    ),
+    (
+        b"GET / HTTP/1.1\r\nTransfer-Encoding: chunked\r\n\r\n",
+        HttpFault::Coding,
+    ),
+    (
+        b"GET * HTTP/1.1\r\ntransfer-encoding: x\r\n\r\n",
+        HttpFault::Coding,
+    ),
+    (b"OPTIONS * HTTP/1.1\r\n\r\n", HttpFault::BadHead),
+    (b"GET / HTTP/1.1\r\nHost h\r\n\r\n", HttpFault::BadHead),
+    (
+        b"GET / HTTP/1.1\r\nContent-Length: +1\r\n\r\na",
+        HttpFault::BadHead,
+    ),
+    (
+        b"GET / HTTP/1.1\r\nContent-Length:\r\n\r\n",
+        HttpFault::BadHead,
+    ),
+    (
+        b"GET / HTTP/1.1\r\nContent-Length: 5, 5\r\n\r\nabcde",
+        HttpFault::BadHead,
+    ),
+    (
+        b"GET / HTTP/1.1\r\nContent-Length: 5\r\nContent-Length: 6\r\n\r\nabcdef",
+        HttpFault::BadHead,
+    ),
+    (
+        b"GET / HTTP/1.1\r\nContent-Length: 5\r\nContent-Length: 05\r\n\r\nabcde",
+        HttpFault::BadHead,
+    ),
+    (
+        b"GET * HTTP/1.1\r\nContent-Length: 8388609\r\n\r\n",
+        HttpFault::BadHead,
+    ),
+    (
+        b"GET / HTTP/1.1\r\nContent-Length: 8388609\r\n\r\n",
+        HttpFault::BodyTooLong,
+    ),
+    (
+        b"GET / HTTP/1.1\r\nContent-Length: 99999999999999999999999\r\n\r\n",
+        HttpFault::BodyTooLong,
+    ),
+];
 
 #[test]
 fn faults_of_heads(rt: HostRuntime) {
-    let cases: [(&[u8], HttpFault); 15] = [
-        (b"GET / HTTP/1.0\r\n\r\n", HttpFault::Version),
-        (b"GET / HTTP/2.0\r\n\r\n", HttpFault::BadHead),
-        (
-            b"GET / HTTP/1.0\r\nTransfer-Encoding: chunked\r\n\r\n",
-            HttpFault::Version,
-        ),
-        (
-            b"GET / HTTP/1.1\r\nTransfer-Encoding: chunked\r\n\r\n",
-            HttpFault::Coding,
-        ),
-        (
-            b"GET * HTTP/1.1\r\ntransfer-encoding: x\r\n\r\n",
-            HttpFault::Coding,
-        ),
-        (b"OPTIONS * HTTP/1.1\r\n\r\n", HttpFault::BadHead),
-        (b"GET / HTTP/1.1\r\nHost h\r\n\r\n", HttpFault::BadHead),
-        (
-            b"GET / HTTP/1.1\r\nContent-Length: +1\r\n\r\na",
-            HttpFault::BadHead,
-        ),
-        (
-            b"GET / HTTP/1.1\r\nContent-Length:\r\n\r\n",
-            HttpFault::BadHead,
-        ),
-        (
-            b"GET / HTTP/1.1\r\nContent-Length: 5, 5\r\n\r\nabcde",
-            HttpFault::BadHead,
-        ),
-        (
-            b"GET / HTTP/1.1\r\nContent-Length: 5\r\nContent-Length: 6\r\n\r\nabcdef",
-            HttpFault::BadHead,
-        ),
-        (
-            b"GET / HTTP/1.1\r\nContent-Length: 5\r\nContent-Length: 05\r\n\r\nabcde",
-            HttpFault::BadHead,
-        ),
-        (
-            b"GET * HTTP/1.1\r\nContent-Length: 8388609\r\n\r\n",
-            HttpFault::BadHead,
-        ),
-        (
-            b"GET / HTTP/1.1\r\nContent-Length: 8388609\r\n\r\n",
-            HttpFault::BodyTooLong,
-        ),
-        (
-            b"GET / HTTP/1.1\r\nContent-Length: 99999999999999999999999\r\n\r\n",
-            HttpFault::BodyTooLong,
-        ),
-    ];
-    for (text, fault) in cases {
-        assert_eq!(rt;
-            outcome(rt.alloc(), text),
-            (0, Some(fault)),
-            "{}",
-            text.escape_ascii()
-        );
+    for (text, fault) in FAULTS {
+        has_outcome(&rt, rt.alloc(), text, 0, Some(*fault));
+    }
+}
+
+const LENGTHS: &[(&[u8], usize, Option<HttpFault>)] = &[
+    (
+        b"GET / HTTP/1.1\r\nContent-Length: 5\r\ncontent-length: 5\r\n\r\nabcdeGET /",
+        1,
+        Some(HttpFault::Ended),
+    ),
+    (
+        b"GET / HTTP/1.1\r\nContent-Length: 000000000000000000000002\r\n\r\nab",
+        1,
+        None,
+    ),
+    (
+        b"GET / HTTP/1.1\r\nContent-Length: 8388608\r\n\r\nab",
+        0,
+        Some(HttpFault::Ended),
+    ),
+];
+
+#[test]
+fn lengths(rt: HostRuntime) {
+    for (text, count, end) in LENGTHS {
+        has_outcome(&rt, rt.alloc(), text, *count, *end);
     }
 }
 
 #[test]
-fn lengths(rt: HostRuntime) -> Result<(), Fail> {
-    let twice = b"GET / HTTP/1.1\r\nContent-Length: 5\r\ncontent-length: 5\r\n\r\nabcdeGET /";
-    assert_eq!(rt; outcome(rt.alloc(), twice), (1, Some(HttpFault::Ended)));
-    let zeros = b"GET / HTTP/1.1\r\nContent-Length: 000000000000000000000002\r\n\r\nab";
-    assert_eq!(rt; outcome(rt.alloc(), zeros), (1, None));
-    let greatest = b"GET / HTTP/1.1\r\nContent-Length: 8388608\r\n\r\nab";
-    assert_eq!(rt; outcome(rt.alloc(), greatest), (0, Some(HttpFault::Ended)));
-
-    // A body that is too long is not waited for.
+fn a_body_that_is_too_long_is_not_waited_for(rt: HostRuntime) {
     let text = b"PUT / HTTP/1.1\r\nContent-Length: 8388609\r\n\r\nabc";
     let mut requests = Requests::new(rt.alloc(), Tally::new(Slow(text.as_slice())));
-    assert!(rt; matches!(requests.next(), Err(HttpFault::BodyTooLong)));
-    assert_eq!(rt; requests.reader().reads(), text.len() as u64 - 3);
-    Ok(())
+    let fault = fault_of(&mut requests);
+    let reads = requests.reader().reads();
+    assert_eq!(rt;
+        (fault, reads),
+        (Some(HttpFault::BodyTooLong), text.len() as u64 - 3)
+    );
 }
+
+/// How many fields a head has and how long the value of each is, how many requests it makes, and why
+/// no more come. The head with no field has 18 bytes, and a field of a value of n bytes has 5 + n.
+const LIMITS: &[(usize, usize, usize, Option<HttpFault>)] = &[
+    (64, 1, 1, None),
+    (65, 1, 0, Some(HttpFault::HeadTooLong)),
+    (1, 16_384 - 18 - 5, 1, None),
+    (1, 16_384 - 18 - 4, 0, Some(HttpFault::HeadTooLong)),
+];
 
 #[test]
 fn limits_of_heads(rt: HostRuntime) -> Result<(), Fail> {
-    // The head with no field has 18 bytes, and a field of a value of n bytes has 5 + n.
-    let cases = [
-        (64, 1, None),
-        (65, 1, Some(HttpFault::HeadTooLong)),
-        (1, 16_384 - 18 - 5, None),
-        (1, 16_384 - 18 - 4, Some(HttpFault::HeadTooLong)),
-    ];
-    for (fields, len, end) in cases {
-        let text = head_of(rt.alloc(), fields, len)?;
-        let count = if end.is_none() { 1 } else { 0 };
-        assert_eq!(rt;
-            outcome(rt.alloc(), text.as_slice()),
-            (count, end),
-            "{fields}, {len}"
-        );
+    for (fields, len, count, end) in LIMITS {
+        let text = head_of(rt.alloc(), *fields, *len)?;
+        has_outcome(&rt, rt.alloc(), text.as_slice(), *count, *end);
     }
     Ok(())
 }
 
+const OPTIONS: &[(&[u8], bool)] = &[
+    (b"GET / HTTP/1.1\r\n\r\n", false),
+    (
+        b"GET / HTTP/1.1\r\nConnection: keep-alive, Close\r\n\r\n",
+        true,
+    ),
+    (
+        b"GET / HTTP/1.1\r\nConnection: keep-alive ,\tclose\t ,x\r\n\r\n",
+        true,
+    ),
+    (b"GET / HTTP/1.1\r\nconnection: closed\r\n\r\n", false),
+    (
+        b"GET / HTTP/1.1\r\nconnection: keep-alive close\r\n\r\n",
+        false,
+    ),
+    (
+        b"GET / HTTP/1.1\r\nConnection: x\r\nConnection: CLOSE\r\n\r\n",
+        true,
+    ),
+    (b"GET / HTTP/1.1\r\nX-Connection: close\r\n\r\n", false),
+];
+
 #[test]
 fn options_of_connection(rt: HostRuntime) {
-    let cases: [(&[u8], bool); 7] = [
-        (b"GET / HTTP/1.1\r\n\r\n", false),
-        (
-            b"GET / HTTP/1.1\r\nConnection: keep-alive, Close\r\n\r\n",
-            true,
-        ),
-        (
-            b"GET / HTTP/1.1\r\nConnection: keep-alive ,\tclose\t ,x\r\n\r\n",
-            true,
-        ),
-        (b"GET / HTTP/1.1\r\nconnection: closed\r\n\r\n", false),
-        (
-            b"GET / HTTP/1.1\r\nconnection: keep-alive close\r\n\r\n",
-            false,
-        ),
-        (
-            b"GET / HTTP/1.1\r\nConnection: x\r\nConnection: CLOSE\r\n\r\n",
-            true,
-        ),
-        (b"GET / HTTP/1.1\r\nX-Connection: close\r\n\r\n", false),
-    ];
-    for (text, close) in cases {
+    for (text, close) in OPTIONS {
         assert_eq!(rt;
             closes(rt.alloc(), text),
-            Some(close),
+            Some(*close),
             "{}",
             text.escape_ascii()
         );
     }
+}
+
+/// A reader that fails after so many reads is found to, once, and is not read again.
+fn fails_after(rt: &impl Abort, alloc: Global, reads: usize) {
+    let mut requests = Requests::new(alloc, Tally::new(Failing { text: BODY, reads }));
+    let first = fault_of(&mut requests);
+    let faults = Input::faults(requests.reader());
+    let second = fault_of(&mut requests);
+    let made = requests.reader().reads();
+    assert_eq!(rt;
+        (first, faults, second, made),
+        (
+            Some(HttpFault::IoFault),
+            1,
+            Some(HttpFault::Ended),
+            (reads as u64).saturating_add(1)
+        ),
+        "after {reads}"
+    );
 }
 
 #[test]
 fn a_failing_reader(rt: HostRuntime) {
     for reads in 0..BODY.len() {
-        let mut requests = Requests::new(rt.alloc(), Tally::new(Failing { text: BODY, reads }));
-        assert!(rt;
-            matches!(requests.next(), Err(HttpFault::IoFault)),
-            "after {reads}"
-        );
-        assert_eq!(rt; Input::faults(requests.reader()), 1);
-        assert!(rt;
-            matches!(requests.next(), Err(HttpFault::Ended)),
-            "after {reads}"
-        );
-        assert_eq!(rt; requests.reader().reads(), reads as u64 + 1);
+        fails_after(&rt, rt.alloc(), reads);
     }
+}
+
+/// A body of so many bytes.
+fn body_of(alloc: Global, len: usize) -> Result<Vec<u8>, Fail> {
+    let mut body = Vec::new(alloc);
+    for i in 0..len {
+        body.push((i % 251) as u8)?;
+    }
+    Ok(body)
+}
+
+/// A request with this body, and one with a short body behind it.
+fn with_body(alloc: Global, body: &[u8]) -> Result<Vec<u8>, Fail> {
+    let len = body.len();
+    let head = format!(in alloc; "PUT / HTTP/1.1\r\nContent-Length: {len}\r\n\r\n")?;
+    let mut text = Vec::new(alloc);
+    text.extend_from_slice(head.as_bytes())?;
+    text.extend_from_slice(body)?;
+    text.extend_from_slice(BODY)?;
+    Ok(text)
+}
+
+/// Both requests are read whole.
+fn reads_both(rt: &impl Abort, alloc: Global, text: &[u8], body: &[u8]) {
+    let (requests, end) = read_all(alloc, text);
+    assert_eq!(rt; (requests.len(), end), (2, None), "{}", body.len());
+    same_bytes(rt, requests[0].body.as_slice(), body);
+    same_bytes(rt, requests[1].body.as_slice(), b"abc");
 }
 
 #[test]
 fn long_bodies(rt: HostRuntime) -> Result<(), Fail> {
-    for len in [4095usize, 4096, 4097, 10_000] {
-        let mut text = Vec::new(rt.alloc());
-        text.extend_from_slice(b"PUT / HTTP/1.1\r\nContent-Length: ")?;
-        text.extend_from_slice(format!(in rt.alloc(); "{len}\r\n\r\n")?.as_bytes())?;
-        let mut body = Vec::new(rt.alloc());
-        for i in 0..len {
-            body.push((i % 251) as u8)?;
-        }
-        text.extend_from_slice(body.as_slice())?;
-        text.extend_from_slice(BODY)?;
-        let (requests, end) = read_all(rt.alloc(), text.as_slice());
-        assert_eq!(rt; (requests.len(), end), (2, None), "{len}");
-        assert_eq!(rt; requests[0].body.as_slice(), body.as_slice());
-        assert_eq!(rt; requests[1].body.as_slice(), b"abc".as_slice());
+    for len in [4095, 4096, 4097, 10_000] {
+        let body = body_of(rt.alloc(), len)?;
+        let text = with_body(rt.alloc(), body.as_slice())?;
+        reads_both(&rt, rt.alloc(), text.as_slice(), body.as_slice());
     }
+    Ok(())
+}
+
+/// So many bytes are announced and come, and for so many there is room then.
+const ROOM: &[(usize, usize, usize)] = &[
+    (8_388_608, 3, 65_536),
+    (8_388_608, 65_537, 131_072),
+    (8_388_608, 100_000, 131_072),
+    (100_000, 100_000, 100_000),
+    (100_000, 70_000, 100_000),
+    (5000, 5000, 5000),
+    (5000, 1, 5000),
+];
+
+/// There is so much room where so many bytes are announced and these come.
+fn has_room(
+    rt: &impl Abort,
+    alloc: Global,
+    wanted: usize,
+    come: &[u8],
+    room: usize,
+) -> Result<(), Fail> {
+    let mut reader = Tally::new(come);
+    let mut held = Vec::new(alloc);
+    let full = fill(&mut reader, &mut held, wanted)?;
+    assert_eq!(rt;
+        (full, held.len(), held.capacity()),
+        (come.len() == wanted, come.len(), room)
+    );
     Ok(())
 }
 
 #[test]
 fn room_for_what_came(rt: HostRuntime) -> Result<(), Fail> {
-    let mut text = Vec::new(rt.alloc());
-    for _ in 0..100_000 {
-        text.push(b'a')?;
-    }
-    // So many bytes are announced and come, and for so many there is room then.
-    let cases = [
-        (8_388_608, 3, 65_536),
-        (8_388_608, 65_537, 131_072),
-        (8_388_608, 100_000, 131_072),
-        (100_000, 100_000, 100_000),
-        (100_000, 70_000, 100_000),
-        (5000, 5000, 5000),
-        (5000, 1, 5000),
-    ];
-    for (wanted, come, room) in cases {
-        let mut reader = Tally::new(&text[..come.min(text.len())]);
-        let mut held = Vec::new(rt.alloc());
-        let full = fill(&mut reader, &mut held, wanted)?;
-        assert_eq!(rt;
-            (full, held.len(), held.capacity()),
-            (come == wanted, come, room)
-        );
+    for (wanted, come, room) in ROOM {
+        let text = body_of(rt.alloc(), *come)?;
+        has_room(&rt, rt.alloc(), *wanted, text.as_slice(), *room)?;
     }
     Ok(())
 }

@@ -1,24 +1,42 @@
 use crate::{Input, Output, Tally};
+use std::alloc::Global;
+use std::process::Abort;
 use std::test::Fail;
+
+/// One more read gives so many bytes.
+fn gives(
+    rt: &impl Abort,
+    input: &mut Tally<&[u8]>,
+    buf: &mut [u8; 2],
+    count: usize,
+) -> Result<(), Fail> {
+    assert_eq!(rt; Input::read(input, buf)?, count);
+    Ok(())
+}
 
 #[test]
 fn reads_memory(rt: HostRuntime) -> Result<(), Fail> {
     let mut input = Tally::new(b"abc".as_slice());
     let mut buf = [0u8; 2];
-    assert_eq!(rt; Input::read(&mut input, &mut buf)?, 2);
+    gives(&rt, &mut input, &mut buf, 2)?;
     assert_eq!(rt; buf, [97, 98]);
-    assert_eq!(rt; Input::read(&mut input, &mut buf)?, 1);
-    assert_eq!(rt; Input::read(&mut input, &mut buf)?, 0);
-    assert_eq!(rt; input.reads(), 3);
-    assert_eq!(rt; Input::faults(&input), 0);
+    gives(&rt, &mut input, &mut buf, 1)?;
+    gives(&rt, &mut input, &mut buf, 0)?;
+    assert_eq!(rt; (input.reads(), Input::faults(&input)), (3, 0));
     Ok(())
+}
+
+/// Memory that took three bytes and was flushed.
+fn written(rt: &impl Abort, alloc: Global) -> Result<Tally<Vec<u8>>, Fail> {
+    let mut output = Tally::new(Vec::new(alloc));
+    assert_eq!(rt; Output::write(&mut output, b"abc")?, 3);
+    Output::flush(&mut output)?;
+    Ok(output)
 }
 
 #[test]
 fn writes_memory(rt: HostRuntime) -> Result<(), Fail> {
-    let mut output = Tally::new(Vec::new(rt.alloc()));
-    assert_eq!(rt; Output::write(&mut output, b"abc")?, 3);
-    Output::flush(&mut output)?;
+    let output = written(&rt, rt.alloc())?;
     assert_eq!(rt; Output::faults(&output), 0);
     let held = output.into_inner();
     assert_eq!(rt; held.as_slice(), b"abc".as_slice());

@@ -6,9 +6,10 @@ use http::StatusCode;
 use hub_document::{ChangeRow, Doc, DocFault, RevId, Revisions};
 use hub_model::{Fault, Item, Mode};
 use std::alloc::{AllocError, Global};
+use std::process::Abort;
 use std::test::Fail;
 
-const REFUSALS: [(Refusal, &str, &str, &str); 37] = [
+const REFUSALS: &[(Refusal, &str, &str, &str)] = &[
     (
         Refusal::NoMemory,
         "503 Service Unavailable",
@@ -213,6 +214,19 @@ const REFUSALS: [(Refusal, &str, &str, &str); 37] = [
     ),
 ];
 
+// A reply has these bytes.
+fn is_sent(
+    rt: &impl Abort,
+    alloc: Global,
+    reply: &Reply,
+    (head_only, close): (bool, bool),
+    expected: &str,
+) -> Result<(), Fail> {
+    let bytes = reply_bytes(alloc, reply, head_only, close)?;
+    assert_eq!(rt; bytes.as_slice(), expected.as_bytes());
+    Ok(())
+}
+
 fn refusal_text(
     alloc: Global,
     status: &str,
@@ -228,55 +242,97 @@ fn refusal_text(
 
 #[test]
 fn refusals(rt: HostRuntime) -> Result<(), Fail> {
-    let alloc = rt.alloc();
     for (refusal, status, error, reason) in REFUSALS {
-        let bytes = reply_bytes(alloc, &Reply::Refused(refusal), false, false)?;
-        let text = refusal_text(alloc, status, error, reason)?;
-        assert_eq!(rt; bytes.as_slice(), text.as_bytes());
+        let text = refusal_text(rt.alloc(), status, error, reason)?;
+        let reply = Reply::Refused(*refusal);
+        is_sent(&rt, rt.alloc(), &reply, (false, false), text.as_str())?;
     }
-    assert_eq!(rt; Refusal::from(DocFault::TooLong), Refusal::TooLong);
-    assert_eq!(rt; Refusal::from(Fault::Contradicts), Refusal::Contradicts);
     Ok(())
 }
 
 #[test]
-fn replies(rt: HostRuntime) -> Result<(), Fail> {
-    let alloc = rt.alloc();
-    let done = Reply::Done {
+fn refusals_of_faults(rt: HostRuntime) {
+    assert_eq!(rt; Refusal::from(DocFault::TooLong), Refusal::TooLong);
+    assert_eq!(rt; Refusal::from(Fault::Contradicts), Refusal::Contradicts);
+}
+
+// The answer that a database was made.
+fn done(alloc: Global) -> Result<Reply, AllocError> {
+    Ok(Reply::Done {
         status: StatusCode::CREATED,
         body: Vec::from_slice(alloc, b"{\"ok\":true}\n")?,
-    };
-    let whole = reply_bytes(alloc, &done, false, false)?;
-    assert_eq!(rt;
-        whole.as_slice(),
-        b"HTTP/1.1 201 Created\r\nContent-Type: application/json\r\nContent-Length: 12\r\n\r\n{\"ok\":true}\n".as_slice()
+    })
+}
+
+#[test]
+fn a_whole_reply(rt: HostRuntime) -> Result<(), Fail> {
+    let expected = concat!(
+        "HTTP/1.1 201 Created\r\nContent-Type: application/json\r\nContent-Length: 12\r\n\r\n",
+        "{\"ok\":true}\n"
     );
-    let head = reply_bytes(alloc, &done, true, true)?;
-    assert_eq!(rt;
-        head.as_slice(),
-        b"HTTP/1.1 201 Created\r\nContent-Type: application/json\r\nContent-Length: 12\r\nConnection: close\r\n\r\n".as_slice()
+    let done = done(rt.alloc())?;
+    is_sent(&rt, rt.alloc(), &done, (false, false), expected)
+}
+
+#[test]
+fn a_head_alone_before_the_end(rt: HostRuntime) -> Result<(), Fail> {
+    let expected = concat!(
+        "HTTP/1.1 201 Created\r\nContent-Type: application/json\r\nContent-Length: 12\r\n",
+        "Connection: close\r\n\r\n"
     );
-    let bad = reply_bytes(alloc, &Reply::Refused(Refusal::BadHead), false, true)?;
-    assert_eq!(rt;
-        bad.as_slice(),
-        b"HTTP/1.1 400 Bad Request\r\nContent-Type: application/json\r\nContent-Length: 44\r\nConnection: close\r\n\r\n{\"error\":\"bad_request\",\"reason\":\"bad head\"}\n".as_slice()
+    let done = done(rt.alloc())?;
+    is_sent(&rt, rt.alloc(), &done, (true, true), expected)
+}
+
+#[test]
+fn a_refusal_before_the_end(rt: HostRuntime) -> Result<(), Fail> {
+    let expected = concat!(
+        "HTTP/1.1 400 Bad Request\r\nContent-Type: application/json\r\nContent-Length: 44\r\n",
+        "Connection: close\r\n\r\n{\"error\":\"bad_request\",\"reason\":\"bad head\"}\n"
     );
-    for (head_only, close) in [(false, false), (false, true), (true, false), (true, true)] {
-        let made = reply_bytes(alloc, &Reply::Refused(Refusal::NoMemory), head_only, close)?;
-        assert_eq!(rt;
-            made.as_slice(),
-            no_memory_text(head_only, close).as_bytes()
-        );
+    let bad = Reply::Refused(Refusal::BadHead);
+    is_sent(&rt, rt.alloc(), &bad, (false, true), expected)
+}
+
+#[test]
+fn refusals_for_want_of_memory(rt: HostRuntime) -> Result<(), Fail> {
+    let refusal = Reply::Refused(Refusal::NoMemory);
+    for form in &[(false, false), (false, true), (true, false), (true, true)] {
+        let expected = no_memory_text(form.0, form.1);
+        is_sent(&rt, rt.alloc(), &refusal, *form, expected)?;
     }
+    Ok(())
+}
+
+#[test]
+fn heads_of_streams(rt: HostRuntime) {
     assert_eq!(rt;
         stream_head_text(false),
         "HTTP/1.1 200 OK\r\nContent-Type: application/json\r\nTransfer-Encoding: chunked\r\n\r\n"
     );
     assert_eq!(rt;
         stream_head_text(true),
-        "HTTP/1.1 200 OK\r\nContent-Type: application/json\r\nTransfer-Encoding: chunked\r\nConnection: close\r\n\r\n"
+        concat!(
+            "HTTP/1.1 200 OK\r\nContent-Type: application/json\r\nTransfer-Encoding: chunked\r\n",
+            "Connection: close\r\n\r\n"
+        )
     );
-    Ok(())
+}
+
+// The revisions that are there of two.
+fn changes(
+    alloc: Global,
+    first: Option<RevId>,
+    second: Option<RevId>,
+) -> Result<Revisions, AllocError> {
+    let mut changes = Vec::new(alloc);
+    if let Some(rev) = first {
+        changes.push(rev)?;
+    }
+    if let Some(rev) = second {
+        changes.push(rev)?;
+    }
+    Ok(Revisions::new(changes))
 }
 
 fn row(
@@ -287,17 +343,11 @@ fn row(
     deleted: bool,
 ) -> Result<Item<ChangeRow>, Fail> {
     let doc = Doc::read(alloc, text.as_bytes(), false)?;
-    let mut changes = Vec::new(alloc);
-    if let Some(rev) = doc.rev {
-        changes.push(rev)?;
-    }
-    if let Some(rev) = more {
-        changes.push(rev)?;
-    }
+    let changes = changes(alloc, doc.rev, more)?;
     Ok(Item::Row(ChangeRow {
         seq,
         id: doc.id,
-        changes: Revisions::new(changes),
+        changes,
         deleted,
         doc: None,
         seen: seq,
@@ -307,20 +357,18 @@ fn row(
 // The row of a document that it brings.
 fn row_with_doc(alloc: Global, text: &str, deleted: bool) -> Result<Item<ChangeRow>, Fail> {
     let doc = Doc::read(alloc, text.as_bytes(), true)?;
-    let mut changes = Vec::new(alloc);
-    if let Some(rev) = doc.rev {
-        changes.push(rev)?;
-    }
+    let changes = changes(alloc, doc.rev, None)?;
     Ok(Item::Row(ChangeRow {
         seq: 7,
         id: doc.id,
-        changes: Revisions::new(changes),
+        changes,
         deleted,
         doc: Some(doc.body),
         seen: 7,
     }))
 }
 
+// An item's text.
 fn text_of(
     alloc: Global,
     mode: Mode,
@@ -332,15 +380,24 @@ fn text_of(
     Ok(out)
 }
 
+// An item has this text.
+fn is_shown(
+    rt: &impl Abort,
+    alloc: Global,
+    mode: Mode,
+    rows_before: u64,
+    item: &Item<ChangeRow>,
+    expected: &str,
+) -> Result<(), Fail> {
+    let text = text_of(alloc, mode, rows_before, item)?;
+    assert_eq!(rt; text.as_slice(), expected.as_bytes());
+    Ok(())
+}
+
 // The row of this text, behind the rows of the sequences before it in a normal feed.
 fn row_text(alloc: Global, seq: u64, text: &str) -> Result<Vec<u8>, Fail> {
     let item = row(alloc, seq, text, None, false)?;
     Ok(text_of(alloc, Mode::Normal, seq.saturating_sub(1), &item)?)
-}
-
-// The end of a feed, behind two rows.
-fn end_text(alloc: Global, mode: Mode, last_seq: u64, pending: u64) -> Result<Vec<u8>, AllocError> {
-    text_of(alloc, mode, 2, &Item::End { last_seq, pending })
 }
 
 // Each text as a chunk.
@@ -353,14 +410,17 @@ fn chunked(alloc: Global, texts: &[&[u8]]) -> Result<Vec<u8>, Fail> {
     Ok(writer.into_inner())
 }
 
-#[test]
-fn a_feed_of_two_rows_in_chunks(rt: HostRuntime) -> Result<(), Fail> {
-    let alloc = rt.alloc();
+// A feed of two rows in chunks, and an empty text between.
+fn two_rows_in_chunks(alloc: Global) -> Result<Vec<u8>, Fail> {
+    let head = feed_head(Mode::Normal).as_bytes();
     let first = row_text(alloc, 1, r#"{"_id":"a","_rev":"1-a"}"#)?;
     let second = row_text(alloc, 2, r#"{"_id":"b","_rev":"1-b"}"#)?;
-    let end = end_text(alloc, Mode::Normal, 2, 0)?;
-    let head = feed_head(Mode::Normal).as_bytes();
-    let sent = chunked(
+    let end = Item::End {
+        last_seq: 2,
+        pending: 0,
+    };
+    let end = text_of(alloc, Mode::Normal, 2, &end)?;
+    chunked(
         alloc,
         &[
             head,
@@ -369,75 +429,102 @@ fn a_feed_of_two_rows_in_chunks(rt: HostRuntime) -> Result<(), Fail> {
             b"",
             end.as_slice(),
         ],
-    )?;
-    assert_eq!(rt;
-        sent.as_slice(),
-        b"d\r\n{\"results\":[\n\r\n2c\r\n{\"seq\":1,\"id\":\"a\",\"changes\":[{\"rev\":\"1-a\"}]}\r\n2e\r\n,\n{\"seq\":2,\"id\":\"b\",\"changes\":[{\"rev\":\"1-b\"}]}\r\n1e\r\n\n],\n\"last_seq\":2,\"pending\":0}\n\r\n".as_slice()
+    )
+}
+
+#[test]
+fn a_feed_of_two_rows_in_chunks(rt: HostRuntime) -> Result<(), Fail> {
+    let sent = two_rows_in_chunks(rt.alloc())?;
+    let expected = concat!(
+        "d\r\n{\"results\":[\n\r\n",
+        "2c\r\n{\"seq\":1,\"id\":\"a\",\"changes\":[{\"rev\":\"1-a\"}]}\r\n",
+        "2e\r\n,\n{\"seq\":2,\"id\":\"b\",\"changes\":[{\"rev\":\"1-b\"}]}\r\n",
+        "1e\r\n\n],\n\"last_seq\":2,\"pending\":0}\n\r\n"
     );
+    assert_eq!(rt; sent.as_slice(), expected.as_bytes());
     Ok(())
 }
 
 #[test]
 fn a_row_with_an_odd_id_and_two_revisions(rt: HostRuntime) -> Result<(), Fail> {
-    let alloc = rt.alloc();
     let odd = row(
-        alloc,
+        rt.alloc(),
         18446744073709551615,
-        "{\"_id\":\"a\\\"\\\\\\u0001\\n\\u00e9/\",\"_rev\":\"1-Z9z\"}",
+        r#"{"_id":"a\"\\\u0001\n\u00e9/","_rev":"1-Z9z"}"#,
         RevId::read("65535-0"),
         true,
     )?;
-    let text = text_of(alloc, Mode::Continuous, 3, &odd)?;
-    assert_eq!(rt;
-        text.as_slice(),
-        "{\"seq\":18446744073709551615,\"id\":\"a\\\"\\\\\\u0001\\n\u{e9}/\",\"changes\":[{\"rev\":\"1-Z9z\"},{\"rev\":\"65535-0\"}],\"deleted\":true}\n".as_bytes()
+    let expected = concat!(
+        r#"{"seq":18446744073709551615,"id":"a\"\\\u0001\n"#,
+        "\u{e9}",
+        r#"/","changes":[{"rev":"1-Z9z"},{"rev":"65535-0"}],"deleted":true}"#,
+        "\n"
     );
-    Ok(())
+    is_shown(&rt, rt.alloc(), Mode::Continuous, 3, &odd, expected)
 }
 
 #[test]
-fn ends_by_mode(rt: HostRuntime) -> Result<(), Fail> {
-    let alloc = rt.alloc();
-    assert_eq!(rt;
-        end_text(alloc, Mode::Continuous, 9, 7)?.as_slice(),
-        b"{\"last_seq\":9,\"pending\":7}\n".as_slice()
-    );
-    assert_eq!(rt;
-        end_text(alloc, Mode::Longpoll, 9, 7)?.as_slice(),
-        b"\n],\n\"last_seq\":9,\"pending\":7}\n".as_slice()
-    );
-    Ok(())
+fn the_end_of_a_continuous_feed(rt: HostRuntime) -> Result<(), Fail> {
+    let end = Item::End {
+        last_seq: 9,
+        pending: 7,
+    };
+    let expected = concat!(r#"{"last_seq":9,"pending":7}"#, "\n");
+    is_shown(&rt, rt.alloc(), Mode::Continuous, 2, &end, expected)
 }
 
 #[test]
-fn heartbeats_and_heads_by_mode(rt: HostRuntime) -> Result<(), Fail> {
-    let alloc = rt.alloc();
-    for mode in [Mode::Normal, Mode::Longpoll, Mode::Continuous] {
-        assert_eq!(rt;
-            text_of(alloc, mode, 1, &Item::Beat)?.as_slice(),
-            b"\n".as_slice()
-        );
+fn the_end_of_a_longpoll_feed(rt: HostRuntime) -> Result<(), Fail> {
+    let end = Item::End {
+        last_seq: 9,
+        pending: 7,
+    };
+    let expected = concat!("\n],\n", r#""last_seq":9,"pending":7}"#, "\n");
+    is_shown(&rt, rt.alloc(), Mode::Longpoll, 2, &end, expected)
+}
+
+#[test]
+fn heartbeats_by_mode(rt: HostRuntime) -> Result<(), Fail> {
+    for mode in &[Mode::Normal, Mode::Longpoll, Mode::Continuous] {
+        is_shown(&rt, rt.alloc(), *mode, 1, &Item::Beat, "\n")?;
     }
+    Ok(())
+}
+
+#[test]
+fn heads_by_mode(rt: HostRuntime) {
     assert_eq!(rt; feed_head(Mode::Longpoll), "{\"results\":[\n");
     assert_eq!(rt; feed_head(Mode::Continuous), "");
-    Ok(())
+}
+
+// The row of a document that it brings is this text in a normal feed, and a line of it in a continuous one.
+fn is_row_with_doc(
+    rt: &impl Abort,
+    alloc: Global,
+    doc: &str,
+    deleted: bool,
+    expected: &str,
+) -> Result<(), Fail> {
+    let item = row_with_doc(alloc, doc, deleted)?;
+    is_shown(rt, alloc, Mode::Normal, 0, &item, expected)?;
+    let line = format!(in alloc; "{expected}\n")?;
+    is_shown(rt, alloc, Mode::Continuous, 4, &item, line.as_str())
 }
 
 #[test]
-fn rows_with_documents(rt: HostRuntime) -> Result<(), Fail> {
-    let alloc = rt.alloc();
-    let here = row_with_doc(alloc, r#"{"_id":"a","_rev":"1-x","v":7}"#, false)?;
-    let deleted = row_with_doc(alloc, r#"{"_id":"b","_rev":"2-y"}"#, true)?;
-    let first =
+fn a_row_with_its_document(rt: HostRuntime) -> Result<(), Fail> {
+    let doc = r#"{"_id":"a","_rev":"1-x","v":7}"#;
+    let expected =
         r#"{"seq":7,"id":"a","changes":[{"rev":"1-x"}],"doc":{"_id":"a","_rev":"1-x","v":7}}"#;
-    let second =
-        r#"{"seq":7,"id":"b","changes":[{"rev":"2-y"}],"deleted":true,"doc":{"_id":"b","_rev":"2-y","_deleted":true}}"#;
-    for (item, text) in [(here, first), (deleted, second)] {
-        let whole = text_of(alloc, Mode::Normal, 0, &item)?;
-        assert_eq!(rt; whole.as_slice(), text.as_bytes());
-        let line = text_of(alloc, Mode::Continuous, 4, &item)?;
-        let expected = format!(in alloc; "{text}\n")?;
-        assert_eq!(rt; line.as_slice(), expected.as_bytes());
-    }
-    Ok(())
+    is_row_with_doc(&rt, rt.alloc(), doc, false, expected)
+}
+
+#[test]
+fn a_deleted_row_with_its_document(rt: HostRuntime) -> Result<(), Fail> {
+    let doc = r#"{"_id":"b","_rev":"2-y"}"#;
+    let expected = concat!(
+        r#"{"seq":7,"id":"b","changes":[{"rev":"2-y"}],"deleted":true,"#,
+        r#""doc":{"_id":"b","_rev":"2-y","_deleted":true}}"#
+    );
+    is_row_with_doc(&rt, rt.alloc(), doc, true, expected)
 }

@@ -1,5 +1,11 @@
 //! The words of feeds that code and definitions share (CouchDB API reference, `_changes`).
 
+ghost use Rattle.std.specs.Prelude.{◌≡◌};
+ghost use Rattle.hub_model.specs.Feed.{since_of, waits};
+ghost use Rattle.hub_model.specs.RightlyHanded.{is_end};
+
+use crate::by_mode;
+
 /// How long a feed lasts.
 #[derive(Clone, Copy, Debug, PartialEq, Eq)]
 pub enum Mode {
@@ -9,6 +15,20 @@ pub enum Mode {
     Longpoll,
     /// It goes on.
     Continuous,
+}
+
+impl Mode {
+    /// Whether such a feed waits for edits to come.
+    pub fn waits(self) -> bool
+        ensures { result ≡ waits self }
+    {
+        by_mode!(
+            self,
+            normal: false,
+            longpoll: true,
+            continuous: true,
+        )
+    }
 }
 
 /// Which revisions a row lists.
@@ -29,6 +49,18 @@ pub enum Since {
     Now,
 }
 
+impl Since {
+    /// The sequence that a feed begins after, while there are `length` edits: none above the last.
+    pub fn within(self, length: u64) -> u64
+        ensures { result ≡ since_of self length }
+    {
+        match self {
+            Since::From(seq) => seq.min(length),
+            Since::Now => length,
+        }
+    }
+}
+
 /// What a feed of such rows hands to its subscriber.
 #[derive(Debug, Drop)]
 pub enum Item<R> {
@@ -39,4 +71,13 @@ pub enum Item<R> {
     /// The end of the feed: the sequence that it has shown everything up to, and how many current
     /// rows lie above it.
     End { last_seq: u64, pending: u64 },
+}
+
+impl<R> Item<R> {
+    /// Whether it is the end of its feed.
+    pub fn is_end(&self) -> bool
+        ensures { result ≡ is_end self.now }
+    {
+        matches!(self, Item::End { .. })
+    }
 }

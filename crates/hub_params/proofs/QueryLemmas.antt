@@ -1,39 +1,53 @@
 -- The last values of names, as the pairs of a query are read one after another.
-use Rattle.std.proofs.Common.{◌≡◌, ℕ, List, [], ◌∷◌, Option, Some, None, refl, map, if◌then◌else◌}
+use Rattle.std.proofs.Common.{◌≡◌, ℕ, List, ◌∷◌, All, Option, Some, None, refl, if◌then◌else◌, subst, sym}
+use Rattle.std.proofs.lemmas.List.Elements.{All-head, All-rest}
 use Rattle.std.specs.Option.{option_or}
 use Rattle.std.specs.Str.{bytes_eq}
-use Rattle.std.specs.Str.Lossy.{utf8_lossy}
-use Rattle.form_urlencoded.specs.Form.{decode}
-use Rattle.hub_params.specs.Query.{last_of}
-
--- the pairs that encoded pairs stand for
-abbrev pub decoded_of : List (List ℕ × List ℕ) → List (List ℕ × List ℕ)
-decoded_of pairs = map (λ (p : List ℕ × List ℕ). (utf8_lossy p.0, utf8_lossy p.1)) (map (λ (p : List ℕ × List ℕ). (decode p.0, decode p.1)) pairs)
+use Rattle.form_urlencoded.specs.Form.{raw_pairs, IsPlainText}
+use Rattle.hub_params.specs.Encoded.{decoded}
+use Rattle.hub_params.specs.Query.{last_of, written_of}
+use Rattle.hub_params.specs.Room.{HasEscapedName}
 
 -- the value of a name, where some pairs are left and this one was kept of those before
 abbrev pub last_with : List ℕ → List (List ℕ × List ℕ) → Option (List ℕ) → Option (List ℕ)
-last_with name left kept = option_or (last_of name (decoded_of left)) kept
+last_with name left kept = option_or (last_of name left) kept
 
 or_assoc : (a b c : Option (List ℕ)) → option_or a (option_or b c) ≡ option_or (option_or a b) c
 or_assoc None b c = refl
 or_assoc (Some x) b c = refl
 
 -- one more pair is read
-pub last_with_step : (wanted name value : List ℕ) (left : List (List ℕ × List ℕ)) (kept : Option (List ℕ)) → last_with wanted left (option_or (if bytes_eq (utf8_lossy (decode name)) wanted then Some (utf8_lossy (decode value)) else None) kept) ≡ last_with wanted ((name, value) ∷ left) kept
-last_with_step wanted name value left kept = or_assoc (last_of wanted (decoded_of left)) (if bytes_eq (utf8_lossy (decode name)) wanted then Some (utf8_lossy (decode value)) else None) kept
+last_with_step : (wanted name value : List ℕ) (left : List (List ℕ × List ℕ)) (kept : Option (List ℕ)) → last_with wanted left (option_or (if bytes_eq (decoded name) wanted then Some value else None) kept) ≡ last_with wanted ((name, value) ∷ left) kept
+last_with_step wanted name value left kept = or_assoc (last_of wanted left) (if bytes_eq (decoded name) wanted then Some value else None) kept
 
--- no pair is left
-pub last_with_none : (wanted : List ℕ) (kept : Option (List ℕ)) → last_with wanted [] kept ≡ kept
-last_with_none wanted kept = refl
-
--- none was kept
-pub last_with_all : (wanted : List ℕ) (left : List (List ℕ × List ℕ)) → last_with wanted left None ≡ last_of wanted (decoded_of left)
-last_with_all wanted left = or_none (last_of wanted (decoded_of left))
+-- all pairs are left, and none was kept
+pub read_none : (wanted query : List ℕ) (left : List (List ℕ × List ℕ)) → left ≡ raw_pairs query → last_with wanted left None ≡ written_of wanted query
+read_none wanted query left e = rw e (or_none (written_of wanted query))
   where
     or_none : (a : Option (List ℕ)) → option_or a None ≡ a
     or_none None = refl
     or_none (Some x) = refl
 
 -- one more pair is read: what was kept, and what is kept now
-pub read_one : (wanted name value text : List ℕ) (left rest : List (List ℕ × List ℕ)) (kept next whole : Option (List ℕ)) → left ≡ (name, value) ∷ rest → text ≡ utf8_lossy (decode name) → next ≡ option_or (if bytes_eq text wanted then Some (utf8_lossy (decode value)) else None) kept → last_with wanted left kept ≡ whole → last_with wanted rest next ≡ whole
+pub read_one : (wanted name value text : List ℕ) (left rest : List (List ℕ × List ℕ)) (kept next whole : Option (List ℕ)) → left ≡ (name, value) ∷ rest → text ≡ decoded name → next ≡ option_or (if bytes_eq text wanted then Some value else None) kept → last_with wanted left kept ≡ whole → last_with wanted rest next ≡ whole
 read_one wanted name value text left rest kept next whole e t n h = rw (n, t, last_with_step wanted name value rest kept) (rw e at h)
+
+-- ---- names that are written as they read
+
+-- each name of these pairs is
+abbrev pub HasPlainNames : List (List ℕ × List ℕ) → Type 0
+HasPlainNames pairs = All (λ p. IsPlainText p.0) pairs
+
+-- where each name of the query is, so is each that is left
+abbrev pub IsPlainFrom : List ℕ → List (List ℕ × List ℕ) → Type 0
+IsPlainFrom query left = HasPlainNames (raw_pairs query) → HasPlainNames left
+
+pub plain_from_all : (query : List ℕ) (left : List (List ℕ × List ℕ)) → left ≡ raw_pairs query → IsPlainFrom query left
+plain_from_all query left e all = subst HasPlainNames (sym e) all
+
+pub plain_from_rest : (query name value : List ℕ) (left rest : List (List ℕ × List ℕ)) → left ≡ (name, value) ∷ rest → IsPlainFrom query left → IsPlainFrom query rest
+plain_from_rest query name value left rest e from all = All-rest (λ (p : List ℕ × List ℕ). IsPlainText p.0) (name, value) rest left e (from all)
+
+-- a name that is left is not, so the query has one
+pub escaped_name : (query name value : List ℕ) (left rest : List (List ℕ × List ℕ)) → left ≡ (name, value) ∷ rest → IsPlainFrom query left → ¬ IsPlainText name → HasEscapedName query
+escaped_name query name value left rest e from escaped all = escaped (All-head (λ (p : List ℕ × List ℕ). IsPlainText p.0) (name, value) rest (subst HasPlainNames e (from all)))

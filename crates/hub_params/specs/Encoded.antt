@@ -1,13 +1,15 @@
--- Values of a query that are not decoded yet (URL Standard, section 5, application/x-www-form-urlencoded).
+-- Names and values of a query that are not decoded yet (URL Standard, section 5,
+-- application/x-www-form-urlencoded).
 use Rattle.std.specs.Prelude.{ℕ, List, Option, option_map}
 use Rattle.std.specs.Borrow.{Bor}
+use Rattle.std.specs.Option.{option_copied}
 use Rattle.std.specs.Str.Lossy.{utf8_lossy}
 use Rattle.form_urlencoded.specs.Form.{decode}
 
--- the text that an encoded name or value stands for
-abbrev pub text_of : Bor (List ℕ) → List ℕ
-text_of encoded = utf8_lossy (decode encoded.now)
+-- the text that a written name or value stands for
+abbrev pub decoded : List ℕ → List ℕ
+decoded written = utf8_lossy (decode written)
 
 -- the text of a value, where there is one
 abbrev pub text_in : Option (Bor (List ℕ)) → Option (List ℕ)
-text_in value = option_map text_of value
+text_in value = option_map decoded (option_copied value)

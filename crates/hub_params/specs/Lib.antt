@@ -6,3 +6,4 @@ pub mod FeedShown
 pub mod FeedValues
 pub mod ListedIds
 pub mod Query
+pub mod Room

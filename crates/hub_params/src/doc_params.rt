@@ -1,13 +1,16 @@
 //! The parameters of a document's routes.
 
-ghost use Rattle.std.specs.Prelude.{◌≡◌, IfOk, codes, option_map, string_bytes};
+ghost use Rattle.std.specs.Prelude.{◌≡◌, IfOk, OnErr, codes, option_map, string_bytes};
+ghost use Rattle.std.specs.Option.{option_copied};
 ghost use Rattle.hub_params.specs.DocParams.{doc_asked, is_value};
 ghost use Rattle.hub_params.specs.Encoded.{text_in};
-ghost use Rattle.hub_params.specs.Query.{value_of};
+ghost use Rattle.hub_params.specs.Query.{written_of};
+ghost use Rattle.hub_params.specs.Room.{DocNeedsRoom, HasBytes, HasEscapedName, IsEscaped};
 
 use crate::query::{decoded, later};
 use form_urlencoded::{decode, raw_pairs};
 use std::alloc::{AllocError, Global};
+use std::borrow::CowStr;
 use std::marker::Model;
 
 /// What the query of a document's route asks for (CouchDB API reference, documents).
@@ -34,9 +37,11 @@ impl Model for DocParams {
 
 impl DocParams {
     /// The parameters that a query gives: names and values are compared decoded, and of a repeated
-    /// name the last value counts. It costs the query's length.
+    /// name the last value counts. It costs the query's length. Memory is taken for what has to be
+    /// decoded, and for `rev` and `open_revs`.
     pub fn read(alloc: Global, query: &[u8]) -> Result<DocParams, AllocError>
-        ensures { IfOk result (λ p. p ≡ doc_asked query.now) }
+        ensures asked { IfOk result (λ p. p ≡ doc_asked query.now) }
+        ensures memory { OnErr result (DocNeedsRoom query.now) }
     {
         let values = DocValues::read(alloc, query)?;
         let rev = text(alloc, values.rev)?;
@@ -62,12 +67,12 @@ struct DocValues<'q> {
 }
 
 impl<'q> DocValues<'q> {
-    #[tactic(auto, using(crate::proofs::QueryLemmas::last_with_step, crate::proofs::QueryLemmas::last_with_all))]
     fn read(alloc: Global, query: &'q [u8]) -> Result<DocValues<'q>, AllocError>
-        ensures rev { IfOk result (λ v. text_in v.rev ≡ value_of (codes "rev") query.now) }
-        ensures open_revs { IfOk result (λ v. text_in v.open_revs ≡ value_of (codes "open_revs") query.now) }
-        ensures revs { IfOk result (λ v. text_in v.revs ≡ value_of (codes "revs") query.now) }
-        ensures new_edits { IfOk result (λ v. text_in v.new_edits ≡ value_of (codes "new_edits") query.now) }
+        ensures rev { IfOk result (λ v. option_copied v.rev ≡ written_of (codes "rev") query.now) }
+        ensures open_revs { IfOk result (λ v. option_copied v.open_revs ≡ written_of (codes "open_revs") query.now) }
+        ensures revs { IfOk result (λ v. option_copied v.revs ≡ written_of (codes "revs") query.now) }
+        ensures new_edits { IfOk result (λ v. option_copied v.new_edits ≡ written_of (codes "new_edits") query.now) }
+        ensures memory { OnErr result (HasEscapedName query.now) }
     {
         let mut rev = None;
         let mut open_revs = None;
@@ -90,19 +95,26 @@ impl<'q> DocValues<'q> {
     }
 }
 
-// A value as text of its own.
+// A value as text of its own. An empty one takes no memory.
 fn text(alloc: Global, value: Option<&[u8]>) -> Result<Option<String>, AllocError>
-    ensures { IfOk result (λ t. option_map string_bytes t ≡ text_in value.entry) }
+    ensures text { IfOk result (λ t. option_map string_bytes t ≡ text_in value.entry) }
+    ensures memory { OnErr result (HasBytes (option_copied value.entry)) }
 {
     match decoded(alloc, value)? {
         None => Ok(None),
-        Some(borrowed) => Ok(Some(borrowed.into_owned(alloc)?)),
+        Some(CowStr::Owned(own)) => Ok(Some(own)),
+        Some(CowStr::Borrowed(borrowed)) => {
+            let mut own = String::new(alloc);
+            own.push_str(borrowed)?;
+            Ok(Some(own))
+        }
     }
 }
 
 // Whether there is a value, and it is this text.
 fn is_text(alloc: Global, value: Option<&[u8]>, wanted: &str) -> Result<bool, AllocError>
-    ensures { IfOk result (λ b. b ≡ is_value wanted.now (text_in value.entry)) }
+    ensures answer { IfOk result (λ b. b ≡ is_value wanted.now (text_in value.entry)) }
+    ensures memory { OnErr result (IsEscaped (option_copied value.entry)) }
 {
     match decoded(alloc, value)? {
         None => Ok(false),

@@ -4,7 +4,8 @@ use std::alloc::AllocError;
 use thiserror::Error;
 
 /// Why a query and a body are no parameters of a feed: the first of these, in this order.
-/// `NoMemory` may come in place of any. The texts are the reasons that a hub answers (own).
+/// `NoMemory` may come in its place where memory is taken before it is known. The texts are the
+/// reasons that a hub answers (own).
 #[derive(Clone, Copy, Debug, PartialEq, Eq, Error)]
 pub enum ParamFault {
     /// A growth was refused.

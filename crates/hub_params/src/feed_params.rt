@@ -1,8 +1,10 @@
 //! The parameters of a changes feed.
 
-ghost use Rattle.std.specs.Prelude.{◌≡◌, ◌⊎◌, IfOk, IfErr, Ok, Err};
+ghost use Rattle.std.specs.Prelude.{◌≡◌, ◌⊎◌, IfOk, IfErr, OnErr, Ok, Err};
+ghost use Rattle.hub_filter.specs.Shown.{HasIds};
 ghost use Rattle.hub_params.specs.FeedParams.{feed_asked};
 ghost use Rattle.hub_params.specs.FeedShown.{params_asked};
+ghost use Rattle.hub_params.specs.Room.{FeedNeedsRoom};
 
 use crate::feed_fault::ParamFault;
 use crate::feed_stages::{filter_of_kind, flags_of, kind_of, rows_of, waits_of};
@@ -38,11 +40,13 @@ impl FeedParams {
     /// The parameters that a query and a body give, or the first fault in them. Names and values
     /// are compared decoded, of a repeated name the last value counts, and unknown names are
     /// ignored. The body is read only with `filter=_doc_ids`. It costs the length of both, and the
-    /// sorting of listed ids.
+    /// sorting of listed ids. Memory is taken for what has to be decoded and for listed ids, and a
+    /// fault is answered before anything behind it is looked at.
     pub fn read(alloc: Global, query: &[u8], body: &[u8]) -> Result<FeedParams, ParamFault>
         ensures ok { IfOk result (λ p. feed_asked query.now body.now ≡ Ok (params_asked p)) }
         ensures err { IfErr result (λ e. (e ≡ ParamFault.NoMemory)
             ⊎ (feed_asked query.now body.now ≡ Err e)) }
+        ensures memory { IfErr result (λ e. e ≡ ParamFault.NoMemory → FeedNeedsRoom query.now body.now) }
     {
         let texts = FeedTexts::read(alloc, query)?;
         let rows = rows_of(alloc, texts.since, texts.limit, texts.style)?;
@@ -63,9 +67,10 @@ impl FeedParams {
         })
     }
 
-    /// A copy. It costs the length of the listed ids.
+    /// A copy. It costs the length of the listed ids, and takes memory for them alone.
     pub fn copy(&self, alloc: Global) -> Result<FeedParams, AllocError>
-        ensures { IfOk result (λ p. params_asked p ≡ params_asked self.now) }
+        ensures ok { IfOk result (λ p. params_asked p ≡ params_asked self.now) }
+        ensures memory { OnErr result (HasIds (params_asked self.now).filter) }
     {
         let filter = self.filter.copy(alloc)?;
         Ok(FeedParams {

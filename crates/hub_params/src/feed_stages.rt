@@ -2,10 +2,12 @@
 
 ghost use Rattle.std.specs.Prelude.{◌≡◌, ◌⊎◌, IfOk, IfErr, Ok, Err, codes, option_map};
 ghost use Rattle.std.specs.Cow.{cow_str_bytes};
+ghost use Rattle.std.specs.Option.{option_copied};
 ghost use Rattle.hub_filter.specs.Shown.{filter_of};
 ghost use Rattle.hub_params.specs.Encoded.{text_in};
 ghost use Rattle.hub_params.specs.DocParams.{is_value};
 ghost use Rattle.hub_params.specs.FeedParams.{rows_in, kind_in, filter_in, waits_in, is_normal, flags_in};
+ghost use Rattle.hub_params.specs.Room.{RowsNeedRoom, KindNeedsRoom, IdsNeedRoom, WaitsNeedRoom, FlagsNeedRoom};
 
 use crate::feed_fault::ParamFault;
 use crate::feed_values::{
@@ -67,16 +69,18 @@ pub(crate) fn rows_of(
     ensures ok { IfOk result (λ r. rows_in (text_in since.entry) (text_in limit.entry) (text_in style.entry) ≡ Ok r) }
     ensures err { IfErr result (λ e. (e ≡ ParamFault.NoMemory)
         ⊎ (rows_in (text_in since.entry) (text_in limit.entry) (text_in style.entry) ≡ Err e)) }
+    ensures memory { IfErr result (λ e. e ≡ ParamFault.NoMemory
+        → RowsNeedRoom (option_copied since.entry) (option_copied limit.entry) (option_copied style.entry)) }
 {
     let since_text = decoded(alloc, since)?;
-    let limit_text = decoded(alloc, limit)?;
-    let style_text = decoded(alloc, style)?;
     let Some(since) = since_of(lent(&since_text)) else {
         return Err(ParamFault::BadSince);
     };
+    let limit_text = decoded(alloc, limit)?;
     let Some(limit) = limit_of(lent(&limit_text)) else {
         return Err(ParamFault::BadLimit);
     };
+    let style_text = decoded(alloc, style)?;
     let Some(style) = style_of(lent(&style_text)) else {
         return Err(ParamFault::BadStyle);
     };
@@ -96,12 +100,14 @@ pub(crate) fn kind_of(
     ensures ok { IfOk result (λ k. kind_in (text_in feed.entry) (text_in filter.entry) ≡ Ok k) }
     ensures err { IfErr result (λ e. (e ≡ ParamFault.NoMemory)
         ⊎ (kind_in (text_in feed.entry) (text_in filter.entry) ≡ Err e)) }
+    ensures memory { IfErr result (λ e. e ≡ ParamFault.NoMemory
+        → KindNeedsRoom (option_copied feed.entry) (option_copied filter.entry)) }
 {
     let feed_text = decoded(alloc, feed)?;
-    let filter_text = decoded(alloc, filter)?;
     let Some(mode) = mode_of(lent(&feed_text)) else {
         return Err(ParamFault::BadFeed);
     };
+    let filter_text = decoded(alloc, filter)?;
     let Some(shown) = shown_of(lent(&filter_text)) else {
         return Err(ParamFault::BadFilter);
     };
@@ -118,6 +124,8 @@ pub(crate) fn filter_of_kind(
     ensures ok { IfOk result (λ f. filter_in (text_in ids.entry) body.now shown ≡ Ok (filter_of f)) }
     ensures err { IfErr result (λ e. (e ≡ ParamFault.NoMemory)
         ⊎ (filter_in (text_in ids.entry) body.now shown ≡ Err e)) }
+    ensures memory { IfErr result (λ e. e ≡ ParamFault.NoMemory
+        → IdsNeedRoom (option_copied ids.entry) body.now shown) }
 {
     match shown {
         Shown::All => Ok(Filter::All),
@@ -139,12 +147,14 @@ pub(crate) fn waits_of(
     ensures ok { IfOk result (λ w. waits_in (text_in heartbeat.entry) (text_in timeout.entry) ≡ Ok w) }
     ensures err { IfErr result (λ e. (e ≡ ParamFault.NoMemory)
         ⊎ (waits_in (text_in heartbeat.entry) (text_in timeout.entry) ≡ Err e)) }
+    ensures memory { IfErr result (λ e. e ≡ ParamFault.NoMemory
+        → WaitsNeedRoom (option_copied heartbeat.entry) (option_copied timeout.entry)) }
 {
     let heartbeat_text = decoded(alloc, heartbeat)?;
-    let timeout_text = decoded(alloc, timeout)?;
     let Some(heartbeat) = heartbeat_of(lent(&heartbeat_text)) else {
         return Err(ParamFault::BadHeartbeat);
     };
+    let timeout_text = decoded(alloc, timeout)?;
     let Some(timeout) = timeout_of(lent(&timeout_text)) else {
         return Err(ParamFault::BadHeartbeat);
     };
@@ -182,9 +192,10 @@ pub(crate) fn flags_of(
     ensures ok { IfOk result (λ f. flags_in mode (text_in descending.entry) (text_in include_docs.entry) ≡ Ok f) }
     ensures err { IfErr result (λ e. (e ≡ ParamFault.NoMemory)
         ⊎ (flags_in mode (text_in descending.entry) (text_in include_docs.entry) ≡ Err e)) }
+    ensures memory { IfErr result (λ e. e ≡ ParamFault.NoMemory
+        → FlagsNeedRoom mode (option_copied descending.entry) (option_copied include_docs.entry)) }
 {
     let descending_text = decoded(alloc, descending)?;
-    let docs_text = decoded(alloc, include_docs)?;
     let descending_value = lent(&descending_text);
     if is_true(descending_value) && !ends_at_once(mode) {
         return Err(ParamFault::DescendingMode);
@@ -192,6 +203,7 @@ pub(crate) fn flags_of(
     let Some(descending) = flag_of(descending_value) else {
         return Err(ParamFault::BadFlag);
     };
+    let docs_text = decoded(alloc, include_docs)?;
     let Some(include_docs) = flag_of(lent(&docs_text)) else {
         return Err(ParamFault::BadFlag);
     };

@@ -1,8 +1,9 @@
 //! The values of a feed's parameters, as a query has them.
 
-ghost use Rattle.std.specs.Prelude.{◌≡◌, IfOk, codes};
-ghost use Rattle.hub_params.specs.Encoded.{text_in};
-ghost use Rattle.hub_params.specs.Query.{value_of};
+ghost use Rattle.std.specs.Prelude.{◌≡◌, IfOk, OnErr, codes};
+ghost use Rattle.std.specs.Option.{option_copied};
+ghost use Rattle.hub_params.specs.Query.{written_of};
+ghost use Rattle.hub_params.specs.Room.{HasEscapedName};
 
 use crate::query::later;
 use form_urlencoded::{decode, raw_pairs};
@@ -25,18 +26,18 @@ pub(crate) struct FeedTexts<'q> {
 
 impl<'q> FeedTexts<'q> {
     /// The values that a query gives. It costs the query's length.
-    #[tactic(auto, using(crate::proofs::QueryLemmas::last_with_step, crate::proofs::QueryLemmas::last_with_all))]
     pub(crate) fn read(alloc: Global, query: &'q [u8]) -> Result<FeedTexts<'q>, AllocError>
-        ensures since { IfOk result (λ t. text_in t.since ≡ value_of (codes "since") query.now) }
-        ensures limit { IfOk result (λ t. text_in t.limit ≡ value_of (codes "limit") query.now) }
-        ensures style { IfOk result (λ t. text_in t.style ≡ value_of (codes "style") query.now) }
-        ensures feed { IfOk result (λ t. text_in t.feed ≡ value_of (codes "feed") query.now) }
-        ensures filter { IfOk result (λ t. text_in t.filter ≡ value_of (codes "filter") query.now) }
-        ensures doc_ids { IfOk result (λ t. text_in t.doc_ids ≡ value_of (codes "doc_ids") query.now) }
-        ensures heartbeat { IfOk result (λ t. text_in t.heartbeat ≡ value_of (codes "heartbeat") query.now) }
-        ensures timeout { IfOk result (λ t. text_in t.timeout ≡ value_of (codes "timeout") query.now) }
-        ensures descending { IfOk result (λ t. text_in t.descending ≡ value_of (codes "descending") query.now) }
-        ensures include_docs { IfOk result (λ t. text_in t.include_docs ≡ value_of (codes "include_docs") query.now) }
+        ensures since { IfOk result (λ t. option_copied t.since ≡ written_of (codes "since") query.now) }
+        ensures limit { IfOk result (λ t. option_copied t.limit ≡ written_of (codes "limit") query.now) }
+        ensures style { IfOk result (λ t. option_copied t.style ≡ written_of (codes "style") query.now) }
+        ensures feed { IfOk result (λ t. option_copied t.feed ≡ written_of (codes "feed") query.now) }
+        ensures filter { IfOk result (λ t. option_copied t.filter ≡ written_of (codes "filter") query.now) }
+        ensures doc_ids { IfOk result (λ t. option_copied t.doc_ids ≡ written_of (codes "doc_ids") query.now) }
+        ensures heartbeat { IfOk result (λ t. option_copied t.heartbeat ≡ written_of (codes "heartbeat") query.now) }
+        ensures timeout { IfOk result (λ t. option_copied t.timeout ≡ written_of (codes "timeout") query.now) }
+        ensures descending { IfOk result (λ t. option_copied t.descending ≡ written_of (codes "descending") query.now) }
+        ensures include_docs { IfOk result (λ t. option_copied t.include_docs ≡ written_of (codes "include_docs") query.now) }
+        ensures memory { OnErr result (HasEscapedName query.now) }
     {
         let mut texts = FeedTexts {
             since: None,

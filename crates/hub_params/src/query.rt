@@ -1,10 +1,11 @@
 //! The values that a query gives its names.
 
-ghost use Rattle.std.specs.Prelude.{◌≡◌, IfOk, Some, None, option_map, if◌then◌else◌};
-ghost use Rattle.std.specs.Option.{option_or};
+ghost use Rattle.std.specs.Prelude.{◌≡◌, IfOk, OnErr, Some, None, option_map, if◌then◌else◌};
+ghost use Rattle.std.specs.Option.{option_copied, option_or};
 ghost use Rattle.std.specs.Str.{bytes_eq};
 ghost use Rattle.std.specs.Cow.{cow_str_bytes};
-ghost use Rattle.hub_params.specs.Encoded.{text_of, text_in};
+ghost use Rattle.hub_params.specs.Encoded.{text_in};
+ghost use Rattle.hub_params.specs.Room.{IsEscaped};
 
 use form_urlencoded::decode;
 use std::alloc::{AllocError, Global};
@@ -18,8 +19,8 @@ pub(crate) fn later<'q>(
     value: &'q [u8],
     before: Option<&'q [u8]>,
 ) -> Option<&'q [u8]>
-    ensures { text_in result
-        ≡ option_or (if bytes_eq name.now wanted.now then Some (text_of value.entry) else None) (text_in before.entry) }
+    ensures { option_copied result
+        ≡ option_or (if bytes_eq name.now wanted.now then Some value.now else None) (option_copied before.entry) }
 {
     if name == wanted { Some(value) } else { before }
 }
@@ -29,7 +30,8 @@ pub(crate) fn decoded<'q>(
     alloc: Global,
     value: Option<&'q [u8]>,
 ) -> Result<Option<CowStr<'q>>, AllocError>
-    ensures { IfOk result (λ text. option_map cow_str_bytes text ≡ text_in value.entry) }
+    ensures text { IfOk result (λ text. option_map cow_str_bytes text ≡ text_in value.entry) }
+    ensures memory { OnErr result (IsEscaped (option_copied value.entry)) }
 {
     match value {
         None => Ok(None),

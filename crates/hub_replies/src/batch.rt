@@ -6,9 +6,9 @@ ghost use Rattle.hub_model.specs.Revision.{text_of};
 ghost use Rattle.hub_replies.specs.Bodies.{edit_text};
 ghost use Rattle.hub_replies.specs.Bulk.{id_in, id_text, reason_members, refused_text, reply_text, batch_body};
 
-use crate::texts::{put_comma, put_revision};
-use hub_document::RevId;
-use hub_http::{Refusal, put_quoted};
+use crate::texts::put_comma;
+use hub_document::{RevId, put_quoted};
+use hub_http::Refusal;
 use serde_json::Value;
 use std::alloc::{AllocError, Global};
 
@@ -49,7 +49,7 @@ fn put_stored(out: &mut Vec<u8>, element: &Value, rev: &RevId) -> Result<(), All
     out.extend_from_slice(b"{\"ok\":true,\"id\":")?;
     put_id(out, element)?;
     out.extend_from_slice(b",\"rev\":")?;
-    put_revision(out, rev)?;
+    rev.print_quoted(out)?;
     Ok(out.push(b'}')?)
 }
 

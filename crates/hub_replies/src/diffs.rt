@@ -3,10 +3,9 @@
 ghost use Rattle.std.specs.Prelude.{◌≡◌, ◌++◌, IfOk, OnOk};
 ghost use Rattle.hub_replies.specs.Bodies.{revisions_text, ancestors_text, diff_text, diffs_body};
 
-use crate::texts::{put_comma, put_revision};
+use crate::texts::put_comma;
 use hub_database::Diff;
-use hub_document::RevId;
-use hub_http::put_quoted;
+use hub_document::{RevId, put_quoted};
 use std::alloc::{AllocError, Global};
 
 // Appends the list of some revisions.
@@ -17,7 +16,7 @@ fn put_revisions(out: &mut Vec<u8>, revs: &[RevId]) -> Result<(), AllocError>
     let mut later = false;
     for rev in revs {
         put_comma(out, later)?;
-        put_revision(out, rev)?;
+        rev.print_quoted(out)?;
         later = true;
     }
     Ok(out.push(b']')?)

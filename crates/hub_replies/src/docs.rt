@@ -3,7 +3,7 @@
 ghost use Rattle.std.specs.Prelude.{◌≡◌, ◌++◌, IfOk, OnOk};
 ghost use Rattle.hub_replies.specs.Bodies.{doc_body, local_doc_body, open_rev_text, open_revs_body};
 
-use crate::texts::{put_comma, put_revision};
+use crate::texts::put_comma;
 use hub_database::{Local, OpenRev};
 use hub_document::{Doc, write_local};
 use std::alloc::{AllocError, Global};
@@ -44,7 +44,7 @@ fn put_open_rev(out: &mut Vec<u8>, rev: &OpenRev) -> Result<(), AllocError>
         }
         OpenRev::Missing(rev) => {
             out.extend_from_slice(b"{\"missing\":")?;
-            put_revision(out, rev)?;
+            rev.print_quoted(out)?;
         }
     }
     Ok(out.push(b'}')?)

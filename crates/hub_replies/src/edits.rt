@@ -4,9 +4,7 @@ ghost use Rattle.std.specs.Prelude.{◌≡◌, ◌++◌, codes, decimal, IfOk, O
 ghost use Rattle.json.specs.Print.{quoted};
 ghost use Rattle.hub_replies.specs.Bodies.{edit_body, local_edit_body};
 
-use crate::texts::put_revision;
-use hub_document::RevId;
-use hub_http::put_quoted;
+use hub_document::{RevId, put_quoted};
 use itoa::Buffer;
 use std::alloc::{AllocError, Global};
 
@@ -19,7 +17,7 @@ pub fn edit_body(alloc: Global, id: &str, rev: &RevId) -> Result<Vec<u8>, AllocE
     let mut text = Vec::from_slice(alloc, b"{\"ok\":true,\"id\":")?;
     put_quoted(&mut text, id)?;
     text.extend_from_slice(b",\"rev\":")?;
-    put_revision(&mut text, rev)?;
+    rev.print_quoted(&mut text)?;
     text.extend_from_slice(b"}\n")?;
     Ok(text)
 }

@@ -4,7 +4,7 @@ ghost use Rattle.std.specs.Prelude.{◌≡◌, IfOk};
 ghost use Rattle.hub_replies.specs.Bodies.{info_body};
 
 use hub_database::Info;
-use hub_http::put_quoted;
+use hub_document::put_quoted;
 use itoa::Buffer;
 use std::alloc::{AllocError, Global};
 

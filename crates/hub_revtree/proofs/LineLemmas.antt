@@ -1,13 +1,14 @@
 -- What stands behind a revision stands so in each path that names it.
-use Rattle.std.proofs.Common.{◌≡◌, ℕ, ◌+◌, ◌≤◌, List, [], ◌∷◌, true, inl, inr, refl, sym, ap, ◌∙◌, subst, arith}
-use Rattle.std.specs.Prelude.{Contains, Option, Some, None, find, option_map, filter, not}
+use Rattle.std.proofs.Common.{◌≡◌, ℕ, ◌+◌, ◌≤◌, List, [], ◌∷◌, true, inl, inr, refl, sym, ap, ◌∙◌, subst, arith, length}
+use Rattle.std.specs.Prelude.{Contains, Option, Some, None, find, filter, option_map, nat_lt, if◌then◌else◌, ◌==◌}
 use Rattle.std.specs.List.{list_any}
-use Rattle.std.proofs.lemmas.Bool.{cases_Bool, and_parts, eqb-true}
+use Rattle.std.proofs.lemmas.Bool.{cases_Bool, and_parts, eqb-true, le-ltb}
 use Rattle.std.proofs.lemmas.Option.{same_Some}
 use Rattle.hub_model.specs.Revision.{Revision, is_same}
 use Rattle.hub_model.specs.Path.{IsFirst, IsNext, IsHistory, names, is_falling, is_full}
-use Rattle.hub_model.specs.Journal.{Edit, Edits, IsBehind, IsLegal, is_known}
-use Rattle.hub_model.specs.Missing.{missing}
+use Rattle.hub_model.specs.Journal.{Edit, Edits, IsBehind, IsKnown, IsLegal, is_known}
+use Rattle.hub_model.specs.Leaves.{leaves_of, revisions_of}
+use Rattle.hub_model.specs.Missing.{highest, missing, possible_ancestors}
 use Rattle.hub_model.specs.Walk.{IsWalk, line_of}
 use Rattle.hub_model.proofs.Legal.{legal_sound}
 use Rattle.hub_model.proofs.Tests.{same_is, names_is, edits_in as edits_in_of, known_is, is_known_from, is_history_from}
@@ -16,7 +17,7 @@ use Rattle.hub_model.proofs.Walks.{legal_histories, behind_falls, behind_known, 
 use Rattle.hub_model.proofs.Drafts.{walk_same}
 use Rattle.hub_document.specs.Lines.{from_on}
 use Rattle.hub_revtree.specs.declared.branch.Branch.{Branch}
-use Rattle.hub_revtree.specs.Branch.{edit_of, edits_in}
+use Rattle.hub_revtree.specs.Branch.{edit_of, edits_in, unnamed_in}
 use Rattle.hub_revtree.specs.Tree.{IsRevTree}
 use Rattle.hub_revtree.specs.Extend.{path_to}
 use Rattle.hub_revtree.proofs.TreeLemmas.{known_by, all_of_one, in_tree}
@@ -87,10 +88,26 @@ path_history es r path tree h = elim (cases_Bool (is_known es [] r)) [
   | inr t ↦ absurd (let e = rw t at h in cc)
 ]
 
+-- and only a known revision has one
+pub path_known : (es : List Edit) (r : Revision) (path : List Revision) → path_to es r ≡ Some path → IsKnown es [] r
+path_known es r path h = elim (cases_Bool (is_known es [] r)) [
+  | inl t ↦ known_is es [] r t
+  | inr t ↦ absurd (let e = rw t at h in cc)
+]
+
 -- what no path names is missing
-pub missing_by : (bs : List Branch) (revs : List Revision) → filter (λ r. not (list_any (λ b. names b.path r) bs)) revs ≡ missing (edits_in bs) [] revs
+pub missing_by : (bs : List Branch) (revs : List Revision) → unnamed_in bs revs ≡ missing (edits_in bs) [] revs
 missing_by bs [] = refl
 missing_by bs (r ∷ revs) = elim (cases_Bool (list_any (λ b. names b.path r) bs)) [
   | inl t ↦ rw (t, known_by bs r ∙ t) (missing_by bs revs)
   | inr t ↦ rw (t, known_by bs r ∙ t) (ap (λ rs. r ∷ rs) (missing_by bs revs))
 ]
+
+none_lower : (rs : List Revision) → filter (λ r. nat_lt r.generation 0) rs ≡ []
+none_lower [] = refl
+none_lower (r ∷ rs) = ap (λ b. if b then (r ∷ filter (λ s. nat_lt s.generation 0) rs) else filter (λ s. nat_lt s.generation 0) rs) (le-ltb r.generation 0 (omega arith)) ∙ none_lower rs
+
+-- of nothing that is missing there are no ancestors
+pub none_missing : (es : List Edit) (revs ms : List Revision) → ms ≡ missing es [] revs → true ≡ (length ms == 0) → ms ≡ possible_ancestors es [] revs
+none_missing es revs [] is e = sym (none_lower (revisions_of (leaves_of es []))) ∙ ap (λ ms. filter (λ r. nat_lt r.generation (highest ms)) (revisions_of (leaves_of es []))) is
+none_missing es revs (m ∷ ms) is e = absurd (let z : length (m ∷ ms) ≡ 0 = eqb-true (length (m ∷ ms)) 0 (sym e) in omega (arith, z))

@@ -1,5 +1,8 @@
 -- How a branch is seen (own).
-use Rattle.std.specs.Prelude.{List, [], map}
+use Rattle.std.specs.Prelude.{List, [], map, filter, not}
+use Rattle.std.specs.List.{list_any}
+use Rattle.hub_model.specs.Revision.{Revision}
+use Rattle.hub_model.specs.Path.{names}
 use Rattle.hub_model.specs.Journal.{Edit}
 use Rattle.hub_revtree.specs.declared.branch.Branch.{Branch}
 
@@ -10,3 +13,7 @@ edit_of branch = record { id = []; path = branch.path; deleted = branch.deleted;
 -- several
 abbrev pub edits_in : List Branch → List Edit
 edits_in branches = map edit_of branches
+
+-- those of the revisions that no path of the branches names, in the same order
+abbrev pub unnamed_in : List Branch → List Revision → List Revision
+unnamed_in branches revs = filter (λ r. not (list_any (λ b. names b.path r) branches)) revs

@@ -1,11 +1,11 @@
 //! One stored edit of a document.
 
-ghost use Rattle.std.specs.Prelude.{◌≡◌, drop, filter, find, not, option_map, IfOk};
+ghost use Rattle.std.specs.Prelude.{◌≡◌, [], drop, find, option_map, IfOk, OnErr};
 ghost use Rattle.std.specs.List.{list_any, list_all};
 ghost use Rattle.hub_model.specs.Path.{names, agrees as agrees_with, is_one as is_at_most_one, is_first};
 ghost use Rattle.hub_model.specs.Leaves.{is_behind_head as stands_behind_head};
 ghost use Rattle.hub_document.specs.Lines.{from_on};
-ghost use Rattle.hub_revtree.specs.Branch.{edit_of};
+ghost use Rattle.hub_revtree.specs.Branch.{edit_of, unnamed_in};
 
 use hub_document::{Body, Path, RevId};
 use std::alloc::{AllocError, Global};
@@ -67,12 +67,17 @@ pub(crate) fn unnamed(
     branches: &[Branch],
     revs: &[RevId],
 ) -> Result<Vec<RevId>, AllocError>
-    ensures { IfOk result (λ found. found.items ≡ filter (λ r. not (list_any (λ b. names b.path r) branches.now)) revs.now) }
+    ensures ok { IfOk result (λ found. found.items ≡ unnamed_in branches.now revs.now) }
+    ensures memory { OnErr result (¬ (unnamed_in branches.now revs.now ≡ [])) }
 {
-    revs.iter()
-        .copied()
-        .filter(|rev| !is_named(branches, rev))
-        .collect(alloc)
+    let mut found = Vec::new(alloc);
+    for rev in revs {
+        if is_named(branches, rev) {
+            continue;
+        }
+        found.push(*rev)?;
+    }
+    Ok(found)
 }
 
 /// The revision and all that stands behind it in the first path that names it. One look a branch.

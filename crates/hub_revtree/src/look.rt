@@ -1,6 +1,7 @@
 //! What a tree is asked.
 
-ghost use Rattle.std.specs.Prelude.{◌≡◌, [], IfOk, filter, find, nat_lt, option_map};
+ghost use Rattle.std.specs.Prelude.{◌≡◌, [], IfOk, OnErr, filter, find, nat_lt, option_map};
+ghost use Rattle.hub_model.specs.Journal.{IsKnown};
 ghost use Rattle.hub_model.specs.Leaves.{leaves_of, revisions_of};
 ghost use Rattle.hub_model.specs.Missing.{highest as highest_of, missing as missing_from, possible_ancestors as ancestors_from};
 ghost use Rattle.hub_model.specs.Walk.{is_head};
@@ -46,8 +47,12 @@ impl RevTree {
     /// The leaves, best first. Each head is looked for in each edit's path, and each leaf is compared
     /// with other leaves: at most the square of the number of edits.
     pub fn leaves(&self, alloc: Global) -> Result<Revisions, AllocError>
-        ensures { IfOk result (λ revs. revs ≡ revisions_of (leaves_of self.now.edits [])) }
+        ensures ok { IfOk result (λ revs. revs ≡ revisions_of (leaves_of self.now.edits [])) }
+        ensures memory { OnErr result (¬ (self.now.edits ≡ [])) }
     {
+        if self.is_empty() {
+            return Ok(Revisions::new(Vec::new(alloc)));
+        }
         let leaves = best_leaves(alloc, self.branches())?;
         let revs = revisions(alloc, leaves.as_slice())?;
         Ok(Revisions::new(revs))
@@ -56,7 +61,8 @@ impl RevTree {
     /// A known revision and all that stands behind it; None of one that is not known. It costs a
     /// look an edit, and the length of the path.
     pub fn path(&self, alloc: Global, rev: &RevId) -> Result<Option<Path>, AllocError>
-        ensures { IfOk result (λ path. path ≡ path_to self.now.edits rev.now) }
+        ensures ok { IfOk result (λ path. path ≡ path_to self.now.edits rev.now) }
+        ensures memory { OnErr result (IsKnown self.now.edits [] rev.now) }
     {
         let Some(line) = self.line(rev) else {
             return Ok(None);
@@ -75,7 +81,8 @@ impl RevTree {
 
     /// Of these revisions those that are not known, in the same order. One look an edit for each.
     pub fn missing(&self, alloc: Global, revs: &[RevId]) -> Result<Revisions, AllocError>
-        ensures { IfOk result (λ found. found ≡ missing_from self.now.edits [] revs.now) }
+        ensures ok { IfOk result (λ found. found ≡ missing_from self.now.edits [] revs.now) }
+        ensures memory { OnErr result (¬ (missing_from self.now.edits [] revs.now ≡ [])) }
     {
         let found = unnamed(alloc, self.branches(), revs)?;
         Ok(Revisions::new(found))
@@ -85,9 +92,13 @@ impl RevTree {
     /// those that a replicator may already have of what stands behind them. It costs what `missing`
     /// and `leaves` do.
     pub fn possible_ancestors(&self, alloc: Global, revs: &[RevId]) -> Result<Revisions, AllocError>
-        ensures { IfOk result (λ found. found ≡ ancestors_from self.now.edits [] revs.now) }
+        ensures ok { IfOk result (λ found. found ≡ ancestors_from self.now.edits [] revs.now) }
+        ensures memory { OnErr result (¬ (missing_from self.now.edits [] revs.now ≡ [])) }
     {
         let missing = self.missing(alloc, revs)?;
+        if missing.as_slice().is_empty() {
+            return Ok(missing);
+        }
         let newest = highest(missing.as_slice());
         let leaves = self.leaves(alloc)?;
         let found = below(alloc, leaves.as_slice(), newest)?;

@@ -5,7 +5,7 @@ ghost use Rattle.hub_model.specs.declared.feeds.Item.{Item as FeedItem};
 ghost use Rattle.hub_http.specs.Counts.{Rose, Sends};
 ghost use Rattle.hub_http.specs.Items.{item_text, feed_head};
 ghost use Rattle.hub_http.specs.Chunks.{Writes, text_chunks};
-ghost use Rattle.hub_session.specs.Feeds.{feed_text, items_text, sent_text, behind_item, rows_after, GivesBack, Streams, is_broken, last_chunk, is_end};
+ghost use Rattle.hub_session.specs.Feeds.{feed_text, items_text, sent_text, behind_item, rows_after, GivesBack, Streams, is_broken, last_chunk};
 
 use crate::closing::StreamEnd;
 use crate::service::Service;
@@ -31,17 +31,6 @@ fn last_chunk() -> &'static str
     "0\r\n\r\n"
 }
 
-/// Whether the subscriber may wait between the items, so that each has to be flushed.
-fn waits(mode: Mode) -> bool {
-    mode != Mode::Normal
-}
-
-fn is_end(item: &Item<ChangeRow>) -> bool
-    ensures { result ≡ is_end item.now }
-{
-    matches!(item, Item::End { .. })
-}
-
 /// How many rows came before the next item.
 fn rows_after(rows: u64, item: &Item<ChangeRow>) -> u64
     requires { rows + 1 < 2 ^ 64 }
@@ -60,7 +49,7 @@ fn send_head<W: Output>(writer: &mut W, mode: Mode) -> Result<(), IoFault>
     ensures monotone { W.fault_count writer.old ≤ W.fault_count writer.new }
     ensures fault { OnErr result (Rose (W.fault_count writer.old) (W.fault_count writer.new)) }
 {
-    if waits(mode) {
+    if mode.waits() {
         send(writer, head_chunk(mode).as_bytes())
     } else {
         write_all(writer, head_chunk(mode).as_bytes())
@@ -77,7 +66,7 @@ fn finish_item<W: Output>(writer: &mut W, mode: Mode, item: &Item<ChangeRow>) ->
     match item {
         Item::End { .. } => send(writer, last_chunk().as_bytes()),
         Item::Row(_) | Item::Beat => {
-            if waits(mode) {
+            if mode.waits() {
                 send(writer, b"")
             } else {
                 Ok(())
@@ -183,7 +172,7 @@ fn send_items<W: Output, S: Service>(
                 return StreamEnd::Broken;
             }
         }
-        if is_end(&item) {
+        if item.is_end() {
             return StreamEnd::Complete;
         }
         rows = rows_after(rows, &item);

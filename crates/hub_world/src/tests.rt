@@ -9,79 +9,97 @@ use hub_feed::FeedId;
 use hub_model::{Fault, Item, Outcome};
 use hub_params::FeedParams;
 use std::alloc::{AllocError, Global};
+use std::process::Abort;
 use std::test::Fail;
 
-// Events that are put together one by one.
-#[derive(Drop)]
-struct Script {
+// A step of a script; feeds go by their numbers.
+#[derive(Clone, Copy)]
+enum Step<'a> {
+    // Documents of these texts come with their histories.
+    Write(&'a [&'a str]),
+    // Documents of these texts come whose revisions are to be made.
+    Make(&'a [&'a str]),
+    // A feed is opened that this query asks for.
+    Begin(&'a str),
+    Hand(u64),
+    Beat(u64),
+    Expire(u64),
+    Take(u64),
+    Finish(u64),
+    Delete,
+}
+
+// Documents of these texts, with their histories or without.
+fn docs(alloc: Global, texts: &[&str], new_edits: bool) -> Result<Vec<Doc>, Fail> {
+    let mut docs = Vec::new(alloc);
+    for text in texts {
+        docs.push(Doc::read(alloc, text.as_bytes(), new_edits)?)?;
+    }
+    Ok(docs)
+}
+
+// A feed that a query asks for.
+fn begin(alloc: Global, query: &str) -> Result<Event, Fail> {
+    match FeedParams::read(alloc, query.as_bytes(), b"") {
+        Ok(params) => Ok(Event::Begin(params)),
+        Err(_) => Err(Fail::new("no parameters")),
+    }
+}
+
+fn event(alloc: Global, step: Step<'_>) -> Result<Event, Fail> {
+    match step {
+        Step::Write(texts) => Ok(Event::Write(docs(alloc, texts, false)?)),
+        Step::Make(texts) => Ok(Event::Interactive(docs(alloc, texts, true)?)),
+        Step::Begin(query) => begin(alloc, query),
+        Step::Hand(number) => Ok(Event::Hand(FeedId { number })),
+        Step::Beat(number) => Ok(Event::Beat(FeedId { number })),
+        Step::Expire(number) => Ok(Event::Expire(FeedId { number })),
+        Step::Take(number) => Ok(Event::Take(FeedId { number })),
+        Step::Finish(number) => Ok(Event::Finish(FeedId { number })),
+        Step::Delete => Ok(Event::Delete),
+    }
+}
+
+fn events(alloc: Global, steps: &[(Step<'_>, &str)]) -> Result<Vec<Event>, Fail> {
+    let mut events = Vec::new(alloc);
+    for (step, _) in steps {
+        events.push(event(alloc, *step)?)?;
+    }
+    Ok(events)
+}
+
+// The replies of a run, a line each.
+fn told(alloc: Global, limits: Limits, events: Vec<Event>) -> Result<String, Fail> {
+    let (_world, replies) = World::run(alloc, limits, events)?;
+    let mut told = String::new(alloc);
+    for reply in &replies {
+        told.push_str(reply_text(alloc, reply)?.as_str())?;
+        told.push_str("\n")?;
+    }
+    Ok(told)
+}
+
+// The replies that are wanted, a line each.
+fn wanted(alloc: Global, steps: &[(Step<'_>, &str)]) -> Result<String, AllocError> {
+    let mut wanted = String::new(alloc);
+    for (_, reply) in steps {
+        wanted.push_str(reply)?;
+        wanted.push_str("\n")?;
+    }
+    Ok(wanted)
+}
+
+// Each of these steps has the reply beside it.
+fn is_told(
+    rt: &impl Abort,
     alloc: Global,
-    events: Vec<Event>,
-}
-
-// The feed of this number.
-fn feed(number: u64) -> FeedId {
-    FeedId { number }
-}
-
-impl Script {
-    fn new(alloc: Global) -> Script {
-        Script {
-            alloc,
-            events: Vec::new(alloc),
-        }
-    }
-
-    fn push(&mut self, event: Event) -> Result<(), Fail> {
-        self.events.push(event)?;
-        Ok(())
-    }
-
-    // Documents whose texts these are, with their histories or without.
-    fn docs(&self, texts: &[&str], new_edits: bool) -> Result<Vec<Doc>, Fail> {
-        let mut docs = Vec::new(self.alloc);
-        for text in texts {
-            docs.push(Doc::read(self.alloc, text.as_bytes(), new_edits)?)?;
-        }
-        Ok(docs)
-    }
-
-    fn write(&mut self, texts: &[&str]) -> Result<(), Fail> {
-        let docs = self.docs(texts, false)?;
-        self.push(Event::Write(docs))
-    }
-
-    fn make(&mut self, texts: &[&str]) -> Result<(), Fail> {
-        let docs = self.docs(texts, true)?;
-        self.push(Event::Interactive(docs))
-    }
-
-    // A feed that a query asks for.
-    fn begin(&mut self, query: &str) -> Result<(), Fail> {
-        match FeedParams::read(self.alloc, query.as_bytes(), b"") {
-            Ok(params) => self.push(Event::Begin(params)),
-            Err(_) => Err(Fail::new("no parameters")),
-        }
-    }
-
-    // So many hands of feed 0.
-    fn hand(&mut self, times: usize) -> Result<(), Fail> {
-        for _ in 0..times {
-            self.push(Event::Hand(feed(0)))?;
-        }
-        Ok(())
-    }
-
-    // The replies of a run, a line each.
-    fn told(self, limits: Limits) -> Result<String, Fail> {
-        let alloc = self.alloc;
-        let (_world, replies) = World::run(alloc, limits, self.events)?;
-        let mut told = String::new(alloc);
-        for reply in &replies {
-            told.push_str(reply_text(alloc, reply)?.as_str())?;
-            told.push_str("\n")?;
-        }
-        Ok(told)
-    }
+    limits: Limits,
+    steps: &[(Step<'_>, &str)],
+) -> Result<(), Fail> {
+    let told = told(alloc, limits, events(alloc, steps)?)?;
+    let wanted = wanted(alloc, steps)?;
+    assert_eq!(rt; told.as_str(), wanted.as_str());
+    Ok(())
 }
 
 // The text of a revision.
@@ -180,190 +198,245 @@ const B: &str = r#"{"_id":"b","_rev":"1-b"}"#;
 
 const C: &str = r#"{"_id":"c","_rev":"1-c"}"#;
 
+const D: &str = r#"{"_id":"d","_rev":"1-d"}"#;
+
+const E: &str = r#"{"_id":"e","_rev":"1-e"}"#;
+
 const DESIGN: &str = r#"{"_id":"_design/x","_rev":"1-x"}"#;
 
 #[test]
 fn a_since_above_the_end_is_the_end(rt: HostRuntime) -> Result<(), Fail> {
-    let mut script = Script::new(rt.alloc());
-    script.write(&[A, B, C])?;
-    script.begin("since=99")?;
-    script.hand(2)?;
-    script.begin("feed=continuous&since=99")?;
-    script.push(Event::Hand(feed(1)))?;
-    script.write(&[r#"{"_id":"d","_rev":"1-d"}"#])?;
-    script.push(Event::Hand(feed(1)))?;
-    let wanted =
-        "wrote 1-a 1-b 1-c\nopened 0\nend 3 pending 0\ngone\nopened 1\nnothing\nwrote 1-d\nrow 4 d 1-d\n";
-    assert_eq!(rt; script.told(Limits::full())?.as_str(), wanted);
-    Ok(())
+    is_told(
+        &rt,
+        rt.alloc(),
+        Limits::full(),
+        &[
+            (Step::Write(&[A, B, C]), "wrote 1-a 1-b 1-c"),
+            (Step::Begin("since=99"), "opened 0"),
+            (Step::Hand(0), "end 3 pending 0"),
+            (Step::Hand(0), "gone"),
+            (Step::Begin("feed=continuous&since=99"), "opened 1"),
+            (Step::Hand(1), "nothing"),
+            (Step::Write(&[D]), "wrote 1-d"),
+            (Step::Hand(1), "row 4 d 1-d"),
+        ],
+    )
 }
+
+// Eight documents.
+const EIGHT: [&str; 8] = [
+    r#"{"_id":"1","_rev":"1-a"}"#,
+    r#"{"_id":"2","_rev":"1-a"}"#,
+    r#"{"_id":"3","_rev":"1-a"}"#,
+    r#"{"_id":"4","_rev":"1-a"}"#,
+    r#"{"_id":"5","_rev":"1-a"}"#,
+    r#"{"_id":"6","_rev":"1-a"}"#,
+    r#"{"_id":"7","_rev":"1-a"}"#,
+    r#"{"_id":"8","_rev":"1-a"}"#,
+];
+
+// Later revisions of two of them.
+const LATER: [&str; 2] = [
+    r#"{"_id":"3","_rev":"2-b","_revisions":{"start":2,"ids":["b","a"]}}"#,
+    r#"{"_id":"5","_rev":"2-b","_revisions":{"start":2,"ids":["b","a"]}}"#,
+];
 
 #[test]
 fn rows_beyond_the_bound_are_left_for_later(rt: HostRuntime) -> Result<(), Fail> {
-    let mut script = Script::new(rt.alloc());
-    script.write(&[
-        r#"{"_id":"1","_rev":"1-a"}"#,
-        r#"{"_id":"2","_rev":"1-a"}"#,
-        r#"{"_id":"3","_rev":"1-a"}"#,
-        r#"{"_id":"4","_rev":"1-a"}"#,
-        r#"{"_id":"5","_rev":"1-a"}"#,
-        r#"{"_id":"6","_rev":"1-a"}"#,
-        r#"{"_id":"7","_rev":"1-a"}"#,
-        r#"{"_id":"8","_rev":"1-a"}"#,
-    ])?;
-    script.begin("")?;
-    script.hand(3)?;
-    script.write(&[
-        r#"{"_id":"3","_rev":"2-b","_revisions":{"start":2,"ids":["b","a"]}}"#,
-        r#"{"_id":"5","_rev":"2-b","_revisions":{"start":2,"ids":["b","a"]}}"#,
-    ])?;
-    script.hand(6)?;
-    let wanted =
-        "wrote 1-a 1-a 1-a 1-a 1-a 1-a 1-a 1-a\nopened 0\nrow 1 1 1-a\nrow 2 2 1-a\nrow 3 3 1-a\nwrote 2-b 2-b\nrow 4 4 1-a\nrow 6 6 1-a\nrow 7 7 1-a\nrow 8 8 1-a\nend 8 pending 2\ngone\n";
-    assert_eq!(rt; script.told(Limits::full())?.as_str(), wanted);
-    Ok(())
+    is_told(
+        &rt,
+        rt.alloc(),
+        Limits::full(),
+        &[
+            (Step::Write(&EIGHT), "wrote 1-a 1-a 1-a 1-a 1-a 1-a 1-a 1-a"),
+            (Step::Begin(""), "opened 0"),
+            (Step::Hand(0), "row 1 1 1-a"),
+            (Step::Hand(0), "row 2 2 1-a"),
+            (Step::Hand(0), "row 3 3 1-a"),
+            (Step::Write(&LATER), "wrote 2-b 2-b"),
+            (Step::Hand(0), "row 4 4 1-a"),
+            (Step::Hand(0), "row 6 6 1-a"),
+            (Step::Hand(0), "row 7 7 1-a"),
+            (Step::Hand(0), "row 8 8 1-a"),
+            (Step::Hand(0), "end 8 pending 2"),
+            (Step::Hand(0), "gone"),
+        ],
+    )
 }
 
 #[test]
 fn a_full_lane_keeps_the_row_for_later(rt: HostRuntime) -> Result<(), Fail> {
-    let mut script = Script::new(rt.alloc());
-    script.write(&[A, B, C])?;
-    script.begin("feed=continuous")?;
-    script.hand(3)?;
-    script.push(Event::Take(feed(0)))?;
-    script.hand(1)?;
-    script.push(Event::Take(feed(0)))?;
-    script.push(Event::Take(feed(0)))?;
-    script.push(Event::Take(feed(0)))?;
-    script.hand(1)?;
-    let wanted =
-        "wrote 1-a 1-b 1-c\nopened 0\nrow 1 a 1-a\nrow 2 b 1-b\nfull\ntook row 1 a 1-a\nrow 3 c 1-c\ntook row 2 b 1-b\ntook row 3 c 1-c\ntook none\nnothing\n";
-    assert_eq!(rt; script.told(limits(1, 2))?.as_str(), wanted);
-    Ok(())
-}
-
-// A longpoll feed for design documents, on five plain ones, that found nothing yet.
-fn waiting(alloc: Global) -> Result<Script, Fail> {
-    let mut script = Script::new(alloc);
-    script.write(&[
-        A,
-        B,
-        C,
-        r#"{"_id":"d","_rev":"1-d"}"#,
-        r#"{"_id":"e","_rev":"1-e"}"#,
-    ])?;
-    script.begin("feed=longpoll&filter=_design")?;
-    script.hand(1)?;
-    Ok(script)
+    is_told(
+        &rt,
+        rt.alloc(),
+        limits(1, 2),
+        &[
+            (Step::Write(&[A, B, C]), "wrote 1-a 1-b 1-c"),
+            (Step::Begin("feed=continuous"), "opened 0"),
+            (Step::Hand(0), "row 1 a 1-a"),
+            (Step::Hand(0), "row 2 b 1-b"),
+            (Step::Hand(0), "full"),
+            (Step::Take(0), "took row 1 a 1-a"),
+            (Step::Hand(0), "row 3 c 1-c"),
+            (Step::Take(0), "took row 2 b 1-b"),
+            (Step::Take(0), "took row 3 c 1-c"),
+            (Step::Take(0), "took none"),
+            (Step::Hand(0), "nothing"),
+        ],
+    )
 }
 
 #[test]
 fn a_longpoll_feed_waits_for_a_row_that_passes(rt: HostRuntime) -> Result<(), Fail> {
-    let mut script = waiting(rt.alloc())?;
-    script.write(&[DESIGN])?;
-    script.hand(3)?;
-    let wanted =
-        "wrote 1-a 1-b 1-c 1-d 1-e\nopened 0\nnothing\nwrote 1-x\nrow 6 _design/x 1-x\nend 6 pending 0\ngone\n";
-    assert_eq!(rt; script.told(Limits::full())?.as_str(), wanted);
+    is_told(
+        &rt,
+        rt.alloc(),
+        Limits::full(),
+        &[
+            (Step::Write(&[A, B, C, D, E]), "wrote 1-a 1-b 1-c 1-d 1-e"),
+            (Step::Begin("feed=longpoll&filter=_design"), "opened 0"),
+            (Step::Hand(0), "nothing"),
+            (Step::Write(&[DESIGN]), "wrote 1-x"),
+            (Step::Hand(0), "row 6 _design/x 1-x"),
+            (Step::Hand(0), "end 6 pending 0"),
+            (Step::Hand(0), "gone"),
+        ],
+    )
+}
 
-    let mut script = waiting(rt.alloc())?;
-    script.push(Event::Expire(feed(0)))?;
-    script.hand(2)?;
-    let wanted = "wrote 1-a 1-b 1-c 1-d 1-e\nopened 0\nnothing\nnothing\nend 5 pending 0\ngone\n";
-    assert_eq!(rt; script.told(Limits::full())?.as_str(), wanted);
-    Ok(())
+#[test]
+fn a_longpoll_feed_ends_without_a_row_once_its_time_is_over(rt: HostRuntime) -> Result<(), Fail> {
+    is_told(
+        &rt,
+        rt.alloc(),
+        Limits::full(),
+        &[
+            (Step::Write(&[A, B, C, D, E]), "wrote 1-a 1-b 1-c 1-d 1-e"),
+            (Step::Begin("feed=longpoll&filter=_design"), "opened 0"),
+            (Step::Hand(0), "nothing"),
+            (Step::Expire(0), "nothing"),
+            (Step::Hand(0), "end 5 pending 0"),
+            (Step::Hand(0), "gone"),
+        ],
+    )
 }
 
 #[test]
 fn a_longpoll_feed_is_bound_at_its_first_row(rt: HostRuntime) -> Result<(), Fail> {
-    let mut script = Script::new(rt.alloc());
-    script.begin("feed=longpoll")?;
-    script.write(&[A, B])?;
-    script.hand(1)?;
-    script.write(&[C])?;
-    script.hand(3)?;
-    let wanted =
-        "opened 0\nwrote 1-a 1-b\nrow 1 a 1-a\nwrote 1-c\nrow 2 b 1-b\nend 2 pending 1\ngone\n";
-    assert_eq!(rt; script.told(Limits::full())?.as_str(), wanted);
-    Ok(())
+    is_told(
+        &rt,
+        rt.alloc(),
+        Limits::full(),
+        &[
+            (Step::Begin("feed=longpoll"), "opened 0"),
+            (Step::Write(&[A, B]), "wrote 1-a 1-b"),
+            (Step::Hand(0), "row 1 a 1-a"),
+            (Step::Write(&[C]), "wrote 1-c"),
+            (Step::Hand(0), "row 2 b 1-b"),
+            (Step::Hand(0), "end 2 pending 1"),
+            (Step::Hand(0), "gone"),
+        ],
+    )
 }
 
 #[test]
 fn heartbeats_are_handed_where_they_are_asked_for(rt: HostRuntime) -> Result<(), Fail> {
-    let mut script = Script::new(rt.alloc());
-    script.write(&[A])?;
-    script.begin("heartbeat=true")?;
-    script.begin("feed=continuous")?;
-    script.begin("feed=continuous&heartbeat=1000")?;
-    script.begin("feed=longpoll&heartbeat=1000")?;
-    for number in 0..5 {
-        script.push(Event::Beat(feed(number)))?;
-    }
-    script.push(Event::Hand(feed(2)))?;
-    script.push(Event::Beat(feed(2)))?;
-    script.push(Event::Take(feed(2)))?;
-    script.push(Event::Beat(feed(2)))?;
-    script.push(Event::Take(feed(2)))?;
-    script.push(Event::Expire(feed(3)))?;
-    script.push(Event::Beat(feed(3)))?;
-    let wanted =
-        "wrote 1-a\nopened 0\nopened 1\nopened 2\nopened 3\nnothing\nnothing\nbeat\nbeat\nnothing\nrow 1 a 1-a\nfull\ntook beat\nbeat\ntook row 1 a 1-a\nnothing\nnothing\n";
-    assert_eq!(rt; script.told(limits(4, 2))?.as_str(), wanted);
-    Ok(())
+    is_told(
+        &rt,
+        rt.alloc(),
+        limits(4, 2),
+        &[
+            (Step::Write(&[A]), "wrote 1-a"),
+            (Step::Begin("heartbeat=true"), "opened 0"),
+            (Step::Begin("feed=continuous"), "opened 1"),
+            (Step::Begin("feed=continuous&heartbeat=1000"), "opened 2"),
+            (Step::Begin("feed=longpoll&heartbeat=1000"), "opened 3"),
+            (Step::Beat(0), "nothing"),
+            (Step::Beat(1), "nothing"),
+            (Step::Beat(2), "beat"),
+            (Step::Beat(3), "beat"),
+            (Step::Beat(4), "nothing"),
+            (Step::Hand(2), "row 1 a 1-a"),
+            (Step::Beat(2), "full"),
+            (Step::Take(2), "took beat"),
+            (Step::Beat(2), "beat"),
+            (Step::Take(2), "took row 1 a 1-a"),
+            (Step::Expire(3), "nothing"),
+            (Step::Beat(3), "nothing"),
+        ],
+    )
 }
 
 #[test]
 fn deletion_ends_feeds_and_refuses_the_rest(rt: HostRuntime) -> Result<(), Fail> {
-    let mut script = Script::new(rt.alloc());
-    script.write(&[A, B])?;
-    script.begin("feed=continuous")?;
-    script.hand(1)?;
-    script.push(Event::Delete)?;
-    script.hand(2)?;
-    script.push(Event::Delete)?;
-    script.make(&[r#"{"_id":"c"}"#, r#"{"_id":"d"}"#])?;
-    script.write(&[C])?;
-    script.write(&[])?;
-    script.begin("")?;
-    let wanted =
-        "wrote 1-a 1-b\nopened 0\nrow 1 a 1-a\nnothing\nend 1 pending 1\ngone\ndatabase deleted\nwrote deleted deleted\nwrote deleted\nwrote\ndatabase deleted\n";
-    assert_eq!(rt; script.told(Limits::full())?.as_str(), wanted);
-    Ok(())
+    is_told(
+        &rt,
+        rt.alloc(),
+        Limits::full(),
+        &[
+            (Step::Write(&[A, B]), "wrote 1-a 1-b"),
+            (Step::Begin("feed=continuous"), "opened 0"),
+            (Step::Hand(0), "row 1 a 1-a"),
+            (Step::Delete, "nothing"),
+            (Step::Hand(0), "end 1 pending 1"),
+            (Step::Hand(0), "gone"),
+            (Step::Delete, "database deleted"),
+            (
+                Step::Make(&[r#"{"_id":"c"}"#, r#"{"_id":"d"}"#]),
+                "wrote deleted deleted",
+            ),
+            (Step::Write(&[C]), "wrote deleted"),
+            (Step::Write(&[]), "wrote"),
+            (Step::Begin(""), "database deleted"),
+        ],
+    )
 }
 
 #[test]
 fn a_finished_feed_makes_room_for_another(rt: HostRuntime) -> Result<(), Fail> {
-    let mut script = Script::new(rt.alloc());
-    script.write(&[A, B])?;
-    script.begin("style=all_docs&include_docs=true")?;
-    script.begin("")?;
-    script.hand(2)?;
-    script.push(Event::Take(feed(0)))?;
-    script.push(Event::Finish(feed(0)))?;
-    script.push(Event::Take(feed(0)))?;
-    script.hand(1)?;
-    script.push(Event::Finish(feed(0)))?;
-    script.begin("since=now")?;
-    script.push(Event::Hand(feed(1)))?;
-    let wanted =
-        "wrote 1-a 1-b\nopened 0\ntoo many feeds\nrow 1 a 1-a with its document\nrow 2 b 1-b with its document\ntook row 1 a 1-a with its document\nleft 1\ntook none\ngone\nleft 0\nopened 1\nend 2 pending 0\n";
-    assert_eq!(rt; script.told(limits(1, 64))?.as_str(), wanted);
-    Ok(())
+    is_told(
+        &rt,
+        rt.alloc(),
+        limits(1, 64),
+        &[
+            (Step::Write(&[A, B]), "wrote 1-a 1-b"),
+            (Step::Begin("style=all_docs&include_docs=true"), "opened 0"),
+            (Step::Begin(""), "too many feeds"),
+            (Step::Hand(0), "row 1 a 1-a with its document"),
+            (Step::Hand(0), "row 2 b 1-b with its document"),
+            (Step::Take(0), "took row 1 a 1-a with its document"),
+            (Step::Finish(0), "left 1"),
+            (Step::Take(0), "took none"),
+            (Step::Hand(0), "gone"),
+            (Step::Finish(0), "left 0"),
+            (Step::Begin("since=now"), "opened 1"),
+            (Step::Hand(1), "end 2 pending 0"),
+        ],
+    )
 }
+
+const THIRD: &str = r#"{"_id":"a","_rev":"3-c","_revisions":{"start":3,"ids":["c","b","q"]}}"#;
+
+const FOURTH: &str =
+    r#"{"_id":"a","_rev":"4-d","_revisions":{"start":4,"ids":["d","c","b","a"]},"_deleted":true}"#;
 
 #[test]
 fn writes_answer_for_each_document(rt: HostRuntime) -> Result<(), Fail> {
-    let mut script = Script::new(rt.alloc());
-    script.write(&[A, A])?;
-    script.write(&[r#"{"_id":"a","_rev":"3-c","_revisions":{"start":3,"ids":["c","b","q"]}}"#])?;
-    script.make(&[r#"{"_id":"a"}"#, r#"{"_id":"a","_rev":"1-q"}"#])?;
-    script.write(&[
-        r#"{"_id":"a","_rev":"4-d","_revisions":{"start":4,"ids":["d","c","b","a"]},"_deleted":true}"#,
-    ])?;
-    script.begin("style=all_docs")?;
-    script.hand(2)?;
-    let wanted =
-        "wrote 1-a known\nwrote 3-c\nwrote conflict conflict\nwrote contradicts\nopened 0\nrow 2 a 3-c 1-a\nend 2 pending 0\n";
-    assert_eq!(rt; script.told(Limits::full())?.as_str(), wanted);
-    Ok(())
+    is_told(
+        &rt,
+        rt.alloc(),
+        Limits::full(),
+        &[
+            (Step::Write(&[A, A]), "wrote 1-a known"),
+            (Step::Write(&[THIRD]), "wrote 3-c"),
+            (
+                Step::Make(&[r#"{"_id":"a"}"#, r#"{"_id":"a","_rev":"1-q"}"#]),
+                "wrote conflict conflict",
+            ),
+            (Step::Write(&[FOURTH]), "wrote contradicts"),
+            (Step::Begin("style=all_docs"), "opened 0"),
+            (Step::Hand(0), "row 2 a 3-c 1-a"),
+            (Step::Hand(0), "end 2 pending 0"),
+        ],
+    )
 }

@@ -1,6 +1,6 @@
 //! A database with its feeds and their lanes, as one machine.
 
-ghost use Rattle.std.specs.Prelude.{◌≡◌, ℕ, Some, false, map, IfOk, OnErr};
+ghost use Rattle.std.specs.Prelude.{◌≡◌, ◌<◌, ℕ, Some, false, length, map, IfOk, OnErr};
 ghost use Rattle.hub_world.specs.Answer.{answer, replies_to};
 ghost use Rattle.hub_world.specs.Core.{Shows, limits_of};
 ghost use Rattle.hub_world.specs.Growth.{MayFail};
@@ -225,6 +225,7 @@ impl World {
         ensures world { IfOk result (λ r. Shows r.0 (reached (limits_of limits) (map event_of events.items))) }
         ensures headline { IfOk result (λ r. (f : ℕ) (s : Subscription) → subscription (reached (limits_of limits) (map event_of events.items)) f ≡ Some s →
             IsFaithful (limits_of limits) (map event_of events.items) (map reply_of r.1.items) f s) }
+        ensures memory { OnErr result (0 < length events.items) }
     {
         let mut world = World::new(alloc, limits);
         let mut replies = Vec::new(alloc);

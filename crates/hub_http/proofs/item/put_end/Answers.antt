@@ -1,5 +1,5 @@
 use Rattle.hub_http.specs.Items.{end_text}
-use Rattle.hub_http.proofs.JoinLemmas.{five_parts}
+use Rattle.hub_document.proofs.WriteLemmas.{five_parts}
 use Rattle.hub_http.proofs.item.put_end.Goals as goal
 
 pub returns-clause-ok : goal.returns-clause-ok

@@ -1,5 +1,5 @@
 use Rattle.hub_http.proofs.ItemLemmas.{no_revisions, revisions_written}
-use Rattle.hub_http.proofs.JoinLemmas.{front-front}
+use Rattle.hub_document.proofs.WriteLemmas.{front-front}
 use Rattle.hub_http.proofs.item.put_revisions.Goals as goal
 
 pub returns-in_default-clause-ok : goal.returns-in_default-clause-ok

@@ -1,5 +1,5 @@
 use Rattle.hub_http.specs.Items.{row_text}
-use Rattle.hub_http.proofs.JoinLemmas.{four_parts}
+use Rattle.hub_document.proofs.WriteLemmas.{four_parts}
 use Rattle.hub_http.proofs.item.put_row.Goals as goal
 
 pub returns-clause-ok : goal.returns-clause-ok

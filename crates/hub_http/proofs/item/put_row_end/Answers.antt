@@ -1,5 +1,5 @@
 use Rattle.hub_http.specs.Items.{row_end}
-use Rattle.hub_http.proofs.JoinLemmas.{three_parts}
+use Rattle.hub_document.proofs.WriteLemmas.{three_parts}
 use Rattle.hub_http.proofs.item.put_row_end.Goals as goal
 
 pub returns-clause-ok : goal.returns-clause-ok

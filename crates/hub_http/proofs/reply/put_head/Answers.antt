@@ -1,5 +1,5 @@
 use Rattle.hub_http.specs.Texts.{head_text, type_line}
-use Rattle.hub_http.proofs.JoinLemmas.{five_parts}
+use Rattle.hub_document.proofs.WriteLemmas.{five_parts}
 use Rattle.hub_http.proofs.reply.put_head.Goals as goal
 
 pub returns : goal.returns

@@ -1,4 +1,4 @@
-use Rattle.hub_http.proofs.JoinLemmas.{five_parts}
+use Rattle.hub_document.proofs.WriteLemmas.{five_parts}
 use Rattle.hub_replies.specs.Bulk.{reason_members}
 use Rattle.hub_replies.proofs.batch.put_reason.Goals as goal
 

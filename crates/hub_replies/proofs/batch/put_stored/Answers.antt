@@ -1,4 +1,4 @@
-use Rattle.hub_http.proofs.JoinLemmas.{five_parts}
+use Rattle.hub_document.proofs.WriteLemmas.{five_parts}
 use Rattle.hub_replies.specs.Bodies.{edit_text}
 use Rattle.hub_replies.proofs.batch.put_stored.Goals as goal
 
@@ -7,7 +7,7 @@ unfolding edit_text
 returns c =
     rw (
       c.in_ok-push.ensures.items,
-      c.in_ok-put_revision.ensures,
+      c.in_ok-print_quoted.ensures.ok,
       c.in_ok-extend_from_slice-2.ensures.items,
       c.in_ok-put_id.ensures,
       c.in_ok-extend_from_slice.ensures.items,

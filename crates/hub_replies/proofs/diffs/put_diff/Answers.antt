@@ -1,4 +1,4 @@
-use Rattle.hub_http.proofs.JoinLemmas.{five_parts}
+use Rattle.hub_document.proofs.WriteLemmas.{five_parts}
 use Rattle.hub_replies.specs.Bodies.{diff_text}
 use Rattle.hub_replies.proofs.diffs.put_diff.Goals as goal
 

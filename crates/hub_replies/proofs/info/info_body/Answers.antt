@@ -1,6 +1,6 @@
 use Rattle.std.proofs.Common.{◌≡◌, ℕ, List, ◌++◌, codes, decimal, ◌∙◌}
 use Rattle.json.specs.Print.{quoted}
-use Rattle.hub_http.proofs.JoinLemmas.{four_parts, five_parts}
+use Rattle.hub_document.proofs.WriteLemmas.{four_parts, five_parts}
 use Rattle.hub_replies.specs.Bodies.{info_body}
 use Rattle.hub_replies.proofs.info.info_body.Goals as goal
 

@@ -3,7 +3,8 @@ use Rattle.hub_model.specs.Current.{Current}
 use Rattle.hub_model.specs.Row.{ChangeRow}
 use Rattle.hub_params.specs.FeedModel.{params_of}
 use Rattle.hub_database.specs.Falling.{most_of}
-use Rattle.hub_database.proofs.FallingLemmas.{all_shown, begins, goes_down, is_current, left, none_left, passed_by, past_since, rows_all, rows_enough, rows_more, show, shown_all, taken_up}
+use Rattle.hub_database.proofs.FallingLemmas.{all_shown, begins, goes_down, is_current, left, none_left, passed_by, past_since, row_due, rows_all, rows_enough, rows_more, show, shown_all, taken_up}
+use Rattle.hub_database.proofs.StoreLemmas.{on_err}
 use Rattle.hub_database.proofs.rows.Rows.falling.Goals as goal
 
 pub loop-seq-init : goal.loop-seq-init
@@ -13,15 +14,15 @@ loop-seq-init c =
     subst (λ (rs : List ChangeRow). all_shown J asked c.args.since c.most_of-most.result ≡ rs ++ map (show J asked c.args.since) (take (c.most_of-most.result - length rs) (left J asked c.args.since (c.length-place.result + 1))))
     (sym c.new-rows.ensures.items) (begins J asked c.args.since c.most_of-most.result (c.length-place.result + 1) (ap (λ n. n + 1) c.length-place.ensures))
 
-pub returns-in_default : goal.returns-in_default
-returns-in_default c =
+pub returns-in_default-clause-ok : goal.returns-in_default-clause-ok
+returns-in_default-clause-ok c =
     let J = c.args.self.now in
     let asked = params_of c.args.params.now in
     rows_all J asked c.args.since c.most_of-most.result c.loop-seq.rows.items c.loop-seq.place c.loop-seq.invariant (none_left J asked c.args.since c.loop-seq.place (c.in_default.ensures))
     ∙ (ap (all_shown J asked c.args.since) (c.most_of-most.ensures ∙ ap (most_of asked.limit) c.length.ensures) ∙ shown_all J asked c.args.since)
 
-pub returns-then-seq-since : goal.returns-then-seq-since
-returns-then-seq-since c =
+pub returns-then-seq-since-clause-ok : goal.returns-then-seq-since-clause-ok
+returns-then-seq-since-clause-ok c =
     let J = c.args.self.now in
     let asked = params_of c.args.params.now in
     let row : Current = record { seq = c.in-Some.seq; id = c.in-Some.id.now } in
@@ -58,9 +59,27 @@ loop-seq-preserved c =
     (taken_up J asked c.args.since c.loop-seq.place row c.in-Some.ensures c.if-seq-since.false (sym c.if-not-passes.ensures))
     (c.in_ok-row.ensures row (is_current J asked c.args.since c.loop-seq.place row c.in-Some.ensures) refl) c.in_ok-push.ensures.items
 
-pub returns : goal.returns
-returns c =
+pub returns-clause-ok : goal.returns-clause-ok
+returns-clause-ok c =
     let J = c.args.self.now in
     let asked = params_of c.args.params.now in
     rows_enough J asked c.args.since c.most_of-most.result c.loop-seq.rows.items c.loop-seq.place c.loop-seq.invariant (omega (arith, c.loop-seq-test.false, c.len.ensures, c.loop-seq.rows.ok.0))
     ∙ (ap (all_shown J asked c.args.since) (c.most_of-most.ensures ∙ ap (most_of asked.limit) c.length.ensures) ∙ shown_all J asked c.args.since)
+
+pub returns-in_err-row-clause-memory : goal.returns-in_err-row-clause-memory
+returns-in_err-row-clause-memory c =
+    let J = c.args.self.now in
+    let asked = params_of c.args.params.now in
+    let row : Current = record { seq = c.in-Some.seq; id = c.in-Some.id.now } in
+    on_err c.from_residual.result _
+    (row_due J asked c.args.since c.most_of-most.result c.loop-seq.rows.items c.loop-seq.place row (c.most_of-most.ensures ∙ ap (most_of asked.limit) c.length.ensures) (omega (arith, c.loop-seq-test.true, c.len.ensures, c.loop-seq.rows.ok.0)) c.loop-seq.invariant
+    (taken_up J asked c.args.since c.loop-seq.place row c.in-Some.ensures c.if-seq-since.false (sym c.if-not-passes.ensures)))
+
+pub returns-in_err-push-clause-memory : goal.returns-in_err-push-clause-memory
+returns-in_err-push-clause-memory c =
+    let J = c.args.self.now in
+    let asked = params_of c.args.params.now in
+    let row : Current = record { seq = c.in-Some.seq; id = c.in-Some.id.now } in
+    on_err c.from_residual-in_err-push.result _
+    (row_due J asked c.args.since c.most_of-most.result c.loop-seq.rows.items c.loop-seq.place row (c.most_of-most.ensures ∙ ap (most_of asked.limit) c.length.ensures) (omega (arith, c.loop-seq-test.true, c.len.ensures, c.loop-seq.rows.ok.0)) c.loop-seq.invariant
+    (taken_up J asked c.args.since c.loop-seq.place row c.in-Some.ensures c.if-seq-since.false (sym c.if-not-passes.ensures)))

@@ -1,0 +1,40 @@
+-- What is written where room is needed.
+use Rattle.std.proofs.Common.{◌≡◌, ◌<◌, ◌⊎◌, inl, inr, ℕ, List, [], ◌∷◌, length, Option, Some, None, Result, Ok, Err, IfErr, option_map, IsSome, arith, refl, subst}
+use Rattle.std.specs.Borrow.{Bor}
+use Rattle.std.specs.Option.{option_copied}
+use Rattle.std.specs.Str.Lossy.{utf8_lossy}
+use Rattle.form_urlencoded.specs.Percent.{percent_decode}
+use Rattle.hub_params.specs.Encoded.{decoded, text_in}
+use Rattle.hub_params.specs.Room.{HasBytes}
+
+-- whatever the error
+pub at_any_error : {A E : Type 0} (r : Result A E) (P : E → Type 0) → ((e : E) → P e) → IfErr r P
+at_any_error (Ok x) P p = tt
+at_any_error (Err e) P p = p e
+
+-- nothing stands for nothing
+decoded_nil : decoded [] ≡ []
+unfolding percent_decode utf8_lossy
+decoded_nil = refl
+
+bytes_of_text : (written : List ℕ) → 0 < length (decoded written) → 0 < length written
+bytes_of_text [] h = rw decoded_nil at h
+bytes_of_text (x ∷ xs) h = omega arith
+
+-- a text that is not empty was written
+pub text_has_bytes : (value : Option (Bor (List ℕ))) → HasBytes (text_in value) → HasBytes (option_copied value)
+text_has_bytes None h = h
+text_has_bytes (Some written) h = bytes_of_text written.now h
+
+pub kept_has_bytes : (value : Option (Bor (List ℕ))) (text : List ℕ) → Some text ≡ text_in value → 0 < length text → HasBytes (option_copied value)
+kept_has_bytes value text e h = text_has_bytes value (subst HasBytes e h)
+
+-- a text was written
+pub given_text : (written : Option (List ℕ)) → IsSome (option_map decoded written) → IsSome written
+given_text None h = h
+given_text (Some x) h = refl
+
+-- ids are given, or a body is
+pub given_or_body : (written : Option (List ℕ)) (body : List ℕ) (text : Option (List ℕ)) → text ≡ option_map decoded written → IsSome text ⊎ (0 < length body) → IsSome written ⊎ (0 < length body)
+given_or_body written body text e (inl h) = inl (given_text written (rw e at h))
+given_or_body written body text e (inr h) = inr h

@@ -1,0 +1,130 @@
+-- A history that is written reads as itself.
+use Rattle.std.proofs.Common.{◌≡◌, ℕ, ◌-◌, ◌<◌, ◌^◌, List, [], ◌∷◌, ◌++◌, true, false, Option, Some, None, codes, decimal, IsUtf8, refl, sym, subst, arith, ne_eqb, lt-ltb, eq-eqb}
+use Rattle.std.proofs.lemmas.Bool.{and_from, and_parts}
+use Rattle.std.proofs.lemmas.Bool.Decides.{nat_tests}
+use Rattle.std.proofs.lemmas.Fmt.{IsAscii-decimal}
+use Rattle.std.proofs.lemmas.List.Elements.{recursion_from_All}
+use Rattle.std.proofs.lemmas.List.Sums.{list_all-from_AllPass}
+use Rattle.std.proofs.lemmas.Slice.Eq.{bytes_eq-Decides}
+use Rattle.std.proofs.lemmas.Str.{IsUtf8-append, IsUtf8-from_ascii}
+use Rattle.std.specs.List.{AllByRecursion, list_all}
+use Rattle.std.specs.Prelude.{nat_lt, slice_get}
+use Rattle.hub_model.specs.Draft.{generation_of, parent_of}
+use Rattle.hub_model.specs.Path.{IsPath, IsHistory}
+use Rattle.hub_model.specs.Revision.{Revision, IsRevision, text_of, is_hash_byte, is_same}
+use Rattle.json.proofs.Printed.Utf8.{are_ascii, IsUtf8-are_ascii}
+use Rattle.serde_json.specs.Data.{unsigned, Data, number, array, object, no_members, member, items_depth}
+use Rattle.serde_json.specs.Read.{of_json}
+use Rattle.serde_json.specs.Written.{outline, items_have_float}
+use Rattle.serde_json.proofs.Numbers.{number_of-decimal}
+use Rattle.hub_document.specs.Histories.{falling, history_in, is_head}
+use Rattle.hub_document.specs.RevisionText.{is_hash, with_hash}
+use Rattle.hub_round_trip.specs.RoundTrip.{IsWritable, AreWritable, AreOrdered, IsPathOf}
+use Rattle.hub_round_trip.proofs.WrittenLemmas.{hashes, history_written}
+use Rattle.hub_round_trip.proofs.ValueLemmas.{of_items-items_outline}
+
+-- ---- hashes are ASCII
+
+letter_is_ascii : (b : ℕ) → is_hash_byte b ≡ true → nat_lt b 128 ≡ true
+letter_is_ascii b h = grind (arith, nat_tests)
+
+letters_are_ascii : (h : List ℕ) → list_all is_hash_byte h ≡ true → are_ascii h ≡ true
+letters_are_ascii [] e = refl
+letters_are_ascii (b ∷ h) e = let p = and_parts _ _ e in and_from _ _ (letter_is_ascii b p.0) (letters_are_ascii h p.1)
+
+letters : (r : Revision) → IsRevision r → list_all is_hash_byte r.hash ≡ true
+letters r good = list_all-from_AllPass is_hash_byte r.hash good.letters
+
+utf8-hash : (r : Revision) → IsRevision r → IsUtf8 r.hash
+utf8-hash r good = IsUtf8-are_ascii r.hash (letters_are_ascii r.hash (letters r good))
+
+pub utf8-text_of : (r : Revision) → IsRevision r → IsUtf8 (text_of r)
+utf8-text_of r good =
+    IsUtf8-append (decimal r.generation) _ (IsUtf8-from_ascii _ (IsAscii-decimal r.generation (let h = good.below in omega arith)))
+    (IsUtf8-append (45 ∷ []) r.hash (IsUtf8-are_ascii (45 ∷ []) refl) (utf8-hash r good))
+
+hashes_writable : (path : List Revision) → AllByRecursion IsRevision path → AreWritable (hashes path)
+hashes_writable [] h = tt
+hashes_writable (r ∷ path) h = (utf8-hash r h.0, hashes_writable path h.1)
+
+hashes_ordered : (path : List Revision) → AreOrdered (hashes path)
+hashes_ordered [] = tt
+hashes_ordered (r ∷ path) = (tt, hashes_ordered path)
+
+pub hashes_flat : (path : List Revision) → items_depth (hashes path) ≡ 0
+hashes_flat [] = refl
+hashes_flat (r ∷ path) = rw (hashes_flat path) refl
+
+pub hashes_whole : (path : List Revision) → items_have_float (hashes path) ≡ false
+hashes_whole [] = refl
+hashes_whole (r ∷ path) = hashes_whole path
+
+-- ---- the history's value
+
+-- as it is read, its keys in order
+abbrev pub history_read : List Revision → Data
+history_read path = object (member (codes "ids") (array (hashes path)) (member (codes "start") (number (unsigned (generation_of (parent_of path)))) no_members))
+
+head_fits : (path : List Revision) → IsPath path → AllByRecursion IsRevision path → (0 < generation_of (parent_of path)) × (generation_of (parent_of path) < 2 ^ 16)
+head_fits [] h good = absurd h
+head_fits (r ∷ path) h good = (good.0.from_one, good.0.below)
+
+module _ (rev : Option Revision) (path : List Revision) (h : IsPathOf rev path) where
+  good : AllByRecursion IsRevision path
+  good = recursion_from_All IsRevision path h.revisions
+
+  fits : (0 < generation_of (parent_of path)) × (generation_of (parent_of path) < 2 ^ 16)
+  fits = head_fits path h.history.falls good
+
+  pub history_writable : IsWritable (history_written path)
+  history_writable = (IsUtf8-are_ascii _ refl, (let small = fits.1 in omega arith), (IsUtf8-are_ascii _ refl, hashes_writable path good, tt))
+
+-- ---- it reads as the history
+
+-- the generations are n, n - 1, .., 1
+abbrev FallsFrom : ℕ → List Revision → Type 0
+FallsFrom n [] = n ≡ 0
+FallsFrom n (r ∷ rest) = (r.generation ≡ n) × (0 < n) × FallsFrom (n - 1) rest
+
+falls_down : (older : List Revision) (first : Revision) → first.generation ≡ 1 → IsPath (older ++ first ∷ []) → FallsFrom (generation_of (parent_of (older ++ first ∷ []))) (older ++ first ∷ [])
+falls_down [] first one h = (refl, omega arith, omega arith)
+falls_down (x ∷ []) first one h =
+    let less : first.generation ≡ x.generation - 1 = omega (arith, h.0) in
+    (refl, omega (arith, h.0), subst (λ n. FallsFrom n (first ∷ [])) less (falls_down [] first one h.1))
+falls_down (x ∷ y ∷ older) first one h =
+    let less : y.generation ≡ x.generation - 1 = omega (arith, h.0) in
+    (refl, omega (arith, h.0), subst (λ n. FallsFrom n (y ∷ (older ++ first ∷ []))) less (falls_down (y ∷ older) first one h.1))
+
+falls_from : (path : List Revision) → IsHistory path → FallsFrom (generation_of (parent_of path)) path
+falls_from path h =
+    let f = h.full in
+    subst (λ p. FallsFrom (generation_of (parent_of p)) p) (sym f.2) (falls_down f.0 f.1 f.3 (subst IsPath f.2 h.falls))
+
+hash_read : (n : ℕ) (r : Revision) → r.generation ≡ n → IsRevision r → with_hash n r.hash ≡ Some r
+hash_read n r is good =
+    let all = letters r good in
+    let hash : is_hash r.hash ≡ true = (let a = good.some in let b = good.short in grind (arith, nat_tests)) in
+    rw (← is, hash) refl
+
+falling_back : (n : ℕ) (path : List Revision) → FallsFrom n path → AllByRecursion IsRevision path → falling n (hashes path) ≡ Some path
+falling_back n [] h good = rw h refl
+falling_back n (r ∷ path) h good =
+    rw (ne_eqb n 0 (λ e. omega (arith, h.1)), hash_read n r h.0 good.0, falling_back (n - 1) path h.2 good.1) refl
+
+module _ (rev : Option Revision) (path : List Revision) (h : IsPathOf rev path) where
+  pub of_json-history : of_json (outline (history_written path)) ≡ Some (history_read path)
+  of_json-history =
+      rw (number_of-decimal (generation_of (parent_of path)) (let small = (fits rev path h).1 in omega arith), of_items-items_outline (hashes path) (hashes_writable path (good rev path h)) (hashes_ordered path)) refl
+
+  pub history_in-history_read : history_in (history_read path) ≡ Some path
+  history_in-history_read =
+      rw (lt-ltb _ _ (fits rev path h).0, lt-ltb _ _ (fits rev path h).1) (falling_back _ path (falls_from path h.history) (good rev path h))
+
+same_is_same : (r : Revision) → is_same r r ≡ true
+same_is_same r = and_from _ _ (eq-eqb r.generation r.generation refl) ((bytes_eq-Decides r.hash r.hash).1 refl)
+
+-- and the revision that is named is its first
+pub head_is_head : (rev : Option Revision) (path : List Revision) → slice_get path 0 ≡ rev → is_head rev path ≡ true
+head_is_head None path h = refl
+head_is_head (Some r) [] h = absurd (cc)
+head_is_head (Some r) (x ∷ path) h = let same : x ≡ r = cc in rw same (same_is_same r)
