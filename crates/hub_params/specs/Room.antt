@@ -75,18 +75,18 @@ abbrev pub FeedNeedsRoom : List ℕ → List ℕ → Type 0
 FeedNeedsRoom query body =
     HasEscapedName query ⊎ (
     or_next
-      (RowsNeedRoom (written_of (codes "since") query) (written_of (codes "limit") query)
-        (written_of (codes "style") query))
-      (rows_in (value_of (codes "since") query) (value_of (codes "limit") query)
-        (value_of (codes "style") query)) (λ _.
+    (RowsNeedRoom (written_of (codes "since") query) (written_of (codes "limit") query)
+    (written_of (codes "style") query))
+    (rows_in (value_of (codes "since") query) (value_of (codes "limit") query)
+    (value_of (codes "style") query)) (λ _.
     or_next
-      (KindNeedsRoom (written_of (codes "feed") query) (written_of (codes "filter") query))
-      (kind_in (value_of (codes "feed") query) (value_of (codes "filter") query)) (λ kind.
+    (KindNeedsRoom (written_of (codes "feed") query) (written_of (codes "filter") query))
+    (kind_in (value_of (codes "feed") query) (value_of (codes "filter") query)) (λ kind.
     or_next
-      (IdsNeedRoom (written_of (codes "doc_ids") query) body kind.shown)
-      (filter_in (value_of (codes "doc_ids") query) body kind.shown) (λ _.
+    (IdsNeedRoom (written_of (codes "doc_ids") query) body kind.shown)
+    (filter_in (value_of (codes "doc_ids") query) body kind.shown) (λ _.
     or_next
-      (WaitsNeedRoom (written_of (codes "heartbeat") query) (written_of (codes "timeout") query))
-      (waits_in (value_of (codes "heartbeat") query) (value_of (codes "timeout") query)) (λ _.
+    (WaitsNeedRoom (written_of (codes "heartbeat") query) (written_of (codes "timeout") query))
+    (waits_in (value_of (codes "heartbeat") query) (value_of (codes "timeout") query)) (λ _.
     FlagsNeedRoom kind.mode (written_of (codes "descending") query)
-      (written_of (codes "include_docs") query))))))
+    (written_of (codes "include_docs") query))))))
