@@ -3,4 +3,5 @@ pub mod HeadLemmas
 pub mod LeafLemmas
 pub mod TreeLemmas
 pub mod LineLemmas
+pub mod AncestorLemmas
 pub mod EditLemmas

@@ -102,12 +102,3 @@ missing_by bs (r ∷ revs) = elim (cases_Bool (list_any (λ b. names b.path r) b
   | inl t ↦ rw (t, known_by bs r ∙ t) (missing_by bs revs)
   | inr t ↦ rw (t, known_by bs r ∙ t) (ap (λ rs. r ∷ rs) (missing_by bs revs))
 ]
-
-none_lower : (rs : List Revision) → filter (λ r. nat_lt r.generation 0) rs ≡ []
-none_lower [] = refl
-none_lower (r ∷ rs) = ap (λ b. if b then (r ∷ filter (λ s. nat_lt s.generation 0) rs) else filter (λ s. nat_lt s.generation 0) rs) (le-ltb r.generation 0 (omega arith)) ∙ none_lower rs
-
--- of nothing that is missing there are no ancestors
-pub none_missing : (es : List Edit) (revs ms : List Revision) → ms ≡ missing es [] revs → true ≡ (length ms == 0) → ms ≡ possible_ancestors es [] revs
-none_missing es revs [] is e = sym (none_lower (revisions_of (leaves_of es []))) ∙ ap (λ ms. filter (λ r. nat_lt r.generation (highest ms)) (revisions_of (leaves_of es []))) is
-none_missing es revs (m ∷ ms) is e = absurd (let z : length (m ∷ ms) ≡ 0 = eqb-true (length (m ∷ ms)) 0 (sym e) in omega (arith, z))

@@ -1,6 +1,6 @@
 -- The first of some leaves (CouchDB API reference, document revisions and conflicts).
-use Rattle.std.specs.Prelude.{List, [], ◌∷◌, map, insert, Bool, true, Option, Some, None, if◌then◌else◌}
-use Rattle.std.specs.List.{position_or_len}
+use Rattle.std.specs.Prelude.{ℕ, List, [], ◌∷◌, map, insert, nat_lt, Bool, true, Option, Some, None, if◌then◌else◌}
+use Rattle.std.specs.List.{list_any, position_or_len}
 use Rattle.std.specs.Ordering.{is_gt}
 use Rattle.hub_model.specs.Leaves.{Leaf, leaf_cmp}
 use Rattle.hub_revtree.specs.declared.leaf.Winner.{Winner}
@@ -31,3 +31,7 @@ put_in leaf leaves = insert leaves (position_or_len (is_above leaf) leaves) leaf
 -- the revisions and the marks of the leaves
 abbrev pub winners_of : List Leaf → List Winner
 winners_of leaves = map (λ leaf. record { rev = leaf.rev; deleted = leaf.edit.deleted }) leaves
+
+-- whether one of the leaves is of a generation below this one
+abbrev pub has_below : ℕ → List Leaf → Bool
+has_below generation leaves = list_any (λ leaf. nat_lt leaf.rev.generation generation) leaves

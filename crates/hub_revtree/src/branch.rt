@@ -4,6 +4,7 @@ ghost use Rattle.std.specs.Prelude.{◌≡◌, [], drop, find, option_map, IfOk,
 ghost use Rattle.std.specs.List.{list_any, list_all};
 ghost use Rattle.hub_model.specs.Path.{names, agrees as agrees_with, is_one as is_at_most_one, is_first};
 ghost use Rattle.hub_model.specs.Leaves.{is_behind_head as stands_behind_head};
+ghost use Rattle.hub_model.specs.Missing.{highest as highest_of};
 ghost use Rattle.hub_document.specs.Lines.{from_on};
 ghost use Rattle.hub_revtree.specs.Branch.{edit_of, unnamed_in};
 
@@ -78,6 +79,21 @@ pub(crate) fn unnamed(
         found.push(*rev)?;
     }
     Ok(found)
+}
+
+/// The greatest generation of those of the revisions that no path names; 0 where there is none. One
+/// look a branch for each.
+pub(crate) fn highest_unnamed(branches: &[Branch], revs: &[RevId]) -> u16
+    ensures { result ≡ highest_of (unnamed_in branches.now revs.now) }
+{
+    let mut highest = 0;
+    for rev in revs {
+        if is_named(branches, rev) {
+            continue;
+        }
+        highest = rev.generation().max(highest);
+    }
+    highest
 }
 
 /// The revision and all that stands behind it in the first path that names it. One look a branch.

@@ -1,10 +1,11 @@
 //! The order of leaves.
 
-ghost use Rattle.std.specs.Prelude.{◌≡◌, map, position, IfOk, OnOk};
+ghost use Rattle.std.specs.Prelude.{◌≡◌, [], map, position, IfOk, OnOk};
+ghost use Rattle.std.specs.List.{list_any};
 ghost use Rattle.hub_model.specs.Revision.{revision_cmp};
-ghost use Rattle.hub_model.specs.Leaves.{leaf_cmp, leaves_among, best_first};
-ghost use Rattle.hub_revtree.specs.Branch.{edits_in};
-ghost use Rattle.hub_revtree.specs.Winner.{winner_of, is_better_than, is_above, put_in, winners_of};
+ghost use Rattle.hub_model.specs.Leaves.{leaf_cmp, leaves_among, best_first, with_leaf};
+ghost use Rattle.hub_revtree.specs.Branch.{edit_of, edits_in};
+ghost use Rattle.hub_revtree.specs.Winner.{has_below, winner_of, is_better_than, is_above, put_in, winners_of};
 
 use crate::branch::{Branch, is_behind};
 use hub_document::RevId;
@@ -104,6 +105,23 @@ pub(crate) fn best_leaves(alloc: Global, branches: &[Branch]) -> Result<Vec<Winn
         put(&mut leaves, Winner { rev, deleted })?;
     }
     Ok(leaves)
+}
+
+// Whether the branch's head is a leaf, and of a generation below this one. One look a branch.
+fn is_leaf_below(branches: &[Branch], branch: &Branch, generation: u16) -> bool
+    ensures { result ≡ has_below generation (with_leaf (edits_in branches.now) (edit_of branch.now) branch.now.path []) }
+{
+    let rev = branch.path.head();
+    rev.generation() < generation && !is_behind(branches, &rev)
+}
+
+/// Whether a leaf is of a generation below this one. Each head is looked for in each branch.
+pub(crate) fn has_leaf_below(branches: &[Branch], generation: u16) -> bool
+    ensures { result ≡ list_any (λ b. has_below generation (with_leaf (edits_in branches.now) (edit_of b) b.path [])) branches.now }
+{
+    branches
+        .iter()
+        .any(|branch| is_leaf_below(branches, branch, generation))
 }
 
 /// The revisions of the leaves, in the same order.

@@ -3,27 +3,16 @@
 ghost use Rattle.std.specs.Prelude.{◌≡◌, [], IfOk, OnErr, filter, find, nat_lt, option_map};
 ghost use Rattle.hub_model.specs.Journal.{IsKnown};
 ghost use Rattle.hub_model.specs.Leaves.{leaves_of, revisions_of};
-ghost use Rattle.hub_model.specs.Missing.{highest as highest_of, missing as missing_from, possible_ancestors as ancestors_from};
+ghost use Rattle.hub_model.specs.Missing.{missing as missing_from, possible_ancestors as ancestors_from};
 ghost use Rattle.hub_model.specs.Walk.{is_head};
 ghost use Rattle.hub_revtree.specs.Extend.{path_to};
 ghost use Rattle.hub_revtree.specs.Tree.{IsRevTree};
 
-use crate::branch::{head_body, line_from, unnamed};
-use crate::leaf::{best_leaves, revisions};
+use crate::branch::{head_body, highest_unnamed, line_from, unnamed};
+use crate::leaf::{best_leaves, has_leaf_below, revisions};
 use crate::tree::RevTree;
 use hub_document::{Body, Path, RevId, Revisions};
 use std::alloc::{AllocError, Global};
-
-// The greatest generation of the revisions; 0 of none.
-fn highest(revs: &[RevId]) -> u16
-    ensures { result ≡ highest_of revs.now }
-{
-    let mut highest = 0;
-    for rev in revs {
-        highest = rev.generation().max(highest);
-    }
-    highest
-}
 
 // Those of the revisions that are of a generation below this one, in the same order.
 fn below(alloc: Global, revs: &[RevId], generation: u16) -> Result<Vec<RevId>, AllocError>
@@ -90,16 +79,16 @@ impl RevTree {
 
     /// The leaves of a generation below the greatest missing one of these revisions, best first:
     /// those that a replicator may already have of what stands behind them. It costs what `missing`
-    /// and `leaves` do.
+    /// and `leaves` do, and takes memory only where there is such a leaf.
     pub fn possible_ancestors(&self, alloc: Global, revs: &[RevId]) -> Result<Revisions, AllocError>
         ensures ok { IfOk result (λ found. found ≡ ancestors_from self.now.edits [] revs.now) }
-        ensures memory { OnErr result (¬ (missing_from self.now.edits [] revs.now ≡ [])) }
+        ensures memory { OnErr result (¬ (ancestors_from self.now.edits [] revs.now ≡ [])) }
     {
-        let missing = self.missing(alloc, revs)?;
-        if missing.as_slice().is_empty() {
-            return Ok(missing);
+        let branches = self.branches();
+        let newest = highest_unnamed(branches, revs);
+        if !has_leaf_below(branches, newest) {
+            return Ok(Revisions::new(Vec::new(alloc)));
         }
-        let newest = highest(missing.as_slice());
         let leaves = self.leaves(alloc)?;
         let found = below(alloc, leaves.as_slice(), newest)?;
         Ok(Revisions::new(found))
