@@ -32,6 +32,7 @@ returns-in_err-missing-clause-memory c =
 pub returns-in_err-possible_ancestors-clause-memory :
     goal.returns-in_err-possible_ancestors-clause-memory
 returns-in_err-possible_ancestors-clause-memory c =
-    rw (sym c.self.view_is, sym c.asked.view_is, sym c.as_str.ensures.value, sym c.as_slice-4.ensures)
+    let some = some_of c.in_ok-missing.missing (rw c.as_slice-3.ensures at c.if-is_empty-2.ensures) in
+    rw (sym c.self.view_is, sym c.asked.view_is, sym c.as_str.ensures.value, sym c.as_slice-2.ensures)
     (on_err c.from_residual-in_err-possible_ancestors.result _
-    (some_wanted (edits_of_store c.self.inside.store) c.as_str.result.now c.in-Some.document.now c.in-Some.ensures.found c.as_slice-4.result.now c.in_err-possible_ancestors.ensures.memory))
+    (some_wanted (edits_of_store c.self.inside.store) c.as_str.result.now c.in-Some.document.now c.in-Some.ensures.found c.as_slice-2.result.now (λ none. some (c.in_ok-missing.ensures.ok ∙ none))))
