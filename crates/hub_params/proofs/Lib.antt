@@ -1,3 +1,4 @@
 pub mod FeedLemmas
 pub mod QueryLemmas
 pub mod RoomLemmas
+pub mod ParsedLemmas

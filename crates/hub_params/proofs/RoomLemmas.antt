@@ -1,9 +1,14 @@
 -- What is written where room is needed.
-use Rattle.std.proofs.Common.{◌≡◌, ◌<◌, ◌⊎◌, inl, inr, ℕ, List, [], ◌∷◌, length, Option, Some, None, Result, Ok, Err, IfErr, option_map, IsSome, arith, refl, subst}
+use Rattle.std.proofs.Common.{◌≡◌, ◌<◌, ◌⊎◌, inl, inr, ℕ, List, [], ◌∷◌, length, Option, Some, None, Result, Ok, Err, IfErr, arith, refl, subst, sym, ◌∙◌}
 use Rattle.std.specs.Borrow.{Bor}
 use Rattle.std.specs.Option.{option_copied}
+use Rattle.std.specs.Str.{is_utf8, chars}
 use Rattle.std.specs.Str.Lossy.{utf8_lossy}
+use Rattle.json.specs.Json.{value}
+use Rattle.json.specs.Lex.{punctuate, lex}
 use Rattle.form_urlencoded.specs.Percent.{percent_decode}
+use Rattle.serde_json.specs.Data.{Data}
+use Rattle.hub_document.specs.Read.{json_of}
 use Rattle.hub_params.specs.Encoded.{decoded, text_in}
 use Rattle.hub_params.specs.Room.{HasBytes}
 
@@ -29,12 +34,17 @@ text_has_bytes (Some written) h = bytes_of_text written.now h
 pub kept_has_bytes : (value : Option (Bor (List ℕ))) (text : List ℕ) → Some text ≡ text_in value → 0 < length text → HasBytes (option_copied value)
 kept_has_bytes value text e h = text_has_bytes value (subst HasBytes e h)
 
--- a text was written
-pub given_text : (written : Option (List ℕ)) → IsSome (option_map decoded written) → IsSome written
-given_text None h = h
-given_text (Some x) h = refl
+-- nothing is no JSON
+no_json : json_of [] ≡ None
+unfolding is_utf8 chars value punctuate lex
+no_json = refl
+
+-- so what is read as JSON has bytes
+pub json_has_bytes : (text : List ℕ) (d : Data) → json_of text ≡ Some d → 0 < length text
+json_has_bytes [] d h = absurd (let e : None ≡ Some d = sym no_json ∙ h in cc)
+json_has_bytes (x ∷ xs) d h = omega arith
 
 -- ids are given, or a body is
-pub given_or_body : (written : Option (List ℕ)) (body : List ℕ) (text : Option (List ℕ)) → text ≡ option_map decoded written → IsSome text ⊎ (0 < length body) → IsSome written ⊎ (0 < length body)
-given_or_body written body text e (inl h) = inl (given_text written (rw e at h))
-given_or_body written body text e (inr h) = inr h
+pub given_or_body : (value : Option (Bor (List ℕ))) (body : List ℕ) (text : Option (List ℕ)) → text ≡ text_in value → HasBytes text ⊎ (0 < length body) → HasBytes (option_copied value) ⊎ (0 < length body)
+given_or_body value body text e (inl h) = inl (text_has_bytes value (subst HasBytes e h))
+given_or_body value body text e (inr h) = inr h

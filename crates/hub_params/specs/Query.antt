@@ -1,8 +1,9 @@
 -- Names and values in a query (URL Standard, section 5, application/x-www-form-urlencoded).
-use Rattle.std.specs.Prelude.{ℕ, List, [], ◌∷◌, Option, Some, None, option_map, if◌then◌else◌}
+use Rattle.std.specs.Prelude.{◌≡◌, ℕ, List, [], ◌∷◌, map, Option, Some, None, option_map, if◌then◌else◌}
 use Rattle.std.specs.Option.{option_or}
 use Rattle.std.specs.Str.{bytes_eq}
-use Rattle.form_urlencoded.specs.Form.{raw_pairs}
+use Rattle.std.specs.Str.Lossy.{utf8_lossy}
+use Rattle.form_urlencoded.specs.Form.{parse, raw_pairs}
 use Rattle.hub_params.specs.Encoded.{decoded}
 
 -- the value of the last pair whose name is decoded to this one, as it is written
@@ -18,3 +19,17 @@ written_of name query = last_of name (raw_pairs query)
 -- the same value, decoded
 abbrev pub value_of : List ℕ → List ℕ → Option (List ℕ)
 value_of name query = option_map decoded (written_of name query)
+
+-- the names and values that the standard's parser gives, each as a text
+abbrev pub pairs_of : List ℕ → List (List ℕ × List ℕ)
+pairs_of query = map (λ p. (utf8_lossy p.0, utf8_lossy p.1)) (parse query)
+
+-- the value of the last pair of this name: of a=1&b=2&a=3 the name a has 3
+abbrev pub last_value : List ℕ → List (List ℕ × List ℕ) → Option (List ℕ)
+last_value name [] = None
+last_value name (p ∷ pairs) =
+    option_or (last_value name pairs) (if bytes_eq p.0 name then Some p.1 else None)
+
+-- what a query gives each name is what the last of its parsed pairs of that name has
+abbrev pub ValuesAreParsed : Type 0
+ValuesAreParsed = (name query : List ℕ) → value_of name query ≡ last_value name (pairs_of query)

@@ -1,7 +1,7 @@
 -- What may fail for want of memory as a query is read: decoding what is not written as it reads, and keeping
 -- a text that is not empty (own).
 use Rattle.std.specs.Prelude.{◌⊎◌, ℕ, ◌<◌, All, List, length, codes, Option, None, option_map}
-use Rattle.std.specs.Prelude.{IsSome, IsSomeAnd, Result, IsOkAnd}
+use Rattle.std.specs.Prelude.{IsSomeAnd, Result, IsOkAnd}
 use Rattle.form_urlencoded.specs.Form.{raw_pairs, IsPlainText}
 use Rattle.hub_model.specs.declared.feeds.Mode.{Mode}
 use Rattle.hub_params.specs.Encoded.{decoded}
@@ -53,10 +53,10 @@ RowsNeedRoom since limit style =
 abbrev pub KindNeedsRoom : Option (List ℕ) → Option (List ℕ) → Type 0
 KindNeedsRoom feed filter = or_behind feed (mode_in (option_map decoded feed)) (IsEscaped filter)
 
--- the list of ids: one that the query or the body gives is parsed, and its ids are kept
+-- the list of ids: what the query or the body gives is parsed where it is not empty, and its ids are kept
 abbrev pub IdsNeedRoom : Option (List ℕ) → List ℕ → Shown → Type 0
 IdsNeedRoom ids body Every = ⊥
-IdsNeedRoom ids body Listed = IsSome ids ⊎ (0 < length body)
+IdsNeedRoom ids body Listed = HasBytes ids ⊎ (0 < length body)
 IdsNeedRoom ids body Designs = ⊥
 
 -- `heartbeat`, `timeout`

@@ -16,3 +16,4 @@ pub use doc_params::DocParams;
 pub use feed_fault::ParamFault;
 pub use feed_params::FeedParams;
 pub use hub_model::Mode;
+pub use query::values_are_parsed;

@@ -1,9 +1,10 @@
 //! The ids that a feed is asked to show.
 
-ghost use Rattle.std.specs.Prelude.{◌≡◌, ◌⊎◌, ◌<◌, IfOk, IfErr, IsSome, Some, None, length, map, option_map, string_bytes};
+ghost use Rattle.std.specs.Prelude.{◌≡◌, ◌⊎◌, ◌<◌, IfOk, IfErr, Some, None, length, map, option_map, string_bytes};
 ghost use Rattle.serde_json.specs.View.{view, items_view};
 ghost use Rattle.hub_document.specs.Read.{json_of};
 ghost use Rattle.hub_params.specs.ListedIds.{texts_of as texts_of_items, texts_in, ids_in_query, ids_in_member, ids_in_body, ids_in};
+ghost use Rattle.hub_params.specs.Room.{HasBytes};
 
 use crate::feed_fault::ParamFault;
 use hub_document::{DocFault, read_value};
@@ -59,7 +60,7 @@ fn ids_of_query(alloc: Global, value: Option<&str>) -> Result<Vec<String>, Param
     ensures ok { IfOk result (λ v. ids_in_query (option_map (λ s. s.now) value.entry) ≡ Some (map string_bytes v.items)) }
     ensures err { IfErr result (λ e. (e ≡ ParamFault.NoMemory)
         ⊎ ((e ≡ ParamFault.BadDocIds) × (ids_in_query (option_map (λ s. s.now) value.entry) ≡ None))) }
-    ensures memory { IfErr result (λ e. e ≡ ParamFault.NoMemory → IsSome (option_map (λ s. s.now) value.entry)) }
+    ensures memory { IfErr result (λ e. e ≡ ParamFault.NoMemory → HasBytes (option_map (λ s. s.now) value.entry)) }
 {
     let Some(text) = value else {
         return Err(ParamFault::BadDocIds);
@@ -95,7 +96,7 @@ pub(crate) fn ids_of(
     ensures err { IfErr result (λ e. (e ≡ ParamFault.NoMemory)
         ⊎ ((e ≡ ParamFault.BadDocIds) × (ids_in (option_map (λ s. s.now) value.entry) body.now ≡ None))) }
     ensures memory { IfErr result (λ e. e ≡ ParamFault.NoMemory
-        → IsSome (option_map (λ s. s.now) value.entry) ⊎ (0 < length body.now)) }
+        → HasBytes (option_map (λ s. s.now) value.entry) ⊎ (0 < length body.now)) }
 {
     if body.is_empty() {
         ids_of_query(alloc, value)

@@ -5,6 +5,7 @@ ghost use Rattle.std.specs.Option.{option_copied, option_or};
 ghost use Rattle.std.specs.Str.{bytes_eq};
 ghost use Rattle.std.specs.Cow.{cow_str_bytes};
 ghost use Rattle.hub_params.specs.Encoded.{text_in};
+ghost use Rattle.hub_params.specs.Query.{ValuesAreParsed};
 ghost use Rattle.hub_params.specs.Room.{IsEscaped};
 
 use form_urlencoded::decode;
@@ -38,3 +39,10 @@ pub(crate) fn decoded<'q>(
         Some(encoded) => Ok(Some(decode(alloc, encoded)?)),
     }
 }
+
+/// What is decoded one after another is what the standard's parser gives: the value of a name is that
+/// of the last pair of this name (URL Standard, section 5, the application/x-www-form-urlencoded
+/// parser).
+pub fn values_are_parsed()
+    ensures { ValuesAreParsed }
+{}

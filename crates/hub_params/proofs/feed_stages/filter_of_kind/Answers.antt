@@ -16,4 +16,4 @@ returns-in_err-listed-in-Listed-clause-memory c =
     let body = c.args.body.now in
     let same : c.from_residual-in_err-listed-in-Listed.result ≡ Err c.in_err-listed-in-Listed.field-0.0 = search rules in
     let text : option_map (λ s. s.now) c.lent.result ≡ text_in c.args.ids = cc (c.lent.ensures, c.in_ok-ids_text-in-Listed.ensures.text) in
-    rw same (λ none. rw c.in-Listed.is (given_or_body (option_copied c.args.ids) body _ text (c.in_err-listed-in-Listed.ensures.memory none)))
+    rw same (λ none. rw c.in-Listed.is (given_or_body c.args.ids body _ text (c.in_err-listed-in-Listed.ensures.memory none)))
