@@ -83,7 +83,7 @@ fn main(rt: HostRuntime) -> io::Result<ExitCode> {
     match Command::read(&rt)? {
         Some(Command::Stdin) => serve_stdin(&rt),
         None => {
-            eprintln!(rt; "usage: changes_hub stdin | serve ADDRESS COUNT")?;
+            eprintln!(rt; "usage: changes_hub stdin")?;
             Ok(ExitCode::from(2))
         }
     }

@@ -5,23 +5,26 @@ ghost use Rattle.hub_document.specs.Limited.{IsLimited};
 /// The limits of a hub. Tests lower them; none may be 0 or above its number in `Limits::full`.
 #[derive(Clone, Copy, Debug, PartialEq, Eq)]
 pub struct Limits {
-    /// The bytes of a request's body: 8,388,608.
+    /// The bytes of a request's body: 8,388,608. Reading keeps this number itself (`hub_http`), so no
+    /// code reads the member yet.
     pub body: u64,
-    /// The bytes of a request's head: 16,384.
+    /// The bytes of a request's head: 16,384. As `body`.
     pub head: u64,
-    /// The header fields of a request: 64.
+    /// The header fields of a request: 64. As `body`.
     pub headers: u64,
-    /// The databases of a hub: 256.
+    /// The databases of a hub: 256. Read where one is made (`changes_hub`).
     pub databases: u64,
-    /// The feeds of a database that are not finished: 1,024.
+    /// The feeds of a database that are not finished: 1,024. Read where one is opened
+    /// (`DbState::open_feed`).
     pub feeds: u64,
-    /// The items that wait for a feed's subscriber: 64.
+    /// The items that wait for a feed's subscriber: 64. Read where one is handed (`World::apply`).
     pub lane: u64,
-    /// The items that a feed is handed in one holding of the lock: 64.
+    /// The items that a feed is handed in one holding of the lock: 64. No code reads it yet.
     pub hold: u64,
-    /// The edits of a database: 4,294,967,295.
+    /// The edits of a database: 4,294,967,295. Read where one is stored (`DbState::write_edits` and
+    /// `write_one`).
     pub journal: u64,
-    /// The entries of a replication log's history: 50.
+    /// The entries of a replication log's history: 50. No code reads it yet.
     pub history: u64,
     ghost limited: { IsLimited body head headers databases feeds lane hold journal history },
 }
