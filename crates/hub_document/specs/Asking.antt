@@ -1,5 +1,6 @@
 -- Revisions that are asked for (CouchDB API reference, _revs_diff, and documents with open_revs).
-use Rattle.std.specs.Prelude.{ℕ, List, [], ◌∷◌, codes, Bool, true, ◌&&◌, is_some, if◌then◌else◌, Option, Some, option_map, option_and_then, Result, Ok}
+use Rattle.std.specs.Prelude.{ℕ, List, [], ◌∷◌, codes, Bool, true, ◌&&◌, is_some, if◌then◌else◌, Option, Some}
+use Rattle.std.specs.Prelude.{option_map, option_and_then, Result, Ok}
 use Rattle.std.specs.Str.{bytes_eq}
 use Rattle.hub_model.specs.Revision.{Revision}
 use Rattle.hub_model.specs.Missing.{Asked}
@@ -33,12 +34,14 @@ are_texts (item d ds) = is_some (as_str d) && are_texts ds
 -- whether each member is an array of texts
 abbrev pub are_lists : Members → Bool
 are_lists no_members = true
-are_lists (member id d ms) = is_some (option_and_then (λ ds. if_holds (are_texts ds)) (as_array d)) && are_lists ms
+are_lists (member id d ms) =
+    is_some (option_and_then (λ ds. if_holds (are_texts ds)) (as_array d)) && are_lists ms
 
 -- each member's id with its revisions, where each is an array of them
 abbrev pub asked_of : Members → Option (List Asked)
 asked_of no_members = Some []
-asked_of (member id d ms) = option_and_then (λ revs. in_front (record { id = id; revs = revs }) (asked_of ms)) (revs_in d)
+asked_of (member id d ms) =
+    option_and_then (λ revs. in_front (record { id = id; revs = revs }) (asked_of ms)) (revs_in d)
 
 -- what a value asks: an object of arrays of texts, or else that fault; each text a revision, or else that one
 abbrev pub asked_in : Data → Result (List Asked) DocFault

@@ -1,5 +1,6 @@
 -- The JSON text of a document (CouchDB API reference, documents; the order of its members is own).
-use Rattle.std.specs.Prelude.{ℕ, ◌-◌, List, [], ◌∷◌, ◌++◌, length, drop, take, map, slice_get, Bool, true, false, Option, Some, None, codes, decimal}
+use Rattle.std.specs.Prelude.{ℕ, ◌-◌, List, [], ◌∷◌, ◌++◌, length, drop, take, map, slice_get, Bool, true}
+use Rattle.std.specs.Prelude.{false, Option, Some, None, codes, decimal}
 use Rattle.std.specs.List.{join_with_byte}
 use Rattle.json.specs.Print.{quoted}
 use Rattle.hub_model.specs.Revision.{Revision, text_of}
@@ -23,7 +24,10 @@ deleted_member true = member_text (codes "_deleted") (codes "true") ∷ []
 
 -- a history: the generation of its first revision, and the hashes
 unfoldable pub history_text : List Revision → List ℕ
-history_text path = codes "{\"start\":" ++ (decimal (generation_of (parent_of path)) ++ (codes ",\"ids\":[" ++ (join_with_byte 44 (map (λ r. quoted r.hash) path) ++ codes "]}")))
+history_text path =
+    codes "{\"start\":"
+    ++ (decimal (generation_of (parent_of path))
+    ++ (codes ",\"ids\":[" ++ (join_with_byte 44 (map (λ r. quoted r.hash) path) ++ codes "]}")))
 
 -- `_revisions`, where there is a history
 abbrev pub history_member : Option (List Revision) → List (List ℕ)
@@ -41,7 +45,9 @@ if_some (b ∷ bs) = (b ∷ bs) ∷ []
 
 -- the members of a document: its id, its revision, whether it is deleted, its history, and its own
 abbrev pub members_of : Doc → List (List ℕ)
-members_of d = member_text (codes "_id") (quoted d.id) ∷ (rev_member d.rev ++ (deleted_member d.deleted ++ (history_member d.path ++ if_some (inside d.body))))
+members_of d =
+    member_text (codes "_id") (quoted d.id)
+    ∷ (rev_member d.rev ++ (deleted_member d.deleted ++ (history_member d.path ++ if_some (inside d.body))))
 
 -- the document
 unfoldable pub doc_text : Doc → List ℕ
@@ -49,9 +55,12 @@ doc_text d = codes "{" ++ (join_with_byte 44 (members_of d) ++ codes "}")
 
 -- the document with these members that a row shows: the first of its revisions is the winner
 abbrev pub row_doc : ChangeRow → List ℕ → Doc
-row_doc row body = record { id = row.id; rev = slice_get row.changes 0; path = None; deleted = row.deleted; body = body }
+row_doc row body =
+    record { id = row.id; rev = slice_get row.changes 0; path = None; deleted = row.deleted; body = body }
 
 -- a local document that was written this many times
 unfoldable pub local_text : List ℕ → ℕ → List ℕ → List ℕ
 local_text id count body =
-    codes "{" ++ (join_with_byte 44 (member_text (codes "_id") (quoted id) ∷ member_text (codes "_rev") (quoted (codes "0-" ++ decimal count)) ∷ if_some (inside body)) ++ codes "}")
+    codes "{"
+    ++ (join_with_byte 44 (member_text (codes "_id") (quoted id)
+    ∷ member_text (codes "_rev") (quoted (codes "0-" ++ decimal count)) ∷ if_some (inside body)) ++ codes "}")

@@ -6,4 +6,6 @@ use Rattle.hub_model.specs.Draft.{bool_text, parent_text}
 
 -- what stands before the body: `[deleted,parent,id,`
 abbrev pub front_text : Bool → Option Revision → List ℕ → List ℕ
-front_text deleted parent id = codes "[" ++ (bool_text deleted ++ (codes "," ++ (parent_text parent ++ (codes "," ++ (quoted id ++ codes ",")))))
+front_text deleted parent id =
+    codes "["
+    ++ (bool_text deleted ++ (codes "," ++ (parent_text parent ++ (codes "," ++ (quoted id ++ codes ",")))))

@@ -1,5 +1,7 @@
--- The revision and the history that a document names by `_rev` and `_revisions` (CouchDB API reference, documents; replication protocol, upload of changed documents). Full histories and their limits are own.
-use Rattle.std.specs.Prelude.{ℕ, ◌-◌, ◌^◌, List, [], ◌∷◌, codes, Bool, true, ◌&&◌, ◌||◌, ◌==◌, nat_lt, is_some, if◌then◌else◌, Option, Some, None, option_map, option_and_then}
+-- The revision and the history that a document names by `_rev` and `_revisions` (CouchDB API reference,
+-- documents; replication protocol, upload of changed documents). Full histories and their limits are own.
+use Rattle.std.specs.Prelude.{ℕ, ◌-◌, ◌^◌, List, [], ◌∷◌, codes, Bool, true, ◌&&◌, ◌||◌, ◌==◌, nat_lt}
+use Rattle.std.specs.Prelude.{is_some, if◌then◌else◌, Option, Some, None, option_map, option_and_then}
 use Rattle.hub_model.specs.Revision.{Revision}
 use Rattle.hub_model.specs.Path.{is_first}
 use Rattle.hub_document.specs.RevisionText.{with_hash, revision_of}
@@ -15,10 +17,12 @@ abbrev pub read_or : {A : Type 0} → Option A → (Data → Option A) → Optio
 read_or missing read None = missing
 read_or missing read (Some d) = read d
 
--- the revision of `_rev`; None is a fault. It may be absent where edits are new, or a history stands beside it.
+-- the revision of `_rev`; None is a fault. It may be absent where edits are new, or a history stands beside
+-- it.
 abbrev pub rev_of : Bool → Data → Option (Option Revision)
 rev_of new_edits d =
-    read_or (if new_edits || is_some (get (codes "_revisions") d) then Some None else None) (λ r. option_map Some (rev_in r)) (get (codes "_rev") d)
+    read_or (if new_edits || is_some (get (codes "_revisions") d)
+    then Some None else None) (λ r. option_map Some (rev_in r)) (get (codes "_rev") d)
 
 -- the revision of generation n whose hash an item writes; there is no generation 0
 abbrev pub hashed_at : ℕ → Data → Option Revision
@@ -27,7 +31,11 @@ hashed_at n d = if n == 0 then None else option_and_then (with_hash n) (as_str d
 -- the hashes of generations n, n - 1, .., 1
 abbrev pub falling : ℕ → Items → Option (List Revision)
 falling n no_items = if n == 0 then Some [] else None
-falling n (item d ds) = if n == 0 then None else option_and_then (λ r. option_map (λ rs. r ∷ rs) (falling (n - 1) ds)) (option_and_then (with_hash n) (as_str d))
+falling n (item d ds) =
+    if n == 0
+    then None
+    else option_and_then (λ r. option_map (λ rs. r
+    ∷ rs) (falling (n - 1) ds)) (option_and_then (with_hash n) (as_str d))
 
 -- a full history from a generation within the limits
 abbrev pub starting : ℕ → Items → Option (List Revision)
@@ -36,7 +44,8 @@ starting start ids = if nat_lt 0 start && nat_lt start (2 ^ 16) then falling sta
 -- the history that `_revisions` writes by `start` and `ids`
 abbrev pub history_in : Data → Option (List Revision)
 history_in d =
-    option_and_then (λ start. option_and_then (starting start) (option_and_then as_array (get (codes "ids") d)))
+    option_and_then
+    (λ start. option_and_then (starting start) (option_and_then as_array (get (codes "ids") d)))
     (option_and_then as_u64 (option_and_then as_number (get (codes "start") d)))
 
 -- a revision that is named is the first of the history
@@ -55,4 +64,5 @@ alone (Some r) = if r.generation == 1 then Some (r ∷ []) else None
 
 -- the history of a document that names this revision
 abbrev pub path_of : Option Revision → Data → Option (List Revision)
-path_of rev d = read_or (alone rev) (λ v. option_and_then (if_head rev) (history_in v)) (get (codes "_revisions") d)
+path_of rev d =
+    read_or (alone rev) (λ v. option_and_then (if_head rev) (history_in v)) (get (codes "_revisions") d)

@@ -1,5 +1,6 @@
 -- The ids of documents (CouchDB API reference, documents and design documents; the limits are own).
-use Rattle.std.specs.Prelude.{◌≡◌, ◌≤◌, ℕ, List, [], ◌∷◌, length, codes, Bool, true, false, ◌&&◌, not, ◌==◌, nat_lt, if◌then◌else◌, Option, Some, None, option_and_then}
+use Rattle.std.specs.Prelude.{◌≡◌, ◌≤◌, ℕ, List, [], ◌∷◌, length, codes, Bool, true, false, ◌&&◌, not, ◌==◌}
+use Rattle.std.specs.Prelude.{nat_lt, if◌then◌else◌, Option, Some, None, option_and_then}
 use Rattle.std.specs.List.{starts_with}
 use Rattle.serde_json.specs.Data.{Data}
 use Rattle.serde_json.specs.Find.{get, as_str}
@@ -7,7 +8,8 @@ use Rattle.serde_json.specs.Find.{get, as_str}
 -- 1 byte or more; after `_` only `design/` and a name, since `_local` documents have calls of their own
 abbrev pub is_id : List ℕ → Bool
 is_id [] = false
-is_id (b ∷ rest) = if b == 95 then (starts_with (λ x y. x == y) rest (codes "design/") && nat_lt 7 (length rest)) else true
+is_id (b ∷ rest) =
+    if b == 95 then (starts_with (λ x y. x == y) rest (codes "design/") && nat_lt 7 (length rest)) else true
 
 -- an id of 512 bytes at most
 pub record IsDocId (s : List ℕ) : Type 0 where

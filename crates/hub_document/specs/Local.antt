@@ -1,5 +1,7 @@
--- Local documents, which are not replicated (CouchDB API reference, local documents; that `_rev` is not looked at is own).
-use Rattle.std.specs.Prelude.{◌≡◌, ◌≤◌, ℕ, List, length, codes, Bool, true, false, not, ◌&&◌, ◌==◌, nat_lt, Option, Some, None, option_map, unwrap_or, Result, Ok}
+-- Local documents, which are not replicated (CouchDB API reference, local documents; that `_rev` is not
+-- looked at is own).
+use Rattle.std.specs.Prelude.{◌≡◌, ◌≤◌, ℕ, List, length, codes, Bool, true, false, not, ◌&&◌, ◌==◌, nat_lt}
+use Rattle.std.specs.Prelude.{Option, Some, None, option_map, unwrap_or, Result, Ok}
 use Rattle.std.specs.List.{starts_with}
 use Rattle.std.specs.Str.{bytes_eq}
 use Rattle.serde_json.specs.Data.{Data, Members}
@@ -9,7 +11,8 @@ use Rattle.hub_document.specs.BodyText.{body_text}
 use Rattle.hub_document.specs.Read.{or_fault, if_holds, json_of}
 use Rattle.hub_document.specs.SpecialMembers.{are_good_members, deleted_of}
 use Rattle.hub_document.specs.declared.doc.DocFault.{DocFault}
-use Rattle.hub_document.specs.declared.doc.DocFault.TheVariants.{NotJson, NotObject, BadNumber, BadId, BadMember, TooLong}
+use Rattle.hub_document.specs.declared.doc.DocFault.TheVariants.{NotJson, NotObject, BadNumber, BadId}
+use Rattle.hub_document.specs.declared.doc.DocFault.TheVariants.{BadMember, TooLong}
 use Rattle.hub_document.specs.declared.local_doc.LocalDoc.{LocalDoc}
 
 -- `_local/` and a name

@@ -1,5 +1,7 @@
--- A document that is put under an id (CouchDB API reference, PUT /{db}/{docid}; the order of the faults is own).
-use Rattle.std.specs.Prelude.{ℕ, List, length, codes, Bool, true, not, ◌&&◌, nat_lt, if◌then◌else◌, Option, Some, None, option_and_then, Result, Ok}
+-- A document that is put under an id (CouchDB API reference, PUT /{db}/{docid}; the order of the faults is
+-- own).
+use Rattle.std.specs.Prelude.{ℕ, List, length, codes, Bool, true, not, ◌&&◌, nat_lt, if◌then◌else◌, Option}
+use Rattle.std.specs.Prelude.{Some, None, option_and_then, Result, Ok}
 use Rattle.hub_model.specs.Revision.{Revision, is_same}
 use Rattle.serde_json.specs.Data.{Data, Members}
 use Rattle.serde_json.specs.Find.{get, as_object}
@@ -12,7 +14,8 @@ use Rattle.hub_document.specs.Read.{or_fault, if_holds, json_of}
 use Rattle.hub_document.specs.RevisionText.{revision_of}
 use Rattle.hub_document.specs.SpecialMembers.{are_good_members, deleted_of}
 use Rattle.hub_document.specs.declared.doc.DocFault.{DocFault}
-use Rattle.hub_document.specs.declared.doc.DocFault.TheVariants.{NotJson, NotObject, BadNumber, BadId, BadRev, BadMember, TooLong}
+use Rattle.hub_document.specs.declared.doc.DocFault.TheVariants.{NotJson, NotObject, BadNumber, BadId, BadRev}
+use Rattle.hub_document.specs.declared.doc.DocFault.TheVariants.{BadMember, TooLong}
 use Rattle.hub_document.specs.declared.doc.Doc.{Doc}
 
 -- this revision, unless the document names another one
@@ -23,7 +26,8 @@ unless_other r (Some s) = if is_same r s then Some (Some r) else None
 -- the leaf that is named, by the request, by the document, by neither, or by both alike; None is a fault
 abbrev pub rev_put : Option (List ℕ) → Data → Option (Option Revision)
 rev_put None d = rev_of true d
-rev_put (Some text) d = option_and_then (λ r. option_and_then (unless_other r) (rev_of true d)) (revision_of text)
+rev_put (Some text) d =
+    option_and_then (λ r. option_and_then (unless_other r) (rev_of true d)) (revision_of text)
 
 -- the document that an object of these members is under the id, or the first fault
 abbrev pub put_of : List ℕ → Option (List ℕ) → Bool → Data → Members → Result Doc DocFault
@@ -37,4 +41,5 @@ put_of id rev new_edits d ms =
 
 -- the document that a text is under the id, or the first fault
 abbrev pub put_in : List ℕ → Option (List ℕ) → Bool → List ℕ → Result Doc DocFault
-put_in id rev new_edits text = or_fault (json_of text) NotJson (λ d. or_fault (as_object d) NotObject (put_of id rev new_edits d))
+put_in id rev new_edits text =
+    or_fault (json_of text) NotJson (λ d. or_fault (as_object d) NotObject (put_of id rev new_edits d))

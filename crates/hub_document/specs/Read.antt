@@ -1,5 +1,7 @@
--- The document that a JSON value is, or the first fault in it (CouchDB API reference, documents and `_bulk_docs`; the order of the faults is own).
-use Rattle.std.specs.Prelude.{ℕ, List, length, slice_get, Bool, not, nat_lt, if◌then◌else◌, Option, Some, None, option_map, Result, Ok, Err, ⊤}
+-- The document that a JSON value is, or the first fault in it (CouchDB API reference, documents and
+-- `_bulk_docs`; the order of the faults is own).
+use Rattle.std.specs.Prelude.{ℕ, List, length, slice_get, Bool, not, nat_lt, if◌then◌else◌, Option, Some}
+use Rattle.std.specs.Prelude.{None, option_map, Result, Ok, Err, ⊤}
 use Rattle.hub_model.specs.Revision.{Revision}
 use Rattle.serde_json.specs.Data.{Data, Members}
 use Rattle.std.specs.Str.{is_utf8}
@@ -11,7 +13,8 @@ use Rattle.hub_document.specs.BodyText.{body_text}
 use Rattle.hub_document.specs.Ids.{id_of}
 use Rattle.hub_document.specs.Histories.{rev_of, path_of}
 use Rattle.hub_document.specs.declared.doc.DocFault.{DocFault}
-use Rattle.hub_document.specs.declared.doc.DocFault.TheVariants.{NotJson, NotObject, BadNumber, BadId, BadRev, BadRevisions, BadMember, TooLong}
+use Rattle.hub_document.specs.declared.doc.DocFault.TheVariants.{NotJson, NotObject, BadNumber, BadId, BadRev}
+use Rattle.hub_document.specs.declared.doc.DocFault.TheVariants.{BadRevisions, BadMember, TooLong}
 use Rattle.hub_document.specs.declared.doc.Doc.{Doc}
 
 -- goes on with what was read, or stops at the fault
@@ -25,12 +28,14 @@ if_holds b = if b then Some tt else None
 
 -- the head and the history: new edits have none
 abbrev pub history_of : Bool → Option Revision → Data → Option (Option Revision × Option (List Revision))
-history_of new_edits rev d = if new_edits then Some (rev, None) else option_map (λ path. (slice_get path 0, Some path)) (path_of rev d)
+history_of new_edits rev d =
+    if new_edits then Some (rev, None) else option_map (λ path. (slice_get path 0, Some path)) (path_of rev d)
 
 -- ---- the faults in their order
 
 -- the rest, where the head and the path are known
-abbrev pub with_path : Data → Members → List ℕ → Option Revision → Option (List Revision) → Result Doc DocFault
+abbrev pub with_path : Data → Members → List ℕ → Option Revision → Option (List Revision)
+    → Result Doc DocFault
 with_path d ms id rev path =
     or_fault (if_holds (are_good_members ms)) BadMember (λ _.
     or_fault (if_holds (not (nat_lt 512 (length id)))) TooLong (λ _.
@@ -38,7 +43,8 @@ with_path d ms id rev path =
 
 -- the rest, where `_rev` is known
 abbrev pub with_rev : Bool → Data → Members → List ℕ → Option Revision → Result Doc DocFault
-with_rev new_edits d ms id rev = or_fault (history_of new_edits rev d) BadRevisions (λ p. with_path d ms id p.0 p.1)
+with_rev new_edits d ms id rev =
+    or_fault (history_of new_edits rev d) BadRevisions (λ p. with_path d ms id p.0 p.1)
 
 -- the rest, where the id is known
 abbrev pub with_id : Bool → Data → Members → List ℕ → Result Doc DocFault

@@ -1,5 +1,7 @@
--- Which members that begin with `_` a document may have (CouchDB API reference, documents, special fields). Attachments are refused (own).
-use Rattle.std.specs.Prelude.{ℕ, List, codes, Bool, true, false, ◌&&◌, ◌||◌, not, is_some, option_and_then, unwrap_or}
+-- Which members that begin with `_` a document may have (CouchDB API reference, documents, special fields).
+-- Attachments are refused (own).
+use Rattle.std.specs.Prelude.{ℕ, List, codes, Bool, true, false, ◌&&◌, ◌||◌, not, is_some, option_and_then}
+use Rattle.std.specs.Prelude.{unwrap_or}
 use Rattle.std.specs.Str.{bytes_eq}
 use Rattle.serde_json.specs.Data.{Data, object, Members, no_members, member}
 use Rattle.serde_json.specs.Find.{get, as_bool}
@@ -12,11 +14,18 @@ is_empty_object d = false
 
 -- read elsewhere, or ignored
 abbrev pub is_listed : List ℕ → Bool
-is_listed k = bytes_eq k (codes "_id") || bytes_eq k (codes "_rev") || bytes_eq k (codes "_revisions") || bytes_eq k (codes "_conflicts") || bytes_eq k (codes "_deleted_conflicts") || bytes_eq k (codes "_local_seq") || bytes_eq k (codes "_revs_info")
+is_listed k =
+    bytes_eq k (codes "_id") || bytes_eq k (codes "_rev") || bytes_eq k (codes "_revisions")
+    || bytes_eq k (codes "_conflicts") || bytes_eq k (codes "_deleted_conflicts")
+    || bytes_eq k (codes "_local_seq") || bytes_eq k (codes "_revs_info")
 
 -- the document's own, or one of these with a fitting value
 abbrev pub is_good_member : List ℕ → Data → Bool
-is_good_member k d = not (is_hidden k) || (is_listed k || ((bytes_eq k (codes "_deleted") && is_some (as_bool d)) || (bytes_eq k (codes "_attachments") && is_empty_object d)))
+is_good_member k d =
+    not (is_hidden k)
+    || (is_listed k
+    || ((bytes_eq k (codes "_deleted") && is_some (as_bool d))
+    || (bytes_eq k (codes "_attachments") && is_empty_object d)))
 
 -- each member is good
 abbrev pub are_good_members : Members → Bool

@@ -12,7 +12,8 @@ is_listed id ids = list_any (bytes_eq id) ids
 -- the ids with one more, before the first of them that it is not above
 abbrev pub put_in : List ℕ → List (List ℕ) → List (List ℕ)
 put_in id [] = id ∷ []
-put_in id (other ∷ ids) = if is_gt (slice_cmp nat_cmp id other) then other ∷ put_in id ids else id ∷ other ∷ ids
+put_in id (other ∷ ids) =
+    if is_gt (slice_cmp nat_cmp id other) then other ∷ put_in id ids else id ∷ other ∷ ids
 
 -- the ids in byte order: a repeated id stays repeated
 abbrev pub in_order : List (List ℕ) → List (List ℕ)

@@ -50,8 +50,8 @@ WholeHeadHasOneFault =
     → Faults bytes e → Faults bytes f → IsOutside e ⊎ (IsOutside f ⊎ (e ≡ f))
 
 -- other bytes have no fault of their own but a bad head, a head too long and an end in the middle. These do
--- not exclude each other: `GET` and a target that is not UTF-8 so far is no head whatever follows, and ends in
--- the middle; 65 fields and then the end are too many, and end in the middle
+-- not exclude each other: `GET` and a target that is not UTF-8 so far is no head whatever follows, and ends
+-- in the middle; 65 fields and then the end are too many, and end in the middle
 abbrev pub OtherFaultsAreOpen : Type 0
 OtherFaultsAreOpen =
     (bytes : List ℕ) (e : HttpFault) → HasNoRequest bytes → Faults bytes e → IsOutside e ⊎ IsOpenFault e

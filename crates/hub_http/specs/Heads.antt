@@ -1,9 +1,13 @@
--- RFC 9112 (heads, Content-Length) and RFC 9110, section 7.6.1 (Connection): what the head of a request asks for.
-use Rattle.std.specs.Prelude.{◌≡◌, ℕ, ◌<◌, ◌≤◌, ◌⊎◌, Bool, false, ◌&&◌, ◌==◌, List, [], ◌∷◌, ◌++◌, length, map, Option, Some, None, Result, Ok, Err, if◌then◌else◌, nat_lt, nat_le, codes, bytes_eq}
+-- RFC 9112 (heads, Content-Length) and RFC 9110, section 7.6.1 (Connection): what the head of a request asks
+-- for.
+use Rattle.std.specs.Prelude.{◌≡◌, ℕ, ◌<◌, ◌≤◌, ◌⊎◌, Bool, false, ◌&&◌, ◌==◌, List, [], ◌∷◌, ◌++◌, length}
+use Rattle.std.specs.Prelude.{map, Option, Some, None, Result, Ok, Err, if◌then◌else◌, nat_lt, nat_le, codes}
+use Rattle.std.specs.Prelude.{bytes_eq}
 use Rattle.std.specs.List.{list_all, list_any, slice_split}
 use Rattle.std.specs.Char.{is_ascii_digit, to_ascii_lowercase}
 use Rattle.std.specs.Str.Parse.{digits_value}
-use Rattle.httparse.specs.Grammar.{RequestHead, print_request, ReadsRequest, HasNoRequest, MayBecomeRequest, trim_ows}
+use Rattle.httparse.specs.Grammar.{RequestHead, print_request, ReadsRequest, HasNoRequest, MayBecomeRequest}
+use Rattle.httparse.specs.Grammar.{trim_ows}
 use Rattle.httparse.specs.Spans.{name_and_value, RequestExceeds}
 use Rattle.hub_http.specs.declared.fault.HttpFault.{HttpFault}
 use Rattle.hub_http.specs.declared.fault.HttpFault.TheVariants.{BadHead, BodyTooLong, Version, Coding}
@@ -36,7 +40,8 @@ is_named name p = same_word p.0 name
 abbrev pub comma : ℕ
 comma = 44
 
--- the options that a Connection field lists: the parts between its commas, without the spaces and tabs around each
+-- the options that a Connection field lists: the parts between its commas, without the spaces and tabs around
+-- each
 abbrev pub options : List ℕ → List (List ℕ)
 options value = map trim_ows (slice_split (λ b. b == comma) value)
 
@@ -57,7 +62,8 @@ values_named name (p ∷ ps) = if is_named name p then p.1 ∷ values_named name
 abbrev pub is_digits : List ℕ → Bool
 is_digits v = nat_lt 0 (length v) && list_all is_ascii_digit v
 
--- the length that the values of Content-Length give: they are one text, of digits, and the number is within the limit
+-- the length that the values of Content-Length give: they are one text, of digits, and the number is within
+-- the limit
 unfoldable pub length_of : List (List ℕ) → Result (Option ℕ) HttpFault
 length_of [] = Ok None
 length_of (v ∷ vs) =
@@ -76,9 +82,11 @@ is_target (b ∷ bs) = b == slash
 
 -- the length of the body that the fields ask for, where the target is one
 abbrev pub length_asked : Bool → List Pair → Result (Option ℕ) HttpFault
-length_asked target pairs = if target then length_of (values_named (codes "content-length") pairs) else Err BadHead
+length_asked target pairs =
+    if target then length_of (values_named (codes "content-length") pairs) else Err BadHead
 
--- the length that a head asks for, or the first of its faults: the version, a transfer coding, its target or length
+-- the length that a head asks for, or the first of its faults: the version, a transfer coding, its target or
+-- length
 unfoldable pub asked : ℕ → List ℕ → List Pair → Result (Option ℕ) HttpFault
 asked minor target pairs =
     if minor == 1

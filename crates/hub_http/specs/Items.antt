@@ -1,5 +1,6 @@
 -- The texts of a feed (CouchDB API reference, _changes; own for what stands between the rows).
-use Rattle.std.specs.Prelude.{ℕ, zero, suc, List, [], ◌++◌, Bool, true, false, Option, Some, None, map, codes, decimal}
+use Rattle.std.specs.Prelude.{ℕ, zero, suc, List, [], ◌++◌, Bool, true, false, Option, Some, None, map, codes}
+use Rattle.std.specs.Prelude.{decimal}
 use Rattle.std.specs.List.{join_with_byte}
 use Rattle.json.specs.Print.{quoted}
 use Rattle.hub_model.specs.Revision.{Revision, text_of}
@@ -38,7 +39,8 @@ row_head seq id = codes "{\"seq\":" ++ (decimal seq ++ (codes ",\"id\":" ++ quot
 
 -- a row as a JSON object
 unfoldable pub row_text : ChangeRow → List ℕ
-row_text row = row_head row.seq row.id ++ (codes ",\"changes\":[" ++ (revisions_text row.changes ++ row_end row))
+row_text row =
+    row_head row.seq row.id ++ (codes ",\"changes\":[" ++ (revisions_text row.changes ++ row_end row))
 
 -- what stands in a list between a row and those before it, of which there are so many
 unfoldable pub separator : ℕ → List ℕ

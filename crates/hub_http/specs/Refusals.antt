@@ -1,7 +1,16 @@
 -- Each refusal's status, error and reason (CouchDB API reference, HTTP status codes).
 use Rattle.std.specs.Prelude.{ℕ, List, codes}
 use Rattle.hub_http.specs.declared.refusal.Refusal.{Refusal}
-use Rattle.hub_http.specs.declared.refusal.Refusal.TheVariants.{NoMemory, NotJson, NotObject, BadNumber, BadId, BadRev, BadRevisions, BadMember, TooLong, Contradicts, GenerationLimit, Conflict, BadSince, BadLimit, BadStyle, BadFeed, BadFilter, BadDocIds, BadHeartbeat, DescendingMode, BadFlag, TooManyFeeds, SequenceFull, Deleted, BadName, Exists, Absent, TooMany, BadHead, HeadTooLong, BodyTooLong, Version, Coding, LengthMissing, Missing, DocDeleted, MethodNotAllowed}
+use Rattle.hub_http.specs.declared.refusal.Refusal.TheVariants.{NoMemory, NotJson, NotObject, BadNumber}
+use Rattle.hub_http.specs.declared.refusal.Refusal.TheVariants.{BadId, BadRev, BadRevisions, BadMember}
+use Rattle.hub_http.specs.declared.refusal.Refusal.TheVariants.{TooLong, Contradicts, GenerationLimit}
+use Rattle.hub_http.specs.declared.refusal.Refusal.TheVariants.{Conflict, BadSince, BadLimit, BadStyle}
+use Rattle.hub_http.specs.declared.refusal.Refusal.TheVariants.{BadFeed, BadFilter, BadDocIds, BadHeartbeat}
+use Rattle.hub_http.specs.declared.refusal.Refusal.TheVariants.{DescendingMode, BadFlag, TooManyFeeds}
+use Rattle.hub_http.specs.declared.refusal.Refusal.TheVariants.{SequenceFull, Deleted, BadName, Exists}
+use Rattle.hub_http.specs.declared.refusal.Refusal.TheVariants.{Absent, TooMany, BadHead, HeadTooLong}
+use Rattle.hub_http.specs.declared.refusal.Refusal.TheVariants.{BodyTooLong, Version, Coding, LengthMissing}
+use Rattle.hub_http.specs.declared.refusal.Refusal.TheVariants.{Missing, DocDeleted, MethodNotAllowed}
 use Rattle.hub_document.specs.declared.doc.DocFault.{DocFault}
 use Rattle.hub_document.specs.declared.doc.DocFault.TheVariants as doc
 use Rattle.hub_model.specs.declared.outcomes.Fault.{Fault}

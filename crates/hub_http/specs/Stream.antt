@@ -1,11 +1,14 @@
 -- RFC 9112, sections 2, 6 and 9.3.2: the requests that a connection's bytes spell, one after the other.
-use Rattle.std.specs.Prelude.{◌≡◌, ⊤, ℕ, ◌<◌, ◌≤◌, ◌⊎◌, Bool, List, [], ◌∷◌, ◌++◌, length, Option, Some, None, Result, Ok, Err, is_some, unwrap_or}
+use Rattle.std.specs.Prelude.{◌≡◌, ⊤, ℕ, ◌<◌, ◌≤◌, ◌⊎◌, Bool, List, [], ◌∷◌, ◌++◌, length, Option, Some, None}
+use Rattle.std.specs.Prelude.{Result, Ok, Err, is_some, unwrap_or}
 use Rattle.httparse.specs.Grammar.{RequestHead, NeverHasRequest}
 use Rattle.hub_http.specs.declared.fault.HttpFault.{HttpFault}
-use Rattle.hub_http.specs.declared.fault.HttpFault.TheVariants.{NoMemory, BadHead, HeadTooLong, BodyTooLong, Version, Coding, Ended, IoFault}
+use Rattle.hub_http.specs.declared.fault.HttpFault.TheVariants.{NoMemory, BadHead, HeadTooLong, BodyTooLong}
+use Rattle.hub_http.specs.declared.fault.HttpFault.TheVariants.{Version, Coding, Ended, IoFault}
 use Rattle.hub_http.specs.declared.request.Request.{Request}
 use Rattle.std.specs.Io.KnownBytes.{prepend_known}
-use Rattle.hub_http.specs.Heads.{head_limit, length_by, close_by, Begins, NeverHasHead, BeginsTooLong, GoesOn, BeginsFaulty}
+use Rattle.hub_http.specs.Heads.{head_limit, length_by, close_by, Begins, NeverHasHead, BeginsTooLong, GoesOn}
+use Rattle.hub_http.specs.Heads.{BeginsFaulty}
 
 -- a request without where it lies in memory
 pub record Asked : Type 0 where
@@ -43,7 +46,8 @@ Spells bytes a rest = (h : RequestHead) × SpelledBy bytes a rest h
 -- the bytes end in the body that their head asks for
 abbrev pub IsCut : List ℕ → Type 0
 IsCut bytes =
-    (h : RequestHead) × (part : List ℕ) × (n : ℕ) × Begins bytes h part × (length_by h ≡ Ok (Some n)) × (length part < n)
+    (h : RequestHead) × (part : List ℕ) × (n : ℕ) × Begins bytes h part × (length_by h ≡ Ok (Some n))
+    × (length part < n)
 
 -- the bytes that are held and then those that are left, where they are told
 abbrev pub known : List ℕ → Option (List ℕ) → Option (List ℕ)

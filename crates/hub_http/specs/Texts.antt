@@ -1,5 +1,6 @@
 -- The texts of answers and chunks (RFC 9112, sections 4, 6 and 7.1; own for the choice of fields).
-use Rattle.std.specs.Prelude.{ℕ, List, [], ◌++◌, length, Bool, false, Option, Some, None, if◌then◌else◌, codes, decimal}
+use Rattle.std.specs.Prelude.{ℕ, List, [], ◌++◌, length, Bool, false, Option, Some, None, if◌then◌else◌}
+use Rattle.std.specs.Prelude.{codes, decimal}
 use Rattle.std.specs.Fmt.{digits}
 use Rattle.http.specs.StatusCode.{reason_phrase}
 use Rattle.hub_http.specs.declared.refusal.Refusal.{Refusal}
@@ -35,12 +36,14 @@ type_line = codes "Content-Type: application/json\r\n"
 -- the head of an answer, with the line that says where its body ends
 unfoldable pub head_text : ℕ → List ℕ → Bool → List ℕ
 head_text status framing close =
-    status_line status (phrase_or_empty (reason_phrase status)) ++ (type_line ++ (framing ++ (close_line close ++ codes "\r\n")))
+    status_line status (phrase_or_empty (reason_phrase status))
+    ++ (type_line ++ (framing ++ (close_line close ++ codes "\r\n")))
 
 -- the body of a refusal
 unfoldable pub refusal_body : Refusal → List ℕ
 refusal_body refusal =
-    codes "{\"error\":\"" ++ (error_of refusal ++ (codes "\",\"reason\":\"" ++ (reason_of refusal ++ codes "\"}\n")))
+    codes "{\"error\":\""
+    ++ (error_of refusal ++ (codes "\",\"reason\":\"" ++ (reason_of refusal ++ codes "\"}\n")))
 
 -- a head and a body, the head alone where it answers a HEAD
 abbrev pub answer_text : ℕ → List ℕ → Bool → Bool → List ℕ
@@ -50,7 +53,8 @@ answer_text status body head_only close =
 -- the text of an answer
 abbrev pub reply_text : Reply → Bool → Bool → List ℕ
 reply_text (Done status body) head_only close = answer_text status body.items head_only close
-reply_text (Refused refusal) head_only close = answer_text (status_of refusal) (refusal_body refusal) head_only close
+reply_text (Refused refusal) head_only close =
+    answer_text (status_of refusal) (refusal_body refusal) head_only close
 
 -- one chunk
 unfoldable pub chunk_text : List ℕ → List ℕ

@@ -1,5 +1,7 @@
--- The rows of a feed: sequences, each with the number of the document whose latest edit stands there (CouchDB API reference, _changes).
-use Rattle.std.specs.Prelude.{◌≢◌, ℕ, ◌<◌, List, [], ◌∷◌, ◌++◌, Bool, not, ◌&&◌, nat_eq, nat_lt, nat_le, Option, Some, None, option_map, find, filter, reverse, count_by}
+-- The rows of a feed: sequences, each with the number of the document whose latest edit stands there (CouchDB
+-- API reference, _changes).
+use Rattle.std.specs.Prelude.{◌≢◌, ℕ, ◌<◌, List, [], ◌∷◌, ◌++◌, Bool, not, ◌&&◌, nat_eq, nat_lt, nat_le}
+use Rattle.std.specs.Prelude.{Option, Some, None, option_map, find, filter, reverse, count_by}
 use Rattle.std.specs.List.{All, AllPairs}
 
 -- of two rows the earlier has the lower sequence, and another document; sequences begin at 1

@@ -1,5 +1,7 @@
--- An edit whose revision the database makes (CouchDB API reference, PUT and DELETE of a document, _bulk_docs).
-use Rattle.std.specs.Prelude.{◌≡◌, ◌⊎◌, ◌≤◌, ◌<◌, length, ℕ, ◌+◌, List, [], ◌∷◌, ◌++◌, Bool, true, false, if◌then◌else◌, nat_le, Option, Some, None, slice_get, codes}
+-- An edit whose revision the database makes (CouchDB API reference, PUT and DELETE of a document,
+-- _bulk_docs).
+use Rattle.std.specs.Prelude.{◌≡◌, ◌⊎◌, ◌≤◌, ◌<◌, length, ℕ, ◌+◌, List, [], ◌∷◌, ◌++◌, Bool, true, false}
+use Rattle.std.specs.Prelude.{if◌then◌else◌, nat_le, Option, Some, None, slice_get, codes}
 use Rattle.md5.specs.Md5.{md5}
 use Rattle.hex.specs.Hex.{encode_lower}
 use Rattle.json.specs.Print.{quoted}
@@ -20,8 +22,8 @@ pub record Draft : Type 0 where
   pub deleted : Bool
   pub body : List ℕ
 
--- The path that a draft extends, if there is one: the named leaf's; without a name none for an unknown document,
--- and else a deleted winner's.
+-- The path that a draft extends, if there is one: the named leaf's; without a name none for an unknown
+-- document, and else a deleted winner's.
 abbrev pub extended : List Edit → List ℕ → List Leaf → Option Revision → Option (List Revision)
 extended J id leaves (Some rev) = if names (revisions_of leaves) rev then Some (line_of J id rev) else None
 extended J id [] None = Some []
@@ -43,7 +45,11 @@ parent_text (Some r) = quoted (text_of r)
 
 -- `[deleted,parent,id,body]`, which this project hashes
 abbrev pub draft_text : Draft → Option Revision → List ℕ
-draft_text d parent = codes "[" ++ (bool_text d.deleted ++ (codes "," ++ (parent_text parent ++ (codes "," ++ (quoted d.id ++ (codes "," ++ (d.body ++ codes "]")))))))
+draft_text d parent =
+    codes "["
+    ++ (bool_text d.deleted
+    ++ (codes ","
+    ++ (parent_text parent ++ (codes "," ++ (quoted d.id ++ (codes "," ++ (d.body ++ codes "]")))))))
 
 -- the generation of the revision that is extended, 0 where there is none
 abbrev pub generation_of : Option Revision → ℕ
@@ -52,11 +58,13 @@ generation_of (Some r) = r.generation
 
 -- the draft's revision where it extends this one
 abbrev pub made : Draft → Option Revision → Revision
-made d parent = record { generation = generation_of parent + 1; hash = encode_lower (md5 (draft_text d parent)) }
+made d parent =
+    record { generation = generation_of parent + 1; hash = encode_lower (md5 (draft_text d parent)) }
 
 -- the edit that a draft becomes where it extends the path
 abbrev pub edit_of : Draft → List Revision → Edit
-edit_of d path = record { id = d.id; path = made d (parent_of path) ∷ path; deleted = d.deleted; body = d.body }
+edit_of d path =
+    record { id = d.id; path = made d (parent_of path) ∷ path; deleted = d.deleted; body = d.body }
 
 -- what storing it answers where it extends this path
 abbrev pub makes_on : ℕ → List Edit → Draft → Option (List Revision) → Stores
@@ -70,21 +78,35 @@ makes_on limit J d (Some path) =
 abbrev pub makes : ℕ → List Edit → Draft → Stores
 makes limit J d = makes_on limit J d (extended J d.id (leaves_of J d.id) d.rev)
 
--- There is a path that the draft extends and a generation behind it, so that its revision is to be made: a draft without
--- `_rev` has one where its document is unknown or its winner deleted, and none where a winner stands.
+-- There is a path that the draft extends and a generation behind it, so that its revision is to be made: a
+-- draft without `_rev` has one where its document is unknown or its winner deleted, and none where a winner
+-- stands.
 abbrev pub HasNextRevision : List Edit → Draft → Type 0
-HasNextRevision J d = (path : List Revision) × (extended J d.id (leaves_of J d.id) d.rev ≡ Some path) × (generation_of (parent_of path) < 65535)
+HasNextRevision J d =
+    (path : List Revision) × (extended J d.id (leaves_of J d.id) d.rev ≡ Some path)
+    × (generation_of (parent_of path) < 65535)
 
 -- path is what a draft that names this revision extends, or one that names none
 abbrev pub Extends : List Edit → List ℕ → Option Revision → List Revision → Type 0
 Extends J id (Some r) path = IsLeaf J id r × IsFirst path r × IsWalk J id path
-Extends J id None path = (((r : Revision) → ¬ IsKnown J id r) × (path ≡ [])) ⊎ ((r : Revision) × IsWinner J id r × IsMarked J id r true × IsFirst path r × IsWalk J id path)
+Extends J id None path =
+    (((r : Revision) → ¬ IsKnown J id r) × (path ≡ []))
+    ⊎ ((r : Revision) × IsWinner J id r × IsMarked J id r true × IsFirst path r × IsWalk J id path)
 
 -- storing a draft as a relation: after J it may come out so and leave the journal so
 abbrev pub Makes : ℕ → List Edit → Draft → Outcome Revision → List Edit → Type 0
-Makes limit J d (Stored r) new = (path : List Revision) × Extends J d.id d.rev path × (generation_of (parent_of path) < 65535) × (r ≡ made d (parent_of path)) × (¬ IsKnown J d.id r) × (length J < limit) × (new ≡ J ++ edit_of d path ∷ [])
+Makes limit J d (Stored r) new =
+    (path : List Revision) × Extends J d.id d.rev path × (generation_of (parent_of path) < 65535)
+    × (r ≡ made d (parent_of path)) × (¬ IsKnown J d.id r) × (length J < limit)
+    × (new ≡ J ++ edit_of d path ∷ [])
 Makes limit J d Known new = ⊥
-Makes limit J d (Refused Conflict) new = (((path : List Revision) → ¬ Extends J d.id d.rev path) ⊎ ((path : List Revision) × Extends J d.id d.rev path × (generation_of (parent_of path) < 65535) × IsKnown J d.id (made d (parent_of path)))) × (new ≡ J)
-Makes limit J d (Refused GenerationLimit) new = (path : List Revision) × Extends J d.id d.rev path × (65535 ≤ generation_of (parent_of path)) × (new ≡ J)
-Makes limit J d (Refused SequenceFull) new = (path : List Revision) × Extends J d.id d.rev path × (generation_of (parent_of path) < 65535) × (¬ IsKnown J d.id (made d (parent_of path))) × (limit ≤ length J) × (new ≡ J)
+Makes limit J d (Refused Conflict) new =
+    (((path : List Revision) → ¬ Extends J d.id d.rev path)
+    ⊎ ((path : List Revision) × Extends J d.id d.rev path × (generation_of (parent_of path) < 65535)
+    × IsKnown J d.id (made d (parent_of path)))) × (new ≡ J)
+Makes limit J d (Refused GenerationLimit) new =
+    (path : List Revision) × Extends J d.id d.rev path × (65535 ≤ generation_of (parent_of path)) × (new ≡ J)
+Makes limit J d (Refused SequenceFull) new =
+    (path : List Revision) × Extends J d.id d.rev path × (generation_of (parent_of path) < 65535)
+    × (¬ IsKnown J d.id (made d (parent_of path))) × (limit ≤ length J) × (new ≡ J)
 Makes limit J d (Refused _) new = ⊥

@@ -1,5 +1,6 @@
 -- Lists of entries by number (own).
-use Rattle.std.specs.Prelude.{ℕ, List, Bool, map, filter, find, not, nat_eq, Option, option_map, if◌then◌else◌}
+use Rattle.std.specs.Prelude.{ℕ, List, Bool, map, filter, find, not, nat_eq, Option, option_map}
+use Rattle.std.specs.Prelude.{if◌then◌else◌}
 
 -- whether the entry is of this number
 abbrev pub is_of : {A : Type 0} → ℕ → ℕ × A → Bool

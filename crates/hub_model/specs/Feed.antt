@@ -1,5 +1,7 @@
--- A feed, and what its next step is: it reads only the length and the current rows of what it follows (CouchDB API reference, _changes).
-use Rattle.std.specs.Prelude.{ℕ, ◌+◌, List, min, Bool, true, false, ◌&&◌, if◌then◌else◌, Option, Some, None, nat_lt, nat_le, find}
+-- A feed, and what its next step is: it reads only the length and the current rows of what it follows
+-- (CouchDB API reference, _changes).
+use Rattle.std.specs.Prelude.{ℕ, ◌+◌, List, min, Bool, true, false, ◌&&◌, if◌then◌else◌, Option, Some, None}
+use Rattle.std.specs.Prelude.{nat_lt, nat_le, find}
 use Rattle.hub_model.specs.Current.{Current}
 use Rattle.hub_model.specs.declared.feeds.Mode.{Mode}
 use Rattle.hub_model.specs.declared.feeds.Mode.TheVariants.{Normal, Longpoll, Continuous}

@@ -1,11 +1,14 @@
--- What storing documents one after the other answers, and the journal after it (CouchDB API reference, _bulk_docs).
-use Rattle.std.specs.Prelude.{◌≡◌, ℕ, ◌≤◌, ◌<◌, List, [], ◌∷◌, ◌++◌, length, Bool, true, false, if◌then◌else◌, nat_le, unwrap_or}
+-- What storing documents one after the other answers, and the journal after it (CouchDB API reference,
+-- _bulk_docs).
+use Rattle.std.specs.Prelude.{◌≡◌, ℕ, ◌≤◌, ◌<◌, List, [], ◌∷◌, ◌++◌, length, Bool, true, false, if◌then◌else◌}
+use Rattle.std.specs.Prelude.{nat_le, unwrap_or}
 use Rattle.hub_model.specs.declared.outcomes.Fault.{Fault}
 use Rattle.hub_model.specs.declared.outcomes.Fault.TheVariants.{Deleted, Contradicts, SequenceFull}
 use Rattle.hub_model.specs.declared.outcomes.Outcome.{Outcome}
 use Rattle.hub_model.specs.declared.outcomes.Outcome.TheVariants.{Stored, Known, Refused}
 use Rattle.hub_model.specs.Revision.{Revision}
-use Rattle.hub_model.specs.Journal.{Edit, IsHead, IsKnown, IsAcceptable, head_of, is_head_known, is_acceptable}
+use Rattle.hub_model.specs.Journal.{Edit, IsHead, IsKnown, IsAcceptable, head_of, is_head_known}
+use Rattle.hub_model.specs.Journal.{is_acceptable}
 
 -- what storing one document answers, and the journal after it
 pub record Stores : Type 0 where
@@ -20,7 +23,10 @@ refuses J fault = record { outcome = Refused fault; journal = J }
 abbrev pub adds : ℕ → List Edit → Edit → Stores
 adds limit J e =
     if nat_le limit (length J) then refuses J SequenceFull
-    else record { outcome = Stored (unwrap_or (head_of e) (record { generation = 0; hash = [] })); journal = J ++ e ∷ [] }
+    else record {
+      outcome = Stored (unwrap_or (head_of e) (record { generation = 0; hash = [] }));
+      journal = J ++ e ∷ [];
+    }
 
 -- an edit with its history, as a replicator sends it (new_edits=false)
 abbrev pub merges : ℕ → List Edit → Edit → Stores
@@ -33,7 +39,8 @@ merges limit J e =
 abbrev pub Takes : ℕ → List Edit → Edit → Outcome Revision → List Edit → Type 0
 Takes limit J e (Stored r) new = IsAcceptable J e × (length J < limit) × (new ≡ J ++ e ∷ []) × IsHead e r
 Takes limit J e Known new = (r : Revision) × IsHead e r × IsKnown J e.id r × (new ≡ J)
-Takes limit J e (Refused Contradicts) new = ((r : Revision) → IsHead e r → ¬ IsKnown J e.id r) × (¬ IsAcceptable J e) × (new ≡ J)
+Takes limit J e (Refused Contradicts) new =
+    ((r : Revision) → IsHead e r → ¬ IsKnown J e.id r) × (¬ IsAcceptable J e) × (new ≡ J)
 Takes limit J e (Refused SequenceFull) new = IsAcceptable J e × (limit ≤ length J) × (new ≡ J)
 Takes limit J e (Refused _) new = ⊥
 
@@ -42,7 +49,8 @@ abbrev pub TakesAll : ℕ → List Edit → List Edit → List (Outcome Revision
 TakesAll limit J [] [] new = new ≡ J
 TakesAll limit J [] (o ∷ os) new = ⊥
 TakesAll limit J (e ∷ es) [] new = ⊥
-TakesAll limit J (e ∷ es) (o ∷ os) new = (mid : List Edit) × Takes limit J e o mid × TakesAll limit mid es os new
+TakesAll limit J (e ∷ es) (o ∷ os) new =
+    (mid : List Edit) × Takes limit J e o mid × TakesAll limit mid es os new
 
 -- what storing several answers, and the journal after them
 pub record StoresAll : Type 0 where
@@ -52,7 +60,8 @@ pub record StoresAll : Type 0 where
 -- documents one after the other, by this way of storing one, on a database that stands or was deleted
 abbrev pub stores_all : {A : Type 0} → (List Edit → A → Stores) → Bool → List Edit → List A → StoresAll
 stores_all store deleted J [] = record { outcomes = []; journal = J }
-stores_all store true J (x ∷ xs) = record { outcomes = Refused Deleted ∷ (stores_all store true J xs).outcomes; journal = J }
+stores_all store true J (x ∷ xs) =
+    record { outcomes = Refused Deleted ∷ (stores_all store true J xs).outcomes; journal = J }
 stores_all store false J (x ∷ xs) =
     let here = store J x in
     let rest = stores_all store false here.journal xs in

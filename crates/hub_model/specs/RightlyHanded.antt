@@ -1,5 +1,6 @@
 -- What a feed may have handed, in order, by the time that J is the journal (CouchDB API reference, _changes).
-use Rattle.std.specs.Prelude.{◌≡◌, ℕ, ◌<◌, ◌≤◌, List, [], ◌∷◌, length, map, take, max, All, AllPairs, Contains, IsTrue, IfSome, ⊤, Bool, true, false}
+use Rattle.std.specs.Prelude.{◌≡◌, ℕ, ◌<◌, ◌≤◌, List, [], ◌∷◌, length, map, take, max, All, AllPairs}
+use Rattle.std.specs.Prelude.{Contains, IsTrue, IfSome, ⊤, Bool, true, false}
 use Rattle.std.specs.List.{list_any}
 use Rattle.hub_model.specs.Journal.{Edit}
 use Rattle.hub_model.specs.Current.{Current, current}
@@ -64,7 +65,8 @@ pub record RightlyHanded (J : List Edit) (f : Feed) (items : List ChangeItem) : 
   pub to_length : f.place ≤ length J
   pub ends : EndsAt f.place items
   -- no current row that passes is left out between since and the place
-  pub whole : (c : Current) → Contains (current J) c → IsTrue (passes f.params.filter c.id) → f.since < c.seq → c.seq ≤ f.place → Contains (seqs_of items) c.seq
+  pub whole : (c : Current) → Contains (current J) c → IsTrue (passes f.params.filter c.id) → f.since < c.seq
+      → c.seq ≤ f.place → Contains (seqs_of items) c.seq
   pub limited : IfSome f.params.limit (λ limit. length (rows_of items) ≤ max 1 limit)
   pub beats : All (IsAsked f.params.heartbeat) items
 

@@ -1,5 +1,6 @@
 -- What a row of changes shows (CouchDB API reference, _changes with style and include_docs).
-use Rattle.std.specs.Prelude.{◌≡◌, ℕ, List, [], ◌∷◌, length, take, Contains, Bool, true, false, Option, Some, None}
+use Rattle.std.specs.Prelude.{◌≡◌, ℕ, List, [], ◌∷◌, length, take, Contains, Bool, true, false, Option, Some}
+use Rattle.std.specs.Prelude.{None}
 use Rattle.hub_model.specs.declared.feeds.Style.{Style}
 use Rattle.hub_model.specs.declared.feeds.Style.TheVariants.{MainOnly, AllDocs}
 use Rattle.hub_model.specs.Revision.{Revision}
@@ -45,4 +46,5 @@ row_of J style include_docs c = record {
 
 -- the row is a current one, as it is shown while J is the journal
 abbrev pub IsRow : List Edit → Style → Bool → ChangeRow → Type 0
-IsRow J style include_docs row = (c : Current) × Contains (current J) c × (row ≡ row_of J style include_docs c)
+IsRow J style include_docs row =
+    (c : Current) × Contains (current J) c × (row ≡ row_of J style include_docs c)

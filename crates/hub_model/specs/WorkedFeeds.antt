@@ -20,20 +20,40 @@ doc id path = record { id = id; path = path; deleted = false; body = codes "{}" 
 
 -- a, b, c, then a twice more
 abbrev pub five_edits : List Edit
-five_edits = doc (codes "a") (rev 1 (codes "a") ∷ []) ∷ doc (codes "b") (rev 1 (codes "b") ∷ []) ∷ doc (codes "c") (rev 1 (codes "c") ∷ [])
-    ∷ doc (codes "a") (rev 2 (codes "a") ∷ rev 1 (codes "a") ∷ []) ∷ doc (codes "a") (rev 3 (codes "a") ∷ rev 2 (codes "a") ∷ rev 1 (codes "a") ∷ []) ∷ []
+five_edits =
+    doc (codes "a") (rev 1 (codes "a") ∷ []) ∷ doc (codes "b") (rev 1 (codes "b") ∷ [])
+    ∷ doc (codes "c") (rev 1 (codes "c") ∷ [])
+    ∷ doc (codes "a") (rev 2 (codes "a") ∷ rev 1 (codes "a") ∷ [])
+    ∷ doc (codes "a") (rev 3 (codes "a") ∷ rev 2 (codes "a") ∷ rev 1 (codes "a") ∷ []) ∷ []
 
 -- everything after this sequence, so many rows at most
 abbrev pub asked : ℕ → Option ℕ → Params
-asked since limit = record { mode = Normal; since = From since; limit = limit; style = MainOnly; include_docs = false; filter = Everything; heartbeat = false }
+asked since limit =
+    record {
+      mode = Normal;
+      since = From since;
+      limit = limit;
+      style = MainOnly;
+      include_docs = false;
+      filter = Everything;
+      heartbeat = false;
+    }
 
 -- how a document of one leaf is shown in that journal
 abbrev pub shown : ℕ → List ℕ → Revision → ChangeRow
-shown seq id winner = record { seq = seq; id = id; changes = winner ∷ []; deleted = false; doc = None; seen = 5 }
+shown seq id winner =
+    record { seq = seq; id = id; changes = winner ∷ []; deleted = false; doc = None; seen = 5 }
 
 -- after 2: a at 5, then c at 3, and nothing between
 abbrev pub FallsAfterTwo : Type 0
-FallsAfterTwo = descending five_edits (asked 2 None) ≡ record { rows = shown 5 (codes "a") (rev 3 (codes "a")) ∷ shown 3 (codes "c") (rev 1 (codes "c")) ∷ []; last_seq = 3; pending = 0 }
+FallsAfterTwo =
+    descending five_edits (asked 2 None)
+    ≡ record {
+      rows = shown 5 (codes "a") (rev 3 (codes "a")) ∷ shown 3 (codes "c") (rev 1 (codes "c"))
+          ∷ [];
+      last_seq = 3;
+      pending = 0;
+    }
 
 -- after a sequence above the journal: no row, and the journal's length
 abbrev pub FallsAfterAll : Type 0
@@ -41,4 +61,6 @@ FallsAfterAll = descending five_edits (asked 9 None) ≡ record { rows = []; las
 
 -- a limit of 0 acts as 1: b and c are left out
 abbrev pub FallsOnce : Type 0
-FallsOnce = descending five_edits (asked 0 (Some 0)) ≡ record { rows = shown 5 (codes "a") (rev 3 (codes "a")) ∷ []; last_seq = 5; pending = 2 }
+FallsOnce =
+    descending five_edits (asked 0 (Some 0))
+    ≡ record { rows = shown 5 (codes "a") (rev 3 (codes "a")) ∷ []; last_seq = 5; pending = 2 }

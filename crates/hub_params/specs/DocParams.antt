@@ -1,9 +1,11 @@
--- The parameters of a document's routes (CouchDB API reference, documents; own for other values of `revs` and `new_edits`).
+-- The parameters of a document's routes (CouchDB API reference, documents; own for other values of `revs` and
+-- `new_edits`).
 use Rattle.std.specs.Prelude.{ℕ, List, Bool, false, not, codes, Option, Some, None}
 use Rattle.std.specs.Str.{bytes_eq}
 use Rattle.hub_params.specs.Query.{value_of}
 
--- the revision and the revisions that are asked for, as they were written; whether histories are; and whether revisions are made here
+-- the revision and the revisions that are asked for, as they were written; whether histories are; and whether
+-- revisions are made here
 pub record DocAsked : Type 0 where
   pub rev : Option (List ℕ)
   pub open_revs : Option (List ℕ)

@@ -1,5 +1,7 @@
--- The parameters of a changes feed, or the first fault in them (CouchDB API reference, _changes; the order of the faults is own).
-use Rattle.std.specs.Prelude.{ℕ, List, codes, Bool, true, false, ◌&&◌, not, Option, Some, None, Result, Ok, Err}
+-- The parameters of a changes feed, or the first fault in them (CouchDB API reference, _changes; the order of
+-- the faults is own).
+use Rattle.std.specs.Prelude.{ℕ, List, codes, Bool, true, false, ◌&&◌, not, Option, Some, None, Result, Ok}
+use Rattle.std.specs.Prelude.{Err}
 use Rattle.hub_filter.specs.Listed.{in_order}
 use Rattle.hub_model.specs.Filter.{Filter, Everything, DocIds, Design}
 use Rattle.hub_model.specs.declared.feeds.Mode.{Mode}
@@ -8,11 +10,14 @@ use Rattle.hub_model.specs.declared.feeds.Style.{Style}
 use Rattle.hub_model.specs.declared.feeds.Since.{Since}
 use Rattle.hub_document.specs.Read.{if_holds}
 use Rattle.hub_params.specs.DocParams.{is_value}
-use Rattle.hub_params.specs.FeedValues.{since_in, limit_in, style_in, mode_in, shown_in, heartbeat_in, timeout_in, flag_in}
+use Rattle.hub_params.specs.FeedValues.{since_in, limit_in, style_in, mode_in, shown_in, heartbeat_in}
+use Rattle.hub_params.specs.FeedValues.{timeout_in, flag_in}
 use Rattle.hub_params.specs.ListedIds.{ids_in}
 use Rattle.hub_params.specs.Query.{value_of}
 use Rattle.hub_params.specs.declared.feed_fault.ParamFault.{ParamFault}
-use Rattle.hub_params.specs.declared.feed_fault.ParamFault.TheVariants.{BadSince, BadLimit, BadStyle, BadFeed, BadFilter, BadDocIds, BadHeartbeat, DescendingMode, BadFlag}
+use Rattle.hub_params.specs.declared.feed_fault.ParamFault.TheVariants.{BadSince, BadLimit, BadStyle, BadFeed}
+use Rattle.hub_params.specs.declared.feed_fault.ParamFault.TheVariants.{BadFilter, BadDocIds, BadHeartbeat}
+use Rattle.hub_params.specs.declared.feed_fault.ParamFault.TheVariants.{DescendingMode, BadFlag}
 use Rattle.hub_params.specs.declared.feed_stages.Flags.{Flags}
 use Rattle.hub_params.specs.declared.feed_stages.Kind.{Kind}
 use Rattle.hub_params.specs.declared.feed_stages.Rows.{Rows}
@@ -59,7 +64,8 @@ kind_in feed filter =
     or_fault (shown_in filter) BadFilter (λ shown.
     Ok (record { mode = mode; shown = shown })))
 
--- the filter, by `doc_ids` and the body: only listed documents need ids. They stand in byte order, which changes nothing of what is shown
+-- the filter, by `doc_ids` and the body: only listed documents need ids. They stand in byte order, which
+-- changes nothing of what is shown
 abbrev pub filter_in : Option (List ℕ) → List ℕ → Shown → Result Filter ParamFault
 filter_in ids body All = Ok Everything
 filter_in ids body Listed = or_fault (ids_in ids body) BadDocIds (λ ids. Ok (DocIds (in_order ids)))
@@ -81,7 +87,8 @@ is_normal Continuous = false
 -- `descending`, `include_docs`: only a feed that ends at once goes downwards
 abbrev pub flags_in : Mode → Option (List ℕ) → Option (List ℕ) → Result Flags ParamFault
 flags_in mode descending include_docs =
-    or_fault (if_holds (not (is_value (codes "true") descending && not (is_normal mode)))) DescendingMode (λ _.
+    or_fault (if_holds (not (is_value (codes "true") descending
+    && not (is_normal mode)))) DescendingMode (λ _.
     or_fault (flag_in descending) BadFlag (λ descending.
     or_fault (flag_in include_docs) BadFlag (λ include_docs.
     Ok (record { descending = descending; include_docs = include_docs }))))
@@ -89,11 +96,13 @@ flags_in mode descending include_docs =
 -- what a query and a body ask of a feed, or the first fault
 abbrev pub feed_asked : List ℕ → List ℕ → Result FeedAsked ParamFault
 feed_asked query body =
-    or_stop (rows_in (value_of (codes "since") query) (value_of (codes "limit") query) (value_of (codes "style") query)) (λ rows.
+    or_stop (rows_in (value_of (codes "since") query) (value_of (codes "limit") query)
+    (value_of (codes "style") query)) (λ rows.
     or_stop (kind_in (value_of (codes "feed") query) (value_of (codes "filter") query)) (λ kind.
     or_stop (filter_in (value_of (codes "doc_ids") query) body kind.shown) (λ filter.
     or_stop (waits_in (value_of (codes "heartbeat") query) (value_of (codes "timeout") query)) (λ waits.
-    or_stop (flags_in kind.mode (value_of (codes "descending") query) (value_of (codes "include_docs") query)) (λ flags.
+    or_stop (flags_in kind.mode (value_of (codes "descending") query)
+    (value_of (codes "include_docs") query)) (λ flags.
     Ok (record {
       mode = kind.mode;
       since = rows.since;

@@ -1,5 +1,7 @@
--- The values of the parameters of a changes feed (CouchDB API reference, _changes; the limits of numbers are own). None is a fault.
-use Rattle.std.specs.Prelude.{ℕ, ◌^◌, List, length, codes, Bool, true, false, ◌&&◌, nat_le, nat_lt, min, max, if◌then◌else◌, Option, Some, None, option_map, option_and_then}
+-- The values of the parameters of a changes feed (CouchDB API reference, _changes; the limits of numbers are
+-- own). None is a fault.
+use Rattle.std.specs.Prelude.{ℕ, ◌^◌, List, length, codes, Bool, true, false, ◌&&◌, nat_le, nat_lt, min, max}
+use Rattle.std.specs.Prelude.{if◌then◌else◌, Option, Some, None, option_map, option_and_then}
 use Rattle.std.specs.List.{list_all}
 use Rattle.std.specs.Str.{bytes_eq}
 use Rattle.std.specs.Str.Parse.{digits_value}
@@ -22,7 +24,8 @@ is_numeral text = nat_lt 0 (length text) && list_all is_digit text
 
 -- the number below 2^64 that a text of digits writes
 abbrev pub number_in : List ℕ → Option ℕ
-number_in text = if is_numeral text && nat_lt (digits_value 10 text) (2 ^ 64) then Some (digits_value 10 text) else None
+number_in text =
+    if is_numeral text && nat_lt (digits_value 10 text) (2 ^ 64) then Some (digits_value 10 text) else None
 
 -- where the feed begins: after 0 where nothing is said
 abbrev pub since_in : Option (List ℕ) → Option Since

@@ -1,5 +1,7 @@
--- The ids that a feed with filter=_doc_ids shows (CouchDB API reference, _changes with doc_ids). None is a fault.
-use Rattle.std.specs.Prelude.{ℕ, List, [], ◌∷◌, codes, length, ◌==◌, if◌then◌else◌, Option, Some, None, option_map, option_and_then}
+-- The ids that a feed with filter=_doc_ids shows (CouchDB API reference, _changes with doc_ids). None is a
+-- fault.
+use Rattle.std.specs.Prelude.{ℕ, List, [], ◌∷◌, codes, length, ◌==◌, if◌then◌else◌, Option, Some, None}
+use Rattle.std.specs.Prelude.{option_map, option_and_then}
 use Rattle.serde_json.specs.Data.{Data, Items, no_items, item}
 use Rattle.serde_json.specs.Find.{get, as_str, as_array, as_object}
 use Rattle.hub_document.specs.Read.{json_of}
@@ -25,7 +27,9 @@ ids_in_member value (Some d) = texts_in d
 -- the ids that a body which is not empty gives: it is an object
 abbrev pub ids_in_body : Option (List ℕ) → List ℕ → Option (List (List ℕ))
 ids_in_body value body =
-    option_and_then (λ d. option_and_then (λ members. ids_in_member value (get (codes "doc_ids") d)) (as_object d)) (json_of body)
+    option_and_then
+    (λ d. option_and_then (λ members. ids_in_member value (get (codes "doc_ids") d)) (as_object d))
+    (json_of body)
 
 -- the ids that the query's value and the body give
 abbrev pub ids_in : Option (List ℕ) → List ℕ → Option (List (List ℕ))

@@ -25,7 +25,14 @@ commit_body = codes "{\"instance_start_time\":\"0\",\"ok\":true}\n"
 -- what a database of this name says of itself
 unfoldable pub info_body : List ℕ → Info → List ℕ
 info_body name info =
-    codes "{\"db_name\":" ++ (quoted name ++ (codes ",\"doc_count\":" ++ (decimal info.doc_count ++ (codes ",\"doc_del_count\":" ++ (decimal info.doc_del_count ++ (codes ",\"update_seq\":" ++ (decimal info.update_seq ++ codes ",\"instance_start_time\":\"0\"}\n")))))))
+    codes "{\"db_name\":"
+    ++ (quoted name
+    ++ (codes ",\"doc_count\":"
+    ++ (decimal info.doc_count
+    ++ (codes ",\"doc_del_count\":"
+    ++ (decimal info.doc_del_count
+    ++ (codes ",\"update_seq\":"
+    ++ (decimal info.update_seq ++ codes ",\"instance_start_time\":\"0\"}\n")))))))
 
 -- an edit that is stored: the JSON text of its document's id, and the text of its revision
 unfoldable pub edit_text : List ℕ → List ℕ → List ℕ
@@ -72,7 +79,9 @@ ancestors_text (r ∷ revs) = codes ",\"possible_ancestors\":" ++ revisions_text
 -- the member of a document that misses revisions
 unfoldable pub diff_text : Diff → List ℕ
 diff_text d =
-    quoted d.id ++ (codes ":{\"missing\":" ++ (revisions_text d.missing ++ (ancestors_text d.possible_ancestors ++ codes "}")))
+    quoted d.id
+    ++ (codes ":{\"missing\":"
+    ++ (revisions_text d.missing ++ (ancestors_text d.possible_ancestors ++ codes "}")))
 
 -- what the documents that were asked for miss, an object with commas (44) between its members
 unfoldable pub diffs_body : List Diff → List ℕ

@@ -22,7 +22,8 @@ id_text (Some id) = quoted id
 -- the members that say why, and the brace that closes them
 unfoldable pub reason_members : Refusal → List ℕ
 reason_members refusal =
-    codes ",\"error\":\"" ++ (error_of refusal ++ (codes "\",\"reason\":\"" ++ (reason_of refusal ++ codes "\"}")))
+    codes ",\"error\":\""
+    ++ (error_of refusal ++ (codes "\",\"reason\":\"" ++ (reason_of refusal ++ codes "\"}")))
 
 -- an element that is refused
 unfoldable pub refused_text : Option (List ℕ) → Refusal → List ℕ

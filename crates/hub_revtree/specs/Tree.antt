@@ -1,15 +1,18 @@
--- The tree of one document, seen as the journal of its edits (CouchDB API reference, document revisions and conflicts).
+-- The tree of one document, seen as the journal of its edits (CouchDB API reference, document revisions and
+-- conflicts).
 use Rattle.std.specs.Prelude.{◌≡◌, ℕ, List, [], Bool}
 use Rattle.hub_model.specs.Revision.{Revision}
 use Rattle.hub_model.specs.Path.{IsFirst}
 use Rattle.hub_model.specs.Journal.{Edit, IsKnown, IsLegal, edits_of}
 
--- the edits of the document, its id left out, in the order in which they were taken; and how many more revisions it has memory for
+-- the edits of the document, its id left out, in the order in which they were taken; and how many more
+-- revisions it has memory for
 pub record Tree : Type 0 where
   pub edits : List Edit
   pub room : ℕ
 
--- what holds of the edits of each tree: they are a legal journal, and all of the document whose id is left out
+-- what holds of the edits of each tree: they are a legal journal, and all of the document whose id is left
+-- out
 pub record IsRevTree (edits : List Edit) : Type 0 where
   pub legal : IsLegal edits
   pub one : edits_of edits [] ≡ edits

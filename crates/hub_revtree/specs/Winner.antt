@@ -1,5 +1,6 @@
 -- The first of some leaves (CouchDB API reference, document revisions and conflicts).
-use Rattle.std.specs.Prelude.{ℕ, List, [], ◌∷◌, map, insert, nat_lt, Bool, true, Option, Some, None, if◌then◌else◌}
+use Rattle.std.specs.Prelude.{ℕ, List, [], ◌∷◌, map, insert, nat_lt, Bool, true, Option, Some, None}
+use Rattle.std.specs.Prelude.{if◌then◌else◌}
 use Rattle.std.specs.List.{list_any, position_or_len}
 use Rattle.std.specs.Ordering.{is_gt}
 use Rattle.hub_model.specs.Leaves.{Leaf, leaf_cmp}
@@ -18,7 +19,8 @@ is_better_than leaf (Some best) = is_gt (leaf_cmp leaf.deleted leaf.rev best.del
 -- the better of a leaf and the best of the others, if there are any
 abbrev pub better_of : Winner → Option Winner → Winner
 better_of leaf None = leaf
-better_of leaf (Some best) = if is_gt (leaf_cmp leaf.deleted leaf.rev best.deleted best.rev) then leaf else best
+better_of leaf (Some best) =
+    if is_gt (leaf_cmp leaf.deleted leaf.rev best.deleted best.rev) then leaf else best
 
 -- whether a leaf is above another
 abbrev pub is_above : Winner → Winner → Bool

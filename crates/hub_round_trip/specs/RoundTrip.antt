@@ -1,12 +1,14 @@
 -- Reading a document and writing it undo each other (own).
-use Rattle.std.specs.Prelude.{◌≡◌, ℕ, ◌^◌, ◌<◌, ◌≤◌, pos, negsuc, List, Bool, false, Option, is_some, not, slice_get, All, IsUtf8, Ok, ⊤}
+use Rattle.std.specs.Prelude.{◌≡◌, ℕ, ◌^◌, ◌<◌, ◌≤◌, pos, negsuc, List, Bool, false, Option, is_some, not}
+use Rattle.std.specs.Prelude.{slice_get, All, IsUtf8, Ok, ⊤}
 use Rattle.std.specs.Option.{IfSome}
 use Rattle.std.specs.Ordering.{nat_cmp}
 use Rattle.std.specs.Cmp.Lexicographic.{slice_cmp}
 use Rattle.std.specs.declared.cmp.Ordering.TheVariants.{Less}
 use Rattle.hub_model.specs.Revision.{Revision, IsRevision}
 use Rattle.hub_model.specs.Path.{IsHistory}
-use Rattle.serde_json.specs.Data.{Num, unsigned, negative, float, Data, null, boolean, number, string, array, object, Items, no_items, item, Members, no_members, member, depth}
+use Rattle.serde_json.specs.Data.{Num, unsigned, negative, float, Data, null, boolean, number, string, array}
+use Rattle.serde_json.specs.Data.{object, Items, no_items, item, Members, no_members, member, depth}
 use Rattle.serde_json.specs.Read.{max_depth}
 use Rattle.serde_json.specs.Written.{compact_text}
 use Rattle.hub_document.specs.BodyText.{is_hidden}
@@ -98,7 +100,9 @@ pub record IsDoc (d : Doc) : Type 0 where
 
 -- what is read is such a document, with a path where the edit was not made here
 abbrev pub ReadsAreDocs : Type 0
-ReadsAreDocs = (new_edits : Bool) (text : List ℕ) (d : Doc) → doc_in new_edits text ≡ Ok d → IsDoc d × (is_some d.path ≡ not new_edits)
+ReadsAreDocs =
+    (new_edits : Bool) (text : List ℕ) (d : Doc) → doc_in new_edits text ≡ Ok d
+    → IsDoc d × (is_some d.path ≡ not new_edits)
 
 -- the text of each such document reads as it
 abbrev pub DocsRead : Type 0
@@ -106,4 +110,6 @@ DocsRead = (d : Doc) → IsDoc d → doc_in (not (is_some d.path)) (doc_text d) 
 
 -- so what is read, written and read again is the same document
 abbrev pub DocsReadBack : Type 0
-DocsReadBack = (new_edits : Bool) (text : List ℕ) (d : Doc) → doc_in new_edits text ≡ Ok d → doc_in new_edits (doc_text d) ≡ Ok d
+DocsReadBack =
+    (new_edits : Bool) (text : List ℕ) (d : Doc) → doc_in new_edits text ≡ Ok d
+    → doc_in new_edits (doc_text d) ≡ Ok d

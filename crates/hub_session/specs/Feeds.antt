@@ -1,5 +1,6 @@
 -- RFC 9112, section 7.1 (chunks); own for the feed: what a stream sends for a feed's items, and how it goes.
-use Rattle.std.specs.Prelude.{◌≡◌, ◌≤◌, ⊤, ℕ, ◌+◌, List, [], ◌∷◌, ◌++◌, Bool, true, false, Option, Some, None, codes}
+use Rattle.std.specs.Prelude.{◌≡◌, ◌≤◌, ⊤, ℕ, ◌+◌, List, [], ◌∷◌, ◌++◌, Bool, true, false, Option, Some, None}
+use Rattle.std.specs.Prelude.{codes}
 use Rattle.hub_model.specs.Row.{ChangeRow}
 pub use Rattle.hub_model.specs.RightlyHanded.{is_end}
 use Rattle.hub_model.specs.declared.feeds.Mode.{Mode}
@@ -9,7 +10,8 @@ use Rattle.hub_http.specs.Counts.{last_count}
 use Rattle.hub_http.specs.Chunks.{text_chunks}
 use Rattle.hub_http.specs.Items.{item_text, feed_head}
 use Rattle.hub_session.specs.declared.closing.StreamEnd.{StreamEnd}
-use Rattle.hub_session.specs.declared.closing.StreamEnd.TheVariants.{Complete, Stopped, NoMemory, Broken, Exhausted}
+use Rattle.hub_session.specs.declared.closing.StreamEnd.TheVariants.{Complete, Stopped, NoMemory, Broken}
+use Rattle.hub_session.specs.declared.closing.StreamEnd.TheVariants.{Exhausted}
 
 -- from a state a service may go on with this item, or stop, and leave that state
 abbrev pub Gives : Type 0 → Type 1
@@ -73,7 +75,8 @@ EndsSo NoMemory = ⊥
 EndsSo Broken = ⊤
 EndsSo Exhausted = ⊥
 
--- from s, behind so many items, the service may give these, none behind an End, and leave t, and the stream then ends so
+-- from s, behind so many items, the service may give these, none behind an End, and leave t, and the stream
+-- then ends so
 abbrev pub Streams : {S : Type 0} → Gives S → Drops S → ℕ → S → List (Item ChangeRow) → StreamEnd → S → Type 0
 Streams gives drops sent s [] end t = StopsSo gives drops sent s end t
 Streams gives drops sent s (Row row ∷ items) end t =

@@ -1,11 +1,13 @@
--- RFC 9112, section 9.6 (closing behind an error); own for the texts: replies to what is no request, and to want of memory.
+-- RFC 9112, section 9.6 (closing behind an error); own for the texts: replies to what is no request, and to
+-- want of memory.
 use Rattle.std.specs.Prelude.{ℕ, List, [], Bool, true, false, if◌then◌else◌}
 use Rattle.hub_http.specs.declared.reply.Reply.{Reply}
 use Rattle.hub_http.specs.declared.reply.Reply.TheVariants.{Refused}
 use Rattle.hub_http.specs.declared.refusal.Refusal.TheVariants as refusal
 use Rattle.hub_http.specs.Texts.{reply_text}
 use Rattle.hub_http.specs.declared.fault.HttpFault.{HttpFault}
-use Rattle.hub_http.specs.declared.fault.HttpFault.TheVariants.{NoMemory, BadHead, HeadTooLong, BodyTooLong, Version, Coding, Ended, IoFault}
+use Rattle.hub_http.specs.declared.fault.HttpFault.TheVariants.{NoMemory, BadHead, HeadTooLong, BodyTooLong}
+use Rattle.hub_http.specs.declared.fault.HttpFault.TheVariants.{Version, Coding, Ended, IoFault}
 
 -- the reply to a fault of reading a request, if it has one
 abbrev pub fault_text : HttpFault → List ℕ

@@ -1,5 +1,6 @@
 -- RFC 9112, section 9 (persistent connections); own for the answers: what a session writes, and how it goes.
-use Rattle.std.specs.Prelude.{◌≡◌, ◌≤◌, ◌⊎◌, ℕ, ◌+◌, List, [], ◌∷◌, ◌++◌, Bool, true, false, Option, Some, None, if◌then◌else◌, codes, bytes_eq}
+use Rattle.std.specs.Prelude.{◌≡◌, ◌≤◌, ◌⊎◌, ℕ, ◌+◌, List, [], ◌∷◌, ◌++◌, Bool, true, false, Option, Some}
+use Rattle.std.specs.Prelude.{None, if◌then◌else◌, codes, bytes_eq}
 use Rattle.std.specs.List.{flat_map}
 use Rattle.hub_model.specs.Row.{ChangeRow}
 use Rattle.hub_model.specs.declared.feeds.Item.{Item}
@@ -13,7 +14,8 @@ use Rattle.hub_session.specs.declared.service.Answer.TheVariants.{Whole, Stream}
 use Rattle.hub_session.specs.declared.closing.StreamEnd.{StreamEnd}
 use Rattle.hub_session.specs.declared.closing.StreamEnd.TheVariants as stream
 use Rattle.hub_session.specs.declared.closing.Closing.{Closing}
-use Rattle.hub_session.specs.declared.closing.Closing.TheVariants.{Finished, Requested, Fault, Cut, Broken, Exhausted}
+use Rattle.hub_session.specs.declared.closing.Closing.TheVariants.{Finished, Requested, Fault, Cut, Broken}
+use Rattle.hub_session.specs.declared.closing.Closing.TheVariants.{Exhausted}
 use Rattle.hub_session.specs.Feeds.{Gives, Drops, feed_text, Streams}
 use Rattle.hub_session.specs.Replies.{fault_text, whole_text}
 
@@ -161,7 +163,8 @@ pub record IsAnswered {S : Type 0} (answers : Answering S) (gives : Gives S) (dr
   pub written : Sends (breaks next) old new (exchange_text exchange)
 
 -- there was no request, and the session closes
-pub record IsClosed {S : Type 0} (bytes : List ℕ) (s : S) (next : Option Closing) (t : S) (old new : Option (List ℕ)) : Type 0 where
+pub record IsClosed {S : Type 0} (bytes : List ℕ) (s : S) (next : Option Closing) (t : S)
+    (old new : Option (List ℕ)) : Type 0 where
   pub closing : Closing
   pub text : List ℕ
   pub next_is : next ≡ Some closing
