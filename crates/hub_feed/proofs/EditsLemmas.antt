@@ -2,13 +2,11 @@
 use Rattle.std.proofs.Common.{◌≡◌, ℕ, ◌≤◌, Bool, ◌&&◌, List, refl, sym, ◌∙◌, subst, Option, Some, None, IfSome, find, Contains, arith}
 use Rattle.std.proofs.lemmas.Bool.{cond_both}
 use Rattle.hub_model.specs.Current.{Current}
-use Rattle.hub_model.specs.Feed.{Params, Feed, Status, Open, Ending, Ended, Finished, Due, DueRow, DueEnd, DueNothing, DueGone, begin, expire, is_open, waits, due, due_at, due_open, is_in_reach, bound_of, bound_after, since_of, after_due}
+use Rattle.hub_model.specs.Feed.{Feed, Status, Open, Ending, Ended, Finished, Due, DueRow, DueEnd, DueNothing, DueGone, expire, is_open, waits, due, due_at, due_open, is_in_reach, bound_after, after_due}
 use Rattle.hub_model.specs.Hand.{item_of}
 use Rattle.hub_model.specs.declared.feeds.Item.{Item}
 use Rattle.hub_model.specs.declared.feeds.Mode.{Mode}
 use Rattle.hub_model.specs.declared.feeds.Mode.TheVariants.{Normal, Longpoll, Continuous}
-use Rattle.hub_model.specs.declared.feeds.Since.{Since}
-use Rattle.hub_model.specs.declared.feeds.Since.TheVariants.{From, Now}
 use Rattle.hub_model.proofs.Shown.{find_is}
 use Rattle.hub_feed.specs.Edits.{IsWithin}
 use Rattle.hub_feed.specs.Next.{next_of, after_next}
@@ -32,18 +30,6 @@ within_next f (DueRow c) len h = h
 within_next f (DueEnd last_seq) len h = h
 within_next f DueNothing len h = (omega arith, h.1)
 within_next f DueGone len h = h
-
-begin_since : (since : Since) (len : ℕ) → since_of since len ≤ len
-begin_since (From seq) len = omega arith
-begin_since Now len = omega arith
-
-begin_bound : (mode : Mode) (len : ℕ) → IfSome (bound_of mode len) (λ b. b ≤ len)
-begin_bound Normal len = omega arith
-begin_bound Longpoll len = tt
-begin_bound Continuous len = tt
-
-pub within_begin : (params : Params) (len : ℕ) → IsWithin (begin params len) len
-within_begin params len = (begin_since params.since len, begin_bound params.mode len)
 
 bound_within : (mode : Mode) (bound : Option ℕ) (len : ℕ) → IfSome bound (λ b. b ≤ len) → IfSome (bound_after mode bound len) (λ b. b ≤ len)
 bound_within Normal bound len h = h

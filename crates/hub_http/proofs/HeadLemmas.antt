@@ -1,18 +1,17 @@
 -- What the parser's answers say of the heads within the limits.
 use Rattle.std.proofs.Common.{◌≡◌, ℕ, ◌<◌, ◌≤◌, ◌⊎◌, inl, inr, Bool, true, false, ◌&&◌, cond, List, [], ◌∷◌, length, map, take, drop, Option, Some, Result, Ok, Err, sym, ap, ◌∙◌, arith, nat_le, bytes_eq, codes}
-use Rattle.std.specs.List.{list_all, list_any}
+use Rattle.std.specs.List.{list_all}
 use Rattle.std.specs.Str.Parse.{digits_value}
 use Rattle.std.proofs.lemmas.Grind.{common_steps}
 use Rattle.httparse.specs.Grammar.{RequestHead, print_request}
-use Rattle.httparse.specs.Spans.{header_bytes, span_bytes, name_and_value, IsRequestOf, RequestOverflows}
+use Rattle.httparse.specs.Spans.{header_bytes, span_bytes, name_and_value, IsRequestOf}
 use Rattle.httparse.specs.declared.spans.HeaderSpan.{HeaderSpan}
 use Rattle.httparse.specs.declared.spans.RequestSpans.{RequestSpans}
 use Rattle.httparse.proofs.GrammarLemmas.{request_prefix_free}
 use Rattle.hub_http.specs.declared.fault.HttpFault.{HttpFault}
 use Rattle.hub_http.specs.declared.fault.HttpFault.TheVariants.{NoMemory, BadHead, HeadTooLong, BodyTooLong, Version, Coding, Ended, IoFault}
-use Rattle.hub_http.specs.declared.head.Head.{Head}
-use Rattle.hub_http.specs.Heads.{Pair, is_digits, body_limit, length_of, asked, is_target, values_named, asks_close, Begins, BeginsFaulty, BeginsTooLong, NeverHasHead, length_by}
-use Rattle.hub_http.specs.Looking.{IsHeadAt, LookFaults}
+use Rattle.hub_http.specs.Heads.{Pair, is_digits, body_limit, length_of, asked, is_target, values_named, Begins, BeginsFaulty, BeginsTooLong, NeverHasHead, length_by}
+use Rattle.hub_http.specs.Looking.{LookFaults}
 
 -- a head past the limit is the only one
 never_shorter : (buf : List ℕ) (headers : List HeaderSpan) (r : RequestSpans) → IsRequestOf buf headers r → 16384 < r.len → NeverHasHead buf
@@ -23,9 +22,6 @@ never_shorter buf headers r x far more k q b =
 
 pub too_long : (buf : List ℕ) (headers : List HeaderSpan) (r : RequestSpans) → IsRequestOf buf headers r → 16384 < r.len → NeverHasHead buf × BeginsTooLong buf
 too_long buf headers r x far = (never_shorter buf headers r x far, inr (inl (x.0, drop r.len buf, x.1.reads, omega (arith, x.1.len, far))))
-
-pub too_many : (buf : List ℕ) → RequestOverflows 64 buf → NeverHasHead buf
-too_many buf o more k q b = let h = o more k q b.reads in omega (arith, h, b.fields)
 
 -- the head that was found has few enough fields
 few_fields : (buf : List ℕ) (headers : List HeaderSpan) (r : RequestSpans) (h : RequestHead) → length headers ≡ 64
@@ -86,20 +82,3 @@ look_faults buf Version a b = b
 look_faults buf Coding a b = b
 look_faults buf Ended a b = absurd (elim a [ inl x ↦ elim x [ inl y ↦ cc | inr y ↦ cc ] | inr x ↦ elim x [ inl y ↦ cc | inr y ↦ cc ] ])
 look_faults buf IoFault a b = absurd (elim a [ inl x ↦ elim x [ inl y ↦ cc | inr y ↦ cc ] | inr x ↦ elim x [ inl y ↦ cc | inr y ↦ cc ] ])
-
-pub whole_head : (buf : List ℕ) (headers : List HeaderSpan) (r : RequestSpans) (f : Head) (x : IsRequestOf buf headers r) → length headers ≡ 64 → r.len ≤ 16384
-    → f.len ≡ r.len → f.method.items ≡ span_bytes buf r.method → f.target.items ≡ span_bytes buf r.path
-    → asked r.version (span_bytes buf r.path) (map (header_bytes buf) (take r.headers headers)) ≡ Ok f.length
-    → f.close ≡ list_any asks_close (map (header_bytes buf) (take r.headers headers))
-    → (h : RequestHead) × IsHeadAt buf f h
-whole_head buf headers r f x room short len method target length close = (
-  x.0,
-  record {
-    begins = rw len (begins buf headers r x room short);
-    len = len ∙ x.1.len;
-    method = method ∙ x.1.method;
-    target = target ∙ x.1.path;
-    length = sym (asked_is buf headers r x) ∙ length;
-    close = close ∙ ap (list_any asks_close) x.1.fields;
-  },
-)

@@ -3,7 +3,6 @@ pub mod FrontLemmas
 pub mod HeadLemmas
 pub mod ItemLemmas
 pub mod LengthLemmas
-pub mod ReadLemmas
 pub mod RequestLemmas
 pub mod SendLemmas
 pub mod UniqueLemmas

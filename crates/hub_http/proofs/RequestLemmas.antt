@@ -2,7 +2,7 @@
 use Rattle.std.proofs.Common.{◌≡◌, ℕ, ◌+◌, ◌<◌, ◌≤◌, Bool, true, false, ◌&&◌, cond, List, [], ◌∷◌, ◌++◌, length, take, drop, Option, Some, None, Result, Ok, Err, IfSome, is_some, unwrap_or, refl, sym, ap, subst, ◌∙◌, arith, nat_le, append_assoc, append-nil, inl, inr, take-append-drop, codes, bytes_eq, ◌^◌}
 use borrow.Author.Tests.{leb-true}
 use Rattle.std.proofs.lemmas.Grind.{common_steps}
-use Rattle.std.proofs.lemmas.List.{drop-drop, drop_at, nil_from_length}
+use Rattle.std.proofs.lemmas.List.{drop-drop, drop_at}
 use Rattle.std.specs.List.{list_all}
 use Rattle.std.specs.Str.Parse.{digits_value}
 use Rattle.std.specs.Io.KnownBytes.{Keeps, prepend_known}
@@ -38,12 +38,6 @@ never_after_part held long none more h rest b =
 
 pub goes_on_too_long : (held : List ℕ) → 16384 ≤ length held → GoesOn held → NeverHasHead held × BeginsTooLong held
 goes_on_too_long held long on = (never_after_part held long on.0, inr (inr (held, [], sym (append-nil held), long, on)))
-
--- nothing more came
-pub goes_on_still : (old new more : List ℕ) (n : ℕ) → new ≡ old ++ more → n ≡ length more → n ≡ 0 → GoesOn old → GoesOn new
-goes_on_still old new more n e f z on =
-    let none : more ≡ [] = nil_from_length more (sym f ∙ z) in
-    subst GoesOn (sym (e ∙ ap (λ l. old ++ l) none ∙ append-nil old)) on
 
 -- what is said of a front of the bytes is said of the bytes
 never_more : (held y : List ℕ) → NeverHasHead held → NeverHasHead (held ++ y)

@@ -22,6 +22,3 @@ front_of_more a b x y p = (min p.0 (length x), subst (Appends a b) (sym (take_wi
 pub sends_after : (broken : Bool) (a b c : Option (List ℕ)) (x y : List ℕ) → Appends a b x → Sends broken b c y → Sends broken a c (x ++ y)
 sends_after false a b c x y p q = Appends-trans a b c x y p q
 sends_after true a b c x y p q = front_after a b c x y p q
-
-pub whole_front : (a b : Option (List ℕ)) (x : List ℕ) → Appends a b x → AppendsFront a b x
-whole_front a b x p = (length x, subst (Appends a b) (grind (arith, common_steps)) p)

@@ -28,9 +28,3 @@ ends_more place [] ys e h = h
 ends_more place (Row row ∷ xs) ys e h = ends_more place xs ys e h
 ends_more place (Beat ∷ xs) ys e h = ends_more place xs ys e h
 ends_more place (End last n ∷ xs) ys e h = absurd (cc)
-
-pub ends_none : (place : ℕ) (xs : List ChangeItem) → list_any is_end xs ≡ false → EndsAt place xs
-ends_none place [] e = tt
-ends_none place (Row row ∷ xs) e = ends_none place xs e
-ends_none place (Beat ∷ xs) e = ends_none place xs e
-ends_none place (End last n ∷ xs) e = absurd (cc)

@@ -8,17 +8,14 @@ use Rattle.std.proofs.lemmas.Slice.Eq.{bytes_eq-Decides}
 use Rattle.hub_model.specs.Revision.{Revision}
 use Rattle.hub_model.specs.Path.{IsFirst, is_first}
 use Rattle.hub_model.specs.Journal.{Edit, IsLegal, edits_of}
-use Rattle.hub_model.specs.Leaves.{IsLeaf, HasDoc}
+use Rattle.hub_model.specs.Leaves.{HasDoc}
 use Rattle.hub_model.specs.Walk.{IsShown, is_head, shown, shown_of}
 use Rattle.hub_model.specs.Current.{Current, IsCurrent, current, current_from, is_edited}
-use Rattle.hub_model.specs.declared.feeds.Style.TheVariants.{AllDocs}
-use Rattle.hub_model.specs.Row.{ChangeRow, IsRow}
 use Rattle.hub_model.proofs.Lists.{contains_none, contains_here, contains_there, contains_cases}
 use Rattle.hub_model.proofs.Legal.{first_in}
 use Rattle.hub_model.proofs.Tests.{any_at, at_any, same_is, same_self, edits_in, in_edits}
 use Rattle.hub_model.proofs.Rows.{from_cases, from_rest, from_head}
 use Rattle.hub_model.proofs.Walks.{line_of_walk}
-use Rattle.hub_model.proofs.Leaves.{is_leaf_from}
 
 -- what is found, and where nothing is
 module _ {X : Type 0} (P : X → Bool) where
@@ -100,10 +97,3 @@ current_is J c h = let i = from_is 1 J c h in (i.0, (i.1, i.2, i.3, omega (arith
 
 pub is_current_from : (J : List Edit) (n : ℕ) (e : Edit) → IsCurrent J n e → Contains (current J) (record { seq = n; id = e.id })
 is_current_from J n e (before, later, s, m, none) = subst (λ z. Contains (current z) (record { seq = n; id = e.id })) (sym s) (from_current 1 before later e n (omega arith) none)
-
--- a row of all leaves: its entry, and that it lists each leaf
-pub row_is : (J : List Edit) (docs : Bool) (row : ChangeRow) → IsRow J AllDocs docs row → (e : Edit) × IsCurrent J row.seq e × (e.id ≡ row.id)
-row_is J docs row (c, h, q) = subst (λ (r : ChangeRow). (e : Edit) × IsCurrent J r.seq e × (e.id ≡ r.id)) (sym q) (current_is J c h)
-
-pub row_lists : (J : List Edit) (docs : Bool) (row : ChangeRow) → IsRow J AllDocs docs row → (r : Revision) → IsLeaf J row.id r → Contains row.changes r
-row_lists J docs row (c, h, q) r = subst (λ (w : ChangeRow). IsLeaf J w.id r → Contains w.changes r) (sym q) (is_leaf_from J c.id r)

@@ -1,5 +1,5 @@
 -- Leaves below a generation: they are found by the branches, and the order neither loses nor makes one.
-use Rattle.std.proofs.Common.{◌≡◌, ℕ, zero, suc, ◌+◌, ◌<◌, List, [], ◌∷◌, length, take, get_or, Bool, true, false, inl, inr, ap, ap₂, refl, sym, ◌∙◌, subst, ◌||◌, ◌&&◌, not, arith}
+use Rattle.std.proofs.Common.{◌≡◌, ℕ, ◌+◌, ◌<◌, List, [], ◌∷◌, length, get_or, Bool, true, false, inl, inr, ap, ap₂, refl, sym, ◌∙◌, subst, ◌||◌, ◌&&◌, not, arith}
 use Rattle.std.specs.Prelude.{Some, slice_get, if◌then◌else◌, drop, filter, max, nat_lt}
 use Rattle.std.specs.List.{list_any}
 use Rattle.std.proofs.lemmas.Bool.{cases_Bool, lt-ltb}

@@ -7,16 +7,11 @@ use Rattle.std.proofs.lemmas.Option.{same_Some}
 use Rattle.std.proofs.lemmas.List.{append-nil}
 use Rattle.std.proofs.lemmas.List.Elements.{filter_more}
 use Rattle.hub_model.specs.Revision.{Revision, is_same}
-use Rattle.hub_model.specs.Path.{Falls, IsHistory, names, is_first}
+use Rattle.hub_model.specs.Path.{Falls, IsHistory, names}
 use Rattle.hub_model.proofs.Legal.{falls_below}
 use Rattle.hub_model.proofs.Tests.{same_is, names_is}
 use Rattle.hub_revtree.specs.declared.branch.Branch.{Branch}
 use Rattle.hub_revtree.specs.Branch.{unnamed_in}
-
--- the test of the head
-pub first_by_head : (p : List Revision) (x r : Revision) → slice_get p 0 ≡ Some x → is_first r p ≡ is_same r x
-first_by_head [] x r h = absurd (cc)
-first_by_head (y ∷ p) x r h = ap (λ z. is_same r z) (same_Some y x h)
 
 apart : (y : Revision) (p : List Revision) (r : Revision) → Falls y p → is_same r y ≡ true → names p r ≡ false
 apart y p r f t = elim (cases_Bool (names p r)) [

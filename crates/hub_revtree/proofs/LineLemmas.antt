@@ -1,14 +1,13 @@
 -- What stands behind a revision stands so in each path that names it.
-use Rattle.std.proofs.Common.{◌≡◌, ℕ, ◌+◌, ◌≤◌, List, [], ◌∷◌, true, inl, inr, refl, sym, ap, ◌∙◌, subst, arith, length}
-use Rattle.std.specs.Prelude.{Contains, Option, Some, None, find, filter, option_map, nat_lt, if◌then◌else◌, ◌==◌}
+use Rattle.std.proofs.Common.{◌≡◌, ℕ, ◌+◌, ◌≤◌, List, [], ◌∷◌, true, inl, inr, refl, sym, ap, ◌∙◌, subst, arith}
+use Rattle.std.specs.Prelude.{Contains, Option, Some, None, find, option_map}
 use Rattle.std.specs.List.{list_any}
-use Rattle.std.proofs.lemmas.Bool.{cases_Bool, and_parts, eqb-true, le-ltb}
+use Rattle.std.proofs.lemmas.Bool.{cases_Bool, and_parts, eqb-true}
 use Rattle.std.proofs.lemmas.Option.{same_Some}
 use Rattle.hub_model.specs.Revision.{Revision, is_same}
 use Rattle.hub_model.specs.Path.{IsFirst, IsNext, IsHistory, names, is_falling, is_full}
 use Rattle.hub_model.specs.Journal.{Edit, Edits, IsBehind, IsKnown, IsLegal, is_known}
-use Rattle.hub_model.specs.Leaves.{leaves_of, revisions_of}
-use Rattle.hub_model.specs.Missing.{highest, missing, possible_ancestors}
+use Rattle.hub_model.specs.Missing.{missing}
 use Rattle.hub_model.specs.Walk.{IsWalk, line_of}
 use Rattle.hub_model.proofs.Legal.{legal_sound}
 use Rattle.hub_model.proofs.Tests.{same_is, names_is, edits_in as edits_in_of, known_is, is_known_from, is_history_from}

@@ -131,11 +131,6 @@ pub marks : (bs : List Branch) (r : Revision) (xs : List Branch) (o : Option Boo
 marks bs r xs (Some d) same is = (marked bs r d (sym (rw same at is)), tt)
 marks bs r xs None same is = (tt, unmarked bs r (sym (rw same at is)))
 
--- the winner is the first of the leaves
-first_rev : (ls : List Leaf) → option_map (λ w. w.rev) (winner_of ls) ≡ slice_get (revisions_of ls) 0
-first_rev [] = refl
-first_rev (l ∷ ls) = refl
-
 pub wins : (es : List Edit) → IsLegal es → (w : Winner) → winner_of (leaves_of es []) ≡ Some w → IsWinner es [] w.rev
 wins es legal w h = (winner_is es [] legal w.rev).1 (first (leaves_of es []) h)
   where

@@ -2,7 +2,7 @@
 use Rattle.std.proofs.Common.{◌≡◌, ℕ, ◌+◌, List, [], ◌∷◌, ◌++◌, Bool, true, false, Option, Some, Err, refl, sym, ap, subst, ◌∙◌, append_assoc, append-nil}
 use Rattle.std.specs.Io.KnownBytes.{Appends}
 use Rattle.std.proofs.KnownBytes.{Appends-trans, Appends-nil}
-use Rattle.hub_http.specs.Counts.{AppendsFront, Sends}
+use Rattle.hub_http.specs.Counts.{Sends}
 use Rattle.hub_http.proofs.SendLemmas.{front_of_more, sends_after}
 use Rattle.hub_http.specs.declared.chunk.ChunkFault.{ChunkFault}
 use Rattle.hub_http.specs.declared.chunk.ChunkFault.TheVariants as chunk
@@ -97,7 +97,3 @@ FedWhole gives drops mode s end t old new = (items : List (Item ChangeRow)) × S
 pub fed_behind : {S : Type 0} (gives : Gives S) (drops : Drops S) (mode : Mode) (s : S) (end : StreamEnd) (t : S) (old mid new : Option (List ℕ))
     → Appends old mid (text_chunks (feed_head mode)) → Fed gives drops mode s end t mid new → FedWhole gives drops mode s end t old new
 fed_behind gives drops mode s end t old mid new p f = (f.0, f.1, sends_after (is_broken end) old mid new (text_chunks (feed_head mode)) _ p f.2)
-
-pub fed_not : {S : Type 0} (gives : Gives S) (drops : Drops S) (mode : Mode) (s t : S) (old new : Option (List ℕ))
-    → AppendsFront old new (text_chunks (feed_head mode)) → drops s t → FedWhole gives drops mode s Broken t old new
-fed_not gives drops mode s t old new p d = ([], d, front_of_more old new (text_chunks (feed_head mode)) [] p)

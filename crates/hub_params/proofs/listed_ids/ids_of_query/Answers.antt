@@ -1,7 +1,4 @@
-use Rattle.std.proofs.Common.{◌≡◌, ◌<◌, length, sym, rules}
-use Rattle.serde_json.specs.View.{view}
-use Rattle.hub_document.specs.Read.{json_of}
-use Rattle.hub_params.specs.Room.{HasBytes}
+use Rattle.std.proofs.Common.{◌<◌, length, rules}
 use Rattle.hub_params.proofs.RoomLemmas.{at_any_error, json_has_bytes}
 use Rattle.hub_params.proofs.listed_ids.ids_of_query.Goals as goal
 
