@@ -1,0 +1,58 @@
+//! How an end asks the queue.
+
+ghost use Rattle.std.specs.Prelude.{◌≡◌, List, [], ◌∷◌, ◌++◌, MatchOption, MatchResult};
+ghost use Rattle.crossbeam_queue.specs.Passes.{view, IsPassOf, IsSamePass, ruled_capacity};
+ghost use Rattle.hub_lane.specs.declared.rule.View.TheVariants.{OfSender, OfReceiver};
+ghost use Rattle.hub_lane.specs.Ends.{IsRefusal, IsLack};
+ghost use Rattle.hub_lane.specs.Rule.{with_item, HasAllowedRest};
+
+use crate::rule::{Kept, LaneRule, Push, Take, View};
+use crossbeam_queue::{Pass, RuledArrayQueue};
+use std::sync::Wait;
+
+/// The queue of a lane.
+pub type Queue<L, I> = RuledArrayQueue<I, View<L, I>, LaneRule<L, I>>;
+
+/// A handle by which a lane is asked: every handle that may wait is one. Code with this bound knows
+/// nothing of `refuses` and `lacks` but what a call of this trait told it, so no layer above can
+/// answer that a lane is full, or empty, without asking it.
+pub trait Asks<L: Kept<I>, I>: Wait {
+    ghost use Rattle.hub_lane.specs.Ends.{SenderState, ReceiverState};
+
+    /// What is told of a sender whose item was refused: the lane was full at a moment of the call.
+    ghost refuses: { Self → SenderState L I → I → Type 0 };
+
+    /// What is told of a receiver that got nothing: the lane was empty at a moment of the call.
+    ghost lacks: { Self → ReceiverState L I → Type 0 };
+
+    /// The sender's question, which `Sender::push` puts. It takes no memory.
+    fn offer(&self, queue: &Queue<L, I>, pass: &mut Pass<I, View<L, I>>, item: I) -> Result<(), I>
+        requires queue { IsPassOf queue.now pass.old }
+        requires allowed { (l : L) × (xs : List I) × (view pass.old ≡ OfSender l xs) × L.allows l (xs ++ item ∷ []) }
+        ensures queue { IsSamePass pass.old pass.new }
+        ensures answer { MatchResult result (λ _. view pass.new ≡ with_item (view pass.old) item) (λ x. (x ≡ item) × (view pass.new ≡ view pass.old) × IsRefusal (refuses self.now) (ruled_capacity queue.now) (view pass.old) item) };
+
+    /// The receiver's question, which `Receiver::take` puts. It takes no memory.
+    fn poll(&self, queue: &Queue<L, I>, pass: &mut Pass<I, View<L, I>>) -> Option<I>
+        requires queue { IsPassOf queue.now pass.old }
+        requires taken { (l : L) × (xs : List I) × (view pass.old ≡ OfReceiver l xs) }
+        ensures queue { IsSamePass pass.old pass.new }
+        ensures answer { MatchOption result ((view pass.new ≡ view pass.old) × IsLack (lacks self.now) (view pass.old)) (λ x. (view pass.new ≡ with_item (view pass.old) x) × HasAllowedRest L.allows (view pass.new)) };
+}
+
+/// By asking the queue itself.
+impl<L: Kept<I>, I, R: Wait> Asks<L, I> for R {
+    ghost use Rattle.hub_lane.specs.Ends.{HasBeenFull};
+
+    ghost refuses = { λ rt sender item. HasBeenFull sender.capacity sender.sent };
+
+    ghost lacks = { λ rt receiver. L.allows receiver.label receiver.taken };
+
+    fn offer(&self, queue: &Queue<L, I>, pass: &mut Pass<I, View<L, I>>, item: I) -> Result<(), I> {
+        queue.push_as::<Push, R>(self, pass, item)
+    }
+
+    fn poll(&self, queue: &Queue<L, I>, pass: &mut Pass<I, View<L, I>>) -> Option<I> {
+        queue.pop_as::<Take<L>, R>(self, pass)
+    }
+}
