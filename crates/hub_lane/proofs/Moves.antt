@@ -1,5 +1,6 @@
 -- A take keeps the rule of a lane's queue, and what it tells.
-use Rattle.std.proofs.Common.{◌≡◌, ℕ, zero, suc, List, [], ◌∷◌, ◌++◌, set, sym, refl, ap, ◌∙◌, subst, inl, inr, append_assoc}
+use Rattle.std.proofs.Common.{◌≡◌, ℕ, zero, suc, List, [], ◌∷◌, ◌++◌, set}
+use Rattle.std.proofs.Common.{sym, refl, ap, ◌∙◌, subst, inl, inr, append_assoc}
 use mathlib.Core.Option.{some}
 use lib.ListN.{get_elem?}
 use Rattle.crossbeam_queue.specs.Fifo.{Pops, Learns}
@@ -40,13 +41,15 @@ module _ {L I : Type 0} (allows : L → List I → Type 0) where
       let is = second lane.label label lane.sent lane.taken mine pass here in record {
         seat = is.0;
         sent = lane.sent;
-        passes = lane.two_passes ∙ (λ i. OfSender (is.1 i) lane.sent ∷ OfReceiver (is.1 i) (is.2 i) ∷ []);
+        passes = lane.two_passes
+            ∙ (λ i. OfSender (is.1 i) lane.sent ∷ OfReceiver (is.1 i) (is.2 i) ∷ []);
         in_order = lane.in_order ∙ ap (λ xs. xs ++ items) is.2;
         allowed = subst (λ l. allows l lane.sent) is.1 lane.allowed;
       }
 
   pub takes : (pass : ℕ) (label : L) (mine : List I)
-      → Pops (IsLane allows) pass (OfReceiver label mine) (λ x w. (w ≡ with_item (OfReceiver label mine) x) × HasAllowedRest allows w)
+      → Pops (IsLane allows) pass (OfReceiver label mine) (λ x w.
+      (w ≡ with_item (OfReceiver label mine) x) × HasAllowedRest allows w)
   takes pass label mine x items views lane at =
       let t = at_receiver label mine (x ∷ items) views pass lane at in
       let now : List I = mine ++ x ∷ [] in

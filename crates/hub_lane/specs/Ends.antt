@@ -15,7 +15,7 @@ pub record ReceiverState (L I : Type 0) : Type 0 where
   pub taken : List I  -- every item that was taken, the first one first
 
 -- the lane held as many items as it may, behind those that were taken by then
--- with a, b and c sent and a capacity of 2, this is so at the moment at which a alone was taken
+-- with a, b and c sent and a capacity of 2 it held b and c, and a was taken
 abbrev pub HasBeenFull : {I : Type 0} → ℕ → List I → Type 0
 HasBeenFull {I} capacity sent =
     (taken : List I) × (held : List I) × (length held ≡ capacity) × (sent ≡ taken ++ held)

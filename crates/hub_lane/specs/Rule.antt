@@ -1,5 +1,5 @@
 -- The rule of a lane's queue: of the items in it, oldest first, and of what its passes know (own).
-use Rattle.std.specs.Prelude.{◌≡◌, ◌⊎◌, Option, Some, None, List, [], ◌∷◌, ◌++◌}
+use Rattle.std.specs.Prelude.{◌≡◌, ◌⊎◌, Option, Some, None, List, [], ◌∷◌, ◌++◌, Contains}
 use Rattle.hub_lane.specs.declared.rule.View.{View}
 use Rattle.hub_lane.specs.declared.rule.View.TheVariants.{NoLabel, OfSender, OfReceiver}
 
@@ -31,24 +31,42 @@ module _ {L I : Type 0} where
   new_receiver None = NoLabel
   new_receiver (Some label) = OfReceiver label []
 
-  -- what the receiver's pass took, and then these, is a list that the label allows
-  abbrev pub IsAllowedWith : (L → List I → Type 0) → View L I → List I → Type 0
-  IsAllowedWith allows NoLabel held = Unit {0}
-  IsAllowedWith allows (OfSender label sent) held = Unit {0}
-  IsAllowedWith allows (OfReceiver label taken) held = allows label (taken ++ held)
-
-  -- what the receiver's pass took is the beginning of a list that the label allows
-  abbrev pub HasAllowedRest : (L → List I → Type 0) → View L I → Type 0
-  HasAllowedRest allows view = (held : List I) × IsAllowedWith allows view held
+  -- a receiver's pass
+  abbrev pub IsReceiver : View L I → Type 0
+  IsReceiver view = (label : L) × (taken : List I) × (view ≡ OfReceiver label taken)
 
   -- a queue that is being made: its one pass has no label yet
   pub record IsUnlabelled (items : List I) (views : List (View L I)) : Type 0 where
     pub one_pass : views ≡ NoLabel ∷ []
     pub empty : items ≡ []
 
+module _ {L I : Type 0} (allows : L → List I → Type 0) where
+  -- what the receiver's pass took, and then these, is a list that the label allows
+  abbrev pub IsAllowedWith : View L I → List I → Type 0
+  IsAllowedWith NoLabel held = Unit {0}
+  IsAllowedWith (OfSender label sent) held = Unit {0}
+  IsAllowedWith (OfReceiver label taken) held = allows label (taken ++ held)
+
+  -- what the receiver's pass took is the beginning of a list that the label allows
+  abbrev pub HasAllowedRest : View L I → Type 0
+  HasAllowedRest view = (held : List I) × IsAllowedWith view held
+
+  -- the sender's pass of a lane under this label, which allows what was sent
+  abbrev pub IsOfSender : L → View L I → Type 0
+  IsOfSender label view = (view ≡ OfSender label (items_of view)) × allows label (items_of view)
+
+  -- the receiver's pass of a lane under this label, which allows a list that begins with what was taken
+  abbrev pub IsOfReceiver : L → View L I → Type 0
+  IsOfReceiver label view = (view ≡ OfReceiver label (items_of view)) × HasAllowedRest view
+
+  -- a sender's pass whose label allows this item behind what was sent
+  abbrev pub IsSenderFor : View L I → I → Type 0
+  IsSenderFor view item =
+      (label : L) × (sent : List I) × (view ≡ OfSender label sent) × allows label (sent ++ item ∷ [])
+
   -- a lane: what was sent is what was taken and then what the queue holds, and the label allows what was sent
   -- with a, b and c sent and a taken it holds b and c
-  pub record IsLabelled (allows : L → List I → Type 0) (items : List I) (views : List (View L I)) : Type 0 where
+  pub record IsLabelled (items : List I) (views : List (View L I)) : Type 0 where
     pub label : L
     pub sent : List I
     pub taken : List I
@@ -57,5 +75,13 @@ module _ {L I : Type 0} where
     pub allowed : allows label sent
 
   -- the rule, which each step of each end keeps
-  abbrev pub IsLane : (L → List I → Type 0) → List I → List (View L I) → Type 0
-  IsLane allows items views = IsUnlabelled items views ⊎ IsLabelled allows items views
+  abbrev pub IsLane : List I → List (View L I) → Type 0
+  IsLane items views = IsUnlabelled items views ⊎ IsLabelled items views
+
+  -- wherever the rule holds, that is at every moment of a lane: its ends have one label, what was sent is what
+  -- was taken and then what the queue holds, and the label allows what was sent
+  abbrev pub EndsAgree : Type 0
+  EndsAgree =
+      (items : List I) (views : List (View L I)) (label other : L) (sent taken : List I) → IsLane items views
+      → Contains views (OfSender label sent) → Contains views (OfReceiver other taken)
+      → (label ≡ other) × (sent ≡ taken ++ items) × allows label sent

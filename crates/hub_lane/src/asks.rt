@@ -1,10 +1,9 @@
 //! How an end asks the queue.
 
-ghost use Rattle.std.specs.Prelude.{◌≡◌, List, [], ◌∷◌, ◌++◌, MatchOption, MatchResult};
+ghost use Rattle.std.specs.Prelude.{◌≡◌, IfErr, IfNone, IfSome, OnErr, OnOk};
 ghost use Rattle.crossbeam_queue.specs.Passes.{view, IsPassOf, IsSamePass, ruled_capacity};
-ghost use Rattle.hub_lane.specs.declared.rule.View.TheVariants.{OfSender, OfReceiver};
 ghost use Rattle.hub_lane.specs.Ends.{IsRefusal, IsLack};
-ghost use Rattle.hub_lane.specs.Rule.{with_item, HasAllowedRest};
+ghost use Rattle.hub_lane.specs.Rule.{with_item, HasAllowedRest, IsReceiver, IsSenderFor};
 
 use crate::rule::{Kept, LaneRule, Push, Take, View};
 use crossbeam_queue::{Pass, RuledArrayQueue};
@@ -14,8 +13,8 @@ use std::sync::Wait;
 pub type Queue<L, I> = RuledArrayQueue<I, View<L, I>, LaneRule<L, I>>;
 
 /// A handle by which a lane is asked: every handle that may wait is one. Code with this bound knows
-/// nothing of `refuses` and `lacks` but what a call of this trait told it, so no layer above can
-/// answer that a lane is full, or empty, without asking it.
+/// nothing of `refuses` and `lacks` but what a call of this trait told it. So no layer that has it,
+/// and not `Wait` alone, can answer that a lane is full, or empty, without asking it.
 pub trait Asks<L: Kept<I>, I>: Wait {
     ghost use Rattle.hub_lane.specs.Ends.{SenderState, ReceiverState};
 
@@ -28,16 +27,20 @@ pub trait Asks<L: Kept<I>, I>: Wait {
     /// The sender's question, which `Sender::push` puts. It takes no memory.
     fn offer(&self, queue: &Queue<L, I>, pass: &mut Pass<I, View<L, I>>, item: I) -> Result<(), I>
         requires queue { IsPassOf queue.now pass.old }
-        requires allowed { (l : L) × (xs : List I) × (view pass.old ≡ OfSender l xs) × L.allows l (xs ++ item ∷ []) }
+        requires allowed { IsSenderFor L.allows (view pass.old) item }
         ensures queue { IsSamePass pass.old pass.new }
-        ensures answer { MatchResult result (λ _. view pass.new ≡ with_item (view pass.old) item) (λ x. (x ≡ item) × (view pass.new ≡ view pass.old) × IsRefusal (refuses self.now) (ruled_capacity queue.now) (view pass.old) item) };
+        ensures sent { OnOk result (view pass.new ≡ with_item (view pass.old) item) }
+        ensures same { IfErr result (λ back. (back ≡ item) × (view pass.new ≡ view pass.old)) }
+        ensures full { OnErr result (IsRefusal (refuses self.now) (ruled_capacity queue.now) (view pass.old) item) };
 
     /// The receiver's question, which `Receiver::take` puts. It takes no memory.
     fn poll(&self, queue: &Queue<L, I>, pass: &mut Pass<I, View<L, I>>) -> Option<I>
         requires queue { IsPassOf queue.now pass.old }
-        requires taken { (l : L) × (xs : List I) × (view pass.old ≡ OfReceiver l xs) }
+        requires receiver { IsReceiver (view pass.old) }
         ensures queue { IsSamePass pass.old pass.new }
-        ensures answer { MatchOption result ((view pass.new ≡ view pass.old) × IsLack (lacks self.now) (view pass.old)) (λ x. (view pass.new ≡ with_item (view pass.old) x) × HasAllowedRest L.allows (view pass.new)) };
+        ensures taken { IfSome result (λ item. view pass.new ≡ with_item (view pass.old) item) }
+        ensures allowed { IfSome result (λ _. HasAllowedRest L.allows (view pass.new)) }
+        ensures none { IfNone result ((view pass.new ≡ view pass.old) × IsLack (lacks self.now) (view pass.old)) };
 }
 
 /// By asking the queue itself.

@@ -16,6 +16,7 @@ use std::sync::Arc;
 /// the second end, and items that were not taken go with it.
 #[derive(Drop)]
 pub struct Lane<L: Kept<I>, I> {
+    // The items that were sent and not taken yet.
     queue: Queue<L, I>,
     label: L,
 }
@@ -28,45 +29,45 @@ pub struct Full<I>(pub I);
 /// many items the lane holds at most.
 #[derive(Drop)]
 pub struct Sender<L: Kept<I>, I> {
+    // The receiver has the other handle on it.
     lane: Arc<Lane<L, I>, Global>,
+    // What this end sent. It has no bytes, and stays with the end.
     pass: Pass<I, View<L, I>>,
 }
 
 impl<L: Kept<I>, I> Model for Sender<L, I> {
-    ghost use Rattle.std.specs.Prelude.{◌≡◌};
     ghost use Rattle.std.specs.Arc.{arc_value};
     ghost use Rattle.crossbeam_queue.specs.Passes.{view as known, IsPassOf, ruled_capacity};
-    ghost use Rattle.hub_lane.specs.declared.rule.View.TheVariants.{OfSender};
     ghost use Rattle.hub_lane.specs.Ends.{SenderState};
-    ghost use Rattle.hub_lane.specs.Rule.{items_of};
+    ghost use Rattle.hub_lane.specs.Rule.{items_of, IsOfSender};
 
     ghost Value = { SenderState L I };
 
     ghost view = { λ s. record { label = (arc_value s.lane).label; sent = items_of (known s.pass); capacity = ruled_capacity (arc_value s.lane).queue } };
 
-    ghost invariant = { λ s. IsPassOf (arc_value s.lane).queue s.pass × (known s.pass ≡ OfSender (arc_value s.lane).label (items_of (known s.pass))) × L.allows (arc_value s.lane).label (items_of (known s.pass)) };
+    ghost invariant = { λ s. IsPassOf (arc_value s.lane).queue s.pass × IsOfSender L.allows (arc_value s.lane).label (known s.pass) };
 }
 
 /// The end that takes. There is one of a lane. Contracts see its label, and all that was taken.
 #[derive(Drop)]
 pub struct Receiver<L: Kept<I>, I> {
+    // The sender has the other handle on it.
     lane: Arc<Lane<L, I>, Global>,
+    // What this end took. It has no bytes, and stays with the end.
     pass: Pass<I, View<L, I>>,
 }
 
 impl<L: Kept<I>, I> Model for Receiver<L, I> {
-    ghost use Rattle.std.specs.Prelude.{◌≡◌};
     ghost use Rattle.std.specs.Arc.{arc_value};
     ghost use Rattle.crossbeam_queue.specs.Passes.{view as known, IsPassOf};
-    ghost use Rattle.hub_lane.specs.declared.rule.View.TheVariants.{OfReceiver};
     ghost use Rattle.hub_lane.specs.Ends.{ReceiverState};
-    ghost use Rattle.hub_lane.specs.Rule.{items_of, HasAllowedRest};
+    ghost use Rattle.hub_lane.specs.Rule.{items_of, IsOfReceiver};
 
     ghost Value = { ReceiverState L I };
 
     ghost view = { λ s. record { label = (arc_value s.lane).label; taken = items_of (known s.pass) } };
 
-    ghost invariant = { λ s. IsPassOf (arc_value s.lane).queue s.pass × (known s.pass ≡ OfReceiver (arc_value s.lane).label (items_of (known s.pass))) × HasAllowedRest L.allows (known s.pass) };
+    ghost invariant = { λ s. IsPassOf (arc_value s.lane).queue s.pass × IsOfReceiver L.allows (arc_value s.lane).label (known s.pass) };
 }
 
 impl<L: Kept<I> + Drop, I: Drop> Lane<L, I> {

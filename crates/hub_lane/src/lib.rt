@@ -4,10 +4,12 @@
 
 mod asks;
 mod ends;
+mod laws;
 mod rule;
 #[cfg(test)]
 mod tests;
 
 pub use asks::Asks;
 pub use ends::{Full, Lane, Receiver, Sender};
+pub use laws::ends_agree;
 pub use rule::Kept;
