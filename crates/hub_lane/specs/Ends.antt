@@ -1,5 +1,5 @@
 -- The two ends of a lane, as their callers see them (own).
-use Rattle.std.specs.Prelude.{◌≡◌, ℕ, List, ◌++◌, length}
+use Rattle.std.specs.Prelude.{◌≡◌, ℕ, List, [], ◌∷◌, ◌++◌, length}
 use Rattle.hub_lane.specs.declared.rule.View.{View}
 use Rattle.hub_lane.specs.declared.rule.View.TheVariants.{OfSender, OfReceiver}
 
@@ -21,6 +21,22 @@ HasBeenFull {I} capacity sent =
     (taken : List I) × (held : List I) × (length held ≡ capacity) × (sent ≡ taken ++ held)
 
 module _ {L I : Type 0} where
+  -- the sender of a new lane under this label, and of this capacity
+  abbrev pub new_sender : L → ℕ → SenderState L I
+  new_sender label capacity = record { label = label; sent = []; capacity = capacity }
+
+  -- the receiver of a new lane under this label
+  abbrev pub new_receiver : L → ReceiverState L I
+  new_receiver label = record { label = label; taken = [] }
+
+  -- the sender behind a push
+  abbrev pub behind_push : SenderState L I → I → SenderState L I
+  behind_push s item = record s { sent = s.sent ++ item ∷ [] }
+
+  -- the receiver behind a take
+  abbrev pub behind_take : ReceiverState L I → I → ReceiverState L I
+  behind_take r item = record r { taken = r.taken ++ item ∷ [] }
+
   -- what was taken is the beginning of a list that the label allows: that of what was sent
   abbrev pub IsAllowedBeginning : (L → List I → Type 0) → ReceiverState L I → Type 0
   IsAllowedBeginning allows r = (rest : List I) × allows r.label (r.taken ++ rest)

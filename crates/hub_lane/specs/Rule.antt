@@ -22,14 +22,14 @@ module _ {L I : Type 0} where
   with_item (OfReceiver label taken) item = OfReceiver label (taken ++ item ∷ [])
 
   -- the sender's pass of a new lane under this label
-  abbrev pub new_sender : Option L → View L I
-  new_sender None = NoLabel
-  new_sender (Some label) = OfSender label []
+  abbrev pub new_sender_view : Option L → View L I
+  new_sender_view None = NoLabel
+  new_sender_view (Some label) = OfSender label []
 
   -- the receiver's pass of a new lane under this label
-  abbrev pub new_receiver : Option L → View L I
-  new_receiver None = NoLabel
-  new_receiver (Some label) = OfReceiver label []
+  abbrev pub new_receiver_view : Option L → View L I
+  new_receiver_view None = NoLabel
+  new_receiver_view (Some label) = OfReceiver label []
 
   -- a receiver's pass
   abbrev pub IsReceiver : View L I → Type 0
@@ -78,8 +78,8 @@ module _ {L I : Type 0} (allows : L → List I → Type 0) where
   abbrev pub IsLane : List I → List (View L I) → Type 0
   IsLane items views = IsUnlabelled items views ⊎ IsLabelled items views
 
-  -- wherever the rule holds, that is at every moment of a lane: its ends have one label, what was sent is what
-  -- was taken and then what the queue holds, and the label allows what was sent
+  -- wherever the rule holds, that is at every moment of a lane: its ends have one label, what was sent is
+  -- what was taken and then what the queue holds, and the label allows what was sent
   abbrev pub EndsAgree : Type 0
   EndsAgree =
       (items : List I) (views : List (View L I)) (label other : L) (sent taken : List I) → IsLane items views

@@ -31,7 +31,8 @@ pub trait Asks<L: Kept<I>, I>: Wait {
         ensures queue { IsSamePass pass.old pass.new }
         ensures sent { OnOk result (view pass.new ≡ with_item (view pass.old) item) }
         ensures same { IfErr result (λ back. (back ≡ item) × (view pass.new ≡ view pass.old)) }
-        ensures full { OnErr result (IsRefusal (refuses self.now) (ruled_capacity queue.now) (view pass.old) item) };
+        ensures full { OnErr result
+            (IsRefusal (refuses self.now) (ruled_capacity queue.now) (view pass.old) item) };
 
     /// The receiver's question, which `Receiver::take` puts. It takes no memory.
     fn poll(&self, queue: &Queue<L, I>, pass: &mut Pass<I, View<L, I>>) -> Option<I>
@@ -40,7 +41,8 @@ pub trait Asks<L: Kept<I>, I>: Wait {
         ensures queue { IsSamePass pass.old pass.new }
         ensures taken { IfSome result (λ item. view pass.new ≡ with_item (view pass.old) item) }
         ensures allowed { IfSome result (λ _. HasAllowedRest L.allows (view pass.new)) }
-        ensures none { IfNone result ((view pass.new ≡ view pass.old) × IsLack (lacks self.now) (view pass.old)) };
+        ensures same { IfNone result (view pass.new ≡ view pass.old) }
+        ensures none { IfNone result (IsLack (lacks self.now) (view pass.old)) };
 }
 
 /// By asking the queue itself.

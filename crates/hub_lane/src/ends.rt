@@ -1,9 +1,9 @@
 //! The two ends of a lane.
 
-ghost use Rattle.std.specs.Prelude.{◌≡◌, ◌<◌, [], ◌∷◌, ◌++◌, Some, IfOk, IfErr, IfSome, IfNone};
+ghost use Rattle.std.specs.Prelude.{◌≡◌, ◌<◌, [], ◌∷◌, ◌++◌, Some, IfOk, IfErr, IfSome, IfNone, OnErr, OnOk};
 ghost use Rattle.crossbeam_queue.specs.Passes.{view, IsPassOf, ruled_capacity};
 ghost use Rattle.hub_lane.specs.declared.rule.View.TheVariants.{NoLabel};
-ghost use Rattle.hub_lane.specs.Ends.{IsAllowedBeginning};
+ghost use Rattle.hub_lane.specs.Ends.{IsAllowedBeginning, behind_push, behind_take, new_receiver, new_sender};
 
 use crate::asks::{Asks, Queue};
 use crate::rule::{Kept, NewLabel, TwoEnds, View};
@@ -43,9 +43,15 @@ impl<L: Kept<I>, I> Model for Sender<L, I> {
 
     ghost Value = { SenderState L I };
 
-    ghost view = { λ s. record { label = (arc_value s.lane).label; sent = items_of (known s.pass); capacity = ruled_capacity (arc_value s.lane).queue } };
+    ghost view = { λ s. record {
+      label = (arc_value s.lane).label;
+      sent = items_of (known s.pass);
+      capacity = ruled_capacity (arc_value s.lane).queue;
+    } };
 
-    ghost invariant = { λ s. IsPassOf (arc_value s.lane).queue s.pass × IsOfSender L.allows (arc_value s.lane).label (known s.pass) };
+    ghost invariant = { λ s.
+        IsPassOf (arc_value s.lane).queue s.pass
+        × IsOfSender L.allows (arc_value s.lane).label (known s.pass) };
 }
 
 /// The end that takes. There is one of a lane. Contracts see its label, and all that was taken.
@@ -65,9 +71,14 @@ impl<L: Kept<I>, I> Model for Receiver<L, I> {
 
     ghost Value = { ReceiverState L I };
 
-    ghost view = { λ s. record { label = (arc_value s.lane).label; taken = items_of (known s.pass) } };
+    ghost view = { λ s. record {
+      label = (arc_value s.lane).label;
+      taken = items_of (known s.pass);
+    } };
 
-    ghost invariant = { λ s. IsPassOf (arc_value s.lane).queue s.pass × IsOfReceiver L.allows (arc_value s.lane).label (known s.pass) };
+    ghost invariant = { λ s.
+        IsPassOf (arc_value s.lane).queue s.pass
+        × IsOfReceiver L.allows (arc_value s.lane).label (known s.pass) };
 }
 
 impl<L: Kept<I> + Drop, I: Drop> Lane<L, I> {
@@ -81,8 +92,8 @@ impl<L: Kept<I> + Drop, I: Drop> Lane<L, I> {
     ) -> Result<(Sender<L, I>, Receiver<L, I>), AllocError>
         requires room { 0 < capacity }
         requires allowed { L.allows label [] }
-        ensures sender { IfOk result (λ ends. ends.0 ≡ record { label = label; sent = []; capacity = capacity }) }
-        ensures receiver { IfOk result (λ ends. ends.1 ≡ record { label = label; taken = [] }) }
+        ensures sender { IfOk result (λ ends. ends.0 ≡ new_sender label capacity) }
+        ensures receiver { IfOk result (λ ends. ends.1 ≡ new_receiver label) }
     {
         let (queue, pass) = Queue::<L, I>::ruled(alloc, capacity)?;
         Lane::two_ends::<Brand>(alloc, queue, pass, label)
@@ -98,8 +109,8 @@ impl<L: Kept<I> + Drop, I: Drop> Lane<L, I> {
         requires name { N.label ≡ Some label }
         requires pass { IsPassOf queue pass × (view pass ≡ NoLabel) }
         requires allowed { L.allows label [] }
-        ensures sender { IfOk result (λ ends. ends.0 ≡ record { label = label; sent = []; capacity = ruled_capacity queue }) }
-        ensures receiver { IfOk result (λ ends. ends.1 ≡ record { label = label; taken = [] }) }
+        ensures sender { IfOk result (λ ends. ends.0 ≡ new_sender label (ruled_capacity queue)) }
+        ensures receiver { IfOk result (λ ends. ends.1 ≡ new_receiver label) }
     {
         let receiver_pass = queue.another::<TwoEnds<N>>(&mut pass);
         let lane = Arc::new(alloc, Lane { queue, label })?;
@@ -128,8 +139,9 @@ impl<L: Kept<I>, I> Sender<L, I> {
     /// receiver is in the midst of a take. Constant otherwise, without memory.
     pub fn push<R: Asks<L, I>>(&mut self, rt: &R, item: I) -> Result<(), Full<I>>
         requires allowed { L.allows self.old.label (self.old.sent ++ item ∷ []) }
-        ensures sent { IfOk result (λ _. self.new ≡ record self.old { sent = self.old.sent ++ item ∷ [] }) }
-        ensures full { IfErr result (λ full. (full.0 ≡ item) × (self.new ≡ self.old) × R.refuses rt.now self.old item) }
+        ensures sent { OnOk result (self.new ≡ behind_push self.old item) }
+        ensures same { IfErr result (λ full. (full.0 ≡ item) × (self.new ≡ self.old)) }
+        ensures full { OnErr result (R.refuses rt.now self.old item) }
     {
         match rt.offer(&self.lane.queue, &mut self.pass, item) {
             Ok(()) => Ok(()),
@@ -152,8 +164,9 @@ impl<L: Kept<I>, I> Receiver<L, I> {
     /// still there. It is tried again only while the sender is in the midst of a push. Constant
     /// otherwise, without memory.
     pub fn take<R: Asks<L, I>>(&mut self, rt: &R) -> Option<I>
-        ensures taken { IfSome result (λ item. self.new ≡ record self.old { taken = self.old.taken ++ item ∷ [] }) }
-        ensures none { IfNone result ((self.new ≡ self.old) × R.lacks rt.now self.old) }
+        ensures taken { IfSome result (λ item. self.new ≡ behind_take self.old item) }
+        ensures same { IfNone result (self.new ≡ self.old) }
+        ensures none { IfNone result (R.lacks rt.now self.old) }
         ensures allowed { IsAllowedBeginning L.allows self.new }
     {
         rt.poll(&self.lane.queue, &mut self.pass)

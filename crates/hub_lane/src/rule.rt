@@ -54,11 +54,11 @@ pub struct TwoEnds<N> {
 }
 
 impl<L, I, N: NewLabel<L>> Split<View<L, I>> for TwoEnds<N> {
-    ghost use Rattle.hub_lane.specs.Rule.{new_sender, new_receiver};
+    ghost use Rattle.hub_lane.specs.Rule.{new_sender_view, new_receiver_view};
 
-    ghost left = { λ v. new_sender N.label };
+    ghost left = { λ v. new_sender_view N.label };
 
-    ghost right = { λ v. new_receiver N.label };
+    ghost right = { λ v. new_receiver_view N.label };
 }
 
 /// A push: the item stands behind what was sent. A refused one tells what the lane held.
