@@ -3,8 +3,8 @@ use Rattle.std.specs.Prelude.{◌≡◌, ◌⊎◌, Option, Some, None, List, []
 use Rattle.hub_lane.specs.declared.rule.View.{View}
 use Rattle.hub_lane.specs.declared.rule.View.TheVariants.{NoLabel, OfSender, OfReceiver}
 
--- the items that are left of those that were sent, once some were taken from the front
--- of a, b and c, these are left: all three, b and c, c alone, and none
+-- what may be left of the items that were sent, once some were taken from the front
+-- of a, b and c it is all three, b and c, c alone, or nothing
 abbrev pub IsLeftOf : {I : Type 0} → List I → List I → Type 0
 IsLeftOf {I} held sent = (taken : List I) × (sent ≡ taken ++ held)
 

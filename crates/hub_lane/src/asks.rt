@@ -24,7 +24,7 @@ pub trait Asks<L: Kept<I>, I>: Wait {
     /// What is told of a receiver that got nothing: the lane was empty at a moment of the call.
     ghost lacks: { Self → ReceiverState L I → Type 0 };
 
-    /// The sender's question, which `Sender::push` puts. It takes no memory.
+    /// Sends an item where there is room, for `Sender::push`. It takes no memory.
     fn offer(&self, queue: &Queue<L, I>, pass: &mut Pass<I, View<L, I>>, item: I) -> Result<(), I>
         requires queue { IsPassOf queue.now pass.old }
         requires allowed { IsSenderFor L.allows (view pass.old) item }
@@ -34,7 +34,7 @@ pub trait Asks<L: Kept<I>, I>: Wait {
         ensures full { OnErr result
             (IsRefusal (refuses self.now) (ruled_capacity queue.now) (view pass.old) item) };
 
-    /// The receiver's question, which `Receiver::take` puts. It takes no memory.
+    /// Takes the front item where there is one, for `Receiver::take`. It takes no memory.
     fn poll(&self, queue: &Queue<L, I>, pass: &mut Pass<I, View<L, I>>) -> Option<I>
         requires queue { IsPassOf queue.now pass.old }
         requires receiver { IsReceiver (view pass.old) }
@@ -49,8 +49,10 @@ pub trait Asks<L: Kept<I>, I>: Wait {
 impl<L: Kept<I>, I, R: Wait> Asks<L, I> for R {
     ghost use Rattle.hub_lane.specs.Ends.{HasBeenFull};
 
+    // Behind what was taken at that moment the lane held its capacity.
     ghost refuses = { λ rt sender item. HasBeenFull sender.capacity sender.sent };
 
+    // What was taken is all that was sent by that moment, which the label allows.
     ghost lacks = { λ rt receiver. L.allows receiver.label receiver.taken };
 
     fn offer(&self, queue: &Queue<L, I>, pass: &mut Pass<I, View<L, I>>, item: I) -> Result<(), I> {

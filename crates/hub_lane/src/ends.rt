@@ -12,18 +12,22 @@ use std::alloc::{AllocError, Global};
 use std::marker::{Brand, Model};
 use std::sync::Arc;
 
-/// What the two ends of a lane share: the queue, and the label under which it is used. It goes with
-/// the second end, and items that were not taken go with it.
+/// What the two ends of a lane share. It is dropped with the second of them, and items that were
+/// not taken are dropped with it. It serves 2^62 items: after them no push and no take returns.
 #[derive(Drop)]
 pub struct Lane<L: Kept<I>, I> {
     // The items that were sent and not taken yet.
     queue: Queue<L, I>,
+    // Which lists of items may be sent.
     label: L,
 }
 
-/// The lane had no room: it held as many items as it may. The item that was not sent comes back.
+/// The lane held as many items as it may, so this one was not sent: it comes back.
 #[derive(Drop)]
-pub struct Full<I>(pub I);
+pub struct Full<I>(
+    /// The item.
+    pub I,
+);
 
 /// The end that sends. There is one of a lane. Contracts see its label, all that was sent, and how
 /// many items the lane holds at most.
@@ -84,7 +88,7 @@ impl<L: Kept<I>, I> Model for Receiver<L, I> {
 impl<L: Kept<I> + Drop, I: Drop> Lane<L, I> {
     /// An empty lane that holds at most `capacity` items, and its two ends. It makes room for all
     /// of them, and no later call takes memory. A capacity of 2^60 and more is told as want of
-    /// memory. The label goes where there is none.
+    /// memory, and with every error the label is dropped.
     pub fn new(
         alloc: Global,
         capacity: usize,
@@ -126,7 +130,7 @@ impl<L: Kept<I> + Drop, I: Drop> Lane<L, I> {
 }
 
 impl<L: Kept<I>, I> Sender<L, I> {
-    /// The lane's label, which allows what was sent. It costs a look.
+    /// The lane's label, which allows what was sent. Constant time.
     pub fn label(&self) -> &L
         ensures label { result.now ≡ self.now.label }
         ensures allowed { L.allows self.now.label self.now.sent }
@@ -135,8 +139,8 @@ impl<L: Kept<I>, I> Sender<L, I> {
     }
 
     /// Sends an item, behind those that were sent before. Where the lane was full at a moment of
-    /// the call the item comes back: no call waits for room. It is tried again only while the
-    /// receiver is in the midst of a take. Constant otherwise, without memory.
+    /// the call the item comes back: no call waits for room. It tries again only while the receiver
+    /// is within a take. Otherwise it takes constant time, and no memory.
     pub fn push<R: Asks<L, I>>(&mut self, rt: &R, item: I) -> Result<(), Full<I>>
         requires allowed { L.allows self.old.label (self.old.sent ++ item ∷ []) }
         ensures sent { OnOk result (self.new ≡ behind_push self.old item) }
@@ -151,7 +155,7 @@ impl<L: Kept<I>, I> Sender<L, I> {
 }
 
 impl<L: Kept<I>, I> Receiver<L, I> {
-    /// The lane's label, which allows a list that begins with what was taken. It costs a look.
+    /// The lane's label, which allows a list that begins with what was taken. Constant time.
     pub fn label(&self) -> &L
         ensures label { result.now ≡ self.now.label }
         ensures allowed { IsAllowedBeginning L.allows self.now }
@@ -161,8 +165,8 @@ impl<L: Kept<I>, I> Receiver<L, I> {
 
     /// Takes the first item that was sent and not taken yet. There is none where the lane was empty
     /// at a moment of the call: no call waits for an item, and none tells whether the sender is
-    /// still there. It is tried again only while the sender is in the midst of a push. Constant
-    /// otherwise, without memory.
+    /// still there. It tries again only while the sender is within a push. Otherwise it takes
+    /// constant time, and no memory.
     pub fn take<R: Asks<L, I>>(&mut self, rt: &R) -> Option<I>
         ensures taken { IfSome result (λ item. self.new ≡ behind_take self.old item) }
         ensures same { IfNone result (self.new ≡ self.old) }

@@ -2,12 +2,13 @@
 
 ghost use Rattle.std.specs.Prelude.{◌≡◌, ◌<◌, ◌≤◌};
 
-use crate::{Full, Kept, Lane, Receiver, Sender};
+use crate::{Asks, Full, Kept, Lane, Receiver, Sender};
 use std::sync::Wait;
 use std::test::Fail;
 use std::thread;
 
 // A label that allows numbers below its limit.
+#[derive(Drop)]
 struct Below {
     limit: u64,
 }
@@ -18,15 +19,13 @@ impl Kept<u64> for Below {
     ghost allows = { λ l numbers. All (λ n. n < l.limit) numbers };
 }
 
-impl Drop for Below {
-    fn drop(self) {
-        let Below { limit: _ } = self;
-    }
-}
-
 // What comes back of a number: none where it was sent. One that the label does not allow is not
 // pushed.
-fn push_below<R: Wait>(rt: &R, sender: &mut Sender<Below, u64>, number: u64) -> Option<u64> {
+fn push_below<R: Asks<Below, u64>>(
+    rt: &R,
+    sender: &mut Sender<Below, u64>,
+    number: u64,
+) -> Option<u64> {
     if number >= sender.label().limit {
         return Some(number);
     }
@@ -40,7 +39,7 @@ fn push_below<R: Wait>(rt: &R, sender: &mut Sender<Below, u64>, number: u64) -> 
 type Step = (Option<u64>, Option<u64>);
 
 // The first step that answers another thing than it says.
-fn first_wrong<R: Wait>(
+fn first_wrong<R: Asks<Below, u64>>(
     rt: &R,
     sender: &mut Sender<Below, u64>,
     receiver: &mut Receiver<Below, u64>,
