@@ -1,0 +1,178 @@
+//! The two ends of a lane.
+
+ghost use Rattle.std.specs.Prelude.{◌≡◌, ◌<◌, [], ◌∷◌, ◌++◌, Some, IfOk, IfErr, IfSome, IfNone, OnErr, OnOk};
+ghost use Rattle.crossbeam_queue.specs.Passes.{view, IsPassOf, ruled_capacity};
+ghost use Rattle.hub_lane.specs.declared.rule.View.TheVariants.{NoLabel};
+ghost use Rattle.hub_lane.specs.Ends.{IsAllowedBeginning, behind_push, behind_take, new_receiver, new_sender};
+
+use crate::asks::{Asks, Queue};
+use crate::rule::{Kept, NewLabel, TwoEnds, View};
+use crossbeam_queue::Pass;
+use std::alloc::{AllocError, Global};
+use std::marker::{Brand, Model};
+use std::sync::Arc;
+
+/// What the two ends of a lane share. It is dropped with the second of them, and items that were
+/// not taken are dropped with it. It serves 2^62 items: after them no push and no take returns.
+#[derive(Drop)]
+pub struct Lane<L: Kept<I>, I> {
+    // The items that were sent and not taken yet.
+    queue: Queue<L, I>,
+    // Which lists of items may be sent.
+    label: L,
+}
+
+/// The lane held as many items as it may, so this one was not sent: it comes back.
+#[derive(Drop)]
+pub struct Full<I>(
+    /// The item.
+    pub I,
+);
+
+/// The end that sends. There is one of a lane. Contracts see its label, all that was sent, and how
+/// many items the lane holds at most.
+#[derive(Drop)]
+pub struct Sender<L: Kept<I>, I> {
+    // The receiver has the other handle on it.
+    lane: Arc<Lane<L, I>, Global>,
+    // What this end sent. It has no bytes, and stays with the end.
+    pass: Pass<I, View<L, I>>,
+}
+
+impl<L: Kept<I>, I> Model for Sender<L, I> {
+    ghost use Rattle.std.specs.Arc.{arc_value};
+    ghost use Rattle.crossbeam_queue.specs.Passes.{view as known, IsPassOf, ruled_capacity};
+    ghost use Rattle.hub_lane.specs.Ends.{SenderState};
+    ghost use Rattle.hub_lane.specs.Rule.{items_of, IsOfSender};
+
+    ghost Value = { SenderState L I };
+
+    ghost view = { λ s. record {
+      label = (arc_value s.lane).label;
+      sent = items_of (known s.pass);
+      capacity = ruled_capacity (arc_value s.lane).queue;
+    } };
+
+    ghost invariant = { λ s.
+        IsPassOf (arc_value s.lane).queue s.pass
+        × IsOfSender L.allows (arc_value s.lane).label (known s.pass) };
+}
+
+/// The end that takes. There is one of a lane. Contracts see its label, and all that was taken.
+#[derive(Drop)]
+pub struct Receiver<L: Kept<I>, I> {
+    // The sender has the other handle on it.
+    lane: Arc<Lane<L, I>, Global>,
+    // What this end took. It has no bytes, and stays with the end.
+    pass: Pass<I, View<L, I>>,
+}
+
+impl<L: Kept<I>, I> Model for Receiver<L, I> {
+    ghost use Rattle.std.specs.Arc.{arc_value};
+    ghost use Rattle.crossbeam_queue.specs.Passes.{view as known, IsPassOf};
+    ghost use Rattle.hub_lane.specs.Ends.{ReceiverState};
+    ghost use Rattle.hub_lane.specs.Rule.{items_of, IsOfReceiver};
+
+    ghost Value = { ReceiverState L I };
+
+    ghost view = { λ s. record {
+      label = (arc_value s.lane).label;
+      taken = items_of (known s.pass);
+    } };
+
+    ghost invariant = { λ s.
+        IsPassOf (arc_value s.lane).queue s.pass
+        × IsOfReceiver L.allows (arc_value s.lane).label (known s.pass) };
+}
+
+impl<L: Kept<I> + Drop, I: Drop> Lane<L, I> {
+    /// An empty lane that holds at most `capacity` items, and its two ends. It makes room for all
+    /// of them, and no later call takes memory. A capacity of 2^60 and more is told as want of
+    /// memory, and with every error the label is dropped.
+    pub fn new(
+        alloc: Global,
+        capacity: usize,
+        label: L,
+    ) -> Result<(Sender<L, I>, Receiver<L, I>), AllocError>
+        requires room { 0 < capacity }
+        requires allowed { L.allows label [] }
+        ensures sender { IfOk result (λ ends. ends.0 ≡ new_sender label capacity) }
+        ensures receiver { IfOk result (λ ends. ends.1 ≡ new_receiver label) }
+    {
+        let (queue, pass) = Queue::<L, I>::ruled(alloc, capacity)?;
+        Lane::two_ends::<Brand>(alloc, queue, pass, label)
+    }
+
+    // The ends of a queue that is being made: `N` is the label, for the proof alone.
+    fn two_ends<N: NewLabel<L>>(
+        alloc: Global,
+        queue: Queue<L, I>,
+        mut pass: Pass<I, View<L, I>>,
+        label: L,
+    ) -> Result<(Sender<L, I>, Receiver<L, I>), AllocError>
+        requires name { N.label ≡ Some label }
+        requires pass { IsPassOf queue pass × (view pass ≡ NoLabel) }
+        requires allowed { L.allows label [] }
+        ensures sender { IfOk result (λ ends. ends.0 ≡ new_sender label (ruled_capacity queue)) }
+        ensures receiver { IfOk result (λ ends. ends.1 ≡ new_receiver label) }
+    {
+        let receiver_pass = queue.another::<TwoEnds<N>>(&mut pass);
+        let lane = Arc::new(alloc, Lane { queue, label })?;
+        let receiver_lane = Arc::try_clone(&lane)?;
+        Ok((
+            Sender { lane, pass },
+            Receiver {
+                lane: receiver_lane,
+                pass: receiver_pass,
+            },
+        ))
+    }
+}
+
+impl<L: Kept<I>, I> Sender<L, I> {
+    /// The lane's label, which allows what was sent. Constant time.
+    pub fn label(&self) -> &L
+        ensures label { result.now ≡ self.now.label }
+        ensures allowed { L.allows self.now.label self.now.sent }
+    {
+        &self.lane.label
+    }
+
+    /// Sends an item, behind those that were sent before. Where the lane was full at a moment of
+    /// the call the item comes back: no call waits for room. It tries again only while the receiver
+    /// is within a take. Otherwise it takes constant time, and no memory.
+    pub fn push<R: Asks<L, I>>(&mut self, rt: &R, item: I) -> Result<(), Full<I>>
+        requires allowed { L.allows self.old.label (self.old.sent ++ item ∷ []) }
+        ensures sent { OnOk result (self.new ≡ behind_push self.old item) }
+        ensures same { IfErr result (λ full. (full.0 ≡ item) × (self.new ≡ self.old)) }
+        ensures full { OnErr result (R.refuses rt.now self.old item) }
+    {
+        match rt.offer(&self.lane.queue, &mut self.pass, item) {
+            Ok(()) => Ok(()),
+            Err(item) => Err(Full(item)),
+        }
+    }
+}
+
+impl<L: Kept<I>, I> Receiver<L, I> {
+    /// The lane's label, which allows a list that begins with what was taken. Constant time.
+    pub fn label(&self) -> &L
+        ensures label { result.now ≡ self.now.label }
+        ensures allowed { IsAllowedBeginning L.allows self.now }
+    {
+        &self.lane.label
+    }
+
+    /// Takes the first item that was sent and not taken yet. There is none where the lane was empty
+    /// at a moment of the call: no call waits for an item, and none tells whether the sender is
+    /// still there. It tries again only while the sender is within a push. Otherwise it takes
+    /// constant time, and no memory.
+    pub fn take<R: Asks<L, I>>(&mut self, rt: &R) -> Option<I>
+        ensures taken { IfSome result (λ item. self.new ≡ behind_take self.old item) }
+        ensures same { IfNone result (self.new ≡ self.old) }
+        ensures none { IfNone result (R.lacks rt.now self.old) }
+        ensures allowed { IsAllowedBeginning L.allows self.new }
+    {
+        rt.poll(&self.lane.queue, &mut self.pass)
+    }
+}

@@ -1,0 +1,140 @@
+//! What the two ends of a lane answer, in one thread and in two.
+
+ghost use Rattle.std.specs.Prelude.{◌≡◌, ◌<◌, ◌≤◌};
+
+use crate::{Asks, Full, Kept, Lane, Receiver, Sender};
+use std::sync::Wait;
+use std::test::Fail;
+use std::thread;
+
+// A label that allows numbers below its limit.
+#[derive(Drop)]
+struct Below {
+    limit: u64,
+}
+
+impl Kept<u64> for Below {
+    ghost use Rattle.std.specs.Prelude.{◌<◌, All};
+
+    ghost allows = { λ l numbers. All (λ n. n < l.limit) numbers };
+}
+
+// What comes back of a number: none where it was sent. One that the label does not allow is not
+// pushed.
+fn push_below<R: Asks<Below, u64>>(
+    rt: &R,
+    sender: &mut Sender<Below, u64>,
+    number: u64,
+) -> Option<u64> {
+    if number >= sender.label().limit {
+        return Some(number);
+    }
+    match sender.push(rt, number) {
+        Ok(()) => None,
+        Err(Full(number)) => Some(number),
+    }
+}
+
+// A push of a number, or a take, and what comes back of it.
+type Step = (Option<u64>, Option<u64>);
+
+// The first step that answers another thing than it says.
+fn first_wrong<R: Asks<Below, u64>>(
+    rt: &R,
+    sender: &mut Sender<Below, u64>,
+    receiver: &mut Receiver<Below, u64>,
+    steps: &[Step],
+) -> Option<Step> {
+    for (push, answer) in steps {
+        let found = match push {
+            Some(number) => push_below(rt, sender, *number),
+            None => receiver.take(rt),
+        };
+        if found != *answer {
+            return Some((*push, found));
+        }
+    }
+    None
+}
+
+// In order, each once, and a number that finds the lane full comes back.
+const LANE_OF_TWO: [Step; 10] = [
+    (None, None),
+    (Some(7), None),
+    (Some(5), None),
+    (Some(6), Some(6)),
+    (None, Some(7)),
+    (Some(6), None),
+    (Some(8), Some(8)),
+    (None, Some(5)),
+    (None, Some(6)),
+    (None, None),
+];
+
+const LANE_OF_ONE: [Step; 7] = [
+    (Some(7), None),
+    (Some(5), Some(5)),
+    (None, Some(7)),
+    (None, None),
+    (Some(5), None),
+    (None, Some(5)),
+    (None, None),
+];
+
+#[test]
+fn items_come_in_order(rt: HostRuntime) -> Result<(), Fail> {
+    let (mut sender, mut receiver) = Lane::new(rt.alloc(), 2, Below { limit: 9 })?;
+    let wrong = first_wrong(&rt, &mut sender, &mut receiver, &LANE_OF_TWO);
+    assert_eq!(rt; wrong, None);
+    assert_eq!(rt; sender.label().limit, 9);
+    assert_eq!(rt; receiver.label().limit, 9);
+    Ok(())
+}
+
+#[test]
+fn one_item_fills_a_lane_of_one(rt: HostRuntime) -> Result<(), Fail> {
+    let (mut sender, mut receiver) = Lane::new(rt.alloc(), 1, Below { limit: 8 })?;
+    let wrong = first_wrong(&rt, &mut sender, &mut receiver, &LANE_OF_ONE);
+    assert_eq!(rt; wrong, None);
+    Ok(())
+}
+
+// Sends the numbers below the count, each until it is sent.
+fn send_all<R: Wait>(rt: &R, mut sender: Sender<Below, u64>, count: u64) {
+    let mut next = 0;
+    for _ in rt.forever() {
+        if next >= count {
+            break;
+        }
+        match push_below(rt, &mut sender, next) {
+            None => next += 1,
+            Some(_) => thread::yield_now(),
+        }
+    }
+}
+
+// Takes numbers from 0 on, until this many came or another one comes, and counts them.
+fn take_all<R: Wait>(rt: &R, receiver: &mut Receiver<Below, u64>, count: u64) -> u64 {
+    let mut next = 0;
+    for _ in rt.forever() {
+        if next >= count {
+            break;
+        }
+        match receiver.take(rt) {
+            Some(number) if number == next => next += 1,
+            Some(_) => break,
+            None => thread::yield_now(),
+        }
+    }
+    next
+}
+
+#[test]
+fn items_come_in_order_between_threads(rt: HostRuntime) -> Result<(), Fail> {
+    let (sender, mut receiver) = Lane::new(rt.alloc(), 2, Below { limit: 1000 })?;
+    let child = thread::spawn(&rt, move || send_all(&rt, sender, 1000))?;
+    assert_eq!(rt; take_all(&rt, &mut receiver, 1000), 1000);
+    child.join(&rt);
+    assert_eq!(rt; receiver.take(&rt), None);
+    Ok(())
+}
