@@ -2,7 +2,7 @@
 use Rattle.std.proofs.Common.{◌≡◌, ◌≢◌, ℕ, zero, suc, ◌<◌, ◌≤◌, List, [], ◌∷◌, ◌++◌, length, Bool, true, false, not, ap, refl, sym, ◌∙◌, subst, arith, inl, inr, find, map, nat_eq, nat_lt, nat_le, Contains, AllPairs, IfSome}
 use Rattle.std.specs.Prelude.{IfOk, OnErr, Result, Ok, Err, Option, Some, None, slice_get, slice_set, get_or, option_map, option_and_then, position, replicate, take, unwrap_or, ◌&&◌, if◌then◌else◌}
 use Rattle.std.specs.List.{All, position_or_len}
-use Rattle.std.proofs.lemmas.Bool.{cases_Bool, eqb-true, eq-eqb, ltb-true, ltb-false}
+use Rattle.std.proofs.lemmas.Bool.{cases_Bool, eqb-true, eq-eqb, ne_eqb, ltb-true, ltb-false}
 use Rattle.std.proofs.lemmas.List.{length_push, length-replicate}
 use Rattle.std.proofs.Math.Seq.{take-length}
 use Rattle.std.proofs.lemmas.List.Elements.{All-map, All-filter}
@@ -11,6 +11,7 @@ use Rattle.std.proofs.lemmas.List.Kept.{AllPairs-cons, AllPairs-filter}
 use Rattle.std.proofs.lemmas.Option.{same_Some, none-some, slice_get_past}
 use Rattle.hub_index.proofs.IndexLemmas.{of_head, of_tail}
 use Rattle.hub_model.specs.Current.{Current, current}
+use Rattle.hub_model.specs.Entries.{changed, entry_in, without}
 use Rattle.hub_model.specs.Draft.{Draft, parent_of, generation_of, made, edit_of, extended, makes_on}
 use Rattle.hub_model.specs.Feed.{Feed, Status, Open, Ending, Ended, Finished, Due, DueRow, DueEnd, DueNothing, DueGone, due, due_at, due_open, is_in_reach, is_open, waits, expire, end, bound_after, after_due, after_nothing}
 use Rattle.hub_model.specs.Journal.{Edit, head_of, is_head_known, is_acceptable, is_known}
@@ -27,6 +28,7 @@ use Rattle.hub_model.proofs.Shown.{find_is, find_not}
 use Rattle.hub_model.specs.Hand.{change_due, item_of}
 use Rattle.hub_model.specs.Row.{ChangeRow, row_of}
 use Rattle.hub_model.specs.declared.feeds.Item.{Item}
+use Rattle.hub_feed.specs.Host.{answer_of, answered, item_due, feeds_behind}
 use Rattle.hub_feed.specs.Next.{after_next, next_of}
 use Rattle.hub_feed.specs.declared.next.Next.{Next}
 use Rattle.hub_feed.specs.declared.next.Next.TheVariants.{Give}
@@ -35,8 +37,9 @@ use Rattle.hub_document.specs.declared.limits.Limits.{Limits}
 use Rattle.hub_database.specs.Database.{Database, Local}
 use Rattle.hub_database.specs.Edits.{draft_of, stores_doc, writes}
 use Rattle.hub_database.specs.Edits as edits
-use Rattle.hub_database.specs.Feeds.{answer_of, answered, changed, ended, entry_in, item_due, feeds_behind, without}
+use Rattle.hub_database.specs.Feeds.{ended}
 use Rattle.hub_database.specs.Followed.{IsBehind, AreFeeds}
+use Rattle.hub_database.specs.Hosting.{hosted_of}
 use Rattle.hub_database.proofs.StoreLemmas.{get_at}
 
 -- a write takes no edit away
@@ -274,6 +277,12 @@ module _ (id : ℕ) (feeds : List (ℕ × Feed)) (at : ℕ) (placed : Some at �
   behind_here show rows len new rising DueNothing next e h = rw e (changed_here (λ f. after_nothing f len) new rising h)
   behind_here show rows len new rising DueGone next e h = rw e (stays_here new h)
 
+-- no feed has a number that lies above all of theirs
+pub none_above : (next : ℕ) (feeds : List (ℕ × Feed)) → All (λ (p : ℕ × Feed). p.0 < next) feeds → entry_in next feeds ≡ None
+none_above next [] all = refl
+none_above next (p ∷ feeds) all =
+    rw (ne_eqb p.0 next (λ e. omega (arith, all 0 p (omega arith), e))) (none_above next feeds (λ k d l. all (suc k) d (omega arith)))
+
 -- there is no feed of this number
 module _ (id : ℕ) (feeds : List (ℕ × Feed)) (none : position (λ (p : ℕ × Feed). nat_eq p.0 id) feeds ≡ None) where
   pub no_feed : entry_in id feeds ≡ None
@@ -303,9 +312,9 @@ item_given show rows DueNothing item e = absurd (cc)
 item_given show rows DueGone item e = absurd (cc)
 
 -- what a feed gives is due to it, and may be accepted
-pub gives_due : (db : Database) (id : ℕ) (item : Item ChangeRow) → Give item ≡ answered db id → item_due db id ≡ Some item
+pub gives_due : (db : Database) (id : ℕ) (item : Item ChangeRow) → Give item ≡ answered (hosted_of db) id → item_due (hosted_of db) id ≡ Some item
 gives_due db id item e = from (entry_in id db.feeds) e
   where
-    from : (o : Option Feed) → Give item ≡ answer_of db.journal o → option_and_then (change_due db.journal) o ≡ Some item
+    from : (o : Option Feed) → Give item ≡ answer_of (hosted_of db) o → option_and_then (change_due db.journal) o ≡ Some item
     from None e = absurd (cc)
     from (Some f) e = item_given (row_of db.journal f.params.style f.params.include_docs) (current db.journal) (due (current db.journal) f) item e

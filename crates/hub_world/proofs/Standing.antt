@@ -5,7 +5,9 @@ use Rattle.std.proofs.lemmas.Bool.{cases_Bool, both_ways, and_left}
 use Rattle.std.proofs.lemmas.List.{length-set, length_push, length-map}
 use Rattle.std.proofs.lemmas.List.Elements.{All-map, All-push, All-set}
 use Rattle.std.proofs.lemmas.Option.{none-some, same_Some, slice_get_within, get_or_from_slice_get}
-use Rattle.hub_database.specs.Feeds.{opened, is_full, deleted, ended as ended_entry}
+use Rattle.hub_database.specs.Feeds.{deleted, ended as ended_entry}
+use Rattle.hub_database.specs.Hosting.{hosted_of, with_hosted}
+use Rattle.hub_feed.specs.Host.{opened, is_full}
 use Rattle.hub_document.specs.declared.limits.Limits as hub
 use Rattle.hub_model.specs.Feed.{Feed, Params, Status, Open, Ending, Ended, Finished, begin, is_open, waits, finish}
 use Rattle.hub_model.specs.Journal.{Edit}
@@ -79,7 +81,7 @@ pub journal_changed : (c : Core) (w : World) (J : List Edit) → Shows c w → S
 journal_changed c w J sh = record { limits = sh.limits; journal = refl; deleted = sh.deleted; given = sh.given; feeds = sh.feeds; lanes = sh.lanes; emptied = sh.emptied }
 
 -- room for one more
-pub room_shown : (c : Core) (w : World) → Shows c w → is_full c.db ≡ has_no_room w
+pub room_shown : (c : Core) (w : World) → Shows c w → is_full (hosted_of c.db) ≡ has_no_room w
 room_shown c w sh =
     let limit : w.limits.feeds ≡ c.db.limits.feeds = ap (λ l. l.feeds) sh.limits in
     let standing_feeds : length c.db.feeds ≡ open_feeds w = ap length (sym sh.feeds) ∙ counted (λ s. s.feed) 0 w.feeds in
@@ -87,7 +89,7 @@ room_shown c w sh =
 
 -- one feed more
 pub feed_opened : (c : Core) (w : World) (params : Params) → Shows c w
-    → Shows (record { db = opened c.db params; lanes = c.lanes ++ (c.db.next_feed, []) ∷ [] }) (with_feed w params)
+    → Shows (record { db = with_hosted c.db (opened (hosted_of c.db) params); lanes = c.lanes ++ (c.db.next_feed, []) ∷ [] }) (with_feed w params)
 feed_opened c w params sh =
     let new : Subscription = record { feed = begin params (length w.journal); lane = [] } in
     record {
