@@ -27,11 +27,11 @@ use Rattle.hub_database.specs.Feeds.{deleted}
 use Rattle.hub_database.specs.Hosting.{hosted_of, with_hosted}
 use Rattle.hub_world.specs.Core.{Core, Shows}
 use Rattle.hub_model.specs.Entries.{entry_in, changed, without}
-use Rattle.hub_world.specs.Event.{Event, Write, Interactive, Begin, Hand, Heartbeat, Expire, Take, Finish, Delete, Reply, Outcomes, Opened, TooManyFeeds, DatabaseDeleted, Pushed, Full, Nothing, Gone, Took, Left}
+use Rattle.hub_world.specs.Event.{Event, Write, Interactive, Begin, Hand, Heartbeat, Expire, Take, Finish, Delete, Reply, Outcomes, Opened, TooManyFeeds, Pushed, Full, Nothing, Gone, Took, Left}
 use Rattle.hub_world.specs.Lane.{has_room, takes_more, front, without_front, held}
 use Rattle.hub_world.specs.Lane as lane
 use Rattle.hub_world.specs.Step.{Step}
-use Rattle.hub_world.specs.World.{World, Limits, Subscription, subscription, with_subscription, is_finished, is_beat_due, lane_of, merged, drafted, pushed, expired, took, due_of}
+use Rattle.hub_world.specs.World.{World, Limits, Subscription, subscription, with_subscription, is_finished, feed_of, lane_of, merged, drafted, pushed, expired, took}
 use Rattle.hub_world.proofs.Standing.{IsGone, feed_found, feed_gone, entry_changed, changed_same, changed_absent, feed_finished, feed_opened, room_shown, feeds_deleted, journal_changed, gone_expires, gone_takes}
 
 -- from each world that the core shows the event leads so to one that the other shows
@@ -69,14 +69,6 @@ begin_leads c params e w h =
     let free = refused c.db.deleted (feeds.is_full (hosted_of c.db)) e in
     (_, (h.deleted ∙ free.0, sym (room_shown c w h) ∙ free.1, sym h.given, refl), feed_opened c w params h)
 
-told_deleted : (deleted full : Bool) → (if deleted then Some open_fault.Deleted else if full then Some open_fault.TooManyFeeds else None) ≡ Some open_fault.Deleted → deleted ≡ true
-told_deleted true full e = refl
-told_deleted false true e = absurd (cc)
-told_deleted false false e = absurd (none-some _ e)
-
-pub begin_deleted : (c : Core) (params : Params) → feeds.refuses (hosted_of c.db) ≡ Some open_fault.Deleted → Leads c (Begin params) DatabaseDeleted c
-begin_deleted c params e w h = (w, (h.deleted ∙ told_deleted c.db.deleted (feeds.is_full (hosted_of c.db)) e, refl), h)
-
 told_full : (deleted full : Bool) → (if deleted then Some open_fault.Deleted else if full then Some open_fault.TooManyFeeds else None) ≡ Some open_fault.TooManyFeeds → (deleted ≡ false) × (full ≡ true)
 told_full true full e = absurd (cc)
 told_full false true e = (refl, refl)
@@ -94,9 +86,6 @@ finish_leads c f w h = (_, (held_lane (entry_in f c.db.feeds) refl, refl), feed_
 
 pub delete_leads : (c : Core) → c.db.deleted ≡ false → Leads c Delete Nothing (record c { db = deleted c.db })
 delete_leads c e w h = (_, (h.deleted ∙ e, refl), feeds_deleted c w h)
-
-pub delete_again : (c : Core) → c.db.deleted ≡ true → Leads c Delete DatabaseDeleted c
-delete_again c e w h = (w, (h.deleted ∙ e, refl), h)
 
 -- ---- what is due
 
@@ -180,7 +169,7 @@ hand_nothing c f e w h = from (entry_in f c.db.feeds) refl
         (_, (s.0, s.1, here, refl), subst (λ ls. Shows (record { db = with_hosted c.db (feeds.behind_answer (hosted_of c.db) f next.Nothing); lanes = ls }) (with_subscription w f (record s.0 { feed = after_nothing s.0.feed (length w.journal) }))) (changed_same f c.lanes) shown)
 
 -- to a feed that is gone nothing is due, and no heartbeat
-gone_due : (w : World) (o : Option Subscription) → IsGone o → due_of w o ≡ DueGone
+gone_due : (w : World) (o : Option Subscription) → IsGone o → feeds.due_of (current w.journal) (feed_of o) ≡ DueGone
 gone_due w None g = refl
 gone_due w (Some s) g = from s.feed.status g
   where
@@ -190,7 +179,7 @@ gone_due w (Some s) g = from s.feed.status g
     from Ended u = absurd (cc)
     from Finished u = refl
 
-gone_still : (o : Option Subscription) → IsGone o → is_beat_due o ≡ false
+gone_still : (o : Option Subscription) → IsGone o → feeds.is_beat_due (feed_of o) ≡ false
 gone_still None g = refl
 gone_still (Some s) g = from s.feed.status refl g
   where
@@ -208,7 +197,7 @@ hand_gone c f e w h = from (entry_in f c.db.feeds) refl
     from (Some feed) q =
         let s = feed_found c w f feed h q in
         let gone : due_in c.db.journal feed ≡ DueGone = due_gone (row_of c.db.journal feed.params.style feed.params.include_docs) (current c.db.journal) (due_in c.db.journal feed) (sym (e ∙ ap (feeds.answer_of (hosted_of c.db)) q)) in
-        (w, (ap (due_of w) s.1 ∙ (ap (λ (J : List Edit). due_in J s.0.feed) h.journal ∙ (ap (due_in c.db.journal) s.2 ∙ gone)), refl), h)
+        (w, (ap (λ o. feeds.due_of (current w.journal) (feed_of o)) s.1 ∙ (ap (λ (J : List Edit). due_in J s.0.feed) h.journal ∙ (ap (due_in c.db.journal) s.2 ∙ gone)), refl), h)
 
 -- ---- heartbeats
 
@@ -239,7 +228,7 @@ beat_nothing c f e w h = from (entry_in f c.db.feeds) refl
     from None q = (w, (gone_still (subscription w f) (feed_gone c w f h q).0, refl), h)
     from (Some feed) q =
         let s = feed_found c w f feed h q in
-        (w, (ap is_beat_due s.1 ∙ (ap beat_due s.2 ∙ (ap feeds.is_beat_due (sym q) ∙ e)), refl), h)
+        (w, (ap (λ o. feeds.is_beat_due (feed_of o)) s.1 ∙ (ap beat_due s.2 ∙ (ap feeds.is_beat_due (sym q) ∙ e)), refl), h)
 
 -- ---- expiry and takes
 
