@@ -40,6 +40,7 @@ use Rattle.hub_database.specs.Edits as edits
 use Rattle.hub_database.specs.Feeds.{ended}
 use Rattle.hub_database.specs.Followed.{IsBehind, AreFeeds}
 use Rattle.hub_database.specs.Hosting.{hosted_of}
+use Rattle.hub_database.proofs.ListLemmas.{set_back}
 use Rattle.hub_database.proofs.StoreLemmas.{get_at}
 
 -- a write takes no edit away
@@ -173,13 +174,6 @@ module _ {A : Type 0} (p : A → Bool) (xs : List A) where
           (find_at p xs ∙ (ap (slice_get xs) same ∙ there), there)
       from false t e = absurd (none-some at (sym e))
 
-  pub place_low : (at : ℕ) → Some at ≡ position p xs → at < length xs
-  place_low at e = from (nat_lt (position_or_len p xs) (length xs)) refl e
-    where
-      from : (b : Bool) → nat_lt (position_or_len p xs) (length xs) ≡ b → Some at ≡ (if b then Some (position_or_len p xs) else None) → at < length xs
-      from true t e = omega (arith, ltb-true (position_or_len p xs) (length xs) t, same_Some at (position_or_len p xs) e)
-      from false t e = absurd (none-some at (sym e))
-
   pub place_none : position p xs ≡ None → find p xs ≡ None
   place_none e = from (nat_lt (position_or_len p xs) (length xs)) refl e
     where
@@ -247,11 +241,6 @@ pub refused_batch : (new_edits deleted : Bool) (limit : ℕ) (J : List Edit) (do
 refused_batch new_edits deleted limit J docs n replies t e r =
     rw (t, r, length-replicate {A = Outcome Revision} n (outcome.Refused fault.Deleted), e, take-length docs) (all_refused (stores_doc new_edits limit) J docs)
 
-set_back : {A : Type 0} (xs : List A) (k : ℕ) (x : A) → slice_get xs k ≡ Some x → slice_set xs k x ≡ xs
-set_back [] k x e = refl
-set_back (y ∷ xs) zero x e = ap (λ z. z ∷ xs) (sym (same_Some y x e))
-set_back (y ∷ xs) (suc k) x e = ap (λ zs. y ∷ zs) (set_back xs k x e)
-
 -- the feed of this number stands here
 module _ (id : ℕ) (feeds : List (ℕ × Feed)) (at : ℕ) (placed : Some at ≡ position (λ (p : ℕ × Feed). nat_eq p.0 id) feeds) (p : ℕ × Feed) (is : p ≡ get_or feeds at p) where
   pub feed_here : entry_in id feeds ≡ Some p.1
@@ -295,10 +284,6 @@ module _ (id : ℕ) (feeds : List (ℕ × Feed)) (none : position (λ (p : ℕ �
 pub both_ok : {T E : Type 0} {P Q R : T → Type 0} (r : Result T E) → ((x : T) → P x → Q x → R x) → IfOk r P → IfOk r Q → IfOk r R
 both_ok (Ok x) f p q = f x p q
 both_ok (Err e) f p q = tt
-
-pub more_err : {T E P Q : Type 0} (r : Result T E) → (P → Q) → OnErr r P → OnErr r Q
-more_err (Ok x) f p = tt
-more_err (Err e) f p = f p
 
 -- what holds in either case
 pub ok_or_err : {T E P W : Type 0} {Q : T → Type 0} (r : Result T E) → ((x : T) → Q x → P) → (W → P) → IfOk r Q → OnErr r W → P

@@ -20,7 +20,6 @@ use Rattle.hub_revtree.specs.Tree.{IsRevTree, nameless}
 use Rattle.hub_revtree.specs.Winner.{winner_of}
 use Rattle.hub_database.specs.declared.document.Document.{Document}
 use Rattle.hub_database.specs.declared.answers.Lookup.TheVariants as looked
-use Rattle.hub_database.specs.declared.answers.OpenRev.TheVariants as opened_as
 use Rattle.hub_database.specs.declared.entry.Entry.{Entry}
 use Rattle.hub_database.specs.Filed.{Filed, named, journal_of, IsFiled}
 use Rattle.hub_database.specs.Store.{filed, files}
@@ -195,16 +194,6 @@ module _ (J : List Edit) (id : List ℕ) (d : Document) (f : IsFound J id d) (re
 module _ (J : List Edit) (id : List ℕ) (none : edits_of J id ≡ []) where
   pub no_leaves : leaves_of J id ≡ []
   no_leaves = ap (λ es. best_first (leaves_among es es)) none
-
-  pub no_winner : None ≡ winner_of (leaves_of J id)
-  no_winner = sym (ap winner_of no_leaves)
-
-  pub none_open : (revs : Bool) → [] ≡ open_revs J id All revs
-  none_open revs = sym (ap (λ ls. map (open_rev J id revs) (revisions_of ls)) no_leaves)
-
-  pub none_listed : (revs : Bool) (rs : List Revision) → map opened_as.Missing rs ≡ open_revs J id (Listed rs) revs
-  none_listed revs [] = refl
-  none_listed revs (r ∷ rs) = ap (λ es. open_rev_of revs r (shown_of J id r (find (is_head r) es)) ∷ map opened_as.Missing rs) (sym none) ∙ ap (λ os. open_rev J id revs r ∷ os) (none_listed revs rs)
 
 -- the members of the winner of a tree
 module _ (edits : List Edit) (tree : IsRevTree edits) (w : Winner) (is : Some w ≡ winner_of (leaves_of edits [])) where

@@ -14,15 +14,14 @@ use Rattle.hub_model.specs.Hand.{due_in, item_of}
 use Rattle.hub_model.specs.Journal.{Edit}
 use Rattle.hub_model.specs.RightlyHanded.{ChangeItem}
 use Rattle.hub_model.specs.Row.{ChangeRow, row_of}
-use Rattle.hub_model.specs.declared.feeds.Item.{Item}
 use Rattle.hub_model.specs.declared.feeds.Item.TheVariants.{Beat}
 use Rattle.hub_world.specs.Core.{Core, Shows}
-use Rattle.hub_world.specs.Event.{Begin, Hand, Heartbeat, Opened, Pushed}
+use Rattle.hub_world.specs.Event.{Begin, Hand, Heartbeat, Pushed}
 use Rattle.hub_world.specs.Growth.{IsMade, NeedsMemory, MayFail}
 use Rattle.hub_world.specs.declared.event.Event as program
 use Rattle.hub_world.specs.Lane.{has_room}
 use Rattle.hub_world.specs.Step.{Step}
-use Rattle.hub_world.specs.World.{World, Subscription, subscription, lane_of}
+use Rattle.hub_world.specs.World.{World}
 use Rattle.hub_world.proofs.Standing.{feed_found}
 use Rattle.hub_world.proofs.Stepping.{begin_leads, hand_pushed, beat_pushed}
 

@@ -9,7 +9,8 @@ use Rattle.hub_database.specs.Database.{Database}
 use Rattle.hub_database.specs.Followed.{AreFeeds}
 use Rattle.hub_database.specs.Hosting.{hosted_of}
 use Rattle.hub_database.specs.Store.{edits_of_store}
-use Rattle.hub_database.proofs.FeedLemmas.{behind_here, both_ok, changed_here, feed_here, feeds_changed, looks_behind, more_err, no_feed, ok_or_err, rest_stays, stays_here}
+use Rattle.hub_database.proofs.FeedLemmas.{behind_here, both_ok, changed_here, feed_here, feeds_changed, looks_behind, no_feed, ok_or_err, rest_stays, stays_here}
+use Rattle.hub_database.proofs.StoreLemmas.{err_then}
 use Rattle.hub_database.proofs.database.DbState.next_item.Goals as goal
 
 pub returns-in_default-clause-ok : goal.returns-in_default-clause-ok
@@ -57,7 +58,7 @@ returns-clause-err c =
     let id = c.args.feed.number in
     let placed : Some c.in-Some.at ≡ position (λ (p : ℕ × Feed). nat_eq p.0 id) db.feeds.items = rw c.as_slice.ensures.value at c.in-Some.ensures in
     let p = c.index_mut-feed.result.now in
-    more_err c.next_item.result
+    err_then c.next_item.result
     (λ w. (
       rw (sym c.self.view_is) (rest_stays J refl refl (stays_here id db.feeds.items c.in-Some.at placed p c.index_mut-feed.ensures.value c.next_item.new.self w.0) refl refl),
       subst (λ (z : Database). IsRowDue (due_to (hosted_of z) id)) c.self.view_is (subst IsRowDue (sym (ap (due_of (current J)) (feed_here id db.feeds.items c.in-Some.at placed p c.index_mut-feed.ensures.value))) w.1),
