@@ -162,8 +162,8 @@ module _ (J : List Edit) (id : List ℕ) (legal : IsLegal J) where
 
 -- a document that a number names, in a database whose ids have these numbers
 pub document_found : (limit : ℕ) (numbers : List ℕ → Option ℕ) (documents : List Document) (entries : List Entry) → IsFiled limit numbers (files documents) entries → (id : List ℕ) (k : ℕ) → numbers id ≡ Some k
-    → (d : Document) → d ≡ get_or documents k d → edits_of d.tree.edits [] ≡ d.tree.edits → IsFound (journal_of (files documents) entries) id d
-document_found limit numbers documents entries st id k there d is one =
+    → (d : Document) → d ≡ get_or documents k d → IsFound (journal_of (files documents) entries) id d
+document_found limit numbers documents entries st id k there d is =
     let low = number_below limit numbers documents entries st id k there in
     let at : slice_get (files documents) k ≡ Some (filed d) = slice_get-map filed documents k ∙ ap (option_map filed) (get_at documents k d low is) in
     let own = st.found id k there in
@@ -173,7 +173,7 @@ document_found limit numbers documents entries st id k there d is one =
     record {
       same = named_so;
       kept = subst (λ i. edits_of (journal_of (files documents) entries) i ≡ map (named i) d.tree.edits) named_so kept;
-      one = one;
+      one = st.one k (filed d) at;
     }
 
 -- each of the revisions that are asked for
