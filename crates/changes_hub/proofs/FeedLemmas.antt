@@ -11,7 +11,9 @@ use Rattle.hub_model.specs.Hand.{due_in, change_due}
 use Rattle.hub_model.specs.Row.{ChangeRow}
 use Rattle.hub_model.specs.declared.feeds.Item.{Item}
 use Rattle.hub_model.specs.declared.feeds.Item.TheVariants.{Row, Beat, End}
-use Rattle.hub_database.specs.Feeds.{changed, entry_in, item_due, handed}
+use Rattle.hub_database.specs.Hosting.{hosted_of, with_hosted}
+use Rattle.hub_feed.specs.Host.{item_due, handed}
+use Rattle.hub_model.specs.Entries.{changed, entry_in}
 use Rattle.hub_session.specs.declared.closing.StreamEnd.TheVariants.{Complete}
 use Rattle.hub_session.specs.Feeds.{Streams}
 use Rattle.changes_hub.specs.Feeds.{is_end, behind, next_listed}
@@ -81,21 +83,21 @@ module _ (h k : Hub) (at id : ℕ) (J : List Edit) (f : Feed) (item : Item Chang
   next = after_due f (due_in J f) (length J)
 
   -- what is due of the database is due to the feed
-  due_is : (is : IsAt h at id J f) → item_due is.database.state id ≡ change_due J f
+  due_is : (is : IsAt h at id J f) → item_due (hosted_of is.database.state) id ≡ change_due J f
   due_is is = ap (option_and_then (change_due is.database.state.journal)) is.feed ∙ ap (λ (I : List Edit). change_due I f) is.journal
 
   -- it hands the item that is due, and never another
   hands_due : (is : IsAt h at id J f) → HubGives h (Some item) k → (change_due J f ≡ Some item) × (◌≡◌ {A = Given} (record { item = Some item; hub = k }) (hands h at id is.database (Some item)))
   hands_due is (inl g) =
-      let given : ◌≡◌ {A = Given} (record { item = Some item; hub = k }) (hands h at id is.database (item_due is.database.state id)) = g ∙ ap (by_feed gives_of h) is.sent ∙ ap (gives_followed h at id) is.there in
-      let same : Some item ≡ item_due is.database.state id = ap (λ (z : Given). z.item) given in
+      let given : ◌≡◌ {A = Given} (record { item = Some item; hub = k }) (hands h at id is.database (item_due (hosted_of is.database.state) id)) = g ∙ ap (by_feed gives_of h) is.sent ∙ ap (gives_followed h at id) is.there in
+      let same : Some item ≡ item_due (hosted_of is.database.state) id = ap (λ (z : Given). z.item) given in
       (sym (same ∙ due_is is), given ∙ ap (hands h at id is.database) (sym same))
   hands_due is (inr g) =
       let given : ◌≡◌ {A = Given} (record { item = Some item; hub = k }) (hands h at id is.database None) = g ∙ ap (by_feed stops_of h) is.sent ∙ ap (stops_followed h at id) is.there in
       absurd (let same : Some item ≡ None = ap (λ (z : Given). z.item) given in cc)
 
   -- which moves the feed on
-  handed_feed : (is : IsAt h at id J f) → entry_in id (handed is.database.state id).feeds ≡ Some next
+  handed_feed : (is : IsAt h at id J f) → entry_in id (handed (hosted_of is.database.state) id).feeds ≡ Some next
   handed_feed is =
       feed_changed id _ is.database.state.feeds
       ∙ ap (option_map (λ f. after_due f (due (current is.database.state.journal) f) (length is.database.state.journal))) is.feed
@@ -104,12 +106,12 @@ module _ (h k : Hub) (at id : ℕ) (J : List Edit) (f : Feed) (item : Item Chang
   -- and goes on, unless that was its end
   goes_on : (is : IsAt h at id J f) → is_end item ≡ false → ◌≡◌ {A = Given} (record { item = Some item; hub = k }) (hands h at id is.database (Some item)) → IsAt k at id J next
   goes_on is going given =
-      let state : behind is.database.state id (Some item) ≡ handed is.database.state id = rw going refl in
-      let databases : k.databases ≡ set h.databases at (record is.database { state = handed is.database.state id }) = ap (λ (g : Given). g.hub.databases) given ∙ ap (λ s. set h.databases at (record is.database { state = s })) state in
+      let state : behind is.database.state id (Some item) ≡ with_hosted is.database.state (handed (hosted_of is.database.state) id) = rw going refl in
+      let databases : k.databases ≡ set h.databases at (record is.database { state = with_hosted is.database.state (handed (hosted_of is.database.state) id) }) = ap (λ (g : Given). g.hub.databases) given ∙ ap (λ s. set h.databases at (record is.database { state = s })) state in
       let sent : sent_after (record { at = at; feed = Followed (record { number = id }) }) (Some item) ≡ Some (record { at = at; feed = Followed (record { number = id }) }) = rw going refl in
       record {
         sent = ap (λ (g : Given). g.hub.feed) given ∙ sent;
-        database = record is.database { state = handed is.database.state id };
+        database = record is.database { state = with_hosted is.database.state (handed (hosted_of is.database.state) id) };
         there = ap (λ ds. slice_get ds at) databases ∙ put_there h.databases at is.database _ is.there;
         journal = is.journal;
         feed = handed_feed is;

@@ -6,7 +6,8 @@ use Rattle.hub_document.specs.declared.doc.Doc.{Doc}
 use Rattle.std.specs.declared.alloc.Global.{Global}
 use Rattle.hub_database.specs.Database.{Database}
 use Rattle.hub_database.specs.Edits.{writes}
-use Rattle.hub_database.specs.Feeds.{item_due, finished}
+use Rattle.hub_database.specs.Hosting.{hosted_of, with_hosted}
+use Rattle.hub_feed.specs.Host.{item_due, finished}
 use Rattle.hub_model.specs.Row.{ChangeRow}
 use Rattle.hub_model.specs.declared.feeds.Item.{Item}
 use Rattle.changes_hub.specs.Feeds.{behind}
@@ -81,7 +82,7 @@ Begins said (Err e) = (e ≡ NoMemory) ⊎ (said ≡ Refusing e)
 
 -- a feed handed this item, or none for want of memory, and left the database new
 abbrev pub Hands : Database → ℕ → Option (Item ChangeRow) → Database → Type 0
-Hands old id item new = ((item ≡ item_due old id) × (new ≡ behind old id item)) ⊎ ((item ≡ None) × (new ≡ finished old id))
+Hands old id item new = ((item ≡ item_due (hosted_of old) id) × (new ≡ behind old id item)) ⊎ ((item ≡ None) × (new ≡ with_hosted old (finished (hosted_of old) id)))
 
 -- ---- the hub
 

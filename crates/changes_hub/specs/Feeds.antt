@@ -9,7 +9,8 @@ use Rattle.hub_model.specs.declared.feeds.Mode.TheVariants.{Normal, Longpoll, Co
 use Rattle.hub_model.specs.declared.feeds.Item.{Item}
 use Rattle.hub_model.specs.declared.feeds.Item.TheVariants.{Row, End}
 use Rattle.hub_database.specs.Database.{Database}
-use Rattle.hub_database.specs.Feeds.{refuses_feed, opened, handed, finished}
+use Rattle.hub_database.specs.Hosting.{hosted_of, with_hosted}
+use Rattle.hub_feed.specs.Host.{refuses, opened, handed, finished}
 use Rattle.hub_feed.specs.declared.host.OpenFault.{OpenFault}
 use Rattle.hub_feed.specs.declared.host.OpenFault.TheVariants as open_fault
 use Rattle.hub_params.specs.FeedParams.{FeedAsked}
@@ -49,11 +50,11 @@ lists answer = Feeding (Listed answer)
 -- opening a feed, unless there is a fault
 abbrev pub opens_unless : Option OpenFault → Database → Params → Step
 opens_unless (Some fault) db params = reads db (Refusing (of_open_fault fault))
-opens_unless None db params = record { said = Feeding (Followed (record { number = db.next_feed })); state = opened db params }
+opens_unless None db params = record { said = Feeding (Followed (record { number = db.next_feed })); state = with_hosted db (opened (hosted_of db) params) }
 
 -- opening a feed
 abbrev pub opens : Database → Params → Step
-opens db params = opens_unless (refuses_feed db) db params
+opens db params = opens_unless (refuses (hosted_of db)) db params
 
 -- a feed that goes upwards: only one that ends at once is served yet
 abbrev pub begins_by : Database → Params → Mode → Step
@@ -85,5 +86,5 @@ next_listed answer = next_of_rows answer.rows answer.last_seq answer.pending
 
 -- the database once its feed handed this item: behind an end, and where there was none, the feed is finished
 abbrev pub behind : Database → ℕ → Option (Item ChangeRow) → Database
-behind db id None = finished db id
-behind db id (Some item) = if is_end item then finished db id else handed db id
+behind db id None = with_hosted db (finished (hosted_of db) id)
+behind db id (Some item) = with_hosted db (if is_end item then finished (hosted_of db) id else handed (hosted_of db) id)

@@ -8,7 +8,8 @@ use Rattle.hub_model.specs.declared.feeds.Item.{Item}
 use Rattle.hub_model.specs.Descending.{Descending}
 use Rattle.hub_document.specs.declared.limits.Limits.{Limits}
 use Rattle.hub_database.specs.Database.{Database}
-use Rattle.hub_database.specs.Feeds.{item_due, finished}
+use Rattle.hub_database.specs.Hosting.{hosted_of, with_hosted}
+use Rattle.hub_feed.specs.Host.{item_due, finished}
 use Rattle.hub_http.specs.Stream.{Asked}
 use Rattle.hub_http.specs.declared.reply.Reply.TheVariants.{Done, Refused}
 use Rattle.hub_http.specs.declared.refusal.Refusal.TheVariants.{NoMemory, BadName, Exists, TooMany, Absent}
@@ -221,7 +222,7 @@ hands h at id d item = record { item = item; hub = record h { databases = set h.
 -- a feed of the database at a place goes on
 abbrev pub gives_followed : Hub → ℕ → ℕ → Option Named → Given
 gives_followed h at id None = record { item = None; hub = unsent h }
-gives_followed h at id (Some d) = hands h at id d (item_due d.state id)
+gives_followed h at id (Some d) = hands h at id d (item_due (hosted_of d.state) id)
 
 -- and stops for want of memory
 abbrev pub stops_followed : Hub → ℕ → ℕ → Option Named → Given
@@ -255,7 +256,7 @@ HubGives h item k =
 abbrev pub finishes : Hub → ℕ → ℕ → Option Named → Hub
 finishes h at id None = unsent h
 finishes h at id (Some d) =
-    unsent (record h { databases = set h.databases at (record d { state = finished d.state id }) })
+    unsent (record h { databases = set h.databases at (record d { state = with_hosted d.state (finished (hosted_of d.state) id) }) })
 
 -- the hub once this feed of the database at a place is given back; an answer that was made at once has
 -- nothing there

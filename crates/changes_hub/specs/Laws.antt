@@ -9,7 +9,7 @@ use Rattle.hub_model.specs.Row.{ChangeRow, row_of}
 use Rattle.hub_model.specs.declared.feeds.Item.{Item}
 use Rattle.hub_model.specs.declared.feeds.Item.TheVariants.{Row, End}
 use Rattle.hub_model.specs.declared.feeds.Mode.TheVariants.{Normal}
-use Rattle.hub_database.specs.Feeds.{entry_in}
+use Rattle.hub_model.specs.Entries.{entry_in}
 use Rattle.hub_session.specs.declared.closing.StreamEnd.TheVariants.{Complete}
 use Rattle.hub_session.specs.Feeds.{Streams}
 use Rattle.changes_hub.specs.Hub.{Hub, Named, HubGives, HubDrops}

@@ -1,7 +1,8 @@
 //! A database by its name, and its answers to calls.
 
 ghost use Rattle.std.specs.Prelude.{◌≡◌, false};
-ghost use Rattle.hub_database.specs.Feeds.{finished};
+ghost use Rattle.hub_database.specs.Hosting.{hosted_of, with_hosted};
+ghost use Rattle.hub_feed.specs.Host.{finished};
 ghost use Rattle.changes_hub.specs.Calls.{calls, answers_standing, says_info, says_commit};
 ghost use Rattle.changes_hub.specs.Came.{Reads, CameOut, Hands, with_status};
 ghost use Rattle.changes_hub.specs.Hub.{MayLeave, MayLeaveStanding, has_name};
@@ -146,7 +147,7 @@ impl Database {
 
     /// Forgets its feed.
     pub(crate) fn finish(&mut self, feed: FeedId)
-        ensures state { self.new.state ≡ finished self.old.state feed.number }
+        ensures state { self.new.state ≡ with_hosted self.old.state (finished (hosted_of self.old.state) feed.number) }
         ensures name { self.new.name ≡ self.old.name }
     {
         self.state.finish(feed);

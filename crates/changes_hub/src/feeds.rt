@@ -1,7 +1,8 @@
 //! Feeds of a database (CouchDB API reference, `/{db}/_changes`).
 
 ghost use Rattle.std.specs.Prelude.{◌≡◌, false, Some};
-ghost use Rattle.hub_database.specs.Feeds.{item_due};
+ghost use Rattle.hub_database.specs.Hosting.{hosted_of};
+ghost use Rattle.hub_feed.specs.Host.{item_due};
 ghost use Rattle.hub_model.specs.Descending.{descending};
 ghost use Rattle.hub_params.specs.FeedModel.{params_of};
 ghost use Rattle.hub_params.specs.FeedParams.{feed_asked};
@@ -101,7 +102,7 @@ pub(crate) fn begin(
 
 // Goes on behind the item that is due to a feed.
 fn accept(state: &mut DbState, feed: FeedId, item: &Item<ChangeRow>)
-    requires due { item_due state.old feed.number ≡ Some item.now }
+    requires due { item_due (hosted_of state.old) feed.number ≡ Some item.now }
     ensures { state.new ≡ behind state.old feed.number (Some item.now) }
 {
     state.accept_item(feed, item);

@@ -1,14 +1,13 @@
 -- The edit of a sequence is the one that its entry names.
-use Rattle.std.proofs.Common.{◌≡◌, ℕ, suc, ◌<◌, List, length, true, ap, refl, sym, ◌∙◌, subst}
-use Rattle.std.specs.Prelude.{Option, Some, option_map, option_and_then, slice_get, get_or}
+use Rattle.std.proofs.Common.{◌≡◌, ℕ, suc, ◌<◌, List, length, ap, refl, sym, ◌∙◌, subst}
+use Rattle.std.specs.Prelude.{Option, Some, option_map, slice_get, get_or}
 use Rattle.std.proofs.lemmas.Option.{same_Some, slice_get-map}
-use Rattle.hub_model.specs.Revision.{Revision}
-use Rattle.hub_model.specs.Journal.{Edit, head_of}
+use Rattle.hub_model.specs.Journal.{Edit}
 use Rattle.hub_database.specs.declared.document.Document.{Document}
 use Rattle.hub_database.specs.declared.entry.Entry.{Entry}
 use Rattle.hub_database.specs.Filed.{Filed, named, no_edit, edit_in, edit_at, journal_of, IsFiled}
 use Rattle.hub_database.specs.Store.{filed, files}
-use Rattle.hub_database.specs.Reads.{doc_shown, entry_at, entry_of, entry_doc_of}
+use Rattle.hub_database.specs.Reads.{entry_at}
 use Rattle.hub_database.proofs.RowLemmas.{get_default, document_of}
 
 -- the edit that an entry stands for
@@ -26,11 +25,3 @@ edit_found limit numbers documents entries st k x here d is =
 -- of a sequence
 pub at_sequence : (J : List Edit) (seq k : ℕ) → seq ≡ suc k → entry_at J seq ≡ slice_get J k
 at_sequence J seq k e = ap (entry_at J) e
-
--- the entry and the document of an edit
-pub entry_is : (J : List Edit) (seq : ℕ) (e : Edit) (r : Revision) → Some e ≡ entry_at J seq → slice_get e.path 0 ≡ Some r → Some (e.id, r) ≡ entry_of J seq
-entry_is J seq e r is first = ap (λ o. option_map (λ s. (e.id, s)) o) (sym first) ∙ ap (λ o. option_and_then (λ f. option_map (λ s. (f.id, s)) (head_of f)) o) is
-
-pub entry_doc_is : (J : List Edit) (seq : ℕ) (e : Edit) (r : Revision) → Some e ≡ entry_at J seq → slice_get e.path 0 ≡ Some r
-    → Some (record { id = e.id; rev = Some r; path = Some e.path; deleted = e.deleted; body = e.body }) ≡ entry_doc_of J seq
-entry_doc_is J seq e r is first = ap (λ (o : Option Revision). Some (record { id = e.id; rev = o; path = Some e.path; deleted = e.deleted; body = e.body })) (sym first) ∙ ap (option_map (doc_shown true)) is

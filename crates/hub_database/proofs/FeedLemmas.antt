@@ -2,7 +2,7 @@
 use Rattle.std.proofs.Common.{◌≡◌, ◌≢◌, ℕ, zero, suc, ◌<◌, ◌≤◌, List, [], ◌∷◌, ◌++◌, length, Bool, true, false, not, ap, refl, sym, ◌∙◌, subst, arith, inl, inr, find, map, nat_eq, nat_lt, nat_le, Contains, AllPairs, IfSome}
 use Rattle.std.specs.Prelude.{IfOk, OnErr, Result, Ok, Err, Option, Some, None, slice_get, slice_set, get_or, option_map, option_and_then, position, replicate, take, unwrap_or, ◌&&◌, if◌then◌else◌}
 use Rattle.std.specs.List.{All, position_or_len}
-use Rattle.std.proofs.lemmas.Bool.{cases_Bool, eqb-true, eq-eqb, ltb-true, ltb-false}
+use Rattle.std.proofs.lemmas.Bool.{cases_Bool, eqb-true, eq-eqb, ne_eqb, ltb-true, ltb-false}
 use Rattle.std.proofs.lemmas.List.{length_push, length-replicate}
 use Rattle.std.proofs.Math.Seq.{take-length}
 use Rattle.std.proofs.lemmas.List.Elements.{All-map, All-filter}
@@ -11,6 +11,7 @@ use Rattle.std.proofs.lemmas.List.Kept.{AllPairs-cons, AllPairs-filter}
 use Rattle.std.proofs.lemmas.Option.{same_Some, none-some, slice_get_past}
 use Rattle.hub_index.proofs.IndexLemmas.{of_head, of_tail}
 use Rattle.hub_model.specs.Current.{Current, current}
+use Rattle.hub_model.specs.Entries.{changed, entry_in, without}
 use Rattle.hub_model.specs.Draft.{Draft, parent_of, generation_of, made, edit_of, extended, makes_on}
 use Rattle.hub_model.specs.Feed.{Feed, Status, Open, Ending, Ended, Finished, Due, DueRow, DueEnd, DueNothing, DueGone, due, due_at, due_open, is_in_reach, is_open, waits, expire, end, bound_after, after_due, after_nothing}
 use Rattle.hub_model.specs.Journal.{Edit, head_of, is_head_known, is_acceptable, is_known}
@@ -27,6 +28,7 @@ use Rattle.hub_model.proofs.Shown.{find_is, find_not}
 use Rattle.hub_model.specs.Hand.{change_due, item_of}
 use Rattle.hub_model.specs.Row.{ChangeRow, row_of}
 use Rattle.hub_model.specs.declared.feeds.Item.{Item}
+use Rattle.hub_feed.specs.Host.{answer_of, answered, item_due, feeds_behind}
 use Rattle.hub_feed.specs.Next.{after_next, next_of}
 use Rattle.hub_feed.specs.declared.next.Next.{Next}
 use Rattle.hub_feed.specs.declared.next.Next.TheVariants.{Give}
@@ -35,8 +37,10 @@ use Rattle.hub_document.specs.declared.limits.Limits.{Limits}
 use Rattle.hub_database.specs.Database.{Database, Local}
 use Rattle.hub_database.specs.Edits.{draft_of, stores_doc, writes}
 use Rattle.hub_database.specs.Edits as edits
-use Rattle.hub_database.specs.Feeds.{answer_of, answered, changed, ended, entry_in, item_due, feeds_behind, without}
+use Rattle.hub_database.specs.Feeds.{ended}
 use Rattle.hub_database.specs.Followed.{IsBehind, AreFeeds}
+use Rattle.hub_database.specs.Hosting.{hosted_of}
+use Rattle.hub_database.proofs.ListLemmas.{set_back}
 use Rattle.hub_database.proofs.StoreLemmas.{get_at}
 
 -- a write takes no edit away
@@ -170,13 +174,6 @@ module _ {A : Type 0} (p : A → Bool) (xs : List A) where
           (find_at p xs ∙ (ap (slice_get xs) same ∙ there), there)
       from false t e = absurd (none-some at (sym e))
 
-  pub place_low : (at : ℕ) → Some at ≡ position p xs → at < length xs
-  place_low at e = from (nat_lt (position_or_len p xs) (length xs)) refl e
-    where
-      from : (b : Bool) → nat_lt (position_or_len p xs) (length xs) ≡ b → Some at ≡ (if b then Some (position_or_len p xs) else None) → at < length xs
-      from true t e = omega (arith, ltb-true (position_or_len p xs) (length xs) t, same_Some at (position_or_len p xs) e)
-      from false t e = absurd (none-some at (sym e))
-
   pub place_none : position p xs ≡ None → find p xs ≡ None
   place_none e = from (nat_lt (position_or_len p xs) (length xs)) refl e
     where
@@ -244,11 +241,6 @@ pub refused_batch : (new_edits deleted : Bool) (limit : ℕ) (J : List Edit) (do
 refused_batch new_edits deleted limit J docs n replies t e r =
     rw (t, r, length-replicate {A = Outcome Revision} n (outcome.Refused fault.Deleted), e, take-length docs) (all_refused (stores_doc new_edits limit) J docs)
 
-set_back : {A : Type 0} (xs : List A) (k : ℕ) (x : A) → slice_get xs k ≡ Some x → slice_set xs k x ≡ xs
-set_back [] k x e = refl
-set_back (y ∷ xs) zero x e = ap (λ z. z ∷ xs) (sym (same_Some y x e))
-set_back (y ∷ xs) (suc k) x e = ap (λ zs. y ∷ zs) (set_back xs k x e)
-
 -- the feed of this number stands here
 module _ (id : ℕ) (feeds : List (ℕ × Feed)) (at : ℕ) (placed : Some at ≡ position (λ (p : ℕ × Feed). nat_eq p.0 id) feeds) (p : ℕ × Feed) (is : p ≡ get_or feeds at p) where
   pub feed_here : entry_in id feeds ≡ Some p.1
@@ -274,6 +266,12 @@ module _ (id : ℕ) (feeds : List (ℕ × Feed)) (at : ℕ) (placed : Some at �
   behind_here show rows len new rising DueNothing next e h = rw e (changed_here (λ f. after_nothing f len) new rising h)
   behind_here show rows len new rising DueGone next e h = rw e (stays_here new h)
 
+-- no feed has a number that lies above all of theirs
+pub none_above : (next : ℕ) (feeds : List (ℕ × Feed)) → All (λ (p : ℕ × Feed). p.0 < next) feeds → entry_in next feeds ≡ None
+none_above next [] all = refl
+none_above next (p ∷ feeds) all =
+    rw (ne_eqb p.0 next (λ e. omega (arith, all 0 p (omega arith), e))) (none_above next feeds (λ k d l. all (suc k) d (omega arith)))
+
 -- there is no feed of this number
 module _ (id : ℕ) (feeds : List (ℕ × Feed)) (none : position (λ (p : ℕ × Feed). nat_eq p.0 id) feeds ≡ None) where
   pub no_feed : entry_in id feeds ≡ None
@@ -287,10 +285,6 @@ pub both_ok : {T E : Type 0} {P Q R : T → Type 0} (r : Result T E) → ((x : T
 both_ok (Ok x) f p q = f x p q
 both_ok (Err e) f p q = tt
 
-pub more_err : {T E P Q : Type 0} (r : Result T E) → (P → Q) → OnErr r P → OnErr r Q
-more_err (Ok x) f p = tt
-more_err (Err e) f p = f p
-
 -- what holds in either case
 pub ok_or_err : {T E P W : Type 0} {Q : T → Type 0} (r : Result T E) → ((x : T) → Q x → P) → (W → P) → IfOk r Q → OnErr r W → P
 ok_or_err (Ok x) f g q w = f x q
@@ -303,9 +297,9 @@ item_given show rows DueNothing item e = absurd (cc)
 item_given show rows DueGone item e = absurd (cc)
 
 -- what a feed gives is due to it, and may be accepted
-pub gives_due : (db : Database) (id : ℕ) (item : Item ChangeRow) → Give item ≡ answered db id → item_due db id ≡ Some item
+pub gives_due : (db : Database) (id : ℕ) (item : Item ChangeRow) → Give item ≡ answered (hosted_of db) id → item_due (hosted_of db) id ≡ Some item
 gives_due db id item e = from (entry_in id db.feeds) e
   where
-    from : (o : Option Feed) → Give item ≡ answer_of db.journal o → option_and_then (change_due db.journal) o ≡ Some item
+    from : (o : Option Feed) → Give item ≡ answer_of (hosted_of db) o → option_and_then (change_due db.journal) o ≡ Some item
     from None e = absurd (cc)
     from (Some f) e = item_given (row_of db.journal f.params.style f.params.include_docs) (current db.journal) (due (current db.journal) f) item e

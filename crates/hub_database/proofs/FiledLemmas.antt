@@ -142,6 +142,25 @@ module _ (limit : ℕ) (numbers : List ℕ → Option ℕ) (documents : List Fil
         from (inl s) = subst (λ (z : Filed). 1 ≤ length z.edits) (same_Some changed d (sym at ∙ subst (λ i. slice_get documents' i ≡ Some d) s g)) (omega (arith, longer))
         from (inr n) = st.some j d (sym (other j n) ∙ g)
 
+    -- each edit is of the document whose id is left out
+    one_of : edits_of edits [] ≡ edits
+    one_of = ⊎_elim (λ w. subst (λ es. edits_of es [] ≡ es) w.1.2 (st.one k w.1.0 w.1.1)) (λ w. rw w.2 refl) was
+
+    one' : e.id ≡ [] → (j : ℕ) (d : Filed) → slice_get documents' j ≡ Some d → edits_of d.edits [] ≡ d.edits
+    one' nameless j d g = from (same_number j k)
+      where
+        whole : edits_of (edits ++ e ∷ []) [] ≡ edits ++ e ∷ []
+        whole =
+            filter-append (λ (f : Edit). bytes_eq f.id []) edits (e ∷ [])
+            ∙ (ap (λ b. edits_of edits [] ++ (if b then (e ∷ []) else [])) (text_same e.id [] nameless)
+            ∙ ap (λ es. es ++ e ∷ []) one_of)
+
+        from : (j ≡ k) ⊎ (j ≢ k) → edits_of d.edits [] ≡ d.edits
+        from (inl s) =
+            let now : slice_get documents' k ≡ Some d = subst (λ i. slice_get documents' i ≡ Some d) s g in
+            subst (λ (z : Filed). edits_of z.edits [] ≡ z.edits) (same_Some changed d (sym at ∙ now)) whole
+        from (inr n) = st.one j d (sym (other j n) ∙ g)
+
     -- the documents are as many as the current rows
     as_many : (length documents' ≤ length entries + 1) × (length documents' ≡ length (current (journal_of documents entries ++ named id e ∷ [])))
     as_many = ⊎_elim (λ w. there w.1.0 w.1.1) (λ w. absent w.0 w.1) was
@@ -161,8 +180,8 @@ module _ (limit : ℕ) (numbers : List ℕ → Option ℕ) (documents : List Fil
             (omega (arith, more g, st.fewer), omega (arith, more g, st.each, rows, ap one_if new))
 
     -- what holds of the documents goes on to hold
-    pub filed_more : IsFiled limit numbers' documents' (entries ++ entry ∷ [])
-    filed_more = record {
+    pub filed_more : e.id ≡ [] → IsFiled limit numbers' documents' (entries ++ entry ∷ [])
+    filed_more nameless = record {
       found = found';
       own = own';
       kept = kept';
@@ -171,6 +190,7 @@ module _ (limit : ℕ) (numbers : List ℕ → Option ℕ) (documents : List Fil
       legal = subst IsLegal (sym journal_is) (legal_more (journal_of documents entries) (named id e) st.legal ok);
       count = omega (arith, room, length_push entries entry);
       fewer = omega (arith, as_many.0, length_push entries entry);
+      one = one' nameless;
       some = some';
       each = as_many.1 ∙ ap (λ J. length (current J)) (sym journal_is);
     }

@@ -13,5 +13,4 @@ pub mod MissingLemmas
 pub mod InfoLemmas
 pub mod LocalLemmas
 pub mod FeedLemmas
-pub mod HostLemmas
 pub mod FallingLemmas

@@ -4,6 +4,7 @@ use Rattle.std.specs.Prelude.{Some, slice_get, slice_set, map, option_map, filte
 use Rattle.std.specs.List.{list_any}
 use Rattle.std.specs.Str.{bytes_eq}
 use Rattle.std.proofs.lemmas.Bool.{cases_Bool, eqb-true}
+use Rattle.std.proofs.lemmas.Option.{same_Some}
 use Rattle.std.proofs.lemmas.List.{map-append, reverse-append, length-reverse, get_or-reverse}
 use Rattle.std.proofs.lemmas.List.Sums.{sum_by-cons}
 use Rattle.std.proofs.lemmas.Slice.Eq.{bytes_eq-Decides}
@@ -30,6 +31,12 @@ module _ {A : Type 0} where
   get_set_other (x ∷ xs) zero v (suc j) n = refl
   get_set_other (x ∷ xs) (suc k) v zero n = refl
   get_set_other (x ∷ xs) (suc k) v (suc j) n = get_set_other xs k v j (λ e. n (ap suc e))
+
+  -- a list in which an element is written over by itself
+  pub set_back : (xs : List A) (k : ℕ) (x : A) → slice_get xs k ≡ Some x → slice_set xs k x ≡ xs
+  set_back [] k x e = refl
+  set_back (y ∷ xs) zero x e = ap (λ z. z ∷ xs) (sym (same_Some y x e))
+  set_back (y ∷ xs) (suc k) x e = ap (λ zs. y ∷ zs) (set_back xs k x e)
 
   pub count_filter : (P : A → Bool) (xs : List A) → length (filter P xs) ≤ length xs
   count_filter P [] = omega arith

@@ -20,7 +20,6 @@ use Rattle.hub_revtree.specs.Tree.{IsRevTree, nameless}
 use Rattle.hub_revtree.specs.Winner.{winner_of}
 use Rattle.hub_database.specs.declared.document.Document.{Document}
 use Rattle.hub_database.specs.declared.answers.Lookup.TheVariants as looked
-use Rattle.hub_database.specs.declared.answers.OpenRev.TheVariants as opened_as
 use Rattle.hub_database.specs.declared.entry.Entry.{Entry}
 use Rattle.hub_database.specs.Filed.{Filed, named, journal_of, IsFiled}
 use Rattle.hub_database.specs.Store.{filed, files}
@@ -163,8 +162,8 @@ module _ (J : List Edit) (id : List ℕ) (legal : IsLegal J) where
 
 -- a document that a number names, in a database whose ids have these numbers
 pub document_found : (limit : ℕ) (numbers : List ℕ → Option ℕ) (documents : List Document) (entries : List Entry) → IsFiled limit numbers (files documents) entries → (id : List ℕ) (k : ℕ) → numbers id ≡ Some k
-    → (d : Document) → d ≡ get_or documents k d → edits_of d.tree.edits [] ≡ d.tree.edits → IsFound (journal_of (files documents) entries) id d
-document_found limit numbers documents entries st id k there d is one =
+    → (d : Document) → d ≡ get_or documents k d → IsFound (journal_of (files documents) entries) id d
+document_found limit numbers documents entries st id k there d is =
     let low = number_below limit numbers documents entries st id k there in
     let at : slice_get (files documents) k ≡ Some (filed d) = slice_get-map filed documents k ∙ ap (option_map filed) (get_at documents k d low is) in
     let own = st.found id k there in
@@ -174,7 +173,7 @@ document_found limit numbers documents entries st id k there d is one =
     record {
       same = named_so;
       kept = subst (λ i. edits_of (journal_of (files documents) entries) i ≡ map (named i) d.tree.edits) named_so kept;
-      one = one;
+      one = st.one k (filed d) at;
     }
 
 -- each of the revisions that are asked for
@@ -195,16 +194,6 @@ module _ (J : List Edit) (id : List ℕ) (d : Document) (f : IsFound J id d) (re
 module _ (J : List Edit) (id : List ℕ) (none : edits_of J id ≡ []) where
   pub no_leaves : leaves_of J id ≡ []
   no_leaves = ap (λ es. best_first (leaves_among es es)) none
-
-  pub no_winner : None ≡ winner_of (leaves_of J id)
-  no_winner = sym (ap winner_of no_leaves)
-
-  pub none_open : (revs : Bool) → [] ≡ open_revs J id All revs
-  none_open revs = sym (ap (λ ls. map (open_rev J id revs) (revisions_of ls)) no_leaves)
-
-  pub none_listed : (revs : Bool) (rs : List Revision) → map opened_as.Missing rs ≡ open_revs J id (Listed rs) revs
-  none_listed revs [] = refl
-  none_listed revs (r ∷ rs) = ap (λ es. open_rev_of revs r (shown_of J id r (find (is_head r) es)) ∷ map opened_as.Missing rs) (sym none) ∙ ap (λ os. open_rev J id revs r ∷ os) (none_listed revs rs)
 
 -- the members of the winner of a tree
 module _ (edits : List Edit) (tree : IsRevTree edits) (w : Winner) (is : Some w ≡ winner_of (leaves_of edits [])) where

@@ -79,7 +79,7 @@ module _ (limit : ℕ) (numbers : List ℕ → Option ℕ) (documents : List Fil
       → Leaves limit documents entries id (Ready e) numbers' documents' (entries ++ record { document = k; revision = length edits } ∷ []) (moved index k (length entries + 1))
   stores e s room numbers' documents' at other this rest stay more =
       let ok = acceptable_in (journal_of documents entries) id edits (kept_of limit numbers documents entries st id k edits was) one e st.legal s.0 s.1 in (
-        filed_more limit numbers documents entries st id k edits was e ok room numbers' documents' at other this rest stay more,
+        filed_more limit numbers documents entries st id k edits was e ok room numbers' documents' at other this rest stay more s.0,
         journal_is limit numbers documents entries st id k edits was e ok room numbers' documents' at other this rest stay more,
         indexed_more limit numbers documents entries index st ix id k edits was e ok room numbers' documents' at other this rest stay more,
       )

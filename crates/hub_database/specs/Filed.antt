@@ -40,5 +40,6 @@ pub record IsFiled (limit : ℕ) (numbers : List ℕ → Option ℕ) (documents 
   pub legal : IsLegal (journal_of documents entries)
   pub count : length entries ≤ limit
   pub fewer : length documents ≤ length entries
+  pub one : (k : ℕ) (d : Filed) → slice_get documents k ≡ Some d → edits_of d.edits [] ≡ d.edits
   pub some : (k : ℕ) (d : Filed) → slice_get documents k ≡ Some d → 1 ≤ length d.edits
   pub each : length documents ≡ length (current (journal_of documents entries))

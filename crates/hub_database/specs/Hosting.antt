@@ -17,3 +17,7 @@ hosted_of db = record {
   deleted = db.deleted;
   limit = db.limits.feeds;
 }
+
+-- the database with these feeds, and this number for the next one
+abbrev pub with_hosted : Database → Hosted ChangeRow → Database
+with_hosted db h = record db { feeds = h.feeds; next_feed = h.next_feed }

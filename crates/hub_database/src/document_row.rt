@@ -1,42 +1,63 @@
 //! A document's row.
 
-ghost use Rattle.std.specs.Prelude.{[], true, ◌≡◌, take, IfOk, OnOk};
-ghost use Rattle.hub_model.specs.Leaves.{leaves_of, revisions_of};
+ghost use Rattle.std.specs.Prelude.{[], true, false, ◌≡◌, option_map, unwrap_or, IfOk, OnOk};
+ghost use Rattle.std.specs.Option.{option_to_list};
+ghost use Rattle.hub_model.specs.Leaves.{leaves_of};
 ghost use Rattle.hub_model.specs.Row.{changes_of, doc_of, is_deleted};
 ghost use Rattle.hub_revtree.specs.Tree.{IsRevTree};
+ghost use Rattle.hub_revtree.specs.Winner.{winner_of};
 
 use crate::document::Document;
 use hub_document::{Body, ChangeRow, Revisions};
 use hub_model::{Style, by_style};
+use hub_revtree::Winner;
 use std::alloc::{AllocError, Global};
 
-impl Document {
-    // The winner alone.
-    fn main_change(&self, alloc: Global) -> Result<Revisions, AllocError>
-        ensures { IfOk result (λ revs. revs ≡ take 1 (revisions_of (leaves_of self.now.tree.edits []))) }
-    {
-        let mut list = Vec::new(alloc);
-        if let Some(winner) = self.tree.best() {
-            list.push(winner.rev)?;
-        }
-        Ok(Revisions::new(list))
+// The winner alone.
+fn main_change(alloc: Global, winner: Option<Winner>) -> Result<Revisions, AllocError>
+    ensures { IfOk result (λ revs. revs ≡ option_to_list (option_map (λ w. w.rev) winner)) }
+{
+    let mut list = Vec::new(alloc);
+    if let Some(winner) = winner {
+        list.push(winner.rev)?;
     }
+    Ok(Revisions::new(list))
+}
 
-    // The revisions that a row lists.
-    fn changes(&self, alloc: Global, style: Style) -> Result<Revisions, AllocError>
+// Whether the winner is deleted.
+fn mark_of(winner: Option<Winner>) -> bool
+    ensures { result ≡ unwrap_or (option_map (λ w. w.deleted) winner) false }
+{
+    match winner {
+        Some(winner) => winner.deleted,
+        None => false,
+    }
+}
+
+impl Document {
+    // The revisions that a row lists, where this is the winner.
+    fn changes(
+        &self,
+        alloc: Global,
+        style: Style,
+        winner: Option<Winner>,
+    ) -> Result<Revisions, AllocError>
+        requires winner { winner ≡ winner_of (leaves_of self.now.tree.edits []) }
         ensures { IfOk result (λ revs. revs ≡ changes_of style (leaves_of self.now.tree.edits [])) }
     {
         by_style!(style,
-            main_only: self.main_change(alloc),
+            main_only: main_change(alloc, winner),
             all_docs: self.tree.leaves(alloc),
         )
     }
 
     // The members of the winner.
-    fn members(&self, alloc: Global) -> Result<Option<Body>, AllocError>
+    fn members(&self, alloc: Global, winner: Option<Winner>) -> Result<Option<Body>, AllocError>
+        requires winner { winner ≡ winner_of (leaves_of self.now.tree.edits []) }
+        requires tree { IsRevTree self.now.tree.edits }
         ensures { IfOk result (λ body. body ≡ doc_of true (leaves_of self.now.tree.edits [])) }
     {
-        let Some(winner) = self.tree.best() else {
+        let Some(winner) = winner else {
             return Ok(None);
         };
         let Some(edit) = self.tree.headed(&winner.rev) else {
@@ -46,11 +67,18 @@ impl Document {
     }
 
     // The document that a row brings, where it is asked for.
-    fn row_doc(&self, alloc: Global, include_docs: bool) -> Result<Option<Body>, AllocError>
+    fn row_doc(
+        &self,
+        alloc: Global,
+        include_docs: bool,
+        winner: Option<Winner>,
+    ) -> Result<Option<Body>, AllocError>
+        requires winner { winner ≡ winner_of (leaves_of self.now.tree.edits []) }
+        requires tree { IsRevTree self.now.tree.edits }
         ensures { IfOk result (λ body. body ≡ doc_of include_docs (leaves_of self.now.tree.edits [])) }
     {
         if include_docs {
-            self.members(alloc)
+            self.members(alloc, winner)
         } else {
             Ok(None)
         }
@@ -70,12 +98,13 @@ impl Document {
         ensures row { let leaves = leaves_of self.now.tree.edits [] in IfOk result (λ row. row ≡ record { seq = seq; id = self.now.id; changes = changes_of style leaves; deleted = is_deleted leaves; doc = doc_of include_docs leaves; seen = seen }) }
         ensures tree { OnOk result (IsRevTree self.now.tree.edits) }
     {
+        let winner = self.tree.best();
         Ok(ChangeRow {
             seq,
             id: self.id.copy(alloc)?,
-            changes: self.changes(alloc, style)?,
-            deleted: self.is_deleted(),
-            doc: self.row_doc(alloc, include_docs)?,
+            changes: self.changes(alloc, style, winner)?,
+            deleted: mark_of(winner),
+            doc: self.row_doc(alloc, include_docs, winner)?,
             seen,
         })
     }

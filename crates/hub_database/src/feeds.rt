@@ -1,9 +1,12 @@
 //! The feeds of a database.
 
 ghost use Rattle.std.specs.Prelude.{◌≡◌, ◌⊎◌, Some, None, Err, nat_eq, map, position, IfOk, IfErr, OnErr};
+ghost use Rattle.hub_model.specs.Entries.{entry_in};
+ghost use Rattle.hub_feed.specs.Host.{is_full, refuses, opened, is_beat_due, expired, item_due, answered, behind_answer, handed, finished, due_to};
 ghost use Rattle.hub_feed.specs.Next.{IsRowDue};
 ghost use Rattle.hub_params.specs.FeedModel.{params_of};
-ghost use Rattle.hub_database.specs.Feeds.{is_full, refuses_feed, opened, entry_in, is_beat_due, expired, ended, item_due, answered, behind_answer, handed, finished, due_to};
+ghost use Rattle.hub_database.specs.Feeds.{ended};
+ghost use Rattle.hub_database.specs.Hosting.{hosted_of, with_hosted};
 
 use crate::database::DbState;
 use crate::rows::Rows;
@@ -33,7 +36,7 @@ impl DbState {
     /// Whether there are as many feeds as there may be, or no number is left for one more. Constant
     /// time.
     pub fn feeds_are_full(&self) -> bool
-        ensures { result ≡ is_full self.now }
+        ensures { result ≡ is_full (hosted_of self.now) }
     {
         self.feeds.len() as u64 >= self.store.limits.feeds || self.next_feed == u64::MAX
     }
@@ -41,10 +44,10 @@ impl DbState {
     /// Opens a feed, which stays until it is finished. `descending` is not looked at. It costs a
     /// search among the feeds.
     pub fn open_feed(&mut self, params: FeedParams) -> Result<FeedId, OpenFault>
-        ensures ok { IfOk result (λ id. (id.number ≡ self.old.next_feed) × (refuses_feed self.old ≡ None) × (self.new ≡ opened self.old (params_of params))) }
+        ensures ok { IfOk result (λ id. (id.number ≡ self.old.next_feed) × (refuses (hosted_of self.old) ≡ None) × (self.new ≡ with_hosted self.old (opened (hosted_of self.old) (params_of params)))) }
         ensures new { IfOk result (λ id. entry_in id.number self.old.feeds ≡ None) }
-        ensures err { IfErr result (λ e. (self.new ≡ self.old) × ((e ≡ OpenFault.NoMemory) ⊎ (refuses_feed self.old ≡ Some e))) }
-        ensures memory { result ≡ Err OpenFault.NoMemory → refuses_feed self.old ≡ None }
+        ensures err { IfErr result (λ e. (self.new ≡ self.old) × ((e ≡ OpenFault.NoMemory) ⊎ (refuses (hosted_of self.old) ≡ Some e))) }
+        ensures memory { result ≡ Err OpenFault.NoMemory → refuses (hosted_of self.old) ≡ None }
     {
         if self.deleted {
             return Err(OpenFault::Deleted);
@@ -67,8 +70,8 @@ impl DbState {
     /// feed that has nothing to hand goes to the journal's length. It costs a search among the feeds
     /// and what `FeedState::next_item` does.
     pub fn next_item(&mut self, feed: FeedId) -> Result<Next<ChangeRow>, AllocError>
-        ensures ok { IfOk result (λ next. (next ≡ answered self.old feed.number) × (self.new ≡ behind_answer self.old feed.number next)) }
-        ensures err { OnErr result ((self.new ≡ self.old) × IsRowDue (due_to self.old feed.number)) }
+        ensures ok { IfOk result (λ next. (next ≡ answered (hosted_of self.old) feed.number) × (self.new ≡ with_hosted self.old (behind_answer (hosted_of self.old) feed.number next))) }
+        ensures err { OnErr result ((self.new ≡ self.old) × IsRowDue (due_to (hosted_of self.old) feed.number)) }
     {
         let Some(at) = place_of(self.feeds.as_slice(), feed.number) else {
             return Ok(Next::Gone);
@@ -81,8 +84,8 @@ impl DbState {
     /// Goes on behind the item that `next_item` gives now. It takes no memory, and costs a search
     /// among the feeds.
     pub fn accept_item(&mut self, feed: FeedId, item: &Item<ChangeRow>)
-        requires due { item_due self.old feed.number ≡ Some item.now }
-        ensures { self.new ≡ handed self.old feed.number }
+        requires due { item_due (hosted_of self.old) feed.number ≡ Some item.now }
+        ensures { self.new ≡ with_hosted self.old (handed (hosted_of self.old) feed.number) }
     {
         let Some(at) = place_of(self.feeds.as_slice(), feed.number) else {
             return;
@@ -107,7 +110,7 @@ impl DbState {
     /// A feed's time without an item is over: an open feed that waits is ending. It takes no memory,
     /// and costs a search among the feeds.
     pub fn expire(&mut self, feed: FeedId)
-        ensures { self.new ≡ expired self.old feed.number }
+        ensures { self.new ≡ with_hosted self.old (expired (hosted_of self.old) feed.number) }
     {
         let Some(at) = place_of(self.feeds.as_slice(), feed.number) else {
             return;
@@ -119,7 +122,7 @@ impl DbState {
     /// Forgets a feed, if there is one of this number. It takes no memory, and costs a search among
     /// the feeds.
     pub fn finish(&mut self, feed: FeedId)
-        ensures { self.new ≡ finished self.old feed.number }
+        ensures { self.new ≡ with_hosted self.old (finished (hosted_of self.old) feed.number) }
     {
         let number = feed.number;
         self.feeds.retain(|kept| kept.0 != number);

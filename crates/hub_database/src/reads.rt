@@ -26,7 +26,6 @@ impl Store {
     {
         let number = self.numbers.get(id).copied()?;
         let document = &self.documents[number as usize];
-        document.tree.one();
         Some(document)
     }
 }

@@ -1,8 +1,8 @@
 -- What keeps feeds, as its callers see it (own; feeds by CouchDB API reference, _changes and _db_updates).
-use Rattle.std.specs.Prelude.{ℕ, ◌+◌, ◌-◌, ◌^◌, List, [], ◌∷◌, ◌++◌, length, Bool, false, ◌||◌, Option, Some, None, nat_le, unwrap_or, if◌then◌else◌}
+use Rattle.std.specs.Prelude.{ℕ, ◌+◌, ◌-◌, ◌^◌, List, [], ◌∷◌, ◌++◌, length, Bool, false, ◌||◌, Option, Some, None, nat_le, unwrap_or, option_and_then, if◌then◌else◌}
 use Rattle.hub_model.specs.Current.{Current}
 use Rattle.hub_model.specs.Entries.{entry_in, changed, without}
-use Rattle.hub_model.specs.Feed.{Feed, Params, Due, DueRow, DueEnd, DueNothing, DueGone, begin, due, after_due, after_nothing, beat_due, expire}
+use Rattle.hub_model.specs.Feed.{Feed, Params, Due, DueGone, begin, due, after_due, after_nothing, beat_due, expire}
 use Rattle.hub_model.specs.Hand.{item_of}
 use Rattle.hub_model.specs.declared.feeds.Item.{Item}
 use Rattle.hub_model.specs.declared.feeds.Style.{Style}
@@ -10,7 +10,7 @@ use Rattle.hub_feed.specs.Next.{next_of}
 use Rattle.hub_feed.specs.declared.host.OpenFault.{OpenFault}
 use Rattle.hub_feed.specs.declared.host.OpenFault.TheVariants.{NoMemory, Deleted, TooManyFeeds}
 use Rattle.hub_feed.specs.declared.next.Next.{Next}
-use Rattle.hub_feed.specs.declared.next.Next.TheVariants.{Gone}
+use Rattle.hub_feed.specs.declared.next.Next.TheVariants.{Give, Nothing, Gone}
 
 -- what the feeds follow, and the feeds
 pub record Hosted (R : Type 0) : Type 0 where
@@ -57,25 +57,20 @@ answer_of h (Some f) = next_of (h.shown f.params.style f.params.include_docs) h.
 abbrev pub answered : {R : Type 0} → Hosted R → ℕ → Next R
 answered h id = answer_of h (entry_in id h.feeds)
 
--- the item that a feed has to hand, if there is one
-abbrev pub item_for : {R : Type 0} → Hosted R → Option Feed → Option (Item R)
-item_for h None = None
-item_for h (Some f) = item_of (h.shown f.params.style f.params.include_docs) h.current (due h.current f)
-
 -- the item that is due to the feed of this number, if there is one
 abbrev pub item_due : {R : Type 0} → Hosted R → ℕ → Option (Item R)
-item_due h id = item_for h (entry_in id h.feeds)
+item_due h id =
+    option_and_then (λ f. item_of (h.shown f.params.style f.params.include_docs) h.current (due h.current f)) (entry_in id h.feeds)
 
--- the feeds once that of this number answered what was due: only where nothing was due it moves, to the length
-abbrev pub feeds_behind : ℕ → ℕ → Due → List (ℕ × Feed) → List (ℕ × Feed)
-feeds_behind id len (DueRow c) feeds = feeds
-feeds_behind id len (DueEnd last_seq) feeds = feeds
-feeds_behind id len DueNothing feeds = changed id (λ f. after_nothing f len) feeds
-feeds_behind id len DueGone feeds = feeds
+-- the feeds once that of this number answered so: only where it had nothing to hand it moves, to the length
+abbrev pub feeds_behind : {R : Type 0} → ℕ → ℕ → Next R → List (ℕ × Feed) → List (ℕ × Feed)
+feeds_behind id len (Give item) feeds = feeds
+feeds_behind id len Nothing feeds = changed id (λ f. after_nothing f len) feeds
+feeds_behind id len Gone feeds = feeds
 
--- once the feed of this number answered
-abbrev pub behind_answer : {R : Type 0} → Hosted R → ℕ → Hosted R
-behind_answer h id = record h { feeds = feeds_behind id h.length (due_to h id) h.feeds }
+-- once the feed of this number answered so
+abbrev pub behind_answer : {R : Type 0} → Hosted R → ℕ → Next R → Hosted R
+behind_answer h id next = record h { feeds = feeds_behind id h.length next h.feeds }
 
 -- once the feed of this number handed the item that was due to it
 abbrev pub handed : {R : Type 0} → Hosted R → ℕ → Hosted R

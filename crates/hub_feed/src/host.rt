@@ -52,7 +52,7 @@ pub trait FeedHost {
     /// feed that has nothing to hand goes to the length of what it follows. Only a row takes memory.
     fn next_item(&mut self, feed: FeedId) -> Result<Next<Self::Row>, AllocError>
         ensures ok { IfOk result (λ next. next ≡ answered (hosted self.old) feed.number) }
-        ensures new { OnOk result (hosted self.new ≡ behind_answer (hosted self.old) feed.number) }
+        ensures new { IfOk result (λ next. hosted self.new ≡ behind_answer (hosted self.old) feed.number next) }
         ensures err { OnErr result ((self.new ≡ self.old) × IsRowDue (due_to (hosted self.old) feed.number)) };
 
     /// Goes on behind the item that `next_item` gives now. It takes no memory.

@@ -1,5 +1,5 @@
 -- The edit that a revision heads, among the branches and among the edits that they are.
-use Rattle.std.proofs.Common.{◌≡◌, List, [], ◌∷◌, inl, inr, refl, ap, ◌∙◌, sym, subst}
+use Rattle.std.proofs.Common.{◌≡◌, List, [], ◌∷◌, inl, inr, refl, ap, ◌∙◌, sym}
 use Rattle.std.specs.Prelude.{find, option_map}
 use Rattle.std.proofs.lemmas.Bool.{cases_Bool}
 use Rattle.hub_model.specs.Revision.{Revision}
@@ -20,7 +20,3 @@ among (b ∷ bs) r = elim (cases_Bool (is_first r b.path)) [
 -- the edit that is found is the branch that is found
 pub headed_by : (bs : List Branch) (es : List Edit) (r : Revision) → edits_in bs ≡ es → option_map edit_of (find (λ b. is_first r b.path) bs) ≡ find (is_head r) (edits_of es [])
 headed_by bs es r same = among bs r ∙ (sym (ap (find (is_head r)) (all_of_one bs)) ∙ ap (λ fs. find (is_head r) (edits_of fs [])) same)
-
--- each is of the document whose id is left out
-pub all_nameless : (bs : List Branch) (es : List Edit) → edits_in bs ≡ es → edits_of es [] ≡ es
-all_nameless bs es same = subst (λ fs. edits_of fs [] ≡ fs) same (all_of_one bs)

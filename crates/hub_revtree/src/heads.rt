@@ -59,11 +59,4 @@ impl RevTree {
     {
         head(self.branches(), rev)
     }
-
-    /// Each edit is of the document whose id is left out. It does nothing.
-    pub fn one(&self)
-        ensures { edits_of self.now.edits [] ≡ self.now.edits }
-    {
-        let _branches = self.branches();
-    }
 }

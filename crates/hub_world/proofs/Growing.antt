@@ -2,10 +2,11 @@
 use Rattle.std.proofs.Common.{◌≡◌, ◌∙◌, ℕ, ◌<◌, List, length, true, false, refl, sym, ap, subst}
 use Rattle.std.specs.Prelude.{Option, Some, None}
 use Rattle.std.proofs.lemmas.Option.{none-some}
+use Rattle.hub_feed.specs.Host as feeds
 use Rattle.hub_feed.specs.Next.{IsRowDue}
 use Rattle.hub_feed.specs.declared.host.OpenFault.TheVariants.{TooManyFeeds}
 use Rattle.hub_database.specs.Database.{Database}
-use Rattle.hub_database.specs.Feeds as feeds
+use Rattle.hub_database.specs.Hosting.{hosted_of}
 use Rattle.hub_model.specs.Current.{Current, current}
 use Rattle.hub_model.specs.Entries.{entry_in}
 use Rattle.hub_model.specs.Feed.{Feed, Params, Due, DueRow, DueEnd, DueNothing, DueGone}
@@ -13,15 +14,14 @@ use Rattle.hub_model.specs.Hand.{due_in, item_of}
 use Rattle.hub_model.specs.Journal.{Edit}
 use Rattle.hub_model.specs.RightlyHanded.{ChangeItem}
 use Rattle.hub_model.specs.Row.{ChangeRow, row_of}
-use Rattle.hub_model.specs.declared.feeds.Item.{Item}
 use Rattle.hub_model.specs.declared.feeds.Item.TheVariants.{Beat}
 use Rattle.hub_world.specs.Core.{Core, Shows}
-use Rattle.hub_world.specs.Event.{Begin, Hand, Heartbeat, Opened, Pushed}
+use Rattle.hub_world.specs.Event.{Begin, Hand, Heartbeat, Pushed}
 use Rattle.hub_world.specs.Growth.{IsMade, NeedsMemory, MayFail}
 use Rattle.hub_world.specs.declared.event.Event as program
 use Rattle.hub_world.specs.Lane.{has_room}
 use Rattle.hub_world.specs.Step.{Step}
-use Rattle.hub_world.specs.World.{World, Subscription, subscription, lane_of}
+use Rattle.hub_world.specs.World.{World}
 use Rattle.hub_world.proofs.Standing.{feed_found}
 use Rattle.hub_world.proofs.Stepping.{begin_leads, hand_pushed, beat_pushed}
 
@@ -40,10 +40,10 @@ item_made limit lane show rows item DueNothing is room = absurd (none-some item 
 item_made limit lane show rows item DueGone is room = absurd (none-some item is)
 
 -- a row is due
-pub row_grows : (c : Core) (f : ℕ) → IsRowDue (feeds.due_to c.db f) → (w : World) → Shows c w → NeedsMemory w (Hand f)
+pub row_grows : (c : Core) (f : ℕ) → IsRowDue (feeds.due_to (hosted_of c.db) f) → (w : World) → Shows c w → NeedsMemory w (Hand f)
 row_grows c f due w h = from (entry_in f c.db.feeds) refl due
   where
-    from : (o : Option Feed) → entry_in f c.db.feeds ≡ o → IsRowDue (feeds.due_of c.db.journal o) → NeedsMemory w (Hand f)
+    from : (o : Option Feed) → entry_in f c.db.feeds ≡ o → IsRowDue (feeds.due_of (current c.db.journal) o) → NeedsMemory w (Hand f)
     from None is due = absurd due
     from (Some feed) is due =
         let s = feed_found c w f feed h is in
@@ -51,7 +51,7 @@ row_grows c f due w h = from (entry_in f c.db.feeds) refl due
         rw s.1 (row_made w.limits.lane s.0.lane (due_in w.journal s.0.feed) (subst IsRowDue (sym same) due))
 
 -- an item is due, and its lane has room
-pub item_grows : (c : Core) (f : ℕ) (item : ChangeItem) → feeds.item_due c.db f ≡ Some item → has_room c.db.limits.lane f c.lanes ≡ true → (w : World) → Shows c w → NeedsMemory w (Hand f)
+pub item_grows : (c : Core) (f : ℕ) (item : ChangeItem) → feeds.item_due (hosted_of c.db) f ≡ Some item → has_room c.db.limits.lane f c.lanes ≡ true → (w : World) → Shows c w → NeedsMemory w (Hand f)
 item_grows c f item due room w h = from (hand_pushed c f item due room w h).1
   where
     from : {new : World} → Step w (Hand f) (Pushed item) new → NeedsMemory w (Hand f)
@@ -65,15 +65,15 @@ beat_grows c f due room w h = from (beat_pushed c f due room w h).1
     from m = rw m.1 (m.2, m.4.0)
 
 -- a feed is opened
-pub begin_grows : (c : Core) (params : Params) → feeds.refuses_feed c.db ≡ None → (w : World) → Shows c w → NeedsMemory w (Begin params)
+pub begin_grows : (c : Core) (params : Params) → feeds.refuses (hosted_of c.db) ≡ None → (w : World) → Shows c w → NeedsMemory w (Begin params)
 begin_grows c params free w h = let m = (begin_leads c params free w h).1 in (m.0, m.1)
 
 -- as where the database is neither deleted nor full
-pub unrefused : (db : Database) → db.deleted ≡ false → feeds.is_full db ≡ false → feeds.refuses_feed db ≡ None
+pub unrefused : (db : Database) → db.deleted ≡ false → feeds.is_full (hosted_of db) ≡ false → feeds.refuses (hosted_of db) ≡ None
 unrefused db stands room = rw (stands, room) refl
 
 -- why no feed is opened, where as many are there as may be
-pub refused_full : (db : Database) → db.deleted ≡ false → feeds.is_full db ≡ true → feeds.refuses_feed db ≡ Some TooManyFeeds
+pub refused_full : (db : Database) → db.deleted ≡ false → feeds.is_full (hosted_of db) ≡ true → feeds.refuses (hosted_of db) ≡ Some TooManyFeeds
 refused_full db stands full = rw (stands, full) refl
 
 -- the same of the core of a program's world, as it is seen

@@ -8,6 +8,7 @@ use Rattle.std.proofs.lemmas.Option.{none-some, same_Some}
 use Rattle.hub_model.proofs.Shown.{find_is}
 use Rattle.hub_model.specs.RightlyHanded.{ChangeItem}
 use Rattle.hub_database.proofs.FeedLemmas.{place_found, place_none}
+use Rattle.hub_database.proofs.ListLemmas.{set_back}
 use Rattle.hub_model.specs.Entries.{is_of, entry_in, changed, without}
 use Rattle.hub_world.specs.Lane.{Lanes, has_room, pushed_into}
 
@@ -75,12 +76,6 @@ module _ {A : Type 0} (number : ℕ) where
       before (r ∷ entries) zero there all = subst (λ (z : ℕ × A). q.0 < z.0) (same_Some r p there) (all 0 r (omega arith))
       before (r ∷ entries) (suc at) there all = before entries at there (λ k d l. all (suc k) d (omega arith))
 
--- an entry put where it stands
-put_back : {A : Type 0} (xs : List A) (k : ℕ) (x : A) → slice_get xs k ≡ Some x → slice_set xs k x ≡ xs
-put_back [] k x there = refl
-put_back (y ∷ xs) zero x there = ap (λ z. z ∷ xs) (sym (same_Some y x there))
-put_back (y ∷ xs) (suc k) x there = ap (λ zs. y ∷ zs) (put_back xs k x there)
-
 -- the entry of this number stands here
 module _ {A : Type 0} (number : ℕ) (entries : List (ℕ × A)) (at : ℕ) (placed : Some at ≡ position (is_of number) entries) (p : ℕ × A) (is : p ≡ get_or entries at p) where
   there : slice_get entries at ≡ Some p
@@ -98,7 +93,7 @@ module _ {A : Type 0} (number : ℕ) (entries : List (ℕ × A)) (at : ℕ) (pla
 
   -- or stays
   pub stays_here : slice_set entries at p ≡ entries
-  stays_here = put_back entries at p there
+  stays_here = set_back entries at p there
 
   -- or goes
   pub without_here : Rise entries → remove entries at ≡ without number entries

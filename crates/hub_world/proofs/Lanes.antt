@@ -1,5 +1,5 @@
 -- A list goes on fitting its feed, and what is taken is what was handed, in order.
-use Rattle.std.proofs.Common.{◌≡◌, ℕ, List, [], ◌∷◌, ◌++◌, true, false, sym, ◌∙◌, ap, subst, refl, append_assoc, inl, inr, ◌&&◌}
+use Rattle.std.proofs.Common.{◌≡◌, ℕ, List, [], ◌∷◌, ◌++◌, false, sym, ◌∙◌, ap, subst, refl, append_assoc, inl, inr, ◌&&◌}
 use Rattle.std.specs.Prelude.{Option, Some, None}
 use Rattle.std.proofs.lemmas.List.{append-nil}
 use Rattle.std.proofs.lemmas.Option.{none-some}
@@ -15,6 +15,7 @@ use Rattle.hub_world.specs.Event.{Event, Reply}
 use Rattle.hub_world.specs.Step.{Run}
 use Rattle.hub_world.specs.Handed.{handed, taken, IsPrefixOf}
 use Rattle.hub_model.proofs.Fitting.{fits_grows, fits_begin, fits_handed, fits_beat, fits_nothing, fits_expire, fits_close, fits_finish}
+use Rattle.hub_world.proofs.StandingLists.{open_stands}
 use Rattle.hub_world.proofs.Kept.{IsKept, In, step_keeps, run_keeps}
 
 -- the fitting alone
@@ -66,23 +67,17 @@ due_unfinished J s item i = from s.feed.status refl
     from Ended e = ap is_finished e
     from Finished e = absurd (none-some item (rw e at i))
 
-beat_unfinished : (st : Status) → is_open st ≡ true → is_finished st ≡ false
-beat_unfinished Open e = refl
-beat_unfinished Ending e = absurd (cc)
-beat_unfinished Ended e = absurd (cc)
-beat_unfinished Finished e = absurd (cc)
-
 expire_unfinished : (f : Feed) → is_finished (expire f).status ≡ false → is_finished f.status ≡ false
 expire_unfinished f h =
     elim (cases_Bool (is_open f.status && waits f.params.mode)) [
-      | inl t ↦ beat_unfinished f.status (and_parts _ _ t).0
+      | inl t ↦ open_stands f.status (and_parts _ _ t).0
       | inr t ↦ let h' = rw t at h in h'
     ]
 
 end_unfinished : (f : Feed) → is_finished (end f).status ≡ false → is_finished f.status ≡ false
 end_unfinished f h =
     elim (cases_Bool (is_open f.status)) [
-      | inl t ↦ beat_unfinished f.status t
+      | inl t ↦ open_stands f.status t
       | inr t ↦ let h' = rw t at h in h'
     ]
 
@@ -105,7 +100,7 @@ told_kept = record {
   beats = λ J s h t d q. record {
     fits = fits_beat J s.feed h d q.fits;
     dropped = [];
-    in_order = goes_in t s.lane q.dropped h Beat (q.none (beat_unfinished s.feed.status (and_parts _ _ d).0)) q.in_order;
+    in_order = goes_in t s.lane q.dropped h Beat (q.none (open_stands s.feed.status (and_parts _ _ d).0)) q.in_order;
     none = λ e. refl;
   };
   waits = λ J s h t d q. record { fits = fits_nothing J s.feed h d q.fits; dropped = q.dropped; in_order = q.in_order; none = q.none };

@@ -5,17 +5,19 @@ use Rattle.std.proofs.lemmas.Bool.{cases_Bool, both_ways, and_left}
 use Rattle.std.proofs.lemmas.List.{length-set, length_push, length-map}
 use Rattle.std.proofs.lemmas.List.Elements.{All-map, All-push, All-set}
 use Rattle.std.proofs.lemmas.Option.{none-some, same_Some, slice_get_within, get_or_from_slice_get}
-use Rattle.hub_database.specs.Feeds.{opened, is_full, deleted, ended as ended_entry}
-use Rattle.hub_document.specs.declared.limits.Limits as hub
+use Rattle.hub_database.proofs.ListLemmas.{set_back}
+use Rattle.hub_database.specs.Feeds.{deleted, ended as ended_entry}
+use Rattle.hub_database.specs.Hosting.{hosted_of, with_hosted}
+use Rattle.hub_feed.specs.Host.{opened, is_full}
 use Rattle.hub_model.specs.Feed.{Feed, Params, Status, Open, Ending, Ended, Finished, begin, is_open, waits, finish}
 use Rattle.hub_model.specs.Journal.{Edit}
 use Rattle.hub_model.specs.RightlyHanded.{ChangeItem}
-use Rattle.hub_world.specs.Core.{Core, Shows, IsEmptied, limits_of}
+use Rattle.hub_world.specs.Core.{Core, Shows, IsEmptied}
 use Rattle.hub_model.specs.Entries.{entry_in, changed, without}
 use Rattle.hub_world.specs.Lane.{Lanes, IsRising}
-use Rattle.hub_world.specs.World.{World, Subscription, empty, is_finished, open_feeds, has_no_room, subscription, with_subscription, lane_of, with_feed, expired, took, finished, ended}
+use Rattle.hub_world.specs.World.{World, Subscription, is_finished, open_feeds, has_no_room, subscription, with_subscription, lane_of, with_feed, expired, took, finished, ended}
 pub use Rattle.hub_world.proofs.StandingLists.{changed_same, changed_absent}
-use Rattle.hub_world.proofs.StandingLists.{set_self, shown, seen, looked, turned, left_out, without_absent, added, counted, rising, ended_stands, all_ended}
+use Rattle.hub_world.proofs.StandingLists.{shown, seen, looked, turned, left_out, without_absent, added, counted, rising, ended_stands, all_ended}
 
 -- there is no feed, or it is finished
 abbrev pub IsGone : Option Subscription → Type 0
@@ -79,7 +81,7 @@ pub journal_changed : (c : Core) (w : World) (J : List Edit) → Shows c w → S
 journal_changed c w J sh = record { limits = sh.limits; journal = refl; deleted = sh.deleted; given = sh.given; feeds = sh.feeds; lanes = sh.lanes; emptied = sh.emptied }
 
 -- room for one more
-pub room_shown : (c : Core) (w : World) → Shows c w → is_full c.db ≡ has_no_room w
+pub room_shown : (c : Core) (w : World) → Shows c w → is_full (hosted_of c.db) ≡ has_no_room w
 room_shown c w sh =
     let limit : w.limits.feeds ≡ c.db.limits.feeds = ap (λ l. l.feeds) sh.limits in
     let standing_feeds : length c.db.feeds ≡ open_feeds w = ap length (sym sh.feeds) ∙ counted (λ s. s.feed) 0 w.feeds in
@@ -87,7 +89,7 @@ room_shown c w sh =
 
 -- one feed more
 pub feed_opened : (c : Core) (w : World) (params : Params) → Shows c w
-    → Shows (record { db = opened c.db params; lanes = c.lanes ++ (c.db.next_feed, []) ∷ [] }) (with_feed w params)
+    → Shows (record { db = with_hosted c.db (opened (hosted_of c.db) params); lanes = c.lanes ++ (c.db.next_feed, []) ∷ [] }) (with_feed w params)
 feed_opened c w params sh =
     let new : Subscription = record { feed = begin params (length w.journal); lane = [] } in
     record {
@@ -154,7 +156,7 @@ gone_expires c w f sh gone = from (subscription w f) refl gone
   where
     from : (o : Option Subscription) → subscription w f ≡ o → IsGone o → expired o f w ≡ w
     from None q t = refl
-    from (Some s) q t = rw (and_left (is_open s.feed.status) (waits s.feed.params.mode) (over s.feed.status t)) (ap (λ (ss : List Subscription). record w { feeds = ss }) (set_self w.feeds f s q))
+    from (Some s) q t = rw (and_left (is_open s.feed.status) (waits s.feed.params.mode) (over s.feed.status t)) (ap (λ (ss : List Subscription). record w { feeds = ss }) (set_back w.feeds f s q))
 
 -- and the front of its lane
 pub gone_takes : (c : Core) (w : World) (f : ℕ) → Shows c w → IsGone (subscription w f) → (lane_of (subscription w f) ≡ []) × (took (subscription w f) f w ≡ w)
@@ -165,12 +167,8 @@ gone_takes c w f sh gone = from (subscription w f) refl gone
     from (Some s) q t =
         let none : s.lane ≡ [] = subst IsEmptied (get_or_from_slice_get w.feeds f s s q) (sh.emptied f s (slice_get_within w.feeds f s q)) t in
         let same : drop 1 s.lane ≡ s.lane = ap (drop 1) none ∙ sym none in
-        (none, ap (λ (lane : List ChangeItem). with_subscription w f (record s { lane = lane })) same ∙ ap (λ (ss : List Subscription). record w { feeds = ss }) (set_self w.feeds f s q))
+        (none, ap (λ (lane : List ChangeItem). with_subscription w f (record s { lane = lane })) same ∙ ap (λ (ss : List Subscription). record w { feeds = ss }) (set_back w.feeds f s q))
 
 -- numbers rise
 pub lanes_rise : (c : Core) (w : World) → Shows c w → IsRising c.lanes
 lanes_rise c w sh = subst IsRising sh.lanes (rising (λ s. s.lane) 0 w.feeds)
-
--- a new core shows an empty world
-pub empty_shown : (limits : hub.Limits) → Shows (record { db = record { journal = []; deleted = false; locals = []; feeds = []; next_feed = 0; limits = limits }; lanes = [] }) (empty (limits_of limits))
-empty_shown limits = record { limits = refl; journal = refl; deleted = refl; given = refl; feeds = refl; lanes = refl; emptied = λ k d l. absurd (omega arith) }

@@ -37,12 +37,6 @@ without_absent {A = A} f (p ∷ xs) h =
       | inr t ↦ rw t (ap (λ (ps : List (ℕ × A)). p ∷ ps) (without_absent f xs (rw t at h)))
     ]
 
--- a list in which an element is written over by itself
-pub set_self : {A : Type 0} (xs : List A) (k : ℕ) (x : A) → slice_get xs k ≡ Some x → slice_set xs k x ≡ xs
-set_self [] k x e = absurd (none-some x e)
-set_self (y ∷ xs) zero x e = ap (λ z. z ∷ xs) (sym (same_Some y x e))
-set_self (y ∷ xs) (suc k) x e = ap (λ zs. y ∷ zs) (set_self xs k x e)
-
 -- this part of the feeds that are not finished, by their numbers from n
 abbrev pub shown : {A : Type 0} → (Subscription → A) → ℕ → List Subscription → List (ℕ × A)
 shown part n ss = map (λ p. (p.0, part p.1)) (standing_from n ss)
@@ -150,7 +144,7 @@ module _ {A : Type 0} (part : Subscription → A) where
       from false r = AllPairs-cons (λ (a b : ℕ × A). a.0 < b.0) (n, part s) (shown part (n + 1) ss) (all_above (n + 1) n ss (omega arith)) r
 
 -- an open feed is not finished
-open_stands : (status : Status) → is_open status ≡ true → is_finished status ≡ false
+pub open_stands : (status : Status) → is_open status ≡ true → is_finished status ≡ false
 open_stands Open t = refl
 open_stands Ending t = refl
 open_stands Ended t = refl

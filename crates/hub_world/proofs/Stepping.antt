@@ -17,19 +17,21 @@ use Rattle.hub_model.specs.declared.outcomes.Outcome.{Outcome}
 use Rattle.hub_model.specs.declared.outcomes.Outcome.TheVariants as outcome
 use Rattle.hub_model.specs.declared.outcomes.Fault.TheVariants as fault
 use Rattle.hub_document.specs.declared.doc.Doc.{Doc}
+use Rattle.hub_feed.specs.Host as feeds
 use Rattle.hub_feed.specs.Next.{next_of}
 use Rattle.hub_feed.specs.declared.next.Next.{Next}
 use Rattle.hub_feed.specs.declared.next.Next.TheVariants as next
 use Rattle.hub_feed.specs.declared.host.OpenFault.TheVariants as open_fault
 use Rattle.hub_database.specs.Edits.{edit_of, draft_of, writes}
-use Rattle.hub_database.specs.Feeds as feeds
+use Rattle.hub_database.specs.Feeds.{deleted}
+use Rattle.hub_database.specs.Hosting.{hosted_of, with_hosted}
 use Rattle.hub_world.specs.Core.{Core, Shows}
 use Rattle.hub_model.specs.Entries.{entry_in, changed, without}
-use Rattle.hub_world.specs.Event.{Event, Write, Interactive, Begin, Hand, Heartbeat, Expire, Take, Finish, Delete, Reply, Outcomes, Opened, TooManyFeeds, DatabaseDeleted, Pushed, Full, Nothing, Gone, Took, Left}
+use Rattle.hub_world.specs.Event.{Event, Write, Interactive, Begin, Hand, Heartbeat, Expire, Take, Finish, Delete, Reply, Outcomes, Opened, TooManyFeeds, Pushed, Full, Nothing, Gone, Took, Left}
 use Rattle.hub_world.specs.Lane.{has_room, takes_more, front, without_front, held}
 use Rattle.hub_world.specs.Lane as lane
 use Rattle.hub_world.specs.Step.{Step}
-use Rattle.hub_world.specs.World.{World, Limits, Subscription, subscription, with_subscription, is_finished, is_beat_due, lane_of, merged, drafted, pushed, expired, took, due_of}
+use Rattle.hub_world.specs.World.{World, Limits, Subscription, subscription, with_subscription, is_finished, feed_of, lane_of, merged, drafted, pushed, expired, took}
 use Rattle.hub_world.proofs.Standing.{IsGone, feed_found, feed_gone, entry_changed, changed_same, changed_absent, feed_finished, feed_opened, room_shown, feeds_deleted, journal_changed, gone_expires, gone_takes}
 
 -- from each world that the core shows the event leads so to one that the other shows
@@ -62,39 +64,28 @@ refused true full e = absurd (none-some _ (sym e))
 refused false true e = absurd (none-some _ (sym e))
 refused false false e = (refl, refl)
 
-pub begin_leads : (c : Core) (params : Params) → feeds.refuses_feed c.db ≡ None → Leads c (Begin params) (Opened c.db.next_feed) (record { db = feeds.opened c.db params; lanes = c.lanes ++ (c.db.next_feed, []) ∷ [] })
+pub begin_leads : (c : Core) (params : Params) → feeds.refuses (hosted_of c.db) ≡ None → Leads c (Begin params) (Opened c.db.next_feed) (record { db = with_hosted c.db (feeds.opened (hosted_of c.db) params); lanes = c.lanes ++ (c.db.next_feed, []) ∷ [] })
 begin_leads c params e w h =
-    let free = refused c.db.deleted (feeds.is_full c.db) e in
+    let free = refused c.db.deleted (feeds.is_full (hosted_of c.db)) e in
     (_, (h.deleted ∙ free.0, sym (room_shown c w h) ∙ free.1, sym h.given, refl), feed_opened c w params h)
-
-told_deleted : (deleted full : Bool) → (if deleted then Some open_fault.Deleted else if full then Some open_fault.TooManyFeeds else None) ≡ Some open_fault.Deleted → deleted ≡ true
-told_deleted true full e = refl
-told_deleted false true e = absurd (cc)
-told_deleted false false e = absurd (none-some _ e)
-
-pub begin_deleted : (c : Core) (params : Params) → feeds.refuses_feed c.db ≡ Some open_fault.Deleted → Leads c (Begin params) DatabaseDeleted c
-begin_deleted c params e w h = (w, (h.deleted ∙ told_deleted c.db.deleted (feeds.is_full c.db) e, refl), h)
 
 told_full : (deleted full : Bool) → (if deleted then Some open_fault.Deleted else if full then Some open_fault.TooManyFeeds else None) ≡ Some open_fault.TooManyFeeds → (deleted ≡ false) × (full ≡ true)
 told_full true full e = absurd (cc)
 told_full false true e = (refl, refl)
 told_full false false e = absurd (none-some _ e)
 
-pub begin_full : (c : Core) (params : Params) → feeds.refuses_feed c.db ≡ Some open_fault.TooManyFeeds → Leads c (Begin params) TooManyFeeds c
-begin_full c params e w h = let t = told_full c.db.deleted (feeds.is_full c.db) e in (w, (h.deleted ∙ t.0, sym (room_shown c w h) ∙ t.1, refl), h)
+pub begin_full : (c : Core) (params : Params) → feeds.refuses (hosted_of c.db) ≡ Some open_fault.TooManyFeeds → Leads c (Begin params) TooManyFeeds c
+begin_full c params e w h = let t = told_full c.db.deleted (feeds.is_full (hosted_of c.db)) e in (w, (h.deleted ∙ t.0, sym (room_shown c w h) ∙ t.1, refl), h)
 
-pub finish_leads : (c : Core) (f : ℕ) → Leads c (Finish f) (Left (held f c.lanes)) (record { db = feeds.finished c.db f; lanes = without f c.lanes })
+pub finish_leads : (c : Core) (f : ℕ) → Leads c (Finish f) (Left (held f c.lanes)) (record { db = with_hosted c.db (feeds.finished (hosted_of c.db) f); lanes = without f c.lanes })
 finish_leads c f w h = (_, (held_lane (entry_in f c.db.feeds) refl, refl), feed_finished c w f h)
   where
     held_lane : (o : Option Feed) → entry_in f c.db.feeds ≡ o → held f c.lanes ≡ lane_of (subscription w f)
     held_lane None e = let g = feed_gone c w f h e in ap (λ (x : Option (List ChangeItem)). unwrap_or x []) g.1 ∙ sym (gone_takes c w f h g.0).0
     held_lane (Some feed) e = let s = feed_found c w f feed h e in ap (λ (x : Option (List ChangeItem)). unwrap_or x []) s.4 ∙ ap lane_of (sym s.1)
 
-pub delete_leads : (c : Core) → c.db.deleted ≡ false → Leads c Delete Nothing (record c { db = feeds.deleted c.db })
+pub delete_leads : (c : Core) → c.db.deleted ≡ false → Leads c Delete Nothing (record c { db = deleted c.db })
 delete_leads c e w h = (_, (h.deleted ∙ e, refl), feeds_deleted c w h)
-
-pub delete_again : (c : Core) → c.db.deleted ≡ true → Leads c Delete DatabaseDeleted c
-delete_again c e w h = (w, (h.deleted ∙ e, refl), h)
 
 -- ---- what is due
 
@@ -118,7 +109,7 @@ due_feed : (J : List Edit) (o : Option Feed) (item : ChangeItem) → option_and_
 due_feed J None item e = absurd (none-some item e)
 due_feed J (Some f) item e = (f, refl, e)
 
-module _ (c : Core) (f : ℕ) (item : ChangeItem) (ready : feeds.item_due c.db f ≡ Some item) (w : World) (h : Shows c w) where
+module _ (c : Core) (f : ℕ) (item : ChangeItem) (ready : feeds.item_due (hosted_of c.db) f ≡ Some item) (w : World) (h : Shows c w) where
   found : (feed : Feed) × (entry_in f c.db.feeds ≡ Some feed) × (change_due c.db.journal feed ≡ Some item)
   found = due_feed c.db.journal (entry_in f c.db.feeds) item ready
 
@@ -134,8 +125,8 @@ module _ (c : Core) (f : ℕ) (item : ChangeItem) (ready : feeds.item_due c.db f
 lane_limit : (c : Core) (w : World) → Shows c w → w.limits.lane ≡ c.db.limits.lane
 lane_limit c w h = ap (λ (l : Limits). l.lane) h.limits
 
-pub hand_pushed : (c : Core) (f : ℕ) (item : ChangeItem) → feeds.item_due c.db f ≡ Some item → has_room c.db.limits.lane f c.lanes ≡ true
-    → Leads c (Hand f) (Pushed item) (record { db = feeds.handed c.db f; lanes = lane.pushed_into c.db.limits.lane f item c.lanes })
+pub hand_pushed : (c : Core) (f : ℕ) (item : ChangeItem) → feeds.item_due (hosted_of c.db) f ≡ Some item → has_room c.db.limits.lane f c.lanes ≡ true
+    → Leads c (Hand f) (Pushed item) (record { db = with_hosted c.db (feeds.handed (hosted_of c.db) f); lanes = lane.pushed_into c.db.limits.lane f item c.lanes })
 hand_pushed c f item ready room w h =
     let s = at c f item ready w h in
     let free = ltb-true (length s.0.lane) c.db.limits.lane (room_here c f item ready w h ∙ room) in
@@ -143,7 +134,7 @@ hand_pushed c f item ready room w h =
     (goes_on s.0.feed (due_in w.journal s.0.feed) (length w.journal) s.3) (ap (λ (J : List Edit). after_due s.0.feed (due_in J s.0.feed) (length J)) (sym h.journal)) refl in
     (_, (s.0, s.1, due_here c f item ready w h, (omega (arith, free, lane_limit c w h), refl)), rw room shown)
 
-pub hand_full : (c : Core) (f : ℕ) (item : ChangeItem) → feeds.item_due c.db f ≡ Some item → has_room c.db.limits.lane f c.lanes ≡ false → Leads c (Hand f) Full c
+pub hand_full : (c : Core) (f : ℕ) (item : ChangeItem) → feeds.item_due (hosted_of c.db) f ≡ Some item → has_room c.db.limits.lane f c.lanes ≡ false → Leads c (Hand f) Full c
 hand_full c f item ready room w h =
     let s = at c f item ready w h in
     let full = ltb-false (length s.0.lane) c.db.limits.lane (room_here c f item ready w h ∙ room) in
@@ -162,23 +153,23 @@ due_gone show rows (DueEnd last_seq) e = absurd (cc)
 due_gone show rows DueNothing e = absurd (cc)
 due_gone show rows DueGone e = refl
 
-pub hand_nothing : (c : Core) (f : ℕ) → next.Nothing ≡ feeds.answered c.db f → Leads c (Hand f) Nothing (record c { db = feeds.behind_answer c.db f next.Nothing })
+pub hand_nothing : (c : Core) (f : ℕ) → next.Nothing ≡ feeds.answered (hosted_of c.db) f → Leads c (Hand f) Nothing (record c { db = with_hosted c.db (feeds.behind_answer (hosted_of c.db) f next.Nothing) })
 hand_nothing c f e w h = from (entry_in f c.db.feeds) refl
   where
-    from : (o : Option Feed) → entry_in f c.db.feeds ≡ o → (new : World) × Step w (Hand f) Nothing new × Shows (record c { db = feeds.behind_answer c.db f next.Nothing }) new
-    from None q = absurd (nothing_gone (e ∙ ap (feeds.answer_of c.db.journal) q))
+    from : (o : Option Feed) → entry_in f c.db.feeds ≡ o → (new : World) × Step w (Hand f) Nothing new × Shows (record c { db = with_hosted c.db (feeds.behind_answer (hosted_of c.db) f next.Nothing) }) new
+    from None q = absurd (nothing_gone (e ∙ ap (feeds.answer_of (hosted_of c.db)) q))
       where
         nothing_gone : ◌≡◌ {A = Next ChangeRow} next.Nothing next.Gone → ⊥
         nothing_gone x = cc
     from (Some feed) q =
         let s = feed_found c w f feed h q in
-        let none : due_in c.db.journal feed ≡ DueNothing = due_nothing (row_of c.db.journal feed.params.style feed.params.include_docs) (current c.db.journal) (due_in c.db.journal feed) (sym (e ∙ ap (feeds.answer_of c.db.journal) q)) in
+        let none : due_in c.db.journal feed ≡ DueNothing = due_nothing (row_of c.db.journal feed.params.style feed.params.include_docs) (current c.db.journal) (due_in c.db.journal feed) (sym (e ∙ ap (feeds.answer_of (hosted_of c.db)) q)) in
         let here : due_in w.journal s.0.feed ≡ DueNothing = ap (λ (J : List Edit). due_in J s.0.feed) h.journal ∙ (ap (due_in c.db.journal) s.2 ∙ none) in
         let shown = entry_changed c w f (λ g. after_nothing g (length c.db.journal)) (λ items. items) s.0 (record s.0 { feed = after_nothing s.0.feed (length w.journal) }) h s.1 s.3 s.3 (ap (λ (J : List Edit). after_nothing s.0.feed (length J)) (sym h.journal)) refl in
-        (_, (s.0, s.1, here, refl), subst (λ ls. Shows (record { db = feeds.behind_answer c.db f next.Nothing; lanes = ls }) (with_subscription w f (record s.0 { feed = after_nothing s.0.feed (length w.journal) }))) (changed_same f c.lanes) shown)
+        (_, (s.0, s.1, here, refl), subst (λ ls. Shows (record { db = with_hosted c.db (feeds.behind_answer (hosted_of c.db) f next.Nothing); lanes = ls }) (with_subscription w f (record s.0 { feed = after_nothing s.0.feed (length w.journal) }))) (changed_same f c.lanes) shown)
 
 -- to a feed that is gone nothing is due, and no heartbeat
-gone_due : (w : World) (o : Option Subscription) → IsGone o → due_of w o ≡ DueGone
+gone_due : (w : World) (o : Option Subscription) → IsGone o → feeds.due_of (current w.journal) (feed_of o) ≡ DueGone
 gone_due w None g = refl
 gone_due w (Some s) g = from s.feed.status g
   where
@@ -188,7 +179,7 @@ gone_due w (Some s) g = from s.feed.status g
     from Ended u = absurd (cc)
     from Finished u = refl
 
-gone_still : (o : Option Subscription) → IsGone o → is_beat_due o ≡ false
+gone_still : (o : Option Subscription) → IsGone o → feeds.is_beat_due (feed_of o) ≡ false
 gone_still None g = refl
 gone_still (Some s) g = from s.feed.status refl g
   where
@@ -198,15 +189,15 @@ gone_still (Some s) g = from s.feed.status refl g
     from Ended q u = absurd (cc)
     from Finished q u = rw q refl
 
-pub hand_gone : (c : Core) (f : ℕ) → next.Gone ≡ feeds.answered c.db f → Leads c (Hand f) Gone c
+pub hand_gone : (c : Core) (f : ℕ) → next.Gone ≡ feeds.answered (hosted_of c.db) f → Leads c (Hand f) Gone c
 hand_gone c f e w h = from (entry_in f c.db.feeds) refl
   where
     from : (o : Option Feed) → entry_in f c.db.feeds ≡ o → (new : World) × Step w (Hand f) Gone new × Shows c new
     from None q = (w, (gone_due w (subscription w f) (feed_gone c w f h q).0, refl), h)
     from (Some feed) q =
         let s = feed_found c w f feed h q in
-        let gone : due_in c.db.journal feed ≡ DueGone = due_gone (row_of c.db.journal feed.params.style feed.params.include_docs) (current c.db.journal) (due_in c.db.journal feed) (sym (e ∙ ap (feeds.answer_of c.db.journal) q)) in
-        (w, (ap (due_of w) s.1 ∙ (ap (λ (J : List Edit). due_in J s.0.feed) h.journal ∙ (ap (due_in c.db.journal) s.2 ∙ gone)), refl), h)
+        let gone : due_in c.db.journal feed ≡ DueGone = due_gone (row_of c.db.journal feed.params.style feed.params.include_docs) (current c.db.journal) (due_in c.db.journal feed) (sym (e ∙ ap (feeds.answer_of (hosted_of c.db)) q)) in
+        (w, (ap (λ o. feeds.due_of (current w.journal) (feed_of o)) s.1 ∙ (ap (λ (J : List Edit). due_in J s.0.feed) h.journal ∙ (ap (due_in c.db.journal) s.2 ∙ gone)), refl), h)
 
 -- ---- heartbeats
 
@@ -237,7 +228,7 @@ beat_nothing c f e w h = from (entry_in f c.db.feeds) refl
     from None q = (w, (gone_still (subscription w f) (feed_gone c w f h q).0, refl), h)
     from (Some feed) q =
         let s = feed_found c w f feed h q in
-        (w, (ap is_beat_due s.1 ∙ (ap beat_due s.2 ∙ (ap feeds.is_beat_due (sym q) ∙ e)), refl), h)
+        (w, (ap (λ o. feeds.is_beat_due (feed_of o)) s.1 ∙ (ap beat_due s.2 ∙ (ap feeds.is_beat_due (sym q) ∙ e)), refl), h)
 
 -- ---- expiry and takes
 
@@ -248,15 +239,15 @@ expire_on f u = from (is_open f.status && waits f.params.mode)
     from true = refl
     from false = u
 
-pub expire_leads : (c : Core) (f : ℕ) → Leads c (Expire f) Nothing (record c { db = feeds.expired c.db f })
+pub expire_leads : (c : Core) (f : ℕ) → Leads c (Expire f) Nothing (record c { db = with_hosted c.db (feeds.expired (hosted_of c.db) f) })
 expire_leads c f w h = from (entry_in f c.db.feeds) refl
   where
-    from : (o : Option Feed) → entry_in f c.db.feeds ≡ o → (new : World) × Step w (Expire f) Nothing new × Shows (record c { db = feeds.expired c.db f }) new
+    from : (o : Option Feed) → entry_in f c.db.feeds ≡ o → (new : World) × Step w (Expire f) Nothing new × Shows (record c { db = with_hosted c.db (feeds.expired (hosted_of c.db) f) }) new
     from None q = (w, sym (gone_expires c w f h (feed_gone c w f h q).0), subst (λ fs. Shows (record { db = record c.db { feeds = fs }; lanes = c.lanes }) w) (sym (changed_absent f expire c.db.feeds q)) h)
     from (Some feed) q =
         let s = feed_found c w f feed h q in
         let shown = entry_changed c w f expire (λ items. items) s.0 (record s.0 { feed = expire s.0.feed }) h s.1 s.3 (expire_on s.0.feed s.3) refl refl in
-        (_, ap (λ o. expired o f w) (sym s.1), subst (λ ls. Shows (record { db = feeds.expired c.db f; lanes = ls }) (with_subscription w f (record s.0 { feed = expire s.0.feed }))) (changed_same f c.lanes) shown)
+        (_, ap (λ o. expired o f w) (sym s.1), subst (λ ls. Shows (record { db = with_hosted c.db (feeds.expired (hosted_of c.db) f); lanes = ls }) (with_subscription w f (record s.0 { feed = expire s.0.feed }))) (changed_same f c.lanes) shown)
 
 pub take_leads : (c : Core) (f : ℕ) → Leads c (Take f) (Took (front f c.lanes)) (record c { lanes = without_front f c.lanes })
 take_leads c f w h = from (entry_in f c.db.feeds) refl

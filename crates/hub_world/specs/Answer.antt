@@ -15,53 +15,53 @@ pub record Answer : Type 0 where
   pub world : World
 
 -- this reply, and this world after it
-abbrev pub answered : Reply → World → Answer
-answered reply w = record { reply = reply; world = w }
+abbrev pub answer_with : Reply → World → Answer
+answer_with reply w = record { reply = reply; world = w }
 
 -- an item is pushed where there is room, and the feed goes on so
 abbrev pub push : World → ℕ → Subscription → Feed → ChangeItem → Answer
 push w f s feed item =
     if nat_lt (length s.lane) w.limits.lane
-    then answered (Pushed item) (with_subscription w f (pushed s feed item))
-    else answered Full w
+    then answer_with (Pushed item) (with_subscription w f (pushed s feed item))
+    else answer_with Full w
 
 -- a Hand to a feed to which this is due
 abbrev pub hand_due : World → ℕ → Subscription → Due → Answer
 hand_due w f s (DueRow c) = push w f s (after_row s.feed c.seq (length w.journal)) (Row (row_of w.journal s.feed.params.style s.feed.params.include_docs c))
 hand_due w f s (DueEnd last_seq) = push w f s (after_end s.feed last_seq) (End last_seq (pending (current w.journal) last_seq))
-hand_due w f s DueNothing = answered Nothing (with_subscription w f (record s { feed = after_nothing s.feed (length w.journal) }))
-hand_due w f s DueGone = answered Gone w
+hand_due w f s DueNothing = answer_with Nothing (with_subscription w f (record s { feed = after_nothing s.feed (length w.journal) }))
+hand_due w f s DueGone = answer_with Gone w
 
 -- a Hand
 abbrev pub hand : World → ℕ → Option Subscription → Answer
-hand w f None = answered Gone w
+hand w f None = answer_with Gone w
 hand w f (Some s) = hand_due w f s (due_in w.journal s.feed)
 
 -- a Heartbeat
 abbrev pub beat : World → ℕ → Option Subscription → Answer
-beat w f None = answered Nothing w
-beat w f (Some s) = if beat_due s.feed then push w f s s.feed Beat else answered Nothing w
+beat w f None = answer_with Nothing w
+beat w f (Some s) = if beat_due s.feed then push w f s s.feed Beat else answer_with Nothing w
 
 -- a Begin
 abbrev pub opened : World → Params → Answer
 opened w params =
-    if w.deleted then answered DatabaseDeleted w
-    else if has_no_room w then answered TooManyFeeds w
-    else answered (Opened (length w.feeds)) (with_feed w params)
+    if w.deleted then answer_with DatabaseDeleted w
+    else if has_no_room w then answer_with TooManyFeeds w
+    else answer_with (Opened (length w.feeds)) (with_feed w params)
 
 -- what an event answers, and the world after it
 abbrev pub answer : World → Event → Answer
-answer w (Write edits) = answered (Outcomes (merged w edits).outcomes) (record w { journal = (merged w edits).journal })
-answer w (Interactive drafts) = answered (Outcomes (drafted w drafts).outcomes) (record w { journal = (drafted w drafts).journal })
+answer w (Write edits) = answer_with (Outcomes (merged w edits).outcomes) (record w { journal = (merged w edits).journal })
+answer w (Interactive drafts) = answer_with (Outcomes (drafted w drafts).outcomes) (record w { journal = (drafted w drafts).journal })
 answer w (Begin params) = opened w params
 answer w (Hand f) = hand w f (subscription w f)
 answer w (Heartbeat f) = beat w f (subscription w f)
-answer w (Expire f) = answered Nothing (expired (subscription w f) f w)
-answer w (Take f) = answered (Took (slice_get (lane_of (subscription w f)) 0)) (took (subscription w f) f w)
-answer w (Finish f) = answered (Left (lane_of (subscription w f))) (finished (subscription w f) f w)
+answer w (Expire f) = answer_with Nothing (expired (subscription w f) f w)
+answer w (Take f) = answer_with (Took (slice_get (lane_of (subscription w f)) 0)) (took (subscription w f) f w)
+answer w (Finish f) = answer_with (Left (lane_of (subscription w f))) (finished (subscription w f) f w)
 answer w Delete =
-    if w.deleted then answered DatabaseDeleted w
-    else answered Nothing (record w { deleted = true; feeds = map ended w.feeds })
+    if w.deleted then answer_with DatabaseDeleted w
+    else answer_with Nothing (record w { deleted = true; feeds = map ended w.feeds })
 
 -- the replies to events, one after the other
 abbrev pub replies_to : World → List Event → List Reply

@@ -1,11 +1,13 @@
 -- Which events take memory, so that they may find none (own).
 use Rattle.std.specs.Prelude.{◌≡◌, ℕ, ◌<◌, List, length, true, false, ⊤}
+use Rattle.hub_feed.specs.Host.{due_of, is_beat_due}
+use Rattle.hub_model.specs.Current.{current}
 use Rattle.hub_model.specs.Feed.{Due, DueRow, DueEnd, DueNothing, DueGone}
 use Rattle.hub_model.specs.RightlyHanded.{ChangeItem}
 use Rattle.hub_world.specs.Core.{Core, Shows}
 use Rattle.hub_world.specs.Event.{Event, Write, Interactive, Begin, Hand, Heartbeat, Expire, Take, Finish, Delete}
 use Rattle.hub_world.specs.Meant.{event_of}
-use Rattle.hub_world.specs.World.{World, has_no_room, subscription, lane_of, due_of, is_beat_due}
+use Rattle.hub_world.specs.World.{World, has_no_room, subscription, feed_of, lane_of}
 use Rattle.hub_world.specs.declared.event.Event as program
 
 -- Handing what is due takes memory: a row is made before its lane is looked at, and an End goes into a lane that has room.
@@ -21,8 +23,8 @@ abbrev pub NeedsMemory : World → Event → Type 0
 NeedsMemory w (Write edits) = 0 < length edits
 NeedsMemory w (Interactive drafts) = 0 < length drafts
 NeedsMemory w (Begin params) = (w.deleted ≡ false) × (has_no_room w ≡ false)
-NeedsMemory w (Hand f) = IsMade w.limits.lane (lane_of (subscription w f)) (due_of w (subscription w f))
-NeedsMemory w (Heartbeat f) = (is_beat_due (subscription w f) ≡ true) × (length (lane_of (subscription w f)) < w.limits.lane)
+NeedsMemory w (Hand f) = IsMade w.limits.lane (lane_of (subscription w f)) (due_of (current w.journal) (feed_of (subscription w f)))
+NeedsMemory w (Heartbeat f) = (is_beat_due (feed_of (subscription w f)) ≡ true) × (length (lane_of (subscription w f)) < w.limits.lane)
 NeedsMemory w (Expire f) = ⊥
 NeedsMemory w (Take f) = ⊥
 NeedsMemory w (Finish f) = ⊥

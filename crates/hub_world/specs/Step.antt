@@ -1,10 +1,12 @@
 -- What each event may answer and do, and whole runs (own; feeds by CouchDB API reference, _changes).
 use Rattle.std.specs.Prelude.{◌≡◌, ◌≤◌, List, [], ◌∷◌, length, map, true, false, Some, slice_get}
+use Rattle.hub_feed.specs.Host.{due_of, is_beat_due}
+use Rattle.hub_model.specs.Current.{current}
 use Rattle.hub_model.specs.Feed.{DueNothing, DueGone, after_due, after_nothing, beat_due}
 use Rattle.hub_model.specs.Hand.{due_in, change_due}
 use Rattle.hub_model.specs.RightlyHanded.{ChangeItem}
 use Rattle.hub_model.specs.declared.feeds.Item.TheVariants.{Beat}
-use Rattle.hub_world.specs.World.{World, Subscription, has_no_room, subscription, with_subscription, due_of, is_beat_due, lane_of, merged, drafted, with_feed, Pushes, expired, took, finished, ended}
+use Rattle.hub_world.specs.World.{World, Subscription, has_no_room, subscription, with_subscription, feed_of, lane_of, merged, drafted, with_feed, Pushes, expired, took, finished, ended}
 use Rattle.hub_world.specs.Event.{Event, Write, Interactive, Begin, Hand, Heartbeat, Expire, Take, Finish, Delete, Reply, Outcomes, Opened, TooManyFeeds, DatabaseDeleted, Pushed, Full, Nothing, Gone, Took, Left}
 
 -- from old, the event may have this reply and lead to new
@@ -20,11 +22,11 @@ Step old (Begin params) _ new = ⊥
 Step old (Hand f) (Pushed item) new = (s : Subscription) × (subscription old f ≡ Some s) × (change_due old.journal s.feed ≡ Some item) × Pushes old f s (after_due s.feed (due_in old.journal s.feed) (length old.journal)) item new
 Step old (Hand f) Full new = (s : Subscription) × (subscription old f ≡ Some s) × ((item : ChangeItem) × (change_due old.journal s.feed ≡ Some item)) × (old.limits.lane ≤ length s.lane) × (new ≡ old)
 Step old (Hand f) Nothing new = (s : Subscription) × (subscription old f ≡ Some s) × (due_in old.journal s.feed ≡ DueNothing) × (new ≡ with_subscription old f (record s { feed = after_nothing s.feed (length old.journal) }))
-Step old (Hand f) Gone new = (due_of old (subscription old f) ≡ DueGone) × (new ≡ old)
+Step old (Hand f) Gone new = (due_of (current old.journal) (feed_of (subscription old f)) ≡ DueGone) × (new ≡ old)
 Step old (Hand f) _ new = ⊥
 Step old (Heartbeat f) (Pushed item) new = (s : Subscription) × (subscription old f ≡ Some s) × (beat_due s.feed ≡ true) × (item ≡ Beat) × Pushes old f s s.feed item new
 Step old (Heartbeat f) Full new = (s : Subscription) × (subscription old f ≡ Some s) × (beat_due s.feed ≡ true) × (old.limits.lane ≤ length s.lane) × (new ≡ old)
-Step old (Heartbeat f) Nothing new = (is_beat_due (subscription old f) ≡ false) × (new ≡ old)
+Step old (Heartbeat f) Nothing new = (is_beat_due (feed_of (subscription old f)) ≡ false) × (new ≡ old)
 Step old (Heartbeat f) _ new = ⊥
 Step old (Expire f) Nothing new = new ≡ expired (subscription old f) f old
 Step old (Expire f) _ new = ⊥

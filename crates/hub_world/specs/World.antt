@@ -1,8 +1,7 @@
 -- A database with its feeds and their lanes, and what happens to them (own; feeds by CouchDB API reference, _changes).
-use Rattle.std.specs.Prelude.{◌≡◌, ℕ, ◌<◌, ◌-◌, ◌^◌, ◌||◌, nat_le, List, [], ◌∷◌, ◌++◌, length, drop, Bool, true, false, not, Option, Some, None, slice_get, slice_set, count_by}
+use Rattle.std.specs.Prelude.{◌≡◌, ℕ, ◌<◌, ◌-◌, ◌^◌, ◌||◌, nat_le, List, [], ◌∷◌, ◌++◌, length, drop, Bool, true, false, not, Option, Some, None, option_map, slice_get, slice_set, count_by}
 use Rattle.hub_model.specs.Draft.{Draft, makes}
-use Rattle.hub_model.specs.Feed.{Params, Status, Open, Ending, Ended, Finished, Feed, Due, DueGone, begin, beat_due, expire, end, finish}
-use Rattle.hub_model.specs.Hand.{due_in}
+use Rattle.hub_model.specs.Feed.{Params, Status, Open, Ending, Ended, Finished, Feed, begin, expire, end, finish}
 use Rattle.hub_model.specs.Journal.{Edit}
 use Rattle.hub_model.specs.Outcome.{StoresAll, stores_all, merges}
 use Rattle.hub_model.specs.RightlyHanded.{ChangeItem}
@@ -52,15 +51,9 @@ subscription w f = slice_get w.feeds f
 abbrev pub with_subscription : World → ℕ → Subscription → World
 with_subscription w f s = record w { feeds = slice_set w.feeds f s }
 
--- what is due to it: nothing any more where there is none
-abbrev pub due_of : World → Option Subscription → Due
-due_of w None = DueGone
-due_of w (Some s) = due_in w.journal s.feed
-
--- whether a heartbeat may be handed
-abbrev pub is_beat_due : Option Subscription → Bool
-is_beat_due None = false
-is_beat_due (Some s) = beat_due s.feed
+-- the feed itself
+abbrev pub feed_of : Option Subscription → Option Feed
+feed_of o = option_map (λ s. s.feed) o
 
 -- what was handed and not taken
 abbrev pub lane_of : Option Subscription → List ChangeItem

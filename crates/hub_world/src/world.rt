@@ -7,7 +7,8 @@ ghost use Rattle.hub_world.specs.Growth.{MayFail};
 ghost use Rattle.hub_world.specs.Headline.{reached, IsFaithful};
 ghost use Rattle.hub_world.specs.Meant.{event_of, reply_of, Answers, Applies};
 ghost use Rattle.hub_world.specs.World.{World as Shown, Subscription, subscription, empty};
-ghost use Rattle.hub_database.specs.Feeds.{item_due};
+ghost use Rattle.hub_database.specs.Hosting.{hosted_of};
+ghost use Rattle.hub_feed.specs.Host.{item_due};
 
 use crate::event::Event;
 use crate::lane::{self, Lane};
@@ -102,7 +103,7 @@ impl World {
 
     // The item that is due to a feed goes into its lane, and only then the feed goes on.
     fn give(&mut self, feed: FeedId, item: Item<ChangeRow>) -> Result<Reply, AllocError>
-        requires due { item_due self.old.db feed.number ≡ Some item }
+        requires due { item_due (hosted_of self.old.db) feed.number ≡ Some item }
         ensures ok { IfOk result (λ reply. Applies self.old (Event.Hand feed) reply self.new) }
         ensures err { OnErr result ((self.new ≡ self.old) × MayFail self.old (Event.Hand feed)) }
     {

@@ -1,10 +1,11 @@
 use Rattle.std.proofs.Common.{◌≡◌, ◌∙◌, sym, subst, length, refl, ℕ, Some, None, nat_eq}
 use Rattle.std.specs.Prelude.{position}
 use Rattle.hub_model.specs.Current.{current}
+use Rattle.hub_feed.specs.Host.{handed, item_due}
 use Rattle.hub_model.specs.Feed.{Feed, due, after_due}
 use Rattle.hub_database.specs.Database.{Database}
-use Rattle.hub_database.specs.Feeds.{handed, item_due}
 use Rattle.hub_database.specs.Followed.{AreFeeds}
+use Rattle.hub_database.specs.Hosting.{hosted_of, with_hosted}
 use Rattle.hub_database.specs.Laid.{rows_below}
 use Rattle.hub_database.specs.Store.{edits_of_store}
 use Rattle.hub_database.proofs.FeedLemmas.{changed_here, feed_here, feeds_changed, goes_behind, none_changed, rest_stays}
@@ -13,7 +14,7 @@ use Rattle.hub_database.proofs.database.DbState.accept_item.Goals as goal
 pub returns-in_default : goal.returns-in_default
 returns-in_default c =
     let none : position (λ (p : ℕ × Feed). nat_eq p.0 c.args.feed.number) c.self.inside.feeds.items ≡ None = rw c.as_slice.ensures.value at (sym c.place_of.ensures ∙ c.in_default.is) in
-    subst (λ (z : Database). z ≡ handed z c.args.feed.number) c.self.view_is (rest_stays (edits_of_store c.self.inside.store) refl refl (sym (none_changed c.args.feed.number c.self.inside.feeds.items none _)) refl refl)
+    subst (λ (z : Database). z ≡ with_hosted z (handed (hosted_of z) c.args.feed.number)) c.self.view_is (rest_stays (edits_of_store c.self.inside.store) refl refl (sym (none_changed c.args.feed.number c.self.inside.feeds.items none _)) refl refl)
 
 pub accept_item-requires : goal.accept_item-requires
 accept_item-requires c =
@@ -22,7 +23,7 @@ accept_item-requires c =
     let id = c.args.feed.number in
     let placed : Some c.in-Some.at ≡ position (λ (p : ℕ × Feed). nat_eq p.0 id) db.feeds.items = rw c.as_slice.ensures.value at c.in-Some.ensures in
     let p = c.index_mut-feed.result.now in
-    let asked = subst (λ (z : Database). item_due z id ≡ Some c.args.item.now) (sym c.self.view_is) c.requires.due in
+    let asked = subst (λ (z : Database). item_due (hosted_of z) id ≡ Some c.args.item.now) (sym c.self.view_is) c.requires.due in
     record { due = rw (feed_here id db.feeds.items c.in-Some.at placed p c.index_mut-feed.ensures.value) at asked }
 
 pub invariant_of-self : goal.invariant_of-self

@@ -1,8 +1,9 @@
 use Rattle.std.proofs.Common.{◌≡◌, ◌∙◌, sym, subst, ap, ℕ, Some, None, nat_eq, false}
 use Rattle.std.specs.Prelude.{position}
+use Rattle.hub_model.specs.Entries.{entry_in}
 use Rattle.hub_model.specs.Feed.{Feed}
 use Rattle.hub_database.specs.Database.{Database}
-use Rattle.hub_database.specs.Feeds.{is_beat_due, entry_in}
+use Rattle.hub_feed.specs.Host.{is_beat_due}
 use Rattle.hub_database.proofs.FeedLemmas.{feed_here, no_feed}
 use Rattle.hub_database.proofs.database.DbState.beat_due.Goals as goal
 

@@ -1,6 +1,6 @@
 use Rattle.std.proofs.Common.{◌≡◌, sym, subst, length, rules, refl}
 use Rattle.std.proofs.lemmas.Fn.{filter_same}
-use Rattle.hub_database.specs.Feeds.{without}
+use Rattle.hub_model.specs.Entries.{without}
 use Rattle.hub_database.specs.Followed.{AreFeeds}
 use Rattle.hub_database.specs.Store.{edits_of_store}
 use Rattle.hub_database.proofs.FeedLemmas.{feeds_left, rest_stays}

@@ -13,4 +13,4 @@ index-document-requires c =
 pub returns-clause-found : goal.returns-clause-found
 returns-clause-found c =
     let there : get_by_text c.args.self.now.numbers c.args.id.now ≡ Some c.in_ok-number.number = sym c.get.ensures.value ∙ (sym c.copied.ensures ∙ c.in_ok-number.was) in
-    document_found c.args.self.now.limits.journal (get_by_text c.args.self.now.numbers) c.args.self.now.documents.items c.args.self.now.journal.items c.requires c.args.id.now c.in_ok-number.number there c.index-document.result.now c.index-document.ensures c.one.ensures
+    document_found c.args.self.now.limits.journal (get_by_text c.args.self.now.numbers) c.args.self.now.documents.items c.args.self.now.journal.items c.requires c.args.id.now c.in_ok-number.number there c.index-document.result.now c.index-document.ensures

@@ -2,7 +2,8 @@ use Rattle.std.proofs.Common.{◌≡◌, ◌∙◌, ◌++◌, ◌∷◌, [], sym
 use Rattle.hub_database.specs.Database.{Database}
 use Rattle.hub_world.specs.Core.{Core}
 use Rattle.hub_world.specs.Event as model
-use Rattle.hub_database.specs.Feeds.{opened}
+use Rattle.hub_database.specs.Hosting.{hosted_of, with_hosted}
+use Rattle.hub_feed.specs.Host.{opened}
 use Rattle.hub_params.specs.FeedModel.{params_of}
 use Rattle.hub_world.proofs.Stepping.{Leads, begin_leads, begin_full, from_same, to_same, still_shows}
 use Rattle.hub_database.proofs.StoreLemmas.{on_err}
@@ -19,7 +20,7 @@ leads c =
     let lanes : c.push_reserved.new.self.items ≡ c.self.inside.lanes.items ++ (c.self.inside.db.next_feed, []) ∷ [] =
     c.push_reserved.ensures.items ∙ (ap (λ ls. ls ++ c.new.result ∷ []) c.in_ok-try_reserve.ensures.items ∙ ap (λ l. c.self.inside.lanes.items ++ l ∷ []) (c.new.ensures ∙ ap (λ (n : ℕ). (n, [])) own.0)) in
     subst (λ (n : ℕ). Leads old (model.Begin (params_of c.args.params)) (model.Opened n) (record { db = c.open_feed.new.self; lanes = c.push_reserved.new.self.items })) (sym own.0)
-    (to_same old (record { db = opened old.db (params_of c.args.params); lanes = old.lanes ++ (old.db.next_feed, []) ∷ [] }) (record { db = c.open_feed.new.self; lanes = c.push_reserved.new.self.items }) (model.Begin (params_of c.args.params)) (model.Opened old.db.next_feed)
+    (to_same old (record { db = with_hosted old.db (opened (hosted_of old.db) (params_of c.args.params)); lanes = old.lanes ++ (old.db.next_feed, []) ∷ [] }) (record { db = c.open_feed.new.self; lanes = c.push_reserved.new.self.items }) (model.Begin (params_of c.args.params)) (model.Opened old.db.next_feed)
     (rw (own.2, lanes) refl) (begin_leads old (params_of c.args.params) own.1))
 
 pub invariant_of-self-2 : goal.invariant_of-self-2

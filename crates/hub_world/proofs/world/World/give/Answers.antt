@@ -3,7 +3,8 @@ use Rattle.std.specs.Prelude.{Some}
 use Rattle.hub_database.specs.Database.{Database}
 use Rattle.hub_world.specs.Core.{Core}
 use Rattle.hub_world.specs.Event as model
-use Rattle.hub_database.specs.Feeds.{handed, item_due}
+use Rattle.hub_database.specs.Hosting.{hosted_of, with_hosted}
+use Rattle.hub_feed.specs.Host.{handed, item_due}
 use Rattle.hub_world.specs.Lane.{has_room, pushed_into}
 use Rattle.hub_world.proofs.Standing.{lanes_rise}
 use Rattle.hub_world.proofs.Stepping.{Leads, hand_pushed, hand_full, unpushed, from_same, to_same, still_shows}
@@ -22,7 +23,7 @@ returns-then-not-branch-clause-ok c =
     let pushes = c.in_ok-push.ensures.ok in
     let room : has_room old.db.limits.lane f old.lanes ≡ false = ap (λ (n : ℕ). has_room n f old.lanes) (sym c.self.invariant.0) ∙ (sym pushes.0 ∙ c.if-not-branch.true) in
     let lanes : c.push.new.lanes.items ≡ pushed_into old.db.limits.lane f c.args.item old.lanes = pushes.1 ∙ ap (λ (n : ℕ). pushed_into n f c.args.item old.lanes) c.self.invariant.0 in
-    let due = subst (λ (z : Core). item_due z.db f ≡ Some c.args.item) (sym c.self.view_is) c.requires.due in
+    let due = subst (λ (z : Core). item_due (hosted_of z.db) f ≡ Some c.args.item) (sym c.self.view_is) c.requires.due in
     from_same old c.args.self.now (record old { lanes = c.push.new.lanes.items }) (model.Hand c.args.feed.number) model.Full c.self.view_is
     (to_same old old (record old { lanes = c.push.new.lanes.items }) (model.Hand c.args.feed.number) model.Full (ap (λ ls. record { db = old.db; lanes = ls }) (sym (lanes ∙ unpushed old.db.limits.lane f c.args.item old.lanes room))) (hand_full old f c.args.item due room))
 
@@ -34,8 +35,8 @@ leads c =
     let pushes = c.in_ok-push.ensures.ok in
     let room : has_room old.db.limits.lane f old.lanes ≡ true = ap (λ (n : ℕ). has_room n f old.lanes) (sym c.self.invariant.0) ∙ (sym pushes.0 ∙ c.if-not-branch.false) in
     let lanes : c.push.new.lanes.items ≡ pushed_into old.db.limits.lane f c.args.item old.lanes = pushes.1 ∙ ap (λ (n : ℕ). pushed_into n f c.args.item old.lanes) c.self.invariant.0 in
-    let due = subst (λ (z : Core). item_due z.db f ≡ Some c.args.item) (sym c.self.view_is) c.requires.due in
-    to_same old (record { db = handed old.db f; lanes = pushed_into old.db.limits.lane f c.args.item old.lanes }) (record { db = c.accept_item.new.self; lanes = c.push.new.lanes.items }) (model.Hand c.args.feed.number) (model.Pushed c.args.item)
+    let due = subst (λ (z : Core). item_due (hosted_of z.db) f ≡ Some c.args.item) (sym c.self.view_is) c.requires.due in
+    to_same old (record { db = with_hosted old.db (handed (hosted_of old.db) f); lanes = pushed_into old.db.limits.lane f c.args.item old.lanes }) (record { db = c.accept_item.new.self; lanes = c.push.new.lanes.items }) (model.Hand c.args.feed.number) (model.Pushed c.args.item)
     (rw (c.accept_item.ensures, lanes) refl) (hand_pushed old f c.args.item due room)
 
 pub invariant_of-self-2 : goal.invariant_of-self-2
@@ -54,6 +55,6 @@ returns-in_err-push-clause-err c =
     let f = c.args.feed.number in
     let err = c.in_err-push.ensures.err in
     let room : has_room old.db.limits.lane f old.lanes ≡ true = ap (λ (n : ℕ). has_room n f old.lanes) (sym c.self.invariant.0) ∙ err.1 in
-    let due = subst (λ (z : Core). item_due z.db f ≡ Some c.args.item) (sym c.self.view_is) c.requires.due in
+    let due = subst (λ (z : Core). item_due (hosted_of z.db) f ≡ Some c.args.item) (sym c.self.view_is) c.requires.due in
     let same = ap (λ ls. record { db = old.db; lanes = ls }) err.0 ∙ c.self.view_is in
     on_err c.from_residual.result _ (same, fails_as old c.args.self.now (event.Hand c.args.feed) c.self.view_is (item_grows old f c.args.item due room))

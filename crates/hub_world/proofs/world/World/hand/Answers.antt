@@ -2,7 +2,8 @@ use Rattle.std.proofs.Common.{◌∙◌, sym, ap}
 use Rattle.hub_database.specs.Database.{Database}
 use Rattle.hub_world.specs.Core.{Core}
 use Rattle.hub_world.specs.Event as model
-use Rattle.hub_database.specs.Feeds.{behind_answer}
+use Rattle.hub_database.specs.Hosting.{hosted_of, with_hosted}
+use Rattle.hub_feed.specs.Host.{behind_answer}
 use Rattle.hub_feed.specs.declared.next.Next.TheVariants as next
 use Rattle.hub_world.proofs.Stepping.{Leads, hand_nothing, hand_gone, from_same, to_same, still_shows}
 use Rattle.hub_database.proofs.StoreLemmas.{on_err}
@@ -16,7 +17,7 @@ leads c =
     let old : Core = record { db = c.self.inside.db; lanes = c.self.inside.lanes.items } in
     let f = c.args.feed.number in
     let own = rw c.in-Nothing.is at c.in_ok-item.ensures.ok in
-    to_same old (record old { db = behind_answer old.db f next.Nothing }) (record old { db = c.next_item.new.self }) (model.Hand c.args.feed.number) model.Nothing (ap (λ (db : Database). record { db = db; lanes = old.lanes }) (sym own.1)) (hand_nothing old f own.0)
+    to_same old (record old { db = with_hosted old.db (behind_answer (hosted_of old.db) f next.Nothing) }) (record old { db = c.next_item.new.self }) (model.Hand c.args.feed.number) model.Nothing (ap (λ (db : Database). record { db = db; lanes = old.lanes }) (sym own.1)) (hand_nothing old f own.0)
 
 pub invariant_of-self-in-Nothing : goal.invariant_of-self-in-Nothing
 invariant_of-self-in-Nothing c =
