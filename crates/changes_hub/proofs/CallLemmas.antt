@@ -18,8 +18,8 @@ use Rattle.changes_hub.specs.Said.{Said, Body, Step, reads}
 use Rattle.changes_hub.specs.declared.databases.Sent.{Sent}
 use Rattle.changes_hub.specs.Came.{Responds, Reads, Writes, Keeps, Stores, Begins, CameOut, CameAt, Goes, IsFound, HasStored, with_status}
 use Rattle.changes_hub.specs.Hub.{Hub, Named, MayLeave, MayLeaveStanding, MayLeaveBy, Says, after_call, feed_after, place_of, stored_at, with_state, calls_at}
-use Rattle.changes_hub.specs.declared.call.Call.{Call}
-use Rattle.changes_hub.specs.declared.call.Call.TheVariants.{BulkDocs}
+use Rattle.hub_routes.specs.declared.route.Call.{Call}
+use Rattle.hub_routes.specs.declared.route.Call.TheVariants.{BulkDocs}
 use Rattle.changes_hub.specs.declared.response.Response.{Response}
 use Rattle.changes_hub.specs.declared.response.Response.TheVariants as response
 use Rattle.changes_hub.proofs.PlaceLemmas.{changed_at, stands}
