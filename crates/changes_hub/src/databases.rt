@@ -9,7 +9,7 @@ ghost use Rattle.hub_routes.specs.declared.route.Call.{Call};
 ghost use Rattle.hub_routes.specs.declared.route.RouteFault.{RouteFault};
 ghost use Rattle.changes_hub.specs.Said.{Said, Refusing};
 ghost use Rattle.changes_hub.specs.Came.{Responds, Goes, IsSame, IsFound, CameAt};
-ghost use Rattle.changes_hub.specs.Hub.{HubAnswers, HubGives, HubDrops, finishes, given_back, MayLeaveBy, MayLeaveUnmade, MayLeaveTo, Says, has_name, says, greets, creates, calls_at, goes, with_database, feed_after, by_feed, gives_of, stops_of, gives_listed, gives_followed, stops_followed, unsent, place_of};
+ghost use Rattle.changes_hub.specs.Hub.{HubAnswers, HubGives, HubDrops, finishes, MayLeaveBy, MayLeaveUnmade, MayLeaveTo, Says, has_name, says, greets, creates, calls_at, goes, with_database, feed_after, gives_listed, gives_followed, stops_followed};
 ghost use Rattle.changes_hub.specs.Feeds.{next_listed};
 ghost use Rattle.changes_hub.specs.Laws.{CompleteFeedIsWhole, CompleteListIsWhole};
 
