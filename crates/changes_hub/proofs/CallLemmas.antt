@@ -1,25 +1,17 @@
 -- What becomes of a call on a database, and of the hub then.
-use Rattle.std.proofs.Common.{◌≡◌, ℕ, List, length, take, Option, Some, false, refl, sym, ap, ◌∙◌, subst, set, slice_get, get_or, arith, inl, inr}
+use Rattle.std.proofs.Common.{◌≡◌, ℕ, List, Option, Some, false, refl, sym, ap, ◌∙◌, subst, set, slice_get, get_or, inl, inr}
 use Rattle.std.specs.Prelude.{unwrap_or, Vec, Result, Ok, Err}
 use Rattle.std.specs.declared.alloc.Global.{Global}
-use Rattle.std.proofs.lemmas.List.{take_all}
-use Rattle.hub_model.specs.Revision.{Revision}
-use Rattle.hub_model.specs.Outcome.{StoresAll}
-use Rattle.hub_model.specs.declared.outcomes.Outcome.{Outcome}
-use Rattle.hub_document.specs.declared.doc.Doc.{Doc}
 use Rattle.hub_document.specs.declared.limits.Limits.{Limits}
 use Rattle.hub_database.specs.Database.{Database}
-use Rattle.hub_database.specs.Edits.{writes}
 use Rattle.hub_http.specs.declared.refusal.Refusal.{Refusal}
+use Rattle.hub_routes.specs.declared.route.Call.{Call}
 use Rattle.hub_session.specs.declared.service.Answer.{Answer}
-use Rattle.changes_hub.specs.Bulk.{Batch, batch_in, readings, read_docs}
-use Rattle.changes_hub.specs.Calls.{HasFront, answers_standing, calls, stores}
-use Rattle.changes_hub.specs.Said.{Said, Body, Step, reads}
+use Rattle.changes_hub.specs.Calls.{answers_standing, calls}
+use Rattle.changes_hub.specs.Said.{Said, Body, Step}
 use Rattle.changes_hub.specs.declared.databases.Sent.{Sent}
-use Rattle.changes_hub.specs.Came.{Responds, Reads, Writes, Keeps, Stores, Begins, CameOut, CameAt, Goes, IsFound, HasStored, with_status}
-use Rattle.changes_hub.specs.Hub.{Hub, Named, MayLeave, MayLeaveStanding, MayLeaveBy, Says, after_call, feed_after, place_of, stored_at, with_state, calls_at}
-use Rattle.changes_hub.specs.declared.call.Call.{Call}
-use Rattle.changes_hub.specs.declared.call.Call.TheVariants.{BulkDocs}
+use Rattle.changes_hub.specs.Came.{Responds, Writes, CameOut, CameAt, Goes, IsFound, with_status}
+use Rattle.changes_hub.specs.Hub.{Hub, Named, MayLeaveStanding, MayLeaveBy, Says, after_call, feed_after, place_of, stored_at, with_state, calls_at}
 use Rattle.changes_hub.specs.declared.response.Response.{Response}
 use Rattle.changes_hub.specs.declared.response.Response.TheVariants as response
 use Rattle.changes_hub.proofs.PlaceLemmas.{changed_at, stands}
@@ -28,43 +20,15 @@ use Rattle.changes_hub.proofs.PlaceLemmas.{changed_at, stands}
 responds : (status : ℕ) (body : Vec ℕ Global) (said : Said) → said ≡ Body status body.items → Responds (response.Body status body) said
 responds status body said e = subst (λ s. Responds (response.Body status body) s) (sym e) (refl, refl)
 
-pub reads_came : (status : ℕ) (said : Said) (r : Result (Vec ℕ Global) Refusal) (db : Database) (may : Database → Type 0) → may db → Reads status said r → CameOut (reads db said) may (with_status status r) db
-reads_came status said (Ok body) db may m h = (responds status body said h, refl)
-reads_came status said (Err e) db may m (inl none) = inr (none, m)
-reads_came status said (Err e) db may m (inr h) = inl (h, refl)
-
-pub begins_came : (said : Said) (r : Result Response Refusal) (db : Database) (may : Database → Type 0) → may db → Begins said r → CameOut (reads db said) may r db
-begins_came said (Ok r) db may m h = (h, refl)
-begins_came said (Err e) db may m (inl none) = inr (none, m)
-begins_came said (Err e) db may m (inr h) = inl (h, refl)
-
 pub writes_came : (status : ℕ) (old : Database) (step : Step) (r : Result (Vec ℕ Global) Refusal) (new : Database) (may : Database → Type 0) → may old → may step.state → Writes status old step r new → CameOut step may (with_status status r) new
 writes_came status old step (Ok body) new may m n h = (responds status body step.said h.0, h.1)
 writes_came status old step (Err e) new may m n (inl h) = inl h
 writes_came status old step (Err e) new may m n (inr (none, inl same)) = inr (none, subst may (sym same) m)
 writes_came status old step (Err e) new may m n (inr (none, inr done)) = inr (none, subst may (sym done) n)
 
-pub keeps_came : (status : ℕ) (old : Database) (step : Step) (r : Result (Vec ℕ Global) Refusal) (new : Database) (may : Database → Type 0) → may old → Keeps status old step r new → CameOut step may (with_status status r) new
-keeps_came status old step (Ok body) new may m h = (responds status body step.said h.0, h.1)
-keeps_came status old step (Err e) new may m (inl h) = inl h
-keeps_came status old step (Err e) new may m (inr (none, same)) = inr (none, subst may (sym same) m)
-
-pub stores_came : (old : Database) (name body : List ℕ) (r : Result (Vec ℕ Global) Refusal) (new : Database) → Stores (batch_in body) old r new
-    → CameOut (stores old (batch_in body)) (MayLeave BulkDocs name body old) (with_status 201 r) new
-stores_came old name body (Ok text) new h = (responds 201 text (stores old (batch_in body)).said h.0, h.1)
-stores_came old name body (Err e) new (inl h) = inl h
-stores_came old name body (Err e) new (inr h) = inr h
-
 -- what a call leaves of a database that was not deleted
 pub left_standing : (c : Call) (name body : List ℕ) (db : Database) → db.deleted ≡ false → (answers_standing c name body db).state ≡ (calls c name body db).state
 left_standing c name body db e = rw e refl
-
--- a batch that was stored whole is a front of it
-pub whole_front : (b : Batch) (old new : Database) (docs : List Doc) (outcomes : List (Outcome Revision)) → docs ≡ read_docs (readings b.new_edits b.docs) → HasStored b.new_edits old docs outcomes new → HasFront old b new
-whole_front b old new docs outcomes same s =
-    let all : docs ≡ take (length docs) (read_docs (readings b.new_edits b.docs)) = sym (take_all (length docs) docs (omega arith)) ∙ ap (take (length docs)) same in
-    let journal = ap (λ (z : StoresAll). z.journal) (sym s.stored) ∙ ap (λ ds. (writes b.new_edits old.deleted old.limits.journal old.journal ds).journal) all in
-    record { count = length docs; front = s.rest ∙ ap (λ J. record old { journal = J }) journal }
 
 -- ---- the hub
 

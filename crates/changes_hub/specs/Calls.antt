@@ -36,11 +36,11 @@ use Rattle.hub_params.specs.DocParams.{DocAsked, doc_asked}
 use Rattle.hub_params.specs.FeedParams.{feed_asked}
 use Rattle.hub_replies.specs.Bodies.{info_body, edit_body, local_edit_body, doc_body, local_doc_body, open_revs_body, diffs_body, commit_body}
 use Rattle.hub_replies.specs.Bulk.{batch_body}
+use Rattle.hub_routes.specs.declared.route.Call.{Call}
+use Rattle.hub_routes.specs.declared.route.Call.TheVariants as call
 use Rattle.changes_hub.specs.Bulk.{Batch, batch_in, readings, read_docs, faults_of, replies_of}
 use Rattle.changes_hub.specs.Feeds.{begins}
 use Rattle.changes_hub.specs.Said.{Said, Body, Refusing, Step, reads}
-use Rattle.changes_hub.specs.declared.call.Call.{Call}
-use Rattle.changes_hub.specs.declared.call.Call.TheVariants as call
 
 -- the refusal of a call that failed
 abbrev pub of_db_fault : DbFault → Refusal

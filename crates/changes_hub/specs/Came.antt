@@ -13,6 +13,7 @@ use Rattle.hub_model.specs.declared.feeds.Item.{Item}
 use Rattle.changes_hub.specs.Feeds.{behind}
 use Rattle.hub_http.specs.declared.refusal.Refusal.{Refusal}
 use Rattle.hub_http.specs.declared.refusal.Refusal.TheVariants.{NoMemory}
+use Rattle.hub_routes.specs.declared.route.Call.{Call}
 use Rattle.changes_hub.specs.Bulk.{Batch}
 use Rattle.changes_hub.specs.Calls.{stores, HasFront}
 use Rattle.changes_hub.specs.Said.{Said, Body, Refusing, Feeding, Step}
@@ -21,7 +22,6 @@ use Rattle.changes_hub.specs.Calls.{calls}
 use Rattle.changes_hub.specs.Hub as hub
 use Rattle.changes_hub.specs.Hub.{Hub, Named, StandsAt, IsStep, MayLeaveStanding, has_name, calls_at, calls_on}
 use Rattle.changes_hub.specs.Names.{is_name}
-use Rattle.changes_hub.specs.declared.call.Call.{Call}
 use Rattle.changes_hub.specs.declared.response.Response.{Response}
 use Rattle.changes_hub.specs.declared.response.Response.TheVariants as response
 

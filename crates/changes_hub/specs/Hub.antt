@@ -17,7 +17,10 @@ use Rattle.hub_replies.specs.Bodies.{welcome_body, ok_body}
 use Rattle.hub_routes.specs.Routes.{GoesTo}
 use Rattle.hub_routes.specs.RouteRefusals.{of_route_fault}
 use Rattle.hub_routes.specs.declared.route.Route.{Route}
+use Rattle.hub_routes.specs.declared.route.Route.TheVariants as route
 use Rattle.hub_routes.specs.declared.route.RouteFault.{RouteFault}
+use Rattle.hub_routes.specs.declared.route.Call.{Call}
+use Rattle.hub_routes.specs.declared.route.Call.TheVariants.{BulkDocs, PutDocument, DeleteDocument}
 use Rattle.hub_session.specs.declared.service.Answer.{Answer}
 use Rattle.hub_session.specs.declared.service.Answer.TheVariants.{Whole, Stream}
 use Rattle.changes_hub.specs.Bulk.{Batch, batch_in}
@@ -28,11 +31,6 @@ use Rattle.changes_hub.specs.declared.databases.Sent.{Sent}
 use Rattle.changes_hub.specs.declared.response.Feed.{Feed}
 use Rattle.changes_hub.specs.declared.response.Feed.TheVariants.{Listed, Followed}
 use Rattle.changes_hub.specs.Names.{is_name}
-use Rattle.changes_hub.specs.Targets.{target_of}
-use Rattle.changes_hub.specs.declared.call.Call.{Call}
-use Rattle.changes_hub.specs.declared.call.Call.TheVariants.{BulkDocs, PutDocument, DeleteDocument}
-use Rattle.changes_hub.specs.declared.call.Target.{Target}
-use Rattle.changes_hub.specs.declared.call.Target.TheVariants.{Greeting, NewDatabase, Database as AtDatabase}
 
 -- a database with its name
 pub record Named : Type 0 where
@@ -124,16 +122,12 @@ pub record StandsAt (h : Hub) (name : List ℕ) (at : ℕ) (d : Named) : Type 0 
 
 -- ---- answers
 
--- what a request is answered that asks for this
-abbrev pub goes_to : Hub → List ℕ → Target → Step
-goes_to h body Greeting = greets h
-goes_to h body (NewDatabase name) = creates h (string_bytes name)
-goes_to h body (AtDatabase name c) = calls_at h (string_bytes name) c body
-
 -- what a request that goes there is answered
 abbrev pub goes : Hub → List ℕ → Result Route RouteFault → Step
+goes h body (Ok route.Welcome) = greets h
+goes h body (Ok (route.PutDatabase name)) = creates h (string_bytes name)
+goes h body (Ok (route.Database name c)) = calls_at h (string_bytes name) c body
 goes h body (Err fault) = says h (Refusing (of_route_fault fault))
-goes h body (Ok route) = goes_to h body (target_of route)
 
 -- the answer says this
 abbrev pub Says : Answer → Said → Type 0
@@ -172,17 +166,13 @@ MayLeaveBy h name c body k =
 abbrev pub MayLeaveUnmade : Hub → List ℕ → Hub → Type 0
 MayLeaveUnmade h name k = ((creates h name).said ≡ Body 201 ok_body) × (k ≡ h)
 
--- what is asked for finds no memory, and leaves the hub k
-abbrev pub MayLeaveAt : Hub → List ℕ → Target → Hub → Type 0
-MayLeaveAt h body (AtDatabase name c) k = MayLeaveBy h (string_bytes name) c body k
-MayLeaveAt h body Greeting k = k ≡ h
-MayLeaveAt h body (NewDatabase name) k = MayLeaveUnmade h (string_bytes name) k
-
 -- a request that goes there finds no memory, and leaves the hub k: one that goes nowhere is refused in spite
 -- of it
 abbrev pub MayLeaveTo : Hub → List ℕ → Result Route RouteFault → Hub → Type 0
+MayLeaveTo h body (Ok route.Welcome) k = k ≡ h
+MayLeaveTo h body (Ok (route.PutDatabase name)) k = MayLeaveUnmade h (string_bytes name) k
+MayLeaveTo h body (Ok (route.Database name c)) k = MayLeaveBy h (string_bytes name) c body k
 MayLeaveTo h body (Err fault) k = ⊥
-MayLeaveTo h body (Ok route) k = MayLeaveAt h body (target_of route) k
 
 -- the answer and the hub k are those of the step
 abbrev pub IsStep : Answer → Step → Hub → Type 0

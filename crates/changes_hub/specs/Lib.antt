@@ -6,4 +6,3 @@ pub mod Hub
 pub mod Laws
 pub mod Names
 pub mod Said
-pub mod Targets

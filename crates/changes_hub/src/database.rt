@@ -7,7 +7,6 @@ ghost use Rattle.changes_hub.specs.Calls.{calls, answers_standing, says_info, sa
 ghost use Rattle.changes_hub.specs.Came.{Reads, CameOut, Hands, with_status};
 ghost use Rattle.changes_hub.specs.Hub.{MayLeave, MayLeaveStanding, has_name};
 
-use crate::call::Call;
 use crate::refusal::refusal_of;
 use crate::response::Response;
 use crate::{bulk, diff, documents, feeds, locals};
@@ -18,6 +17,7 @@ use hub_feed::FeedId;
 use hub_http::Refusal;
 use hub_model::Item;
 use hub_replies::{commit_body, info_body};
+use hub_routes::Call;
 use std::alloc::Global;
 use std::marker::Model;
 
@@ -77,23 +77,26 @@ fn answer_standing(
     match call {
         Call::Info => with_status(StatusCode::OK, info(alloc, name, state)),
         Call::BulkDocs => with_status(StatusCode::CREATED, bulk::store(alloc, state, body)),
-        Call::Changes(query) => feeds::begin(alloc, state, query.as_slice(), body),
+        Call::Changes { query } => feeds::begin(alloc, state, query.as_slice(), body),
         Call::RevsDiff => with_status(StatusCode::OK, diff::revs_diff(alloc, state, body)),
         Call::FullCommit => with_status(StatusCode::CREATED, commit(alloc)),
-        Call::GetDocument(id, query) => with_status(
+        Call::GetDocument { id, query } => with_status(
             StatusCode::OK,
             documents::get(alloc, state, id.as_str(), query.as_slice()),
         ),
-        Call::PutDocument(id, query) => with_status(
+        Call::PutDocument { id, query } => with_status(
             StatusCode::CREATED,
             documents::put(alloc, state, id.as_str(), query.as_slice(), body),
         ),
-        Call::DeleteDocument(id, query) => with_status(
+        Call::DeleteDocument { id, query } => with_status(
             StatusCode::OK,
             documents::delete(alloc, state, id.as_str(), query.as_slice()),
         ),
-        Call::GetLocal(id) => with_status(StatusCode::OK, locals::get(alloc, state, id.as_str())),
-        Call::PutLocal(id) => with_status(
+        Call::GetLocal { id } => with_status(
+            StatusCode::OK,
+            locals::get(alloc, state, id.as_str()),
+        ),
+        Call::PutLocal { id } => with_status(
             StatusCode::CREATED,
             locals::put(alloc, state, id.as_str(), body),
         ),

@@ -1,10 +1,10 @@
 //! Calls on a database before and after it is deleted.
 
-use crate::call::Call;
 use crate::database::Database;
 use hub_database::DbState;
 use hub_document::Limits;
 use hub_http::Refusal;
+use hub_routes::Call;
 use std::alloc::{AllocError, Global};
 use std::test::Fail;
 
@@ -26,14 +26,25 @@ fn each_call(alloc: Global) -> Result<[Call; 10], AllocError> {
     Ok([
         Call::Info,
         Call::BulkDocs,
-        Call::Changes(Vec::new(alloc)),
+        Call::Changes {
+            query: Vec::new(alloc),
+        },
         Call::RevsDiff,
         Call::FullCommit,
-        Call::GetDocument(id(alloc)?, Vec::new(alloc)),
-        Call::PutDocument(id(alloc)?, Vec::new(alloc)),
-        Call::DeleteDocument(id(alloc)?, Vec::new(alloc)),
-        Call::GetLocal(id(alloc)?),
-        Call::PutLocal(id(alloc)?),
+        Call::GetDocument {
+            id: id(alloc)?,
+            query: Vec::new(alloc),
+        },
+        Call::PutDocument {
+            id: id(alloc)?,
+            query: Vec::new(alloc),
+        },
+        Call::DeleteDocument {
+            id: id(alloc)?,
+            query: Vec::new(alloc),
+        },
+        Call::GetLocal { id: id(alloc)? },
+        Call::PutLocal { id: id(alloc)? },
     ])
 }
 

@@ -1,19 +1,18 @@
 //! The databases of a hub, and its answers to requests.
 
-ghost use Rattle.std.specs.Prelude.{◌≡◌, ◌<◌, ◌⊎◌, slice_get, Some, ℕ, List, Result, None, IfOk, IfErr, OnOk, OnErr, [], length, nat_le, string_bytes};
+ghost use Rattle.std.specs.Prelude.{◌≡◌, ◌<◌, ◌⊎◌, slice_get, Some, ℕ, List, Result, None, Ok, IfOk, IfErr, OnOk, OnErr, [], length, nat_le, string_bytes};
 ghost use Rattle.std.specs.List.{list_any, position_from};
 ghost use Rattle.hub_http.specs.Stream.{asked_by};
 ghost use Rattle.hub_routes.specs.Routes.{GoesTo};
 ghost use Rattle.hub_routes.specs.declared.route.Route.{Route};
+ghost use Rattle.hub_routes.specs.declared.route.Call.{Call};
 ghost use Rattle.hub_routes.specs.declared.route.RouteFault.{RouteFault};
 ghost use Rattle.changes_hub.specs.Said.{Said, Refusing};
 ghost use Rattle.changes_hub.specs.Came.{Responds, Goes, IsSame, IsFound, CameAt};
-ghost use Rattle.changes_hub.specs.Hub.{HubAnswers, HubGives, HubDrops, finishes, given_back, MayLeaveBy, MayLeaveUnmade, MayLeaveAt, MayLeaveTo, Says, has_name, says, greets, creates, calls_at, goes, goes_to, with_database, feed_after, by_feed, gives_of, stops_of, gives_listed, gives_followed, stops_followed, unsent, place_of};
-ghost use Rattle.changes_hub.specs.declared.call.Call.{Call};
+ghost use Rattle.changes_hub.specs.Hub.{HubAnswers, HubGives, HubDrops, finishes, MayLeaveBy, MayLeaveUnmade, MayLeaveTo, Says, has_name, says, greets, creates, calls_at, goes, with_database, feed_after, gives_listed, gives_followed, stops_followed};
 ghost use Rattle.changes_hub.specs.Feeds.{next_listed};
 ghost use Rattle.changes_hub.specs.Laws.{CompleteFeedIsWhole, CompleteListIsWhole};
 
-use crate::call::{Call, Target, target_of};
 use crate::database::Database;
 use crate::name::is_name;
 use crate::response::{Feed, Listed, Response};
@@ -23,7 +22,7 @@ use hub_document::{ChangeRow, Item, Limits, Mode};
 use hub_feed::FeedId;
 use hub_http::{Refusal, Reply, Request};
 use hub_replies::{ok_body, welcome_body};
-use hub_routes::Routes;
+use hub_routes::{Call, Route, Routes};
 use hub_session::{Answer, Service};
 use std::alloc::{AllocError, Global};
 use std::marker::Model;
@@ -226,14 +225,14 @@ impl Databases {
         }
     }
 
-    /// The answer to a request that asks for this.
-    fn go(&mut self, target: Target, body: &[u8]) -> Result<Answer, Refusal>
-        ensures { Goes (goes_to self.old body.now target) (MayLeaveAt self.old body.now target) result self.new }
+    /// The answer to a request that goes there.
+    fn go(&mut self, route: Route, body: &[u8]) -> Result<Answer, Refusal>
+        ensures { Goes (goes self.old body.now (Ok route)) (MayLeaveTo self.old body.now (Ok route)) result self.new }
     {
-        match target {
-            Target::Greeting => self.greet(),
-            Target::NewDatabase(name) => self.create(name),
-            Target::Database(name, call) => self.call(name.as_str(), call, body),
+        match route {
+            Route::Welcome => self.greet(),
+            Route::PutDatabase { db } => self.create(db),
+            Route::Database { db, call } => self.call(db.as_str(), call, body),
         }
     }
 
@@ -243,7 +242,7 @@ impl Databases {
             × Goes (goes self.old request.now.body.items route) (MayLeaveTo self.old request.now.body.items route) result self.new }
     {
         match self.routes.route(self.alloc, request) {
-            Ok(route) => self.go(target_of(route), request.body.as_slice()),
+            Ok(route) => self.go(route, request.body.as_slice()),
             Err(fault) => Err(Refusal::from(fault)),
         }
     }

@@ -4,7 +4,6 @@
 ghost use Rattle.std.specs.Prelude.{◌≡◌, ◌↔◌, ◌⊎◌, IsTrue};
 
 mod bulk;
-mod call;
 mod database;
 #[cfg(test)]
 mod database_tests;

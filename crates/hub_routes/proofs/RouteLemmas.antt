@@ -1,5 +1,5 @@
 -- Where requests go.
-use Rattle.std.proofs.Common.{◌≡◌, ◌≢◌, ◌⊎◌, Result, true≢false, inl, inr, Ok, Err, String, Vec, string_bytes, ℕ, ◌+◌, ◌-◌, ◌≤◌, Bool, true, false, cond, List, [], length, take, drop, take_all, Some, None, refl, sym, ap, ◌∙◌, arith}
+use Rattle.std.proofs.Common.{◌≡◌, ◌≢◌, ◌⊎◌, Result, inl, inr, Ok, Err, String, Vec, string_bytes, ℕ, ◌+◌, ◌-◌, ◌≤◌, Bool, true, false, cond, List, [], length, take, drop, take_all, Some, None, refl, sym, ap, ◌∙◌, arith}
 use Rattle.std.specs.Prelude.{position, is_ok, IsOk, IfErr}
 use Rattle.std.specs.List.{before_first, after_first, position_or_len}
 use Rattle.std.specs.Str.{IsUtf8}
@@ -8,12 +8,10 @@ use Rattle.std.proofs.lemmas.Grind.{common_steps}
 use Rattle.std.proofs.lemmas.Bool.Decides.{nat_tests}
 use Rattle.hub_http.specs.Stream.{Asked}
 use Rattle.hub_routes.specs.Paths.{path_of, query_of, name_part, id_part, HasPercent, NeedsRoomForKind}
-use Rattle.hub_routes.specs.Routes.{service_of, database_of, document_of, IsOfTable, IsBadId, AsksFor, kind, name, document, copies, route_to, GoesTo}
-use Rattle.hub_routes.specs.declared.service.Access.{Access}
-use Rattle.hub_routes.specs.declared.service.Access.TheVariants as access
+use Rattle.hub_routes.specs.Routes.{service_of, database_of, document_of, IsOfTable, IsBadId, IsWhole, kind, name, document, copies, route_to, GoesTo}
 use Rattle.hub_routes.specs.declared.service.Service.{Service}
-use Rattle.hub_routes.specs.declared.service.Service.TheVariants.{Welcome, One}
-use Rattle.hub_routes.specs.Services.{takes, takes_body}
+use Rattle.hub_routes.specs.declared.service.Service.TheVariants as service
+use Rattle.hub_routes.specs.Services.{has_document}
 use Rattle.hub_routes.specs.declared.route.Route.{Route}
 use Rattle.hub_routes.specs.declared.route.RouteFault.{RouteFault}
 use Rattle.hub_routes.specs.declared.route.RouteFault.TheVariants.{NoMemory, BadName, BadId}
@@ -67,44 +65,37 @@ name_refuses a s e asked (inl (none, room)) = rw none (name (ok_of _ s asked) ro
 name_refuses a s e asked (inr (m, bad)) = rw m (ok_of _ s asked, bad)
 
 -- a request whose id has no room, or is refused
-pub id_refuses : (a : Asked) (access : Access) (e : RouteFault) → service_of a ≡ Ok (One access) → IsUtf8 (database_of a)
-    → ((e ≡ NoMemory) × HasPercent (id_part (path_of a.target))) ⊎ ((e ≡ BadId) × IsBadId access (document_of a)) → GoesTo a (Err e)
-id_refuses a access e s d (inl (none, room)) = rw none (document access s d room)
-id_refuses a access e s d (inr (m, bad)) = rw m (access, s, d, bad)
+pub id_refuses : (a : Asked) (s : Service) (e : RouteFault) → service_of a ≡ Ok s → IsUtf8 (database_of a)
+    → ((e ≡ NoMemory) × (has_document s ≡ true) × HasPercent (id_part (path_of a.target)))
+    ⊎ ((e ≡ BadId) × IsBadId s (document_of a)) → GoesTo a (Err e)
+id_refuses a s e asked d (inl (none, one, room)) = rw none (document s asked one d room)
+id_refuses a s e asked d (inr (m, bad)) = rw m (s, asked, d, bad)
 
--- a service of a database that is not one document
-abbrev pub is_of_database : Service → Bool
-is_of_database Welcome = false
-is_of_database (One access) = false
-is_of_database s = true
+-- a name, an id or a query that has no room
+pub has_no_room : (a : Asked) (s : Service) (r : Result Route RouteFault) → r ≡ Err NoMemory
+    → service_of a ≡ Ok s → s ≢ service.Welcome → IsWhole a s → GoesTo a r
+has_no_room a s r none asked named whole = rw none (copies s asked named whole)
 
-not_welcome : (s : Service) → is_of_database s ≡ true → s ≢ Welcome
-not_welcome s h e = true≢false (sym (rw e at h))
-
-not_one : (s : Service) (access : Access) → is_of_database s ≡ true → s ≡ One access → ⊥
-not_one s access h e = true≢false (sym (rw e at h))
-
--- a name, or a query behind it, that has no room
-pub name_has_no_room : (a : Asked) (s : Service) (r : Result Route RouteFault) → r ≡ Err NoMemory → service_of a ≡ Ok s → is_of_database s ≡ true → IsUtf8 (database_of a)
-    → (takes_body s ≡ true → a.has_length ≡ true) → GoesTo a r
-name_has_no_room a s r none asked named text long =
-    rw none (copies s asked (not_welcome s named) (record { name = text; length = long; document = λ access e. absurd (not_one s access named e) }))
-
-one_is : (x y : Access) → One x ≡ One y → x ≡ y
-one_is x y e = cc
-
--- the same of one document
-pub document_has_no_room : (a : Asked) (access : Access) (r : Result Route RouteFault) → r ≡ Err NoMemory → service_of a ≡ Ok (One access) → IsUtf8 (database_of a)
-    → IsUtf8 (document_of a) → takes access (document_of a) ≡ true → GoesTo a r
-document_has_no_room a access r none asked text id taken =
-    let other : One access ≢ Welcome = λ e. cc in
-    rw none (copies (One access) asked other (record { name = text; length = λ e. absurd (true≢false (sym e)); document = λ x e. rw (← one_is access x e) (id, taken) }))
-
--- a request for one document
-pub goes_to_one : (a : Asked) (access : Access) (db id : String Global) (query : Vec ℕ Global) → AsksFor a access (string_bytes db) (string_bytes id) → query.items ≡ query_of a.target → GoesTo a (Ok (route_to access db id query))
+-- a request that nothing refuses
+pub goes_to : (a : Asked) (s : Service) (db id : String Global) (query : Vec ℕ Global)
+    → service_of a ≡ Ok s → IsWhole a s → string_bytes db ≡ database_of a
+    → (has_document s ≡ true → string_bytes id ≡ document_of a) → query.items ≡ query_of a.target
+    → GoesTo a (Ok (route_to s db id query))
 unfolding route_to
-goes_to_one a access.GetDocument db id query h q = (h, q)
-goes_to_one a access.PutDocument db id query h q = (h, q)
-goes_to_one a access.DeleteDocument db id query h q = (h, q)
-goes_to_one a access.GetLocal db id query h q = h
-goes_to_one a access.PutLocal db id query h q = h
+goes_to a service.Welcome db id query h w d i q = h
+goes_to a service.PutDatabase db id query h w d i q = (h, d)
+goes_to a service.Info db id query h w d i q = (d, h)
+goes_to a service.BulkDocs db id query h w d i q = (d, (h, w.length refl))
+goes_to a service.Changes db id query h w d i q = (d, (h, q))
+goes_to a service.RevsDiff db id query h w d i q = (d, (h, w.length refl))
+goes_to a service.FullCommit db id query h w d i q = (d, h)
+goes_to a service.GetDocument db id query h w d i q =
+    (d, (record { service = h; document = i refl; taken = (w.document refl).1 }, q))
+goes_to a service.PutDocument db id query h w d i q =
+    (d, (record { service = h; document = i refl; taken = (w.document refl).1 }, q))
+goes_to a service.DeleteDocument db id query h w d i q =
+    (d, (record { service = h; document = i refl; taken = (w.document refl).1 }, q))
+goes_to a service.GetLocal db id query h w d i q =
+    (d, record { service = h; document = i refl; taken = (w.document refl).1 })
+goes_to a service.PutLocal db id query h w d i q =
+    (d, record { service = h; document = i refl; taken = (w.document refl).1 })

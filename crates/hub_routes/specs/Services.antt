@@ -5,10 +5,8 @@ use Rattle.hub_routes.specs.declared.kind.Kind.{Kind}
 use Rattle.hub_routes.specs.declared.kind.Kind.TheVariants as kind
 use Rattle.hub_routes.specs.declared.service.Method.{Method}
 use Rattle.hub_routes.specs.declared.service.Method.TheVariants.{Get, Head, Put, Post, Delete, Other}
-use Rattle.hub_routes.specs.declared.service.Access.{Access}
-use Rattle.hub_routes.specs.declared.service.Access.TheVariants.{GetDocument, PutDocument, DeleteDocument, GetLocal, PutLocal}
 use Rattle.hub_routes.specs.declared.service.Service.{Service}
-use Rattle.hub_routes.specs.declared.service.Service.TheVariants.{Welcome, GetDatabase, PutDatabase, BulkDocs, Changes, RevsDiff, FullCommit, One}
+use Rattle.hub_routes.specs.declared.service.Service.TheVariants.{Welcome, PutDatabase, Info, BulkDocs, Changes, RevsDiff, FullCommit, GetDocument, PutDocument, DeleteDocument, GetLocal, PutLocal}
 use Rattle.hub_routes.specs.declared.route.RouteFault.{RouteFault}
 use Rattle.hub_routes.specs.declared.route.RouteFault.TheVariants.{Missing, MethodNotAllowed}
 
@@ -27,8 +25,8 @@ unfoldable pub asked_of : Kind → Method → Result Service RouteFault
 asked_of kind.AllDbs method = Err Missing
 asked_of kind.DbUpdates method = Err Missing
 asked_of kind.Welcome Get = Ok Welcome
-asked_of kind.Database Get = Ok GetDatabase
-asked_of kind.Database Head = Ok GetDatabase
+asked_of kind.Database Get = Ok Info
+asked_of kind.Database Head = Ok Info
 asked_of kind.Database Put = Ok PutDatabase
 asked_of kind.Database Delete = Err Missing
 asked_of kind.BulkDocs Post = Ok BulkDocs
@@ -36,11 +34,11 @@ asked_of kind.Changes Get = Ok Changes
 asked_of kind.Changes Post = Ok Changes
 asked_of kind.RevsDiff Post = Ok RevsDiff
 asked_of kind.FullCommit Post = Ok FullCommit
-asked_of kind.Document Get = Ok (One GetDocument)
-asked_of kind.Document Put = Ok (One PutDocument)
-asked_of kind.Document Delete = Ok (One DeleteDocument)
-asked_of kind.Local Get = Ok (One GetLocal)
-asked_of kind.Local Put = Ok (One PutLocal)
+asked_of kind.Document Get = Ok GetDocument
+asked_of kind.Document Put = Ok PutDocument
+asked_of kind.Document Delete = Ok DeleteDocument
+asked_of kind.Local Get = Ok GetLocal
+asked_of kind.Local Put = Ok PutLocal
 asked_of other method = Err MethodNotAllowed
 
 -- the same of a path, where the table has it
@@ -48,11 +46,21 @@ abbrev pub asked_at : Option Kind → Method → Result Service RouteFault
 asked_at None method = Err Missing
 asked_at (Some kind) method = asked_of kind method
 
+-- it asks for one document
+abbrev pub has_document : Service → Bool
+has_document GetDocument = true
+has_document PutDocument = true
+has_document DeleteDocument = true
+has_document GetLocal = true
+has_document PutLocal = true
+has_document service = false
+
 -- a document that is no local one is asked for by the id of a document
-abbrev pub takes : Access → List ℕ → Bool
-takes GetLocal id = true
-takes PutLocal id = true
-takes access id = is_id id
+abbrev pub takes : Service → List ℕ → Bool
+takes GetDocument id = is_id id
+takes PutDocument id = is_id id
+takes DeleteDocument id = is_id id
+takes service id = true
 
 -- a request for it needs a length
 abbrev pub takes_body : Service → Bool

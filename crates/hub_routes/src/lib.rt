@@ -10,6 +10,6 @@ mod routes_tests;
 mod samples;
 mod service;
 
-pub use route::{Route, RouteFault};
+pub use route::{Call, Route, RouteFault};
 pub use routes::Routes;
 pub use samples::{prefixes_stay, sample_ids, sample_paths};

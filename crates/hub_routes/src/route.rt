@@ -12,42 +12,38 @@ use std::alloc::AllocError;
 pub enum Route {
     /// `GET /`
     Welcome,
-    /// `GET /{db}`, `HEAD /{db}`
-    GetDatabase {
-        /// The name of the database.
-        db: String,
-    },
     /// `PUT /{db}`
     PutDatabase {
         /// The name of the database.
         db: String,
     },
-    /// `POST /{db}/_bulk_docs`
-    BulkDocs {
+    /// A call on a database.
+    Database {
         /// The name of the database.
         db: String,
+        /// What is asked of it.
+        call: Call,
     },
+}
+
+/// What a request asks of a database.
+#[derive(Debug, Drop)]
+pub enum Call {
+    /// `GET /{db}`, `HEAD /{db}`
+    Info,
+    /// `POST /{db}/_bulk_docs`
+    BulkDocs,
     /// `GET /{db}/_changes`, `POST /{db}/_changes`
     Changes {
-        /// The name of the database.
-        db: String,
         /// The query.
         query: Vec<u8>,
     },
     /// `POST /{db}/_revs_diff`
-    RevsDiff {
-        /// The name of the database.
-        db: String,
-    },
+    RevsDiff,
     /// `POST /{db}/_ensure_full_commit`
-    FullCommit {
-        /// The name of the database.
-        db: String,
-    },
+    FullCommit,
     /// `GET /{db}/{id}`, `GET /{db}/_design/{name}`
     GetDocument {
-        /// The name of the database.
-        db: String,
         /// The document's id, with `_design/` where it has that.
         id: String,
         /// The query.
@@ -55,8 +51,6 @@ pub enum Route {
     },
     /// `PUT /{db}/{id}`, `PUT /{db}/_design/{name}`
     PutDocument {
-        /// The name of the database.
-        db: String,
         /// The document's id, with `_design/` where it has that.
         id: String,
         /// The query.
@@ -64,8 +58,6 @@ pub enum Route {
     },
     /// `DELETE /{db}/{id}`, `DELETE /{db}/_design/{name}`
     DeleteDocument {
-        /// The name of the database.
-        db: String,
         /// The document's id, with `_design/` where it has that.
         id: String,
         /// The query.
@@ -73,15 +65,11 @@ pub enum Route {
     },
     /// `GET /{db}/_local/{name}`
     GetLocal {
-        /// The name of the database.
-        db: String,
         /// The document's id, with `_local/`.
         id: String,
     },
     /// `PUT /{db}/_local/{name}`
     PutLocal {
-        /// The name of the database.
-        db: String,
         /// The document's id, with `_local/`.
         id: String,
     },

@@ -7,13 +7,13 @@ ghost use Rattle.percent_encoding.specs.Percent.{percent_decode};
 ghost use Rattle.hub_http.specs.Stream.{asked_by};
 ghost use Rattle.hub_routes.specs.Table.{table, kind_at};
 ghost use Rattle.hub_routes.specs.Paths.{path_of, query_of, kind_of, HasPercent, NeedsRoomForKind};
-ghost use Rattle.hub_routes.specs.Services.{method_of, asked_at, takes};
-ghost use Rattle.hub_routes.specs.Routes.{IsOfTable, IsBadId, route_to, GoesTo};
+ghost use Rattle.hub_routes.specs.Services.{method_of, asked_at, has_document};
+ghost use Rattle.hub_routes.specs.Routes.{IsOfTable, IsGoodId, IsBadId, route_to, GoesTo};
 
 use crate::kind::{Kind, refined, table};
 use crate::path::{cut, decoded, parts};
-use crate::route::{Route, RouteFault};
-use crate::service::{Access, Service, asked_of, method_of, takes, takes_body};
+use crate::route::{Call, Route, RouteFault};
+use crate::service::{Service, asked_of, has_document, method_of, takes, takes_body};
 use hub_http::Request;
 use matchit::Router;
 use percent_encoding::{AsciiSet, percent_decode, percent_encode};
@@ -28,19 +28,28 @@ fn target_of(request: &Request) -> (&[u8], &[u8])
     cut(request.target.as_slice(), b'?')
 }
 
-// The id of a document, where it may be asked for so.
-fn document_id<'p>(alloc: Global, access: Access, part: &'p [u8]) -> Result<CowStr<'p>, RouteFault>
-    ensures value { IfOk result (λ s. cow_str_bytes s ≡ percent_decode part.now) }
-    ensures text { OnOk result (IsUtf8 (percent_decode part.now)) }
-    ensures good { OnOk result (takes access (percent_decode part.now) ≡ true) }
-    ensures none { IfErr result (λ e. ((e ≡ RouteFault.NoMemory) × HasPercent part.now)
-        ⊎ ((e ≡ RouteFault.BadId) × IsBadId access (percent_decode part.now))) }
+// The id of the document that a service asks for, where it may be asked for so; none where it
+// asks for no document.
+fn document_id<'p>(
+    alloc: Global,
+    service: Service,
+    part: &'p [u8],
+) -> Result<CowStr<'p>, RouteFault>
+    ensures value { IfOk result (λ s. has_document service ≡ true
+        → cow_str_bytes s ≡ percent_decode part.now) }
+    ensures good { OnOk result (IsGoodId service (percent_decode part.now)) }
+    ensures none { IfErr result (λ e.
+        ((e ≡ RouteFault.NoMemory) × (has_document service ≡ true) × HasPercent part.now)
+        ⊎ ((e ≡ RouteFault.BadId) × IsBadId service (percent_decode part.now))) }
 {
+    if !has_document(service) {
+        return Ok(CowStr::Borrowed(""));
+    }
     let id = match decoded(alloc, part, RouteFault::BadId) {
         Ok(id) => id,
         Err(e) => return Err(e),
     };
-    if takes(access, id.as_str().as_bytes()) {
+    if takes(service, id.as_str().as_bytes()) {
         Ok(id)
     } else {
         Err(RouteFault::BadId)
@@ -48,16 +57,24 @@ fn document_id<'p>(alloc: Global, access: Access, part: &'p [u8]) -> Result<CowS
 }
 
 #[tactic(auto, unfolding(crate::specs::Routes::route_to))]
-fn route_to(access: Access, db: String, id: String, query: Vec<u8>) -> Route
-    ensures { result ≡ route_to access db id query }
+fn route_to(service: Service, db: String, id: String, query: Vec<u8>) -> Route
+    ensures { result ≡ route_to service db id query }
 {
-    match access {
-        Access::GetDocument => Route::GetDocument { db, id, query },
-        Access::PutDocument => Route::PutDocument { db, id, query },
-        Access::DeleteDocument => Route::DeleteDocument { db, id, query },
-        Access::GetLocal => Route::GetLocal { db, id },
-        Access::PutLocal => Route::PutLocal { db, id },
-    }
+    let call = match service {
+        Service::Welcome => return Route::Welcome,
+        Service::PutDatabase => return Route::PutDatabase { db },
+        Service::Info => Call::Info,
+        Service::BulkDocs => Call::BulkDocs,
+        Service::Changes => Call::Changes { query },
+        Service::RevsDiff => Call::RevsDiff,
+        Service::FullCommit => Call::FullCommit,
+        Service::GetDocument => Call::GetDocument { id, query },
+        Service::PutDocument => Call::PutDocument { id, query },
+        Service::DeleteDocument => Call::DeleteDocument { id, query },
+        Service::GetLocal => Call::GetLocal { id },
+        Service::PutLocal => Call::PutLocal { id },
+    };
+    Route::Database { db, call }
 }
 
 /// The table of routes. One serves every session.
@@ -131,43 +148,16 @@ impl Routes {
         if takes_body(service) && !request.has_length {
             return Err(RouteFault::LengthMissing);
         }
-        match service {
-            Service::Welcome => Ok(Route::Welcome),
-            Service::GetDatabase => {
-                let db = name.into_owned(alloc)?;
-                Ok(Route::GetDatabase { db })
-            }
-            Service::PutDatabase => {
-                let db = name.into_owned(alloc)?;
-                Ok(Route::PutDatabase { db })
-            }
-            Service::BulkDocs => {
-                let db = name.into_owned(alloc)?;
-                Ok(Route::BulkDocs { db })
-            }
-            Service::Changes => {
-                let db = name.into_owned(alloc)?;
-                let query = Vec::from_slice(alloc, query)?;
-                Ok(Route::Changes { db, query })
-            }
-            Service::RevsDiff => {
-                let db = name.into_owned(alloc)?;
-                Ok(Route::RevsDiff { db })
-            }
-            Service::FullCommit => {
-                let db = name.into_owned(alloc)?;
-                Ok(Route::FullCommit { db })
-            }
-            Service::One(access) => {
-                let id = match document_id(alloc, access, part) {
-                    Ok(id) => id,
-                    Err(e) => return Err(e),
-                };
-                let db = name.into_owned(alloc)?;
-                let id = id.into_owned(alloc)?;
-                let query = Vec::from_slice(alloc, query)?;
-                Ok(route_to(access, db, id, query))
-            }
+        let id = match document_id(alloc, service, part) {
+            Ok(id) => id,
+            Err(e) => return Err(e),
+        };
+        if service == Service::Welcome {
+            return Ok(Route::Welcome);
         }
+        let db = name.into_owned(alloc)?;
+        let id = id.into_owned(alloc)?;
+        let query = Vec::from_slice(alloc, query)?;
+        Ok(route_to(service, db, id, query))
     }
 }

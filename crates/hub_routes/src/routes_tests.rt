@@ -1,4 +1,4 @@
-use crate::{Route, RouteFault, Routes};
+use crate::{Call, Route, RouteFault, Routes};
 use hub_http::{Refusal, Request};
 use std::alloc::{AllocError, Global};
 use std::process::Abort;
@@ -228,28 +228,32 @@ fn text(bytes: &[u8]) -> &str {
     str::from_utf8(bytes).unwrap_or("no text")
 }
 
+fn called(alloc: Global, db: &str, call: Call) -> Result<String, AllocError> {
+    match call {
+        Call::Info => format!(in alloc; "get {db}"),
+        Call::BulkDocs => format!(in alloc; "bulk {db}"),
+        Call::Changes { query } => format!(in alloc; "changes {db} ?{}", text(query.as_slice())),
+        Call::RevsDiff => format!(in alloc; "diff {db}"),
+        Call::FullCommit => format!(in alloc; "commit {db}"),
+        Call::GetDocument { id, query } => {
+            format!(in alloc; "get {db} {id} ?{}", text(query.as_slice()))
+        }
+        Call::PutDocument { id, query } => {
+            format!(in alloc; "put {db} {id} ?{}", text(query.as_slice()))
+        }
+        Call::DeleteDocument { id, query } => {
+            format!(in alloc; "delete {db} {id} ?{}", text(query.as_slice()))
+        }
+        Call::GetLocal { id } => format!(in alloc; "get local {db} {id}"),
+        Call::PutLocal { id } => format!(in alloc; "put local {db} {id}"),
+    }
+}
+
 fn shown(alloc: Global, answer: Result<Route, RouteFault>) -> Result<String, AllocError> {
     match answer {
         Ok(Route::Welcome) => format!(in alloc; "welcome"),
-        Ok(Route::GetDatabase { db }) => format!(in alloc; "get {db}"),
         Ok(Route::PutDatabase { db }) => format!(in alloc; "put {db}"),
-        Ok(Route::BulkDocs { db }) => format!(in alloc; "bulk {db}"),
-        Ok(Route::Changes { db, query }) => {
-            format!(in alloc; "changes {db} ?{}", text(query.as_slice()))
-        }
-        Ok(Route::RevsDiff { db }) => format!(in alloc; "diff {db}"),
-        Ok(Route::FullCommit { db }) => format!(in alloc; "commit {db}"),
-        Ok(Route::GetDocument { db, id, query }) => {
-            format!(in alloc; "get {db} {id} ?{}", text(query.as_slice()))
-        }
-        Ok(Route::PutDocument { db, id, query }) => {
-            format!(in alloc; "put {db} {id} ?{}", text(query.as_slice()))
-        }
-        Ok(Route::DeleteDocument { db, id, query }) => {
-            format!(in alloc; "delete {db} {id} ?{}", text(query.as_slice()))
-        }
-        Ok(Route::GetLocal { db, id }) => format!(in alloc; "get local {db} {id}"),
-        Ok(Route::PutLocal { db, id }) => format!(in alloc; "put local {db} {id}"),
+        Ok(Route::Database { db, call }) => called(alloc, db.as_str(), call),
         Err(fault) => format!(in alloc; "{}", Refusal::from(fault).reason()),
     }
 }

@@ -1,7 +1,7 @@
 //! What methods ask of paths (CouchDB API reference, the methods of each path).
 
 ghost use Rattle.std.specs.Prelude.{◌≡◌, IfErr, bytes_eq};
-ghost use Rattle.hub_routes.specs.Services.{method_of, asked_of, takes, takes_body};
+ghost use Rattle.hub_routes.specs.Services.{method_of, asked_of, has_document, takes, takes_body};
 ghost use Rattle.hub_routes.specs.Routes.{IsOfTable};
 
 use crate::kind::Kind;
@@ -25,9 +25,23 @@ pub enum Method {
     Other,
 }
 
-/// What is asked of a document.
+/// What is asked of the hub, or of a database.
 #[derive(Clone, Copy, Debug, PartialEq, Eq)]
-pub enum Access {
+pub enum Service {
+    /// The hub's greeting.
+    Welcome,
+    /// Making a database.
+    PutDatabase,
+    /// What a database is like.
+    Info,
+    /// Storing documents.
+    BulkDocs,
+    /// A feed of changes.
+    Changes,
+    /// Which revisions are missing.
+    RevsDiff,
+    /// A commit.
+    FullCommit,
     /// Reading a document.
     GetDocument,
     /// Storing a document.
@@ -38,27 +52,6 @@ pub enum Access {
     GetLocal,
     /// Storing a local document.
     PutLocal,
-}
-
-/// What is asked of the hub.
-#[derive(Clone, Copy, Debug, PartialEq, Eq)]
-pub enum Service {
-    /// The hub's greeting.
-    Welcome,
-    /// What a database is like.
-    GetDatabase,
-    /// Making a database.
-    PutDatabase,
-    /// Storing documents.
-    BulkDocs,
-    /// A feed of changes.
-    Changes,
-    /// Which revisions are missing.
-    RevsDiff,
-    /// A commit.
-    FullCommit,
-    /// One document.
-    One(Access),
 }
 
 fn is(method: &[u8], word: &str) -> bool
@@ -96,29 +89,43 @@ pub fn asked_of(kind: Kind, method: Method) -> Result<Service, RouteFault>
     match (kind, method) {
         (Kind::AllDbs | Kind::DbUpdates, _) => Err(RouteFault::Missing),
         (Kind::Welcome, Method::Get) => Ok(Service::Welcome),
-        (Kind::Database, Method::Get | Method::Head) => Ok(Service::GetDatabase),
+        (Kind::Database, Method::Get | Method::Head) => Ok(Service::Info),
         (Kind::Database, Method::Put) => Ok(Service::PutDatabase),
         (Kind::Database, Method::Delete) => Err(RouteFault::Missing),
         (Kind::BulkDocs, Method::Post) => Ok(Service::BulkDocs),
         (Kind::Changes, Method::Get | Method::Post) => Ok(Service::Changes),
         (Kind::RevsDiff, Method::Post) => Ok(Service::RevsDiff),
         (Kind::FullCommit, Method::Post) => Ok(Service::FullCommit),
-        (Kind::Document, Method::Get) => Ok(Service::One(Access::GetDocument)),
-        (Kind::Document, Method::Put) => Ok(Service::One(Access::PutDocument)),
-        (Kind::Document, Method::Delete) => Ok(Service::One(Access::DeleteDocument)),
-        (Kind::Local, Method::Get) => Ok(Service::One(Access::GetLocal)),
-        (Kind::Local, Method::Put) => Ok(Service::One(Access::PutLocal)),
+        (Kind::Document, Method::Get) => Ok(Service::GetDocument),
+        (Kind::Document, Method::Put) => Ok(Service::PutDocument),
+        (Kind::Document, Method::Delete) => Ok(Service::DeleteDocument),
+        (Kind::Local, Method::Get) => Ok(Service::GetLocal),
+        (Kind::Local, Method::Put) => Ok(Service::PutLocal),
         _ => Err(RouteFault::MethodNotAllowed),
     }
 }
 
-/// Whether an id may be asked for so.
-pub fn takes(access: Access, id: &[u8]) -> bool
-    ensures { result ≡ takes access id.now }
+/// Whether it asks for one document.
+pub fn has_document(service: Service) -> bool
+    ensures { result ≡ has_document service }
 {
-    match access {
-        Access::GetLocal | Access::PutLocal => true,
-        _ => is_id(id),
+    matches!(
+        service,
+        Service::GetDocument
+            | Service::PutDocument
+            | Service::DeleteDocument
+            | Service::GetLocal
+            | Service::PutLocal
+    )
+}
+
+/// Whether an id may be asked for so.
+pub fn takes(service: Service, id: &[u8]) -> bool
+    ensures { result ≡ takes service id.now }
+{
+    match service {
+        Service::GetDocument | Service::PutDocument | Service::DeleteDocument => is_id(id),
+        _ => true,
     }
 }
 

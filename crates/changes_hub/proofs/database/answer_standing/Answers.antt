@@ -1,5 +1,5 @@
 use Rattle.std.proofs.Common.{inl, inr, refl}
-use Rattle.changes_hub.specs.declared.call.Call.TheVariants.{PutDocument}
+use Rattle.hub_routes.specs.declared.route.Call.TheVariants.{PutDocument}
 use Rattle.changes_hub.proofs.CallLemmas.{left_standing, writes_came}
 use Rattle.changes_hub.proofs.database.answer_standing.Goals as goal
 
