@@ -19,6 +19,8 @@ mod locals;
 mod name;
 mod refusal;
 mod response;
+#[cfg(test)]
+mod session_tests;
 mod stream;
 #[cfg(test)]
 mod tests;
