@@ -1,5 +1,6 @@
 -- What a batch of documents is (CouchDB API reference, POST /{db}/_bulk_docs).
-use Rattle.std.specs.Prelude.{ℕ, List, [], ◌∷◌, Bool, true, if◌then◌else◌, Option, Some, None, Result, Ok, Err, option_and_then, codes}
+use Rattle.std.specs.Prelude.{ℕ, List, [], ◌∷◌, Bool, true, if◌then◌else◌, Option, Some, None, Result, Ok}
+use Rattle.std.specs.Prelude.{Err, option_and_then, codes}
 use Rattle.serde_json.specs.Data.{Data, Items, no_items, item}
 use Rattle.serde_json.specs.Find.{get, as_array, as_bool}
 use Rattle.hub_document.specs.declared.doc.Doc.{Doc}
@@ -32,7 +33,8 @@ batch_with (Some docs) (Some new_edits) = Ok (record { docs = docs; new_edits = 
 
 -- the batch that a value is, or why the whole is refused
 abbrev pub batch_of : Data → Result Batch Refusal
-batch_of d = batch_with (option_and_then as_array (get (codes "docs") d)) (flag_of (get (codes "new_edits") d))
+batch_of d =
+    batch_with (option_and_then as_array (get (codes "docs") d)) (flag_of (get (codes "new_edits") d))
 
 -- the same of a value that may be none
 abbrev pub batch_if : Option Data → Result Batch Refusal
@@ -69,6 +71,8 @@ reply_to new_edits (Refused fault) = Some (reply.Refused (of_fault fault))
 -- the reply to each element: its own fault, or else what came of storing it
 abbrev pub replies_of : Bool → List (Option DocFault) → List (Outcome Revision) → List (Option BatchReply)
 replies_of new_edits [] outcomes = []
-replies_of new_edits (Some fault ∷ faults) outcomes = Some (reply.Refused (of_doc_fault fault)) ∷ replies_of new_edits faults outcomes
+replies_of new_edits (Some fault ∷ faults) outcomes =
+    Some (reply.Refused (of_doc_fault fault)) ∷ replies_of new_edits faults outcomes
 replies_of new_edits (None ∷ faults) [] = None ∷ replies_of new_edits faults []
-replies_of new_edits (None ∷ faults) (o ∷ outcomes) = reply_to new_edits o ∷ replies_of new_edits faults outcomes
+replies_of new_edits (None ∷ faults) (o ∷ outcomes) =
+    reply_to new_edits o ∷ replies_of new_edits faults outcomes

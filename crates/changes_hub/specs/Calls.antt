@@ -1,5 +1,7 @@
--- What a database answers to a call (CouchDB API reference: documents, local documents, _bulk_docs, _revs_diff, _changes; own for the order of refusals).
-use Rattle.std.specs.Prelude.{◌≡◌, ℕ, ◌^◌, List, [], ◌∷◌, take, Bool, true, if◌then◌else◌, nat_le, codes, string_bytes, Option, Some, None, Result, Ok, Err}
+-- What a database answers to a call (CouchDB API reference: documents, local documents, _bulk_docs,
+-- _revs_diff, _changes; own for the order of refusals).
+use Rattle.std.specs.Prelude.{◌≡◌, ℕ, ◌^◌, List, [], ◌∷◌, take, Bool, true, if◌then◌else◌, nat_le, codes}
+use Rattle.std.specs.Prelude.{string_bytes, Option, Some, None, Result, Ok, Err}
 use Rattle.hub_model.specs.Revision.{Revision}
 use Rattle.hub_model.specs.Leaves.{leaves_of}
 use Rattle.hub_model.specs.Missing.{Asked, diffs}
@@ -31,10 +33,12 @@ use Rattle.hub_revtree.specs.declared.leaf.Winner.{Winner}
 use Rattle.hub_http.specs.Refusals.{of_doc_fault, of_fault}
 use Rattle.hub_http.specs.declared.refusal.Refusal.{Refusal}
 use Rattle.hub_http.specs.declared.refusal.Refusal.TheVariants as refusal
-use Rattle.hub_http.specs.declared.refusal.Refusal.TheVariants.{BadRev, Conflict, SequenceFull, Missing, DocDeleted}
+use Rattle.hub_http.specs.declared.refusal.Refusal.TheVariants.{BadRev, Conflict, SequenceFull, Missing}
+use Rattle.hub_http.specs.declared.refusal.Refusal.TheVariants.{DocDeleted}
 use Rattle.hub_params.specs.DocParams.{DocAsked, doc_asked}
 use Rattle.hub_params.specs.FeedParams.{feed_asked}
-use Rattle.hub_replies.specs.Bodies.{info_body, edit_body, local_edit_body, doc_body, local_doc_body, open_revs_body, diffs_body, commit_body}
+use Rattle.hub_replies.specs.Bodies.{info_body, edit_body, local_edit_body, doc_body, local_doc_body}
+use Rattle.hub_replies.specs.Bodies.{open_revs_body, diffs_body, commit_body}
 use Rattle.hub_replies.specs.Bulk.{batch_body}
 use Rattle.hub_routes.specs.declared.route.Call.{Call}
 use Rattle.hub_routes.specs.declared.route.Call.TheVariants as call
@@ -142,7 +146,10 @@ says_local (Some l) = Body 200 (local_doc_body l.id l.count l.body)
 abbrev pub keeps : Database → Local → Step
 keeps db l =
     if nat_le (2 ^ 64) l.count then reads db (Refusing SequenceFull)
-    else record { said = Body 201 (local_edit_body l.id l.count); state = record db { locals = put_local l db.locals } }
+    else record {
+      said = Body 201 (local_edit_body l.id l.count);
+      state = record db { locals = put_local l db.locals };
+    }
 
 -- putting a local document, or the refusal of its fault
 abbrev pub puts_local : Database → Result LocalDoc DocFault → Step
@@ -166,28 +173,43 @@ stores db (Err refusal) = reads db (Refusing refusal)
 stores db (Ok batch) =
     let read = readings batch.new_edits batch.docs in
     let stored = writes batch.new_edits db.deleted db.limits.journal db.journal (read_docs read) in
-    record { said = Body 201 (batch_body batch.docs (replies_of batch.new_edits (faults_of read) stored.outcomes)); state = record db { journal = stored.journal } }
+    record {
+      said = Body 201
+          (batch_body batch.docs (replies_of batch.new_edits (faults_of read) stored.outcomes));
+      state = record db { journal = stored.journal };
+    }
 
 -- the state of a database that has documents from the front of a batch
 pub record HasFront (db : Database) (batch : Batch) (new : Database) : Type 0 where
   pub count : ℕ
-  pub front : new ≡ record db { journal = (writes batch.new_edits db.deleted db.limits.journal db.journal (take count (read_docs (readings batch.new_edits batch.docs)))).journal }
+  pub front : new
+      ≡ record db {
+        journal =
+            (writes batch.new_edits db.deleted db.limits.journal db.journal
+            (take count (read_docs (readings batch.new_edits batch.docs)))).journal;
+      }
 
 -- ---- calls
 
--- what a database of this name that was not deleted answers to a call with this body, and the database after it
+-- what a database of this name that was not deleted answers to a call with this body, and the database after
+-- it
 abbrev pub answers_standing : Call → List ℕ → List ℕ → Database → Step
 answers_standing call.Info name body db = reads db (says_info name db)
 answers_standing call.BulkDocs name body db = stores db (batch_in body)
 answers_standing (call.Changes query) name body db = begins db (feed_asked query.items body)
 answers_standing call.RevsDiff name body db = reads db (says_diffs db (asked_by body))
 answers_standing call.FullCommit name body db = reads db says_commit
-answers_standing (call.GetDocument id query) name body db = reads db (gets_doc db (string_bytes id) (doc_asked query.items))
-answers_standing (call.PutDocument id query) name body db = puts_doc db (put_in (string_bytes id) (doc_asked query.items).rev (doc_asked query.items).new_edits body)
-answers_standing (call.DeleteDocument id query) name body db = deletes_doc db (string_bytes id) (doc_asked query.items).rev
-answers_standing (call.GetLocal id) name body db = reads db (says_local (local_of db.locals (string_bytes id)))
+answers_standing (call.GetDocument id query) name body db =
+    reads db (gets_doc db (string_bytes id) (doc_asked query.items))
+answers_standing (call.PutDocument id query) name body db =
+    puts_doc db (put_in (string_bytes id) (doc_asked query.items).rev (doc_asked query.items).new_edits body)
+answers_standing (call.DeleteDocument id query) name body db =
+    deletes_doc db (string_bytes id) (doc_asked query.items).rev
+answers_standing (call.GetLocal id) name body db =
+    reads db (says_local (local_of db.locals (string_bytes id)))
 answers_standing (call.PutLocal id) name body db = puts_local db (local_in (string_bytes id) body)
 
 -- the same of any database: once it is deleted it refuses each call
 abbrev pub calls : Call → List ℕ → List ℕ → Database → Step
-calls c name body db = if db.deleted then reads db (Refusing refusal.Deleted) else answers_standing c name body db
+calls c name body db =
+    if db.deleted then reads db (Refusing refusal.Deleted) else answers_standing c name body db

@@ -1,5 +1,6 @@
 -- How the calls of a database come out in the program (own).
-use Rattle.std.specs.Prelude.{◌≡◌, ◌⊎◌, ℕ, List, take, find, set, slice_get, Bool, true, Vec, Option, Some, None, Result, Ok, Err}
+use Rattle.std.specs.Prelude.{◌≡◌, ◌⊎◌, ℕ, List, take, find, set, slice_get, Bool, true, Vec, Option, Some}
+use Rattle.std.specs.Prelude.{None, Result, Ok, Err}
 use Rattle.hub_model.specs.Revision.{Revision}
 use Rattle.hub_model.specs.declared.outcomes.Outcome.{Outcome}
 use Rattle.hub_document.specs.declared.doc.Doc.{Doc}
@@ -20,7 +21,8 @@ use Rattle.changes_hub.specs.Said.{Said, Body, Refusing, Feeding, Step}
 use Rattle.hub_session.specs.declared.service.Answer.{Answer}
 use Rattle.changes_hub.specs.Calls.{calls}
 use Rattle.changes_hub.specs.Hub as hub
-use Rattle.changes_hub.specs.Hub.{Hub, Named, StandsAt, IsStep, MayLeaveStanding, has_name, calls_at, calls_on}
+use Rattle.changes_hub.specs.Hub.{Hub, Named, StandsAt, IsStep, MayLeaveStanding, has_name, calls_at}
+use Rattle.changes_hub.specs.Hub.{calls_on}
 use Rattle.changes_hub.specs.Names.{is_name}
 use Rattle.changes_hub.specs.declared.response.Response.{Response}
 use Rattle.changes_hub.specs.declared.response.Response.TheVariants as response
@@ -31,7 +33,8 @@ Responds (response.Body status bytes) (Body n body) = (status ≡ n) × (bytes.i
 Responds (response.Feed feed) (Feeding begun) = feed ≡ begun
 Responds r said = ⊥
 
--- a call that changes nothing came out with a body and this status, or with a refusal; memory may have been missing
+-- a call that changes nothing came out with a body and this status, or with a refusal; memory may have been
+-- missing
 abbrev pub Reads : ℕ → Said → Result (Vec ℕ Global) Refusal → Type 0
 Reads status said (Ok body) = said ≡ Body status body.items
 Reads status said (Err e) = (e ≡ NoMemory) ⊎ (said ≡ Refusing e)
@@ -39,7 +42,8 @@ Reads status said (Err e) = (e ≡ NoMemory) ⊎ (said ≡ Refusing e)
 -- a call came out so and left the database new
 abbrev pub Writes : ℕ → Database → Step → Result (Vec ℕ Global) Refusal → Database → Type 0
 Writes status old step (Ok body) new = (step.said ≡ Body status body.items) × (new ≡ step.state)
-Writes status old step (Err e) new = ((step.said ≡ Refusing e) × (new ≡ step.state)) ⊎ ((e ≡ NoMemory) × ((new ≡ old) ⊎ (new ≡ step.state)))
+Writes status old step (Err e) new =
+    ((step.said ≡ Refusing e) × (new ≡ step.state)) ⊎ ((e ≡ NoMemory) × ((new ≡ old) ⊎ (new ≡ step.state)))
 
 -- a call whose answer is made before what it changes came out so and left the database new: where memory was
 -- missing, as it was
@@ -49,18 +53,26 @@ Keeps status old step (Err e) new =
     ((step.said ≡ Refusing e) × (new ≡ step.state)) ⊎ ((e ≡ NoMemory) × (new ≡ old))
 
 -- documents were stored one after the other with these outcomes, and left the database new
-pub record HasStored (new_edits : Bool) (old : Database) (docs : List Doc) (outcomes : List (Outcome Revision)) (new : Database) : Type 0 where
-  pub stored : writes new_edits old.deleted old.limits.journal old.journal docs ≡ record { outcomes = outcomes; journal = new.journal }
+pub record HasStored (new_edits : Bool) (old : Database) (docs : List Doc)
+    (outcomes : List (Outcome Revision)) (new : Database) : Type 0 where
+  pub stored : writes new_edits old.deleted old.limits.journal old.journal docs
+      ≡ record { outcomes = outcomes; journal = new.journal }
   pub rest : new ≡ record old { journal = new.journal }
 
 -- documents from the front of these were stored
-pub record HasStoredFront (new_edits : Bool) (old : Database) (docs : List Doc) (new : Database) : Type 0 where
-  pub count : ℕ
-  pub front : new ≡ record old { journal = (writes new_edits old.deleted old.limits.journal old.journal (take count docs)).journal }
+pub record HasStoredFront (new_edits : Bool) (old : Database) (docs : List Doc) (new : Database) : Type 0
+  where
+    pub count : ℕ
+    pub front : new
+        ≡ record old {
+          journal =
+              (writes new_edits old.deleted old.limits.journal old.journal (take count docs)).journal;
+        }
 
 -- a batch came out so, and left the database new
 abbrev pub Stores : Result Batch Refusal → Database → Result (Vec ℕ Global) Refusal → Database → Type 0
-Stores batch old (Ok body) new = ((stores old batch).said ≡ Body 201 body.items) × (new ≡ (stores old batch).state)
+Stores batch old (Ok body) new =
+    ((stores old batch).said ≡ Body 201 body.items) × (new ≡ (stores old batch).state)
 Stores batch old (Err e) new =
     (((stores old batch).said ≡ Refusing e) × (new ≡ (stores old batch).state))
     ⊎ ((e ≡ NoMemory) × ((new ≡ old) ⊎ ((b : Batch) × (batch ≡ Ok b) × HasFront old b new)))
@@ -82,7 +94,9 @@ Begins said (Err e) = (e ≡ NoMemory) ⊎ (said ≡ Refusing e)
 
 -- a feed handed this item, or none for want of memory, and left the database new
 abbrev pub Hands : Database → ℕ → Option (Item ChangeRow) → Database → Type 0
-Hands old id item new = ((item ≡ item_due (hosted_of old) id) × (new ≡ behind old id item)) ⊎ ((item ≡ None) × (new ≡ with_hosted old (finished (hosted_of old) id)))
+Hands old id item new =
+    ((item ≡ item_due (hosted_of old) id) × (new ≡ behind old id item))
+    ⊎ ((item ≡ None) × (new ≡ with_hosted old (finished (hosted_of old) id)))
 
 -- ---- the hub
 

@@ -1,4 +1,5 @@
--- What a database and a hub do for a feed (CouchDB API reference, /{db}/_changes; own for the feeds that are not served yet).
+-- What a database and a hub do for a feed (CouchDB API reference, /{db}/_changes; own for the feeds that are
+-- not served yet).
 use Rattle.std.specs.Prelude.{ℕ, List, [], ◌∷◌, if◌then◌else◌, Option, Some, None, Result, Ok, Err}
 use Rattle.hub_model.specs.Row.{ChangeRow}
 pub use Rattle.hub_model.specs.RightlyHanded.{is_end}
@@ -50,7 +51,11 @@ lists answer = Feeding (Listed answer)
 -- opening a feed, unless there is a fault
 abbrev pub opens_unless : Option OpenFault → Database → Params → Step
 opens_unless (Some fault) db params = reads db (Refusing (of_open_fault fault))
-opens_unless None db params = record { said = Feeding (Followed (record { number = db.next_feed })); state = with_hosted db (opened (hosted_of db) params) }
+opens_unless None db params =
+    record {
+      said = Feeding (Followed (record { number = db.next_feed }));
+      state = with_hosted db (opened (hosted_of db) params);
+    }
 
 -- opening a feed
 abbrev pub opens : Database → Params → Step
@@ -78,7 +83,8 @@ begins db (Ok asked) = begins_asked db asked
 -- the next item of an answer with these rows left, and what is left behind it
 abbrev pub next_of_rows : List ChangeRow → ℕ → ℕ → Item ChangeRow × Option Descending
 next_of_rows [] last_seq pending = (End last_seq pending, None)
-next_of_rows (row ∷ rows) last_seq pending = (Row row, Some (record { rows = rows; last_seq = last_seq; pending = pending }))
+next_of_rows (row ∷ rows) last_seq pending =
+    (Row row, Some (record { rows = rows; last_seq = last_seq; pending = pending }))
 
 -- the same of what is left of an answer
 abbrev pub next_listed : Descending → Item ChangeRow × Option Descending
@@ -87,4 +93,5 @@ next_listed answer = next_of_rows answer.rows answer.last_seq answer.pending
 -- the database once its feed handed this item: behind an end, and where there was none, the feed is finished
 abbrev pub behind : Database → ℕ → Option (Item ChangeRow) → Database
 behind db id None = with_hosted db (finished (hosted_of db) id)
-behind db id (Some item) = with_hosted db (if is_end item then finished (hosted_of db) id else handed (hosted_of db) id)
+behind db id (Some item) =
+    with_hosted db (if is_end item then finished (hosted_of db) id else handed (hosted_of db) id)

@@ -1,5 +1,8 @@
--- A hub's databases, and what it answers to a request (CouchDB API reference, the server and its databases; own for the order of refusals).
-use Rattle.std.specs.Prelude.{◌≡◌, ◌⊎◌, ℕ, List, [], ◌∷◌, ◌++◌, length, find, set, slice_get, unwrap_or, option_map, Bool, true, false, Option, Some, None, Result, Ok, Err, if◌then◌else◌, nat_le, string_bytes}
+-- A hub's databases, and what it answers to a request (CouchDB API reference, the server and its databases;
+-- own for the order of refusals).
+use Rattle.std.specs.Prelude.{◌≡◌, ◌⊎◌, ℕ, List, [], ◌∷◌, ◌++◌, length, find, set, slice_get, unwrap_or}
+use Rattle.std.specs.Prelude.{option_map, Bool, true, false, Option, Some, None, Result, Ok, Err}
+use Rattle.std.specs.Prelude.{if◌then◌else◌, nat_le, string_bytes}
 use Rattle.std.specs.List.{list_any, position_from}
 use Rattle.std.specs.Str.{bytes_eq}
 use Rattle.hub_model.specs.Row.{ChangeRow}
@@ -64,7 +67,18 @@ greets h = says h (Body 200 welcome_body)
 
 -- a database without edits
 abbrev pub empty : List ℕ → Limits → Named
-empty name limits = record { name = name; state = record { journal = []; deleted = false; locals = []; feeds = []; next_feed = 0; limits = limits } }
+empty name limits =
+    record {
+      name = name;
+      state = record {
+        journal = [];
+        deleted = false;
+        locals = [];
+        feeds = [];
+        next_feed = 0;
+        limits = limits;
+      };
+    }
 
 -- the hub with one more
 abbrev pub with_database : Hub → List ℕ → Hub
@@ -84,7 +98,8 @@ creates h name =
 -- the databases, with this state in the place of that of the first of the name
 abbrev pub with_state : List ℕ → Database → List Named → List Named
 with_state name state [] = []
-with_state name state (d ∷ ds) = if has_name name d then record d { state = state } ∷ ds else d ∷ with_state name state ds
+with_state name state (d ∷ ds) =
+    if has_name name d then record d { state = state } ∷ ds else d ∷ with_state name state ds
 
 -- the hub with this state in the place of that of the name
 abbrev pub stored_at : Hub → List ℕ → Database → Hub
@@ -102,7 +117,11 @@ feed_after feed at (Feeding begun) = Some (record { at = at; feed = begun })
 
 -- the hub after a call that came out so on the database of the name
 abbrev pub after_call : Hub → List ℕ → Said → Database → Hub
-after_call h name said state = record h { databases = with_state name state h.databases; feed = feed_after h.feed (place_of h name) said }
+after_call h name said state =
+    record h {
+      databases = with_state name state h.databases;
+      feed = feed_after h.feed (place_of h name) said;
+    }
 
 -- a call on the database that was found
 abbrev pub calls_on : Hub → List ℕ → Call → List ℕ → Option Named → Step
@@ -113,7 +132,9 @@ calls_on h name c body (Some d) =
 
 -- a call on the database of the name: a bad name is refused first, then one that is not there
 abbrev pub calls_at : Hub → List ℕ → Call → List ℕ → Step
-calls_at h name c body = if is_name name then calls_on h name c body (find (has_name name) h.databases) else says h (Refusing BadName)
+calls_at h name c body =
+    if is_name name
+    then calls_on h name c body (find (has_name name) h.databases) else says h (Refusing BadName)
 
 -- the database d is the first of the name, and stands at this place
 pub record StandsAt (h : Hub) (name : List ℕ) (at : ℕ) (d : Named) : Type 0 where
@@ -143,7 +164,8 @@ Says answer said = ⊥
 -- finds no memory for the answer: the edit stands, or it does not; putting the local document a finds none:
 -- it was not kept.
 abbrev pub MayLeave : Call → List ℕ → List ℕ → Database → Database → Type 0
-MayLeave BulkDocs name body db new = (new ≡ db) ⊎ ((batch : Batch) × (batch_in body ≡ Ok batch) × HasFront db batch new)
+MayLeave BulkDocs name body db new =
+    (new ≡ db) ⊎ ((batch : Batch) × (batch_in body ≡ Ok batch) × HasFront db batch new)
 MayLeave (PutDocument id query) name body db new =
     (new ≡ db) ⊎ (new ≡ (calls (PutDocument id query) name body db).state)
 MayLeave (DeleteDocument id query) name body db new =
@@ -198,7 +220,11 @@ unsent h = record h { feed = None }
 
 -- what is left of an answer that was made at once goes on
 abbrev pub gives_listed : Hub → ℕ → Item ChangeRow × Option Descending → Given
-gives_listed h at next = record { item = Some next.0; hub = record h { feed = option_map (λ left. record { at = at; feed = Listed left }) next.1 } }
+gives_listed h at next =
+    record {
+      item = Some next.0;
+      hub = record h { feed = option_map (λ left. record { at = at; feed = Listed left }) next.1 };
+    }
 
 -- the feed that is being sent after an item of it
 abbrev pub sent_after : Sent → Option (Item ChangeRow) → Option Sent
@@ -207,7 +233,14 @@ sent_after sent (Some item) = if is_end item then None else Some sent
 
 -- a feed of a database hands this
 abbrev pub hands : Hub → ℕ → ℕ → Named → Option (Item ChangeRow) → Given
-hands h at id d item = record { item = item; hub = record h { databases = set h.databases at (record d { state = behind d.state id item }); feed = sent_after (record { at = at; feed = Followed (record { number = id }) }) item } }
+hands h at id d item =
+    record {
+      item = item;
+      hub = record h {
+        databases = set h.databases at (record d { state = behind d.state id item });
+        feed = sent_after (record { at = at; feed = Followed (record { number = id }) }) item;
+      };
+    }
 
 -- a feed of the database at a place goes on
 abbrev pub gives_followed : Hub → ℕ → ℕ → Option Named → Given
@@ -237,7 +270,8 @@ by_feed goes h (Some sent) = goes h sent.at sent.feed
 -- from the hub h a feed goes on with this item, or stops, and leaves the hub k
 abbrev pub HubGives : Hub → Option (Item ChangeRow) → Hub → Type 0
 HubGives h item k =
-    (record { item = item; hub = k } ≡ by_feed gives_of h h.feed) ⊎ (record { item = item; hub = k } ≡ by_feed stops_of h h.feed)
+    (record { item = item; hub = k } ≡ by_feed gives_of h h.feed)
+    ⊎ (record { item = item; hub = k } ≡ by_feed stops_of h h.feed)
 
 -- ---- a feed that is not sent on
 
@@ -246,7 +280,11 @@ HubGives h item k =
 abbrev pub finishes : Hub → ℕ → ℕ → Option Named → Hub
 finishes h at id None = unsent h
 finishes h at id (Some d) =
-    unsent (record h { databases = set h.databases at (record d { state = with_hosted d.state (finished (hosted_of d.state) id) }) })
+    unsent (record
+    h {
+      databases = set h.databases at
+          (record d { state = with_hosted d.state (finished (hosted_of d.state) id) });
+    })
 
 -- the hub once this feed of the database at a place is given back; an answer that was made at once has
 -- nothing there

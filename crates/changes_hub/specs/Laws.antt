@@ -1,5 +1,6 @@
 -- What the feeds of a hub show (CouchDB API reference, _changes).
-use Rattle.std.specs.Prelude.{◌≡◌, ℕ, List, [], ◌∷◌, ◌++◌, length, map, filter, max, ◌&&◌, nat_lt, nat_le, if◌then◌else◌, Option, Some, None, slice_get}
+use Rattle.std.specs.Prelude.{◌≡◌, ℕ, List, [], ◌∷◌, ◌++◌, length, map, filter, max, ◌&&◌, nat_lt, nat_le}
+use Rattle.std.specs.Prelude.{if◌then◌else◌, Option, Some, None, slice_get}
 use Rattle.hub_model.specs.Journal.{Edit}
 use Rattle.hub_model.specs.Current.{Current, current, pending}
 use Rattle.hub_model.specs.Descending.{Descending, at_most, lowest}
@@ -17,20 +18,27 @@ use Rattle.changes_hub.specs.declared.response.Feed.TheVariants.{Listed, Followe
 
 -- the current rows that pass and lie above since, the least sequence first, at most `limit`
 abbrev pub rising_rows : List Edit → Params → ℕ → List Current
-rising_rows J params since = at_most params.limit (filter (λ (c : Current). nat_lt since c.seq && passes params.filter c.id) (current J))
+rising_rows J params since =
+    at_most params.limit (filter (λ (c : Current). nat_lt since c.seq
+    && passes params.filter c.id) (current J))
 
--- where a feed ends that showed these rows: at the last of them, if the limit allows no more, else at the journal's length
+-- where a feed ends that showed these rows: at the last of them, if the limit allows no more, else at the
+-- journal's length
 abbrev pub end_after : Option ℕ → ℕ → ℕ → List Current → ℕ
 end_after None len since rows = len
 end_after (Some limit) len since rows = if nat_le (max 1 limit) (length rows) then lowest since rows else len
 
 -- these rows as they are shown, and then the end, with the count of the current rows above it
 abbrev pub rows_to : List Edit → Params → List Current → ℕ → List (Item ChangeRow)
-rows_to J params rows last_seq = map Row (map (row_of J params.style params.include_docs) rows) ++ End last_seq (pending (current J) last_seq) ∷ []
+rows_to J params rows last_seq =
+    map Row (map (row_of J params.style params.include_docs) rows)
+    ++ End last_seq (pending (current J) last_seq) ∷ []
 
 -- what a feed that ends at once shows of a journal, after since
 abbrev pub whole_after : List Edit → Params → ℕ → List (Item ChangeRow)
-whole_after J params since = rows_to J params (rising_rows J params since) (end_after params.limit (length J) since (rising_rows J params since))
+whole_after J params since =
+    rows_to J params (rising_rows J params since)
+    (end_after params.limit (length J) since (rising_rows J params since))
 
 -- the same after the since that is asked for
 abbrev pub whole_feed : List Edit → Params → List (Item ChangeRow)

@@ -1,5 +1,7 @@
--- What becomes of documents that are stored (CouchDB API reference, _bulk_docs, PUT and DELETE of a document).
-use Rattle.std.specs.Prelude.{◌≡◌, ℕ, List, [], Bool, true, false, unwrap_or, slice_get, Some, Result, Ok, Err, if◌then◌else◌}
+-- What becomes of documents that are stored (CouchDB API reference, _bulk_docs, PUT and DELETE of a
+-- document).
+use Rattle.std.specs.Prelude.{◌≡◌, ℕ, List, [], Bool, true, false, unwrap_or, slice_get, Some, Result, Ok}
+use Rattle.std.specs.Prelude.{Err, if◌then◌else◌}
 use Rattle.hub_model.specs.Journal.{Edit, IsAcceptable}
 use Rattle.hub_model.specs.Draft.{Draft, HasNextRevision, makes}
 use Rattle.hub_model.specs.Outcome.{Stores, StoresAll, merges, refuses, stores_all}
@@ -19,9 +21,11 @@ edit_of doc = record { id = doc.id; path = unwrap_or doc.path []; deleted = doc.
 abbrev pub draft_of : Doc → Draft
 draft_of doc = record { id = doc.id; rev = doc.rev; deleted = doc.deleted; body = doc.body }
 
--- what storing a document answers, and the journal after it: as a new edit, or as one that another database made
+-- what storing a document answers, and the journal after it: as a new edit, or as one that another database
+-- made
 abbrev pub stores_doc : Bool → ℕ → List Edit → Doc → Stores
-stores_doc new_edits limit J doc = if new_edits then makes limit J (draft_of doc) else merges limit J (edit_of doc)
+stores_doc new_edits limit J doc =
+    if new_edits then makes limit J (draft_of doc) else merges limit J (edit_of doc)
 
 -- documents one after the other, in a database that stands or was deleted
 abbrev pub writes : Bool → Bool → ℕ → List Edit → List Doc → StoresAll
@@ -31,21 +35,24 @@ writes new_edits deleted limit J docs = stores_all (stores_doc new_edits limit) 
 abbrev pub makes_one : Bool → ℕ → List Edit → Doc → Stores
 makes_one deleted limit J doc = if deleted then refuses J fault.Deleted else makes limit J (draft_of doc)
 
--- Storing the document takes memory: an edit of another database that may be stored; one that is made here once it has a
--- leaf and a generation left. A document whose revision is known, that contradicts, or that names no leaf needs none.
+-- Storing the document takes memory: an edit of another database that may be stored; one that is made here
+-- once it has a leaf and a generation left. A document whose revision is known, that contradicts, or that
+-- names no leaf needs none.
 abbrev pub NeedsRoom : Bool → List Edit → Doc → Type 0
 NeedsRoom true J doc = HasNextRevision J (draft_of doc)
 NeedsRoom false J doc = IsAcceptable J (edit_of doc)
 
--- A batch stopped at this place: the database stands, and the document there, after those before it made up this journal,
--- needed room. Of five documents with a known one in the middle a batch may stop at 0, 1, 3 or 4, and never at 2.
+-- A batch stopped at this place: the database stands, and the document there, after those before it made up
+-- this journal, needed room. Of five documents with a known one in the middle a batch may stop at 0, 1, 3 or
+-- 4, and never at 2.
 pub record StopsAt (new_edits deleted : Bool) (J : List Edit) (at : ℕ) (docs : List Doc) : Type 0 where
   pub stands : deleted ≡ false
   pub doc : Doc
   pub there : slice_get docs at ≡ Some doc
   pub needs : NeedsRoom new_edits J doc
 
--- what a call answers whose one edit came so: as an edit that is made is never known before, Known is told as a conflict
+-- what a call answers whose one edit came so: as an edit that is made is never known before, Known is told as
+-- a conflict
 abbrev pub reply_of : Outcome Revision → Result Revision DbFault
 reply_of (outcome.Stored rev) = Ok rev
 reply_of (outcome.Refused f) = Err (db_fault.Refused f)

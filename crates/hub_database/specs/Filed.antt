@@ -1,5 +1,6 @@
 -- The documents of a database with their trees, and the journal that they make up (own).
-use Rattle.std.specs.Prelude.{◌≡◌, ℕ, ◌<◌, ◌≤◌, List, [], length, map, slice_get, get_or, false, Option, Some, None}
+use Rattle.std.specs.Prelude.{◌≡◌, ℕ, ◌<◌, ◌≤◌, List, [], length, map, slice_get, get_or, false, Option, Some}
+use Rattle.std.specs.Prelude.{None}
 use Rattle.hub_model.specs.Journal.{Edit, IsLegal, edits_of}
 use Rattle.hub_model.specs.Current.{current}
 use Rattle.hub_database.specs.declared.entry.Entry.{Entry}
@@ -31,12 +32,16 @@ abbrev pub journal_of : List Filed → List Entry → List Edit
 journal_of documents entries = map (edit_at documents) entries
 
 -- what holds of the documents, of their numbers by id, and of the entries
-pub record IsFiled (limit : ℕ) (numbers : List ℕ → Option ℕ) (documents : List Filed) (entries : List Entry) : Type 0 where
-  pub found : (id : List ℕ) (k : ℕ) → numbers id ≡ Some k → (d : Filed) × (slice_get documents k ≡ Some d) × (d.id ≡ id)
+pub record IsFiled (limit : ℕ) (numbers : List ℕ
+    → Option ℕ) (documents : List Filed) (entries : List Entry) : Type 0 where
+  pub found : (id : List ℕ) (k : ℕ) → numbers id ≡ Some k
+      → (d : Filed) × (slice_get documents k ≡ Some d) × (d.id ≡ id)
   pub own : (k : ℕ) (d : Filed) → slice_get documents k ≡ Some d → numbers d.id ≡ Some k
-  pub kept : (k : ℕ) (d : Filed) → slice_get documents k ≡ Some d → edits_of (journal_of documents entries) d.id ≡ map (named d.id) d.edits
+  pub kept : (k : ℕ) (d : Filed) → slice_get documents k ≡ Some d
+      → edits_of (journal_of documents entries) d.id ≡ map (named d.id) d.edits
   pub others : (id : List ℕ) → numbers id ≡ None → edits_of (journal_of documents entries) id ≡ []
-  pub within : (i : ℕ) (x : Entry) → slice_get entries i ≡ Some x → (d : Filed) × (slice_get documents x.document ≡ Some d) × (x.revision < length d.edits)
+  pub within : (i : ℕ) (x : Entry) → slice_get entries i ≡ Some x
+      → (d : Filed) × (slice_get documents x.document ≡ Some d) × (x.revision < length d.edits)
   pub legal : IsLegal (journal_of documents entries)
   pub count : length entries ≤ limit
   pub fewer : length documents ≤ length entries

@@ -5,8 +5,8 @@ use Rattle.hub_model.specs.Row.{ChangeRow, row_of}
 use Rattle.hub_feed.specs.Host.{Hosted}
 use Rattle.hub_database.specs.Database.{Database}
 
--- its edits are its journal's, each row is shown as the journal shows it now, and as many feeds are taken as its
--- limits say
+-- its edits are its journal's, each row is shown as the journal shows it now, and as many feeds are taken as
+-- its limits say
 abbrev pub hosted_of : Database → Hosted ChangeRow
 hosted_of db = record {
   length = length db.journal;

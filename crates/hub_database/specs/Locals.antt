@@ -1,4 +1,5 @@
--- Local documents (CouchDB API reference, local documents; that the last write wins, and how it is counted, is own).
+-- Local documents (CouchDB API reference, local documents; that the last write wins, and how it is counted,
+-- is own).
 use Rattle.std.specs.Prelude.{ℕ, ◌+◌, List, [], ◌∷◌, find, Option, Some, None}
 use Rattle.std.specs.Ordering.{nat_cmp}
 use Rattle.std.specs.Cmp.Lexicographic.{slice_cmp}

@@ -1,5 +1,7 @@
--- What a look at a document's tree says of an edit, and what that does to the documents and the journal (own).
-use Rattle.std.specs.Prelude.{◌≡◌, ◌+◌, ◌≤◌, ℕ, List, [], ◌∷◌, ◌++◌, length, Bool, true, if◌then◌else◌, Option, Some, Result, Ok, Err, unwrap_or}
+-- What a look at a document's tree says of an edit, and what that does to the documents and the journal
+-- (own).
+use Rattle.std.specs.Prelude.{◌≡◌, ◌+◌, ◌≤◌, ℕ, List, [], ◌∷◌, ◌++◌, length, Bool, true, if◌then◌else◌}
+use Rattle.std.specs.Prelude.{Option, Some, Result, Ok, Err, unwrap_or}
 use Rattle.std.specs.Map.{update}
 use Rattle.std.specs.Str.{bytes_eq}
 use Rattle.hub_model.specs.Revision.{Revision}
@@ -33,7 +35,8 @@ stores_edit limit J id edit = stores_from limit J id edit.origin edit.deleted ed
 
 -- what is said of an edit with its history, by the tests
 abbrev pub look_by : Edit → Bool → Bool → Looked
-look_by e known acceptable = if known then Known else if acceptable then Ready e else Refused fault.Contradicts
+look_by e known acceptable =
+    if known then Known else if acceptable then Ready e else Refused fault.Contradicts
 
 -- what is said of an edit that is made here: what it becomes, or why it becomes none
 abbrev pub look_made : Result Edit EditFault → Looked
@@ -43,7 +46,9 @@ look_made (Err _) = Refused fault.Conflict
 
 -- what is said of an edit after these edits of its document, whose id is left out
 abbrev pub look_from : List ℕ → List Edit → Origin → Bool → List ℕ → Looked
-look_from id edits (Elsewhere path) deleted body = look_by (nameless path deleted body) (is_head_known edits [] path) (is_acceptable edits (nameless path deleted body))
+look_from id edits (Elsewhere path) deleted body =
+    look_by (nameless path deleted body) (is_head_known edits [] path)
+    (is_acceptable edits (nameless path deleted body))
 look_from id edits (Here rev) deleted body = look_made (extends edits (draft id rev deleted body))
 
 -- the same of a document's part of a write
@@ -65,8 +70,8 @@ abbrev pub HasRoom : ℕ → Looked → Type 0
 HasRoom room (Ready e) = length e.path ≤ room
 HasRoom room l = Unit {0}
 
--- storing it takes memory: an edit with its history may be stored, and one that is made here has a leaf to extend and a
--- generation left
+-- storing it takes memory: an edit with its history may be stored, and one that is made here has a leaf to
+-- extend and a generation left
 abbrev pub NeedsRoomFrom : List Edit → List ℕ → Origin → Bool → List ℕ → Type 0
 NeedsRoomFrom J id (Elsewhere path) deleted body = IsAcceptable J (named id (nameless path deleted body))
 NeedsRoomFrom J id (Here rev) deleted body = HasNextRevision J (draft id rev deleted body)
@@ -107,9 +112,15 @@ numbered (Ready e) numbers id k = update bytes_eq numbers id (Some k)
 numbered l numbers id k = numbers
 
 -- what storing an edit leaves: L is what a look says of it
-pub record Extends (full : Bool) (number : ℕ) (edit : Incoming) (old new : Filed) (before later : List Entry) (rows rows_later : List (ℕ × ℕ)) (o : Outcome Revision) : Type 0 where
+pub record Extends (full : Bool) (number : ℕ) (edit : Incoming) (old new : Filed) (before later : List Entry)
+    (rows rows_later : List (ℕ × ℕ)) (o : Outcome Revision) : Type 0 where
   pub answer : o ≡ outcome_of (unless_full full (look_at old.id old.edits edit))
   pub filed : new ≡ after (unless_full full (look_at old.id old.edits edit)) old (length before + 1)
-  pub journal : later ≡ grown (unless_full full (look_at old.id old.edits edit)) before (record { document = number; revision = length old.edits })
+  pub journal : later
+      ≡ grown (unless_full full (look_at old.id old.edits edit)) before (record {
+        document = number;
+        revision = length old.edits;
+      })
   pub storable : IsStorable old.edits (unless_full full (look_at old.id old.edits edit))
-  pub index : rows_later ≡ rowed (unless_full full (look_at old.id old.edits edit)) rows number (length before + 1)
+  pub index : rows_later
+      ≡ rowed (unless_full full (look_at old.id old.edits edit)) rows number (length before + 1)

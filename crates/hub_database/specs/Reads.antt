@@ -1,5 +1,6 @@
 -- What a database shows of its documents (CouchDB API reference: documents, open_revs, GET /{db}).
-use Rattle.std.specs.Prelude.{◌≡◌, ℕ, suc, zero, List, [], ◌∷◌, length, map, slice_get, count_by, Bool, true, not, if◌then◌else◌, Option, Some, None, option_map, option_and_then}
+use Rattle.std.specs.Prelude.{◌≡◌, ℕ, suc, zero, List, [], ◌∷◌, length, map, slice_get, count_by, Bool, true}
+use Rattle.std.specs.Prelude.{not, if◌then◌else◌, Option, Some, None, option_map, option_and_then}
 use Rattle.hub_model.specs.Revision.{Revision}
 use Rattle.hub_model.specs.Journal.{Edit, head_of}
 use Rattle.hub_model.specs.Leaves.{Leaf, leaves_of, revisions_of}
@@ -17,7 +18,15 @@ use Rattle.hub_database.specs.declared.answers.Info.{Info}
 
 -- an edit as a document, with its history where that is asked for
 abbrev pub doc_shown : Bool → Edit → Doc
-doc_shown revs e = record { id = e.id; rev = head_of e; path = if revs then Some e.path else None; deleted = e.deleted; body = e.body }
+doc_shown revs e =
+    record {
+      id = e.id;
+      rev = head_of e;
+      path = if revs
+          then Some e.path else None;
+      deleted = e.deleted;
+      body = e.body;
+    }
 
 -- what is shown of a revision, where it has a body
 abbrev pub open_rev_of : Bool → Revision → Option Edit → OpenRev
@@ -40,7 +49,15 @@ open_revs J id which revs = map (open_rev J id revs) (asked_of J id which)
 -- what is shown of a document: its winner, unless that is deleted
 abbrev pub lookup_of : List Edit → List ℕ → Bool → List Leaf → Lookup
 lookup_of J id revs [] = looked.Unknown
-lookup_of J id revs (winner ∷ others) = if winner.edit.deleted then looked.Deleted else looked.Found (doc_shown revs (record { id = id; path = line_of J id winner.rev; deleted = winner.edit.deleted; body = winner.edit.body }))
+lookup_of J id revs (winner ∷ others) =
+    if winner.edit.deleted
+    then looked.Deleted
+    else looked.Found (doc_shown revs (record {
+      id = id;
+      path = line_of J id winner.rev;
+      deleted = winner.edit.deleted;
+      body = winner.edit.body;
+    }))
 
 -- the same of the journal's document
 abbrev pub lookup : List Edit → List ℕ → Bool → Lookup
@@ -50,7 +67,8 @@ lookup J id revs = lookup_of J id revs (leaves_of J id)
 abbrev pub HasDocument : List Edit → List ℕ → Bool → Type 0
 HasDocument J id revs = (doc : Doc) × (lookup J id revs ≡ looked.Found doc)
 
--- how many documents have a winner that is not deleted, how many have a deleted one, and how many edits there are
+-- how many documents have a winner that is not deleted, how many have a deleted one, and how many edits there
+-- are
 abbrev pub info_of : List Edit → Info
 info_of J = record {
   doc_count = count_by (λ c. not (is_deleted (leaves_of J c.id))) (current J);

@@ -7,7 +7,8 @@ use Rattle.hub_model.specs.Current.{current}
 use Rattle.hub_model.specs.Row.{is_deleted}
 use Rattle.hub_model.specs.Revision.{Revision}
 use Rattle.hub_model.specs.declared.outcomes.Outcome.{Outcome}
-use Rattle.hub_database.specs.Looked.{outcome_of, unless_full, look_at, grown, after, numbered, rowed, IsStorable}
+use Rattle.hub_database.specs.Looked.{outcome_of, unless_full, look_at, grown, after, numbered, rowed}
+use Rattle.hub_database.specs.Looked.{IsStorable}
 use Rattle.hub_database.specs.declared.document.Incoming.{Incoming}
 use Rattle.hub_database.specs.declared.document.Document.{Document}
 use Rattle.hub_database.specs.declared.store.Store.{Store}
@@ -28,7 +29,8 @@ edits_of_store store = journal_of (files store.documents.items) store.journal.it
 
 -- what holds of every store
 abbrev pub IsStore : Store → Type 0
-IsStore store = IsFiled store.limits.journal (get_by_text store.numbers) (files store.documents.items) store.journal.items
+IsStore store =
+    IsFiled store.limits.journal (get_by_text store.numbers) (files store.documents.items) store.journal.items
 
 -- how many documents of a journal have a deleted winner
 abbrev pub deleted_in : List Edit → ℕ
@@ -56,11 +58,31 @@ pub record IsSameStore (old new : Store) : Type 0 where
   pub index : new.index ≡ old.index
 
 -- what storing the first edit of a document leaves
-pub record Inserts (full : Bool) (id : List ℕ) (edit : Incoming) (old new : Store) (o : Outcome Revision) : Type 0 where
+pub record Inserts (full : Bool) (id : List ℕ) (edit : Incoming) (old new : Store) (o : Outcome Revision) :
+    Type 0 where
   pub answer : o ≡ outcome_of (unless_full full (look_at id [] edit))
-  pub files : files new.documents.items ≡ grown (unless_full full (look_at id [] edit)) (files old.documents.items) (after (unless_full full (look_at id [] edit)) (record { id = id; latest = 0; edits = [] }) (length old.journal.items + 1))
-  pub journal : new.journal.items ≡ grown (unless_full full (look_at id [] edit)) old.journal.items (record { document = length old.documents.items; revision = 0 })
-  pub numbers : (q : List ℕ) → get_by_text new.numbers q ≡ numbered (unless_full full (look_at id [] edit)) (get_by_text old.numbers) id (length old.documents.items) q
+  pub files : files new.documents.items
+      ≡ grown (unless_full full (look_at id [] edit)) (files old.documents.items)
+      (after (unless_full full (look_at id [] edit)) (record {
+        id = id;
+        latest = 0;
+        edits = [];
+      }) (length old.journal.items + 1))
+  pub journal : new.journal.items
+      ≡ grown (unless_full full (look_at id [] edit)) old.journal.items
+      (record { document = length old.documents.items; revision = 0 })
+  pub numbers : (q : List ℕ)
+      → get_by_text new.numbers q
+      ≡ numbered (unless_full full (look_at id [] edit)) (get_by_text old.numbers) id
+      (length old.documents.items) q
   pub storable : IsStorable [] (unless_full full (look_at id [] edit))
-  pub deleted : new.deleted ≡ old.deleted + one_if (is_deleted (leaves_of (after (unless_full full (look_at id [] edit)) (record { id = id; latest = 0; edits = [] }) 0).edits []))
-  pub index : new.index ≡ rowed (unless_full full (look_at id [] edit)) old.index (length old.documents.items) (length old.journal.items + 1)
+  pub deleted : new.deleted
+      ≡ old.deleted + one_if
+      (is_deleted (leaves_of (after (unless_full full (look_at id [] edit)) (record {
+        id = id;
+        latest = 0;
+        edits = [];
+      }) 0).edits []))
+  pub index : new.index
+      ≡ rowed (unless_full full (look_at id [] edit)) old.index (length old.documents.items)
+      (length old.journal.items + 1)

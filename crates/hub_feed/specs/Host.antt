@@ -1,8 +1,10 @@
 -- What keeps feeds, as its callers see it (own; feeds by CouchDB API reference, _changes and _db_updates).
-use Rattle.std.specs.Prelude.{ℕ, ◌+◌, ◌-◌, ◌^◌, List, [], ◌∷◌, ◌++◌, length, Bool, false, ◌||◌, Option, Some, None, nat_le, unwrap_or, option_and_then, if◌then◌else◌}
+use Rattle.std.specs.Prelude.{ℕ, ◌+◌, ◌-◌, ◌^◌, List, [], ◌∷◌, ◌++◌, length, Bool, false, ◌||◌, Option, Some}
+use Rattle.std.specs.Prelude.{None, nat_le, unwrap_or, option_and_then, if◌then◌else◌}
 use Rattle.hub_model.specs.Current.{Current}
 use Rattle.hub_model.specs.Entries.{entry_in, changed, without}
-use Rattle.hub_model.specs.Feed.{Feed, Params, Due, DueGone, begin, due, after_due, after_nothing, beat_due, expire}
+use Rattle.hub_model.specs.Feed.{Feed, Params, Due, DueGone, begin, due, after_due, after_nothing, beat_due}
+use Rattle.hub_model.specs.Feed.{expire}
 use Rattle.hub_model.specs.Hand.{item_of}
 use Rattle.hub_model.specs.declared.feeds.Item.{Item}
 use Rattle.hub_model.specs.declared.feeds.Style.{Style}
@@ -16,7 +18,8 @@ use Rattle.hub_feed.specs.declared.next.Next.TheVariants.{Give, Nothing, Gone}
 pub record Hosted (R : Type 0) : Type 0 where
   pub length : ℕ  -- how many edits there are
   pub current : List Current
-  pub shown : Style → Bool → Current → R  -- a current row as it is shown now, in a style, with its document or without
+  -- a current row as it is shown now, in a style, with its document or without
+  pub shown : Style → Bool → Current → R
   pub feeds : List (ℕ × Feed)  -- those that are not finished, with their numbers, as they were opened
   pub next_feed : ℕ  -- the number of the next feed: only lower ones were given
   pub deleted : Bool  -- whether what they follow was deleted
@@ -37,7 +40,8 @@ opening_fault h = unwrap_or (refuses h) NoMemory
 -- one feed more: it gets the next number, which is raised, so none is given twice
 -- with feeds 3 and 5, of which 5 was the last to come, the next one gets 6, and the one behind it 7
 abbrev pub opened : {R : Type 0} → Hosted R → Params → Hosted R
-opened h params = record h { feeds = h.feeds ++ (h.next_feed, begin params h.length) ∷ []; next_feed = h.next_feed + 1 }
+opened h params =
+    record h { feeds = h.feeds ++ (h.next_feed, begin params h.length) ∷ []; next_feed = h.next_feed + 1 }
 
 -- what is due to a feed of these rows: nothing any more where there is no feed
 abbrev pub due_of : List Current → Option Feed → Due
@@ -60,7 +64,8 @@ answered h id = answer_of h (entry_in id h.feeds)
 -- the item that is due to the feed of this number, if there is one
 abbrev pub item_due : {R : Type 0} → Hosted R → ℕ → Option (Item R)
 item_due h id =
-    option_and_then (λ f. item_of (h.shown f.params.style f.params.include_docs) h.current (due h.current f)) (entry_in id h.feeds)
+    option_and_then (λ f. item_of (h.shown f.params.style f.params.include_docs) h.current (due h.current f))
+    (entry_in id h.feeds)
 
 -- the feeds once that of this number answered so: only where it had nothing to hand it moves, to the length
 abbrev pub feeds_behind : {R : Type 0} → ℕ → ℕ → Next R → List (ℕ × Feed) → List (ℕ × Feed)

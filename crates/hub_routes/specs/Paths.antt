@@ -1,5 +1,7 @@
--- The parts of a target, and what a path names (RFC 3986, sections 2.1 and 3; CouchDB API reference, documents, design and local documents).
-use Rattle.std.specs.Prelude.{◌≡◌, ◌≢◌, ◌⊎◌, All, ℕ, Bool, ◌&&◌, ◌==◌, List, length, drop, codes, nat_lt, Option, Some, option_map, if◌then◌else◌}
+-- The parts of a target, and what a path names (RFC 3986, sections 2.1 and 3; CouchDB API reference,
+-- documents, design and local documents).
+use Rattle.std.specs.Prelude.{◌≡◌, ◌≢◌, ◌⊎◌, All, ℕ, Bool, ◌&&◌, ◌==◌, List, length, drop, codes, nat_lt}
+use Rattle.std.specs.Prelude.{Option, Some, option_map, if◌then◌else◌}
 use Rattle.std.specs.List.{before_first, after_first, starts_with}
 use Rattle.percent_encoding.specs.Percent.{IsKept, percent_sign, percent_encode, percent_decode}
 use Rattle.hub_routes.specs.Table.{kind_at}
@@ -51,9 +53,11 @@ HasOtherBytes path = ¬ All (IsKept (record { mask = 0 })) path
 abbrev pub HasPercent : List ℕ → Type 0
 HasPercent part = ¬ All (λ b. b ≢ percent_sign) part
 
--- Room is taken before the kind of a path is known: the path has a byte outside ASCII, or by the table it is a document's, and its id is still to be decoded. `/a/_changes` needs none, nor does `/a/b`; `/a/%62` does.
+-- Room is taken before the kind of a path is known: the path has a byte outside ASCII, or by the table it is
+-- a document's, and its id is still to be decoded. `/a/_changes` needs none, nor does `/a/b`; `/a/%62` does.
 abbrev pub NeedsRoomForKind : List ℕ → Type 0
-NeedsRoomForKind path = HasOtherBytes path ⊎ ((kind_at (ascii_path path) ≡ Some Document) × HasPercent (id_part path))
+NeedsRoomForKind path =
+    HasOtherBytes path ⊎ ((kind_at (ascii_path path) ≡ Some Document) × HasPercent (id_part path))
 
 -- what a path names: the kind by the table, and the id
 abbrev pub kind_of : List ℕ → Option Kind

@@ -1,6 +1,7 @@
 -- The refusal of a request that has no route (CouchDB API reference, HTTP status codes).
 use Rattle.hub_http.specs.declared.refusal.Refusal.{Refusal}
-use Rattle.hub_http.specs.declared.refusal.Refusal.TheVariants.{NoMemory, Missing, MethodNotAllowed, BadName, BadId, LengthMissing}
+use Rattle.hub_http.specs.declared.refusal.Refusal.TheVariants.{NoMemory, Missing, MethodNotAllowed, BadName}
+use Rattle.hub_http.specs.declared.refusal.Refusal.TheVariants.{BadId, LengthMissing}
 use Rattle.hub_routes.specs.declared.route.RouteFault.{RouteFault}
 use Rattle.hub_routes.specs.declared.route.RouteFault.TheVariants as route
 

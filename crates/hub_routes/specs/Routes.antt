@@ -1,18 +1,24 @@
--- Where requests go (CouchDB API reference, the paths of the server, databases and documents; own for the order of refusals).
-use Rattle.std.specs.Prelude.{◌≡◌, ◌≢◌, ◌⊎◌, ℕ, true, false, List, Result, Ok, Err, IsOk, String, Vec, string_bytes}
+-- Where requests go (CouchDB API reference, the paths of the server, databases and documents; own for the
+-- order of refusals).
+use Rattle.std.specs.Prelude.{◌≡◌, ◌≢◌, ◌⊎◌, ℕ, true, false, List, Result, Ok, Err, IsOk, String, Vec}
+use Rattle.std.specs.Prelude.{string_bytes}
 use Rattle.std.specs.declared.alloc.Global.{Global}
 use Rattle.std.specs.Str.{IsUtf8}
 use Rattle.hub_http.specs.Stream.{Asked}
-use Rattle.hub_routes.specs.Paths.{path_of, query_of, name_part, id_part, name_of, id_of, kind_of, HasPercent, NeedsRoomForKind}
+use Rattle.hub_routes.specs.Paths.{path_of, query_of, name_part, id_part, name_of, id_of, kind_of, HasPercent}
+use Rattle.hub_routes.specs.Paths.{NeedsRoomForKind}
 use Rattle.hub_routes.specs.Services.{method_of, asked_at, has_document, takes, takes_body}
 use Rattle.hub_routes.specs.declared.service.Service.{Service}
 use Rattle.hub_routes.specs.declared.service.Service.TheVariants as service
 use Rattle.hub_routes.specs.declared.route.Route.{Route}
 use Rattle.hub_routes.specs.declared.route.Route.TheVariants.{Welcome, PutDatabase, Database}
 use Rattle.hub_routes.specs.declared.route.Call.{Call}
-use Rattle.hub_routes.specs.declared.route.Call.TheVariants.{Info, BulkDocs, Changes, RevsDiff, FullCommit, GetDocument, PutDocument, DeleteDocument, GetLocal, PutLocal}
+use Rattle.hub_routes.specs.declared.route.Call.TheVariants.{Info, BulkDocs, Changes, RevsDiff, FullCommit}
+use Rattle.hub_routes.specs.declared.route.Call.TheVariants.{GetDocument, PutDocument, DeleteDocument}
+use Rattle.hub_routes.specs.declared.route.Call.TheVariants.{GetLocal, PutLocal}
 use Rattle.hub_routes.specs.declared.route.RouteFault.{RouteFault}
-use Rattle.hub_routes.specs.declared.route.RouteFault.TheVariants.{NoMemory, Missing, MethodNotAllowed, BadName, BadId, LengthMissing}
+use Rattle.hub_routes.specs.declared.route.RouteFault.TheVariants.{NoMemory, Missing, MethodNotAllowed}
+use Rattle.hub_routes.specs.declared.route.RouteFault.TheVariants.{BadName, BadId, LengthMissing}
 
 -- what a request asks for: the kind of its path and its method decide
 abbrev pub service_of : Asked → Result Service RouteFault
@@ -59,13 +65,16 @@ route_to service.DeleteDocument db id query = Database db (DeleteDocument id que
 route_to service.GetLocal db id query = Database db (GetLocal id)
 route_to service.PutLocal db id query = Database db (PutLocal id)
 
--- no fault that is looked for behind the table's: the name is text, a length that is needed is there, and the document may be asked for so
+-- no fault that is looked for behind the table's: the name is text, a length that is needed is there, and the
+-- document may be asked for so
 pub record IsWhole (a : Asked) (s : Service) : Type 0 where
   pub name : IsUtf8 (database_of a)
   pub length : (takes_body s ≡ true) → (a.has_length ≡ true)
   pub document : IsGoodId s (document_of a)
 
--- What may fail for want of memory: finding the kind of the path; decoding a name, or the id of one document; and copying the name and what else a route has, where nothing refuses the request. The greeting has no name.
+-- What may fail for want of memory: finding the kind of the path; decoding a name, or the id of one document;
+-- and copying the name and what else a route has, where nothing refuses the request. The greeting has no
+-- name.
 pub data NeedsRoom (a : Asked) : Type 0 where
   kind : NeedsRoomForKind (path_of a.target) → NeedsRoom a
   name : IsOk (service_of a) → HasPercent (name_part (path_of a.target)) → NeedsRoom a
@@ -100,4 +109,6 @@ GoesTo a (Err MethodNotAllowed) = service_of a ≡ Err MethodNotAllowed
 GoesTo a (Err BadName) = IsOk (service_of a) × ¬ IsUtf8 (database_of a)
 GoesTo a (Err BadId) =
     (s : Service) × (service_of a ≡ Ok s) × IsUtf8 (database_of a) × IsBadId s (document_of a)
-GoesTo a (Err LengthMissing) = (s : Service) × (service_of a ≡ Ok s) × (takes_body s ≡ true) × IsUtf8 (database_of a) × (a.has_length ≡ false)
+GoesTo a (Err LengthMissing) =
+    (s : Service) × (service_of a ≡ Ok s) × (takes_body s ≡ true) × IsUtf8 (database_of a)
+    × (a.has_length ≡ false)

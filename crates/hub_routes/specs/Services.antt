@@ -1,12 +1,16 @@
 -- What methods ask of paths (CouchDB API reference, the methods of each path; RFC 9110, section 9.1).
-use Rattle.std.specs.Prelude.{ℕ, Bool, true, false, List, Option, Some, None, Result, Ok, Err, if◌then◌else◌, bytes_eq, codes}
+use Rattle.std.specs.Prelude.{ℕ, Bool, true, false, List, Option, Some, None, Result, Ok, Err, if◌then◌else◌}
+use Rattle.std.specs.Prelude.{bytes_eq, codes}
 use Rattle.hub_document.specs.Ids.{is_id}
 use Rattle.hub_routes.specs.declared.kind.Kind.{Kind}
 use Rattle.hub_routes.specs.declared.kind.Kind.TheVariants as kind
 use Rattle.hub_routes.specs.declared.service.Method.{Method}
 use Rattle.hub_routes.specs.declared.service.Method.TheVariants.{Get, Head, Put, Post, Delete, Other}
 use Rattle.hub_routes.specs.declared.service.Service.{Service}
-use Rattle.hub_routes.specs.declared.service.Service.TheVariants.{Welcome, PutDatabase, Info, BulkDocs, Changes, RevsDiff, FullCommit, GetDocument, PutDocument, DeleteDocument, GetLocal, PutLocal}
+use Rattle.hub_routes.specs.declared.service.Service.TheVariants.{Welcome, PutDatabase, Info, BulkDocs}
+use Rattle.hub_routes.specs.declared.service.Service.TheVariants.{Changes, RevsDiff, FullCommit, GetDocument}
+use Rattle.hub_routes.specs.declared.service.Service.TheVariants.{PutDocument, DeleteDocument, GetLocal}
+use Rattle.hub_routes.specs.declared.service.Service.TheVariants.{PutLocal}
 use Rattle.hub_routes.specs.declared.route.RouteFault.{RouteFault}
 use Rattle.hub_routes.specs.declared.route.RouteFault.TheVariants.{Missing, MethodNotAllowed}
 

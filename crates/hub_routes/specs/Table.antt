@@ -7,7 +7,8 @@ use Rattle.matchit.specs.Route.{Scan, parse_route}
 use Rattle.matchit.specs.Router.{RouteOf, route_from}
 use Rattle.matchit.specs.Seek.{first}
 use Rattle.hub_routes.specs.declared.kind.Kind.{Kind}
-use Rattle.hub_routes.specs.declared.kind.Kind.TheVariants.{Welcome, AllDbs, DbUpdates, Database, BulkDocs, Changes, RevsDiff, FullCommit, Document, Local}
+use Rattle.hub_routes.specs.declared.kind.Kind.TheVariants.{Welcome, AllDbs, DbUpdates, Database, BulkDocs}
+use Rattle.hub_routes.specs.declared.kind.Kind.TheVariants.{Changes, RevsDiff, FullCommit, Document, Local}
 
 -- routes with what each names
 abbrev pub Routes : Type 0

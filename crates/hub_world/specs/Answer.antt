@@ -1,13 +1,18 @@
 -- The answer to each event and the world after it, computed (own; feeds by CouchDB API reference, _changes).
-use Rattle.std.specs.Prelude.{ℕ, List, [], ◌∷◌, length, map, true, if◌then◌else◌, Option, Some, None, slice_get, nat_lt}
+use Rattle.std.specs.Prelude.{ℕ, List, [], ◌∷◌, length, map, true, if◌then◌else◌, Option, Some, None}
+use Rattle.std.specs.Prelude.{slice_get, nat_lt}
 use Rattle.hub_model.specs.Current.{current, pending}
-use Rattle.hub_model.specs.Feed.{Params, Feed, Due, DueRow, DueEnd, DueNothing, DueGone, after_row, after_end, after_nothing, beat_due}
+use Rattle.hub_model.specs.Feed.{Params, Feed, Due, DueRow, DueEnd, DueNothing, DueGone, after_row, after_end}
+use Rattle.hub_model.specs.Feed.{after_nothing, beat_due}
 use Rattle.hub_model.specs.Hand.{due_in}
 use Rattle.hub_model.specs.RightlyHanded.{ChangeItem}
 use Rattle.hub_model.specs.Row.{row_of}
 use Rattle.hub_model.specs.declared.feeds.Item.TheVariants.{Row, Beat, End}
-use Rattle.hub_world.specs.World.{World, Subscription, has_no_room, subscription, with_subscription, lane_of, merged, drafted, with_feed, pushed, expired, took, finished, ended}
-use Rattle.hub_world.specs.Event.{Event, Write, Interactive, Begin, Hand, Heartbeat, Expire, Take, Finish, Delete, Reply, Outcomes, Opened, TooManyFeeds, DatabaseDeleted, Pushed, Full, Nothing, Gone, Took, Left}
+use Rattle.hub_world.specs.World.{World, Subscription, has_no_room, subscription, with_subscription, lane_of}
+use Rattle.hub_world.specs.World.{merged, drafted, with_feed, pushed, expired, took, finished, ended}
+use Rattle.hub_world.specs.Event.{Event, Write, Interactive, Begin, Hand, Heartbeat, Expire, Take, Finish}
+use Rattle.hub_world.specs.Event.{Delete, Reply, Outcomes, Opened, TooManyFeeds, DatabaseDeleted, Pushed}
+use Rattle.hub_world.specs.Event.{Full, Nothing, Gone, Took, Left}
 
 -- a reply, and the world after it
 pub record Answer : Type 0 where
@@ -27,9 +32,13 @@ push w f s feed item =
 
 -- a Hand to a feed to which this is due
 abbrev pub hand_due : World → ℕ → Subscription → Due → Answer
-hand_due w f s (DueRow c) = push w f s (after_row s.feed c.seq (length w.journal)) (Row (row_of w.journal s.feed.params.style s.feed.params.include_docs c))
-hand_due w f s (DueEnd last_seq) = push w f s (after_end s.feed last_seq) (End last_seq (pending (current w.journal) last_seq))
-hand_due w f s DueNothing = answer_with Nothing (with_subscription w f (record s { feed = after_nothing s.feed (length w.journal) }))
+hand_due w f s (DueRow c) =
+    push w f s (after_row s.feed c.seq (length w.journal))
+    (Row (row_of w.journal s.feed.params.style s.feed.params.include_docs c))
+hand_due w f s (DueEnd last_seq) =
+    push w f s (after_end s.feed last_seq) (End last_seq (pending (current w.journal) last_seq))
+hand_due w f s DueNothing =
+    answer_with Nothing (with_subscription w f (record s { feed = after_nothing s.feed (length w.journal) }))
 hand_due w f s DueGone = answer_with Gone w
 
 -- a Hand
@@ -51,13 +60,16 @@ opened w params =
 
 -- what an event answers, and the world after it
 abbrev pub answer : World → Event → Answer
-answer w (Write edits) = answer_with (Outcomes (merged w edits).outcomes) (record w { journal = (merged w edits).journal })
-answer w (Interactive drafts) = answer_with (Outcomes (drafted w drafts).outcomes) (record w { journal = (drafted w drafts).journal })
+answer w (Write edits) =
+    answer_with (Outcomes (merged w edits).outcomes) (record w { journal = (merged w edits).journal })
+answer w (Interactive drafts) =
+    answer_with (Outcomes (drafted w drafts).outcomes) (record w { journal = (drafted w drafts).journal })
 answer w (Begin params) = opened w params
 answer w (Hand f) = hand w f (subscription w f)
 answer w (Heartbeat f) = beat w f (subscription w f)
 answer w (Expire f) = answer_with Nothing (expired (subscription w f) f w)
-answer w (Take f) = answer_with (Took (slice_get (lane_of (subscription w f)) 0)) (took (subscription w f) f w)
+answer w (Take f) =
+    answer_with (Took (slice_get (lane_of (subscription w f)) 0)) (took (subscription w f) f w)
 answer w (Finish f) = answer_with (Left (lane_of (subscription w f))) (finished (subscription w f) f w)
 answer w Delete =
     if w.deleted then answer_with DatabaseDeleted w

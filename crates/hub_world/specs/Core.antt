@@ -1,4 +1,5 @@
--- The core as a program keeps it, and the world that it shows: its finished feeds are dropped, and stay in the world (own).
+-- The core as a program keeps it, and the world that it shows: its finished feeds are dropped, and stay in
+-- the world (own).
 use Rattle.std.specs.Prelude.{◌≡◌, ℕ, ◌+◌, List, [], ◌∷◌, length, map, true, All, if◌then◌else◌}
 use Rattle.hub_document.specs.declared.limits.Limits as hub
 use Rattle.hub_database.specs.Database.{Database}
@@ -18,7 +19,8 @@ limits_of limits = record { journal = limits.journal; feeds = limits.feeds; lane
 -- of feeds numbered from n, those that are not finished, with their numbers
 abbrev pub standing_from : ℕ → List Subscription → List (ℕ × Subscription)
 standing_from n [] = []
-standing_from n (s ∷ ss) = if is_finished s.feed.status then standing_from (n + 1) ss else (n, s) ∷ standing_from (n + 1) ss
+standing_from n (s ∷ ss) =
+    if is_finished s.feed.status then standing_from (n + 1) ss else (n, s) ∷ standing_from (n + 1) ss
 
 -- those of a world
 abbrev pub standing : World → List (ℕ × Subscription)

@@ -5,26 +5,32 @@ use Rattle.hub_model.specs.Current.{current}
 use Rattle.hub_model.specs.Feed.{Due, DueRow, DueEnd, DueNothing, DueGone}
 use Rattle.hub_model.specs.RightlyHanded.{ChangeItem}
 use Rattle.hub_world.specs.Core.{Core, Shows}
-use Rattle.hub_world.specs.Event.{Event, Write, Interactive, Begin, Hand, Heartbeat, Expire, Take, Finish, Delete}
+use Rattle.hub_world.specs.Event.{Event, Write, Interactive, Begin, Hand, Heartbeat, Expire, Take, Finish}
+use Rattle.hub_world.specs.Event.{Delete}
 use Rattle.hub_world.specs.Meant.{event_of}
 use Rattle.hub_world.specs.World.{World, has_no_room, subscription, feed_of, lane_of}
 use Rattle.hub_world.specs.declared.event.Event as program
 
--- Handing what is due takes memory: a row is made before its lane is looked at, and an End goes into a lane that has room.
+-- Handing what is due takes memory: a row is made before its lane is looked at, and an End goes into a lane
+-- that has room.
 abbrev pub IsMade : ℕ → List ChangeItem → Due → Type 0
 IsMade limit lane (DueRow c) = ⊤
 IsMade limit lane (DueEnd last_seq) = length lane < limit
 IsMade limit lane DueNothing = ⊥
 IsMade limit lane DueGone = ⊥
 
--- The event takes memory: a batch for its outcomes, a feed that is opened, an item that is handed. For example a heartbeat
--- into a full lane takes none, and neither does a feed that is refused, since the database is deleted.
+-- The event takes memory: a batch for its outcomes, a feed that is opened, an item that is handed. For
+-- example a heartbeat into a full lane takes none, and neither does a feed that is refused, since the
+-- database is deleted.
 abbrev pub NeedsMemory : World → Event → Type 0
 NeedsMemory w (Write edits) = 0 < length edits
 NeedsMemory w (Interactive drafts) = 0 < length drafts
 NeedsMemory w (Begin params) = (w.deleted ≡ false) × (has_no_room w ≡ false)
-NeedsMemory w (Hand f) = IsMade w.limits.lane (lane_of (subscription w f)) (due_of (current w.journal) (feed_of (subscription w f)))
-NeedsMemory w (Heartbeat f) = (is_beat_due (feed_of (subscription w f)) ≡ true) × (length (lane_of (subscription w f)) < w.limits.lane)
+NeedsMemory w (Hand f) =
+    IsMade w.limits.lane (lane_of (subscription w f))
+    (due_of (current w.journal) (feed_of (subscription w f)))
+NeedsMemory w (Heartbeat f) =
+    (is_beat_due (feed_of (subscription w f)) ≡ true) × (length (lane_of (subscription w f)) < w.limits.lane)
 NeedsMemory w (Expire f) = ⊥
 NeedsMemory w (Take f) = ⊥
 NeedsMemory w (Finish f) = ⊥

@@ -1,5 +1,6 @@
 -- What the connection of a feed may rely on, whatever happens (CouchDB API reference, _changes).
-use Rattle.std.specs.Prelude.{◌≡◌, ℕ, ◌<◌, ◌≤◌, List, [], ◌∷◌, ◌++◌, length, slice_get, All, AllPairs, Contains, IsTrue, Some}
+use Rattle.std.specs.Prelude.{◌≡◌, ℕ, ◌<◌, ◌≤◌, List, [], ◌∷◌, ◌++◌, length, slice_get, All, AllPairs}
+use Rattle.std.specs.Prelude.{Contains, IsTrue, Some}
 use Rattle.hub_model.specs.Current.{Current, current}
 use Rattle.hub_model.specs.Filter.{passes}
 use Rattle.hub_model.specs.Row.{ChangeRow, IsRow}
@@ -22,32 +23,43 @@ handed_out limits events f = handed f events (replies_to (empty limits) events)
 abbrev pub taken_off : Limits → List Event → ℕ → List ChangeItem
 taken_off limits events f = taken f events (replies_to (empty limits) events)
 
--- What these replies to these events say of feed f: what was taken off it is a front of what it handed, and that is right
--- and whole; s is the feed after the events. For example a feed of the documents at 1 and 2 whose replies say that it
--- handed row 1 and then row 2, and whose connection took row 1, is faithful; one that handed row 2 alone with its place at
+-- What these replies to these events say of feed f: what was taken off it is a front of what it handed, and
+-- that is right and whole; s is the feed after the events. For example a feed of the documents at 1 and 2
+-- whose replies say that it handed row 1 and then row 2, and whose connection took row 1, is faithful; one
+-- that handed row 2 alone with its place at
 -- 2, or row 1 with its place at 0, is not.
-pub record IsFaithful (limits : Limits) (events : List Event) (replies : List Reply) (f : ℕ) (s : Subscription) : Type 0 where
+pub record IsFaithful (limits : Limits) (events : List Event) (replies : List Reply) (f : ℕ)
+    (s : Subscription) : Type 0 where
   -- what the connection has taken is a prefix of what the feed handed out
   pub prefix : IsPrefixOf (taken f events replies) (handed f events replies)
   -- rows in strictly rising sequence
   pub rising : AllPairs (λ (r t : ChangeRow). r.seq < t.seq) (rows_of (handed f events replies))
   -- each its document's current row at its step
-  pub at_step : (before later : List Event) (event : Event) (reply : Reply) → events ≡ before ++ event ∷ later → slice_get replies (length before) ≡ Some reply →
-      All (IsRow (reached limits before).journal s.feed.params.style s.feed.params.include_docs) (rows_of (handed_by f event reply))
+  pub at_step : (before later : List Event) (event : Event) (reply : Reply)
+      → events ≡ before ++ event ∷ later → slice_get replies (length before) ≡ Some reply →
+      All (IsRow (reached limits before).journal s.feed.params.style s.feed.params.include_docs)
+      (rows_of (handed_by f event reply))
   -- each passing the filter
-  pub passing : All (λ (row : ChangeRow). IsTrue (passes s.feed.params.filter row.id)) (rows_of (handed f events replies))
+  pub passing : All (λ (row : ChangeRow). IsTrue (passes s.feed.params.filter row.id))
+      (rows_of (handed f events replies))
   -- none above last_seq
-  pub below : (last_seq pending : ℕ) → Contains (handed f events replies) (End last_seq pending) → All (λ (row : ChangeRow). row.seq ≤ last_seq) (rows_of (handed f events replies))
+  pub below : (last_seq pending : ℕ) → Contains (handed f events replies) (End last_seq pending)
+      → All (λ (row : ChangeRow). row.seq ≤ last_seq) (rows_of (handed f events replies))
   -- nothing after the end
-  pub last : (before later : List ChangeItem) (last_seq pending : ℕ) → handed f events replies ≡ before ++ End last_seq pending ∷ later → later ≡ []
+  pub last : (before later : List ChangeItem) (last_seq pending : ℕ)
+      → handed f events replies ≡ before ++ End last_seq pending ∷ later → later ≡ []
   -- and every current passing row between since and the feed's place among them
-  pub whole : (c : Current) → Contains (current (reached limits events).journal) c → IsTrue (passes s.feed.params.filter c.id) → s.feed.since < c.seq → c.seq ≤ s.feed.place →
-      (row : ChangeRow) × Contains (rows_of (handed f events replies)) row × (row.seq ≡ c.seq) × (row.id ≡ c.id)
-  -- beside the sentence: rows lie above since and not above the place or a bound, `seen` never falls, an End names the
-  -- place, there are no more rows than the limit says, and heartbeats only where one was asked for
+  pub whole : (c : Current) → Contains (current (reached limits events).journal) c
+      → IsTrue (passes s.feed.params.filter c.id) → s.feed.since < c.seq → c.seq ≤ s.feed.place →
+      (row : ChangeRow) × Contains (rows_of (handed f events replies)) row × (row.seq ≡ c.seq)
+      × (row.id ≡ c.id)
+  -- beside the sentence: rows lie above since and not above the place or a bound, `seen` never falls, an End
+  -- names the place, there are no more rows than the limit says, and heartbeats only where one was asked for
   pub right : RightlyHanded (reached limits events).journal s.feed (handed f events replies)
 
 -- over every list of events each feed is faithful
 abbrev pub Headline : Type 0
-Headline = (limits : Limits) (events : List Event) (f : ℕ) (s : Subscription) → subscription (reached limits events) f ≡ Some s →
+Headline =
+    (limits : Limits) (events : List Event) (f : ℕ) (s : Subscription)
+    → subscription (reached limits events) f ≡ Some s →
     IsFaithful limits events (replies_to (empty limits) events) f s

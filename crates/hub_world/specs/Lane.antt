@@ -1,5 +1,6 @@
 -- Lanes by the numbers of their feeds (own).
-use Rattle.std.specs.Prelude.{ℕ, ◌<◌, List, AllPairs, [], ◌∷◌, ◌++◌, length, drop, Bool, false, nat_lt, slice_get, unwrap_or, Option, Some, None, option_and_then, if◌then◌else◌}
+use Rattle.std.specs.Prelude.{ℕ, ◌<◌, List, AllPairs, [], ◌∷◌, ◌++◌, length, drop, Bool, false, nat_lt}
+use Rattle.std.specs.Prelude.{slice_get, unwrap_or, Option, Some, None, option_and_then, if◌then◌else◌}
 use Rattle.hub_model.specs.RightlyHanded.{ChangeItem}
 use Rattle.hub_model.specs.Entries.{changed, entry_in}
 
@@ -22,7 +23,8 @@ has_room limit number lanes = takes_more limit (entry_in number lanes)
 
 -- the item at the end of the lane, where there is room
 abbrev pub pushed_into : ℕ → ℕ → ChangeItem → Lanes → Lanes
-pushed_into limit number item lanes = if has_room limit number lanes then changed number (λ items. items ++ item ∷ []) lanes else lanes
+pushed_into limit number item lanes =
+    if has_room limit number lanes then changed number (λ items. items ++ item ∷ []) lanes else lanes
 
 -- the front of the lane, if there is one
 abbrev pub front : ℕ → Lanes → Option ChangeItem

@@ -14,15 +14,21 @@ IsAnswered = (w : World) (event : Event) → Step w event (answer w event).reply
 
 -- and no other
 abbrev pub IsOnlyAnswer : Type 0
-IsOnlyAnswer = (w new : World) (event : Event) (reply : Reply) → Step w event reply new → (reply ≡ (answer w event).reply) × (new ≡ (answer w event).world)
+IsOnlyAnswer =
+    (w new : World) (event : Event) (reply : Reply) → Step w event reply new
+    → (reply ≡ (answer w event).reply) × (new ≡ (answer w event).world)
 
 -- each list of events has one run
 abbrev pub RunsOnce : Type 0
-RunsOnce = (w new : World) (events : List Event) (replies : List Reply) → Run w events replies new ↔ ((replies ≡ replies_to w events) × (new ≡ after w events))
+RunsOnce =
+    (w new : World) (events : List Event) (replies : List Reply)
+    → Run w events replies new ↔ ((replies ≡ replies_to w events) × (new ≡ after w events))
 
 -- after every run each edit was acceptable after those before it
 abbrev pub StaysLegal : Type 0
-StaysLegal = (limits : Limits) (events : List Event) (replies : List Reply) (w : World) → Run (empty limits) events replies w → IsLegal w.journal
+StaysLegal =
+    (limits : Limits) (events : List Event) (replies : List Reply) (w : World)
+    → Run (empty limits) events replies w → IsLegal w.journal
 
 -- the list is rightly handed for the feed; nothing was handed where there is none
 abbrev pub IsRight : List Edit → Option Subscription → List ChangeItem → Type 0
@@ -37,7 +43,8 @@ FitsIn J (Some s) items = Fits J s.feed items
 -- a list that fits a feed fits it after each event, with the item that the event handed
 abbrev pub KeepsFitting : Type 0
 KeepsFitting = (old new : World) (event : Event) (reply : Reply) (f : ℕ) (items : List ChangeItem) →
-    Step old event reply new → FitsIn old.journal (subscription old f) items → FitsIn new.journal (subscription new f) (items ++ handed_by f event reply)
+    Step old event reply new → FitsIn old.journal (subscription old f) items
+    → FitsIn new.journal (subscription new f) (items ++ handed_by f event reply)
 
 -- what a feed handed is rightly handed for the journal at the end
 abbrev pub HandsRightly : Type 0
@@ -51,10 +58,13 @@ TakesInOrder = (limits : Limits) (events : List Event) (replies : List Reply) (w
 
 -- of a feed that is not finished, what was taken and then what its lane holds is what it handed
 abbrev pub HoldsTheRest : Type 0
-HoldsTheRest = (limits : Limits) (events : List Event) (replies : List Reply) (w : World) (f : ℕ) (s : Subscription) →
-    Run (empty limits) events replies w → subscription w f ≡ Some s → is_finished s.feed.status ≡ false → taken f events replies ++ s.lane ≡ handed f events replies
+HoldsTheRest =
+    (limits : Limits) (events : List Event) (replies : List Reply) (w : World) (f : ℕ) (s : Subscription) →
+    Run (empty limits) events replies w → subscription w f ≡ Some s → is_finished s.feed.status ≡ false
+    → taken f events replies ++ s.lane ≡ handed f events replies
 
 -- a lane never holds more items than the limit says
 abbrev pub LanesAreLimited : Type 0
-LanesAreLimited = (limits : Limits) (events : List Event) (replies : List Reply) (w : World) (f : ℕ) (s : Subscription) →
+LanesAreLimited =
+    (limits : Limits) (events : List Event) (replies : List Reply) (w : World) (f : ℕ) (s : Subscription) →
     Run (empty limits) events replies w → subscription w f ≡ Some s → length s.lane ≤ limits.lane

@@ -38,18 +38,24 @@ reply_of reply.Gone = model.Gone
 reply_of (reply.Took item) = model.Took item
 reply_of (reply.Left items) = model.Left items.items
 
--- the event as it took place, given its reply: of a batch that stopped, the write of the documents before the stop
+-- the event as it took place, given its reply: of a batch that stopped, the write of the documents before the
+-- stop
 abbrev pub happened : Event → Reply → model.Event
-happened (event.Write docs) (reply.Outcomes batch) = model.Write (map edit_of (take (length batch.replies) docs.items))
-happened (event.Interactive docs) (reply.Outcomes batch) = model.Interactive (map draft_of (take (length batch.replies) docs.items))
+happened (event.Write docs) (reply.Outcomes batch) =
+    model.Write (map edit_of (take (length batch.replies) docs.items))
+happened (event.Interactive docs) (reply.Outcomes batch) =
+    model.Interactive (map draft_of (take (length batch.replies) docs.items))
 happened event reply = event_of event
 
--- A batch that did not stop answers for each document. One that stopped answers for fewer, and the document behind those
--- needed room: of five documents with a known one in the middle it may answer for 0, 1, 3 or 4, and never for 2.
-pub record IsAnsweredFor (new_edits : Bool) (old : Core) (docs : List Doc) (batch : Batch) (new : Core) : Type 0 where
+-- A batch that did not stop answers for each document. One that stopped answers for fewer, and the document
+-- behind those needed room: of five documents with a known one in the middle it may answer for 0, 1, 3 or 4,
+-- and never for 2.
+pub record IsAnsweredFor (new_edits : Bool) (old : Core) (docs : List Doc) (batch : Batch) (new : Core) :
+    Type 0 where
   pub whole : batch.stopped ≡ false → length batch.replies ≡ length docs
   pub stopped : IsTrue batch.stopped → length batch.replies < length docs
-  pub stops : IsTrue batch.stopped → StopsAt new_edits old.db.deleted new.db.journal (length batch.replies) docs
+  pub stops : IsTrue batch.stopped
+      → StopsAt new_edits old.db.deleted new.db.journal (length batch.replies) docs
 
 -- so the reply to a write that led from the old core to the new one
 abbrev pub Answers : Core → Event → Reply → Core → Type 0
@@ -64,4 +70,6 @@ is_stopped reply = false
 
 -- from each world that the core shows the event took place, with this reply, to one that it shows then
 abbrev pub Applies : Core → Event → Reply → Core → Type 0
-Applies old event reply new = (w : World) → Shows old w → (next : World) × Step w (happened event reply) (reply_of reply) next × Shows new next
+Applies old event reply new =
+    (w : World) → Shows old w
+    → (next : World) × Step w (happened event reply) (reply_of reply) next × Shows new next

@@ -16,7 +16,9 @@ use Rattle.hub_model.specs.declared.feeds.Style.TheVariants.{MainOnly, AllDocs}
 use Rattle.hub_model.specs.declared.outcomes.Fault.TheVariants.{Deleted, Contradicts, Conflict}
 use Rattle.hub_model.specs.declared.outcomes.Outcome.TheVariants.{Stored, Known, Refused}
 use Rattle.hub_world.specs.World.{Limits, World, empty}
-use Rattle.hub_world.specs.Event.{Event, Write, Interactive, Begin, Hand, Heartbeat, Expire, Take, Finish, Delete, Outcomes, Opened, TooManyFeeds, DatabaseDeleted, Pushed, Full, Nothing, Gone, Took, Left}
+use Rattle.hub_world.specs.Event.{Event, Write, Interactive, Begin, Hand, Heartbeat, Expire, Take, Finish}
+use Rattle.hub_world.specs.Event.{Delete, Outcomes, Opened, TooManyFeeds, DatabaseDeleted, Pushed, Full}
+use Rattle.hub_world.specs.Event.{Nothing, Gone, Took, Left}
 use Rattle.hub_world.specs.Answer.{replies_to, after}
 use Rattle.hub_world.specs.Headline.{handed_out, taken_off}
 
@@ -34,11 +36,21 @@ holding limits edits = after (empty limits) (Write edits ∷ [])
 
 -- what a feed asks for that shows winners alone, without documents and heartbeats
 abbrev pub asks : Mode → Since → Option ℕ → Filter → Params
-asks mode since limit filter = record { mode = mode; since = since; limit = limit; style = MainOnly; include_docs = false; filter = filter; heartbeat = false }
+asks mode since limit filter =
+    record {
+      mode = mode;
+      since = since;
+      limit = limit;
+      style = MainOnly;
+      include_docs = false;
+      filter = filter;
+      heartbeat = false;
+    }
 
 -- a row that shows this winner, made when there were so many edits
 abbrev pub row : ℕ → List ℕ → Revision → ℕ → ChangeItem
-row seq id winner seen = Row (record { seq = seq; id = id; changes = winner ∷ []; deleted = false; doc = None; seen = seen })
+row seq id winner seen =
+    Row (record { seq = seq; id = id; changes = winner ∷ []; deleted = false; doc = None; seen = seen })
 
 -- a first edit of the document
 abbrev pub first : List ℕ → Edit
@@ -50,35 +62,72 @@ second id = doc id (rev 2 (codes "b") ∷ rev 1 (codes "a") ∷ [])
 
 -- a, b, then a again: b at 2, a at 3, and nothing at 1
 abbrev pub AgainIsLater : Type 0
-AgainIsLater = replies_to (holding roomy (first (codes "a") ∷ first (codes "b") ∷ second (codes "a") ∷ [])) (Begin (asks Normal (From 0) None Everything) ∷ Hand 0 ∷ Hand 0 ∷ Hand 0 ∷ Hand 0 ∷ [])
-    ≡ Opened 0 ∷ Pushed (row 2 (codes "b") (rev 1 (codes "a")) 3) ∷ Pushed (row 3 (codes "a") (rev 2 (codes "b")) 3) ∷ Pushed (End 3 0) ∷ Gone ∷ []
+AgainIsLater =
+    replies_to (holding roomy (first (codes "a") ∷ first (codes "b") ∷ second (codes "a")
+    ∷ [])) (Begin (asks Normal (From 0) None Everything) ∷ Hand 0 ∷ Hand 0 ∷ Hand 0 ∷ Hand 0 ∷ [])
+    ≡ Opened 0 ∷ Pushed (row 2 (codes "b") (rev 1 (codes "a")) 3)
+    ∷ Pushed (row 3 (codes "a") (rev 2 (codes "b")) 3) ∷ Pushed (End 3 0) ∷ Gone ∷ []
 
 -- three leaves of a document, of which 2-b is deleted
 abbrev pub three_leaves : List Edit
-three_leaves = record { id = codes "x"; path = rev 2 (codes "b") ∷ rev 1 (codes "q") ∷ []; deleted = true; body = codes "{}" }
-    ∷ doc (codes "x") (rev 2 (codes "a") ∷ rev 1 (codes "q") ∷ []) ∷ doc (codes "x") (rev 1 (codes "z") ∷ []) ∷ []
+three_leaves =
+    record {
+      id = codes "x";
+      path = rev 2 (codes "b") ∷ rev 1 (codes "q")
+          ∷ [];
+      deleted = true;
+      body = codes "{}";
+    }
+    ∷ doc (codes "x") (rev 2 (codes "a") ∷ rev 1 (codes "q") ∷ []) ∷ doc (codes "x") (rev 1 (codes "z") ∷ [])
+    ∷ []
 
 -- what a feed of this style hands out of them, with documents
 abbrev pub shown_as : Style → List ChangeItem
-shown_as style = handed_out roomy (Write three_leaves ∷ Begin (record { mode = Continuous; since = From 0; limit = None; style = style; include_docs = true; filter = Everything; heartbeat = false }) ∷ Hand 0 ∷ Hand 0 ∷ []) 0
+shown_as style =
+    handed_out roomy (Write three_leaves
+    ∷ Begin (record {
+      mode = Continuous;
+      since = From 0;
+      limit = None;
+      style = style;
+      include_docs = true;
+      filter = Everything;
+      heartbeat = false;
+    }) ∷ Hand 0 ∷ Hand 0 ∷ []) 0
 
 -- the row of that document
 abbrev pub shown_row : List Revision → ChangeItem
-shown_row changes = Row (record { seq = 3; id = codes "x"; changes = changes; deleted = false; doc = Some (codes "{}"); seen = 3 })
+shown_row changes =
+    Row (record {
+      seq = 3;
+      id = codes "x";
+      changes = changes;
+      deleted = false;
+      doc = Some (codes "{}");
+      seen = 3;
+    })
 
 -- main_only lists the winner, all_docs every leaf, best first
 abbrev pub StylesList : Type 0
-StylesList = (shown_as MainOnly ≡ shown_row (rev 2 (codes "a") ∷ []) ∷ []) × (shown_as AllDocs ≡ shown_row (rev 2 (codes "a") ∷ rev 1 (codes "z") ∷ rev 2 (codes "b") ∷ []) ∷ [])
+StylesList =
+    (shown_as MainOnly ≡ shown_row (rev 2 (codes "a") ∷ []) ∷ [])
+    × (shown_as AllDocs ≡ shown_row (rev 2 (codes "a") ∷ rev 1 (codes "z") ∷ rev 2 (codes "b") ∷ []) ∷ [])
 
 -- eight documents, whose ids are one byte
 abbrev pub eight : List Edit
-eight = first (1 ∷ []) ∷ first (2 ∷ []) ∷ first (3 ∷ []) ∷ first (4 ∷ []) ∷ first (5 ∷ []) ∷ first (6 ∷ []) ∷ first (7 ∷ []) ∷ first (8 ∷ []) ∷ []
+eight =
+    first (1 ∷ []) ∷ first (2 ∷ []) ∷ first (3 ∷ []) ∷ first (4 ∷ []) ∷ first (5 ∷ []) ∷ first (6 ∷ [])
+    ∷ first (7 ∷ []) ∷ first (8 ∷ []) ∷ []
 
 -- a normal feed on them; after its third row those at 3 and 5 are written again, and so lie above its bound
 abbrev pub BoundHolds : Type 0
-BoundHolds = handed_out roomy (Write eight ∷ Begin (asks Normal (From 0) None Everything) ∷ Hand 0 ∷ Hand 0 ∷ Hand 0 ∷ Write (second (3 ∷ []) ∷ second (5 ∷ []) ∷ []) ∷ Hand 0 ∷ Hand 0 ∷ Hand 0 ∷ Hand 0 ∷ Hand 0 ∷ []) 0
-    ≡ row 1 (1 ∷ []) (rev 1 (codes "a")) 8 ∷ row 2 (2 ∷ []) (rev 1 (codes "a")) 8 ∷ row 3 (3 ∷ []) (rev 1 (codes "a")) 8
-    ∷ row 4 (4 ∷ []) (rev 1 (codes "a")) 10 ∷ row 6 (6 ∷ []) (rev 1 (codes "a")) 10 ∷ row 7 (7 ∷ []) (rev 1 (codes "a")) 10 ∷ row 8 (8 ∷ []) (rev 1 (codes "a")) 10 ∷ End 8 2 ∷ []
+BoundHolds =
+    handed_out roomy (Write eight ∷ Begin (asks Normal (From 0) None Everything) ∷ Hand 0 ∷ Hand 0 ∷ Hand 0
+    ∷ Write (second (3 ∷ []) ∷ second (5 ∷ []) ∷ []) ∷ Hand 0 ∷ Hand 0 ∷ Hand 0 ∷ Hand 0 ∷ Hand 0 ∷ []) 0
+    ≡ row 1 (1 ∷ []) (rev 1 (codes "a")) 8 ∷ row 2 (2 ∷ []) (rev 1 (codes "a")) 8
+    ∷ row 3 (3 ∷ []) (rev 1 (codes "a")) 8
+    ∷ row 4 (4 ∷ []) (rev 1 (codes "a")) 10 ∷ row 6 (6 ∷ []) (rev 1 (codes "a")) 10
+    ∷ row 7 (7 ∷ []) (rev 1 (codes "a")) 10 ∷ row 8 (8 ∷ []) (rev 1 (codes "a")) 10 ∷ End 8 2 ∷ []
 
 -- a database of three documents, with a narrow lane
 abbrev pub three : World
@@ -90,55 +139,97 @@ third n = row n (n ∷ []) (rev 1 (codes "a")) 3
 
 -- a lane of two takes a third item only once one was taken
 abbrev pub LaneFills : Type 0
-LaneFills = replies_to three (Begin (asks Continuous (From 0) None Everything) ∷ Hand 0 ∷ Hand 0 ∷ Hand 0 ∷ Take 0 ∷ Hand 0 ∷ [])
+LaneFills =
+    replies_to three (Begin (asks Continuous (From 0) None Everything) ∷ Hand 0 ∷ Hand 0 ∷ Hand 0 ∷ Take 0
+    ∷ Hand 0 ∷ [])
     ≡ Opened 0 ∷ Pushed (third 1) ∷ Pushed (third 2) ∷ Full ∷ Took (Some (third 1)) ∷ Pushed (third 3) ∷ []
 
 -- a feed hands out three rows, and is finished when one was taken
 abbrev pub left_early : List Event
-left_early = Write eight ∷ Begin (asks Normal (From 5) None Everything) ∷ Hand 0 ∷ Hand 0 ∷ Take 0 ∷ Hand 0 ∷ Finish 0 ∷ Take 0 ∷ []
+left_early =
+    Write eight ∷ Begin (asks Normal (From 5) None Everything) ∷ Hand 0 ∷ Hand 0 ∷ Take 0 ∷ Hand 0 ∷ Finish 0
+    ∷ Take 0 ∷ []
 
 -- what is in the lane of a finished feed is never taken
 abbrev pub TakesAFront : Type 0
-TakesAFront = (handed_out roomy left_early 0 ≡ row 6 (6 ∷ []) (rev 1 (codes "a")) 8 ∷ row 7 (7 ∷ []) (rev 1 (codes "a")) 8 ∷ row 8 (8 ∷ []) (rev 1 (codes "a")) 8 ∷ [])
+TakesAFront =
+    (handed_out roomy left_early 0
+    ≡ row 6 (6 ∷ []) (rev 1 (codes "a")) 8 ∷ row 7 (7 ∷ []) (rev 1 (codes "a")) 8
+    ∷ row 8 (8 ∷ []) (rev 1 (codes "a")) 8 ∷ [])
     × (taken_off roomy left_early 0 ≡ row 6 (6 ∷ []) (rev 1 (codes "a")) 8 ∷ [])
 
 -- a longpoll feed for design documents waits for one, and then ends
 abbrev pub LongpollWaits : Type 0
-LongpollWaits = replies_to three (Begin (asks Longpoll (From 0) None Design) ∷ Hand 0 ∷ Write (first (codes "_design/x") ∷ []) ∷ Hand 0 ∷ Hand 0 ∷ Hand 0 ∷ [])
-    ≡ Opened 0 ∷ Nothing ∷ Outcomes (Stored (rev 1 (codes "a")) ∷ []) ∷ Pushed (row 4 (codes "_design/x") (rev 1 (codes "a")) 4) ∷ Pushed (End 4 0) ∷ Gone ∷ []
+LongpollWaits =
+    replies_to three (Begin (asks Longpoll (From 0) None Design) ∷ Hand 0
+    ∷ Write (first (codes "_design/x") ∷ []) ∷ Hand 0 ∷ Hand 0 ∷ Hand 0 ∷ [])
+    ≡ Opened 0 ∷ Nothing ∷ Outcomes (Stored (rev 1 (codes "a")) ∷ [])
+    ∷ Pushed (row 4 (codes "_design/x") (rev 1 (codes "a")) 4) ∷ Pushed (End 4 0) ∷ Gone ∷ []
 
 -- and where its time is over it ends at its place; a normal feed's time is never over
 abbrev pub TimeEnds : Type 0
-TimeEnds = (replies_to three (Begin (asks Longpoll (From 0) None Design) ∷ Hand 0 ∷ Expire 0 ∷ Hand 0 ∷ []) ≡ Opened 0 ∷ Nothing ∷ Nothing ∷ Pushed (End 3 0) ∷ [])
-    × (replies_to three (Begin (asks Normal (From 0) None Everything) ∷ Expire 0 ∷ Hand 0 ∷ []) ≡ Opened 0 ∷ Nothing ∷ Pushed (third 1) ∷ [])
+TimeEnds =
+    (replies_to three (Begin (asks Longpoll (From 0) None Design) ∷ Hand 0 ∷ Expire 0 ∷ Hand 0 ∷ [])
+    ≡ Opened 0 ∷ Nothing ∷ Nothing ∷ Pushed (End 3 0) ∷ [])
+    × (replies_to three (Begin (asks Normal (From 0) None Everything) ∷ Expire 0 ∷ Hand 0 ∷ [])
+    ≡ Opened 0 ∷ Nothing ∷ Pushed (third 1) ∷ [])
 
 -- what is known, what contradicts, and a draft on no leaf change nothing
 abbrev pub WritesAnswer : Type 0
-WritesAnswer = replies_to (empty roomy) (Write (second (codes "b") ∷ []) ∷ Write (second (codes "b") ∷ []) ∷ Write (doc (codes "b") (rev 3 (codes "w") ∷ rev 2 (codes "b") ∷ rev 1 (codes "q") ∷ []) ∷ [])
-    ∷ Interactive (record { id = codes "b"; rev = Some (rev 1 (codes "a")); deleted = false; body = codes "{}" } ∷ []) ∷ Begin (asks Normal Now None Everything) ∷ Hand 0 ∷ [])
-    ≡ Outcomes (Stored (rev 2 (codes "b")) ∷ []) ∷ Outcomes (Known ∷ []) ∷ Outcomes (Refused Contradicts ∷ []) ∷ Outcomes (Refused Conflict ∷ []) ∷ Opened 0 ∷ Pushed (End 1 0) ∷ []
+WritesAnswer =
+    replies_to (empty roomy) (Write (second (codes "b") ∷ []) ∷ Write (second (codes "b") ∷ [])
+    ∷ Write (doc (codes "b") (rev 3 (codes "w") ∷ rev 2 (codes "b") ∷ rev 1 (codes "q") ∷ []) ∷ [])
+    ∷ Interactive (record {
+      id = codes "b";
+      rev = Some (rev 1 (codes "a"));
+      deleted = false;
+      body = codes "{}";
+    } ∷ []) ∷ Begin (asks Normal Now None Everything) ∷ Hand 0 ∷ [])
+    ≡ Outcomes (Stored (rev 2 (codes "b")) ∷ []) ∷ Outcomes (Known ∷ [])
+    ∷ Outcomes (Refused Contradicts ∷ []) ∷ Outcomes (Refused Conflict ∷ []) ∷ Opened 0 ∷ Pushed (End 1 0)
+    ∷ []
 
 -- a feed that asks for a heartbeat
 abbrev pub asks_beats : Mode → Params
-asks_beats mode = record { mode = mode; since = From 0; limit = None; style = MainOnly; include_docs = false; filter = Everything; heartbeat = true }
+asks_beats mode =
+    record {
+      mode = mode;
+      since = From 0;
+      limit = None;
+      style = MainOnly;
+      include_docs = false;
+      filter = Everything;
+      heartbeat = true;
+    }
 
 -- a feed that waits hands heartbeats where it asks for them, while its lane has room
 abbrev pub BeatsAreAsked : Type 0
-BeatsAreAsked = (replies_to three (Begin (asks_beats Continuous) ∷ Heartbeat 0 ∷ Heartbeat 0 ∷ Heartbeat 0 ∷ Hand 0 ∷ Finish 0 ∷ Take 0 ∷ Hand 0 ∷ [])
+BeatsAreAsked =
+    (replies_to three (Begin (asks_beats Continuous) ∷ Heartbeat 0 ∷ Heartbeat 0 ∷ Heartbeat 0 ∷ Hand 0
+    ∷ Finish 0 ∷ Take 0 ∷ Hand 0 ∷ [])
     ≡ Opened 0 ∷ Pushed Beat ∷ Pushed Beat ∷ Full ∷ Full ∷ Left (Beat ∷ Beat ∷ []) ∷ Took None ∷ Gone ∷ [])
     × (replies_to three (Begin (asks_beats Normal) ∷ Heartbeat 0 ∷ []) ≡ Opened 0 ∷ Nothing ∷ [])
-    × (replies_to three (Begin (asks Continuous (From 0) None Everything) ∷ Heartbeat 0 ∷ Heartbeat 7 ∷ []) ≡ Opened 0 ∷ Nothing ∷ Nothing ∷ [])
+    × (replies_to three (Begin (asks Continuous (From 0) None Everything) ∷ Heartbeat 0 ∷ Heartbeat 7 ∷ [])
+    ≡ Opened 0 ∷ Nothing ∷ Nothing ∷ [])
 
 -- a deleted database ends its feeds, and takes nothing more
 abbrev pub DeletionEnds : Type 0
-DeletionEnds = replies_to three (Begin (asks Continuous (From 1) None Everything) ∷ Hand 0 ∷ Delete ∷ Hand 0 ∷ Hand 0 ∷ Delete ∷ Begin (asks Normal Now None Everything) ∷ Write (first (codes "a") ∷ []) ∷ [])
-    ≡ Opened 0 ∷ Pushed (third 2) ∷ Nothing ∷ Pushed (End 2 1) ∷ Gone ∷ DatabaseDeleted ∷ DatabaseDeleted ∷ Outcomes (Refused Deleted ∷ []) ∷ []
+DeletionEnds =
+    replies_to three (Begin (asks Continuous (From 1) None Everything) ∷ Hand 0 ∷ Delete ∷ Hand 0 ∷ Hand 0
+    ∷ Delete ∷ Begin (asks Normal Now None Everything) ∷ Write (first (codes "a") ∷ []) ∷ [])
+    ≡ Opened 0 ∷ Pushed (third 2) ∷ Nothing ∷ Pushed (End 2 1) ∷ Gone ∷ DatabaseDeleted ∷ DatabaseDeleted
+    ∷ Outcomes (Refused Deleted ∷ []) ∷ []
 
 -- the limit counts what passes, and 0 acts as 1
 abbrev pub LimitCountsRows : Type 0
-LimitCountsRows = replies_to three (Begin (asks Normal (From 0) (Some 0) (DocIds ((3 ∷ []) ∷ (2 ∷ []) ∷ []))) ∷ Hand 0 ∷ Hand 0 ∷ []) ≡ Opened 0 ∷ Pushed (third 2) ∷ Pushed (End 2 1) ∷ []
+LimitCountsRows =
+    replies_to three (Begin (asks Normal (From 0) (Some 0) (DocIds ((3 ∷ []) ∷ (2 ∷ []) ∷ []))) ∷ Hand 0
+    ∷ Hand 0 ∷ []) ≡ Opened 0 ∷ Pushed (third 2) ∷ Pushed (End 2 1) ∷ []
 
 -- one feed more than there may be is refused until one is finished; no number is given twice
 abbrev pub FeedsAreCounted : Type 0
-FeedsAreCounted = replies_to three (Begin (asks Continuous Now None Everything) ∷ Begin (asks Continuous Now None Everything) ∷ Finish 0 ∷ Begin (asks Continuous Now None Everything) ∷ [])
+FeedsAreCounted =
+    replies_to three (Begin (asks Continuous Now None Everything)
+    ∷ Begin (asks Continuous Now None Everything) ∷ Finish 0 ∷ Begin (asks Continuous Now None Everything)
+    ∷ [])
     ≡ Opened 0 ∷ TooManyFeeds ∷ Left [] ∷ Opened 1 ∷ []

@@ -1,7 +1,11 @@
--- A database with its feeds and their lanes, and what happens to them (own; feeds by CouchDB API reference, _changes).
-use Rattle.std.specs.Prelude.{◌≡◌, ℕ, ◌<◌, ◌-◌, ◌^◌, ◌||◌, nat_le, List, [], ◌∷◌, ◌++◌, length, drop, Bool, true, false, not, Option, Some, None, option_map, slice_get, slice_set, count_by}
+-- A database with its feeds and their lanes, and what happens to them (own; feeds by CouchDB API reference,
+-- _changes).
+use Rattle.std.specs.Prelude.{◌≡◌, ℕ, ◌<◌, ◌-◌, ◌^◌, ◌||◌, nat_le, List, [], ◌∷◌, ◌++◌, length, drop, Bool}
+use Rattle.std.specs.Prelude.{true, false, not, Option, Some, None, option_map, slice_get, slice_set}
+use Rattle.std.specs.Prelude.{count_by}
 use Rattle.hub_model.specs.Draft.{Draft, makes}
-use Rattle.hub_model.specs.Feed.{Params, Status, Open, Ending, Ended, Finished, Feed, begin, expire, end, finish}
+use Rattle.hub_model.specs.Feed.{Params, Status, Open, Ending, Ended, Finished, Feed, begin, expire, end}
+use Rattle.hub_model.specs.Feed.{finish}
 use Rattle.hub_model.specs.Journal.{Edit}
 use Rattle.hub_model.specs.Outcome.{StoresAll, stores_all, merges}
 use Rattle.hub_model.specs.RightlyHanded.{ChangeItem}
@@ -70,7 +74,8 @@ drafted w drafts = stores_all (makes w.limits.journal) w.deleted w.journal draft
 
 -- one feed more, with an empty lane
 abbrev pub with_feed : World → Params → World
-with_feed w params = record w { feeds = w.feeds ++ record { feed = begin params (length w.journal); lane = [] } ∷ [] }
+with_feed w params =
+    record w { feeds = w.feeds ++ record { feed = begin params (length w.journal); lane = [] } ∷ [] }
 
 -- the item goes into the lane, and the feed goes on so
 abbrev pub pushed : Subscription → Feed → ChangeItem → Subscription
@@ -78,7 +83,8 @@ pushed s feed item = record { feed = feed; lane = s.lane ++ item ∷ [] }
 
 -- there is room in the lane of f, and new is the world with the item in it
 abbrev pub Pushes : World → ℕ → Subscription → Feed → ChangeItem → World → Type 0
-Pushes old f s feed item new = (length s.lane < old.limits.lane) × (new ≡ with_subscription old f (pushed s feed item))
+Pushes old f s feed item new =
+    (length s.lane < old.limits.lane) × (new ≡ with_subscription old f (pushed s feed item))
 
 -- its time is over
 abbrev pub expired : Option Subscription → ℕ → World → World
