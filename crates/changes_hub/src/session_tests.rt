@@ -47,6 +47,8 @@ pub(crate) enum Answer {
     Head(&'static str, u64),
     /// The last answer: its status and its body.
     Last(&'static str, &'static str),
+    /// These bytes, so that some answers stand here as they are written.
+    Written(&'static str),
     /// No answer.
     Nothing,
 }
@@ -295,6 +297,7 @@ fn push_answer(alloc: Global, out: &mut String, answer: Answer) -> Result<(), Al
         Answer::Refused(status, error, reason) => push_refused(alloc, out, status, error, reason),
         Answer::Head(status, len) => push_head_alone(alloc, out, status, len),
         Answer::Last(status, body) => push_last(alloc, out, status, body),
+        Answer::Written(text) => out.push_str(text),
         Answer::Nothing => Ok(()),
     }
 }

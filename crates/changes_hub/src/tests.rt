@@ -1,11 +1,11 @@
 //! The hub over bytes: databases, batches of documents that other databases made, and faults.
 
 use crate::session_tests::Answer::{
-    Bad, Created, Feed, Found, Head, Last, Nothing, Refused, Replies,
+    Bad, Feed, Found, Head, Last, Nothing, Refused, Replies, Written,
 };
 use crate::session_tests::Ask::{Batch, Body, Bytes, Line};
 use crate::session_tests::{
-    BAD_METHOD, BAD_NAME, Exchange, FILE_EXISTS, MADE, MAKE, MISSING, NO_DATABASE, STORED,
+    Answer, BAD_METHOD, BAD_NAME, Exchange, FILE_EXISTS, MADE, MAKE, MISSING, NO_DATABASE, STORED,
     assert_answered, assert_each, assert_session, is_session,
 };
 use hub_document::Limits;
@@ -15,7 +15,27 @@ use std::alloc::{AllocError, Global};
 use std::process::Abort;
 use std::test::Fail;
 
-const EMPTY_DATABASE: &[Exchange] = &[MAKE, (Line("GET /d/_changes"), Feed(&[], 0, 0))];
+/// A database was made, as it is written.
+const MADE_WRITTEN: Answer = Written(concat!(
+    "HTTP/1.1 201 Created\r\nContent-Type: application/json\r\nContent-Length: 12\r\n\r\n",
+    "{\"ok\":true}\n"
+));
+
+/// Each document of a batch was stored, as it is written.
+const STORED_WRITTEN: Answer = Written(
+    "HTTP/1.1 201 Created\r\nContent-Type: application/json\r\nContent-Length: 3\r\n\r\n[]\n",
+);
+
+const EMPTY_DATABASE: &[Exchange] = &[
+    (Bytes("PUT /d HTTP/1.1\r\n\r\n"), MADE_WRITTEN),
+    (
+        Bytes("GET /d/_changes HTTP/1.1\r\n\r\n"),
+        Written(concat!(
+            "HTTP/1.1 200 OK\r\nContent-Type: application/json\r\nTransfer-Encoding: chunked\r\n\r\n",
+            "d\r\n{\"results\":[\n\r\n1e\r\n\n],\n\"last_seq\":0,\"pending\":0}\n\r\n0\r\n\r\n"
+        )),
+    ),
+];
 
 #[test]
 fn an_empty_database(rt: HostRuntime) -> Result<(), Fail> {
@@ -26,23 +46,22 @@ fn an_empty_database(rt: HostRuntime) -> Result<(), Fail> {
 const TWO: &[&str] = &[r#"{"_id":"a","_rev":"1-a"}"#, r#"{"_id":"b","_rev":"1-b"}"#];
 
 const EDIT_AGAIN: &[Exchange] = &[
-    MAKE,
-    (Batch(TWO), STORED),
-    (Batch(TWO), STORED),
+    (Line("PUT /d"), MADE_WRITTEN),
+    (Batch(TWO), STORED_WRITTEN),
+    (Batch(TWO), STORED_WRITTEN),
     (
         Batch(&[r#"{"_id":"a","_revisions":{"start":2,"ids":["c","a"]}}"#]),
-        STORED,
+        STORED_WRITTEN,
     ),
     (
         Line("GET /d/_changes"),
-        Feed(
-            &[
-                r#"{"seq":2,"id":"b","changes":[{"rev":"1-b"}]}"#,
-                r#"{"seq":3,"id":"a","changes":[{"rev":"2-c"}]}"#,
-            ],
-            3,
-            0,
-        ),
+        Written(concat!(
+            "HTTP/1.1 200 OK\r\nContent-Type: application/json\r\nTransfer-Encoding: chunked\r\n\r\n",
+            "d\r\n{\"results\":[\n\r\n",
+            "2c\r\n{\"seq\":2,\"id\":\"b\",\"changes\":[{\"rev\":\"1-b\"}]}\r\n",
+            "2e\r\n,\n{\"seq\":3,\"id\":\"a\",\"changes\":[{\"rev\":\"2-c\"}]}\r\n",
+            "1e\r\n\n],\n\"last_seq\":3,\"pending\":0}\n\r\n0\r\n\r\n"
+        )),
     ),
 ];
 
@@ -202,7 +221,10 @@ fn names(rt: HostRuntime) -> Result<(), Fail> {
 const CLOSING: &[Exchange] = &[
     (
         Bytes("PUT /d HTTP/1.1\r\nConnection: keep-alive, Close\r\n\r\n"),
-        Last("201 Created", r#"{"ok":true}"#),
+        Written(concat!(
+            "HTTP/1.1 201 Created\r\nContent-Type: application/json\r\nContent-Length: 12\r\n",
+            "Connection: close\r\n\r\n{\"ok\":true}\n"
+        )),
     ),
     (Line("PUT /e"), Nothing),
 ];
