@@ -1,12 +1,12 @@
 -- A lane never holds more items than the limit says.
-use Rattle.std.proofs.Common.{◌≡◌, ℕ, ◌≤◌, ◌+◌, List, [], ◌∷◌, ◌++◌, length, map, drop, true, inl, inr, sym, ◌∙◌, ap, subst, refl, arith}
+use Rattle.std.proofs.Common.{◌≡◌, ℕ, ◌≤◌, ◌+◌, List, [], ◌∷◌, ◌++◌, length, map, drop, inl, inr, sym, ◌∙◌, ap, subst, refl, arith}
 use Rattle.std.specs.Prelude.{Option, Some, None, slice_get, slice_set, option_map}
 use Rattle.std.proofs.lemmas.Bool.{cases_eq}
 use Rattle.std.proofs.lemmas.Option.{same_Some, none-some, slice_get-map}
 use Rattle.std.proofs.lemmas.List.{length_push, length-drop}
-use Rattle.hub_model.specs.Feed.{Feed, Params, begin, expire, finish}
+use Rattle.hub_model.specs.Feed.{Feed, begin, expire, finish}
 use Rattle.hub_model.specs.RightlyHanded.{ChangeItem}
-use Rattle.hub_world.specs.World.{Limits, World, Subscription, subscription, with_subscription, empty, pushed, expired, took, finished, ended}
+use Rattle.hub_world.specs.World.{World, Subscription, subscription, with_subscription, empty, pushed, expired, took, finished, ended}
 use Rattle.hub_world.specs.Event.{Event, Write, Interactive, Begin, Hand, Heartbeat, Expire, Take, Finish, Delete, Reply, Outcomes, Opened, TooManyFeeds, DatabaseDeleted, Pushed, Full, Nothing, Gone, Took, Left}
 use Rattle.hub_world.specs.Step.{Step, Run}
 use Rattle.hub_world.specs.Laws.{LanesAreLimited}

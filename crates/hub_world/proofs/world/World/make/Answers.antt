@@ -1,4 +1,4 @@
-use Rattle.std.proofs.Common.{◌∙◌, sym, ap, subst, map, length, arith, true, false}
+use Rattle.std.proofs.Common.{◌∙◌, sym, ap, subst, map, length, arith, true}
 use Rattle.std.proofs.lemmas.List.{length-map}
 use Rattle.std.specs.Prelude.{take}
 use Rattle.hub_database.specs.Database.{Database}
