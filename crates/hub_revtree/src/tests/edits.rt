@@ -1,148 +1,135 @@
 //! Edits that are made on trees. The hashes are the MD5s of the texts beside them.
 
-use super::{leaves_of, merge};
+use crate::tests::Step::{Deleted, Leaves, Len, Make, Merge, Path, Winner};
+use crate::tests::{ADDED, Step, assert_steps, make, merge};
 use crate::{EditFault, Merged, RevTree};
-use hub_document::{Body, DocId, RevId};
+use hub_document::RevId;
+use std::alloc::{AllocError, Global};
 use std::test::Fail;
+
+const CONFLICT: Result<&str, EditFault> = Err(EditFault::Conflict);
+
+// [false,null,"a",{}]
+const FIRST: &str = "1-dfddbf319adb018d1e5ac3465b83542c";
+
+// [true,"1-dfddbf319adb018d1e5ac3465b83542c","a",{}]
+const SECOND: &str = "2-870d76c302165a079d4197c8440353e5";
+
+// [false,"2-870d76c302165a079d4197c8440353e5","a",{}]
+const THIRD: &str = "3-4c5ef0d207f3957b7fd603081c6ea42d";
+
+const LINE: &[Step] = &[
+    Make(None, false, Ok(FIRST)),
+    Make(None, false, CONFLICT),
+    Len(1),
+    Make(Some(FIRST), true, Ok(SECOND)),
+    Deleted(SECOND, Some(true)),
+    Make(None, false, Ok(THIRD)),
+    Winner(Some(THIRD)),
+    Deleted(THIRD, Some(false)),
+    Path(
+        THIRD,
+        Some(
+            "3-4c5ef0d207f3957b7fd603081c6ea42d 2-870d76c302165a079d4197c8440353e5 1-dfddbf319adb018d1e5ac3465b83542c ",
+        ),
+    ),
+];
 
 #[test]
 fn edits_follow_one_another(rt: HostRuntime) -> Result<(), Fail> {
-    let alloc = rt.alloc();
-    let id = DocId::read(alloc, "a")?.expect(&rt, "an id");
-    // [false,null,"a",{}]
-    let first = RevId::read("1-dfddbf319adb018d1e5ac3465b83542c").expect(&rt, "a revision");
-    // [true,"1-dfddbf319adb018d1e5ac3465b83542c","a",{}]
-    let second = RevId::read("2-870d76c302165a079d4197c8440353e5").expect(&rt, "a revision");
-    // [false,"2-870d76c302165a079d4197c8440353e5","a",{}]
-    let third = RevId::read("3-4c5ef0d207f3957b7fd603081c6ea42d").expect(&rt, "a revision");
-    let mut tree = RevTree::new(alloc);
-    assert_eq!(rt;
-        tree.extend(&id, None, false, Body::empty(alloc)?),
-        Ok(first)
-    );
-    assert_eq!(rt;
-        tree.extend(&id, None, false, Body::empty(alloc)?),
-        Err(EditFault::Conflict)
-    );
-    assert_eq!(rt; tree.len(), 1);
-    assert_eq!(rt;
-        tree.extend(&id, Some(first), true, Body::empty(alloc)?),
-        Ok(second)
-    );
-    assert_eq!(rt; tree.deleted(&second), Some(true));
-    assert_eq!(rt;
-        tree.extend(&id, None, false, Body::empty(alloc)?),
-        Ok(third)
-    );
-    assert_eq!(rt; tree.winner(), Some(third));
-    assert_eq!(rt; tree.deleted(&third), Some(false));
-    let path = tree.path(alloc, &third)?.expect(&rt, "a path");
-    assert_eq!(rt; path.revisions(), [third, second, first].as_slice());
-    Ok(())
+    assert_steps(&rt, rt.alloc(), LINE)
 }
+
+const INNER: &[Step] = &[
+    Merge(r#"{"_id":"a","_rev":"1-a"}"#, ADDED),
+    Merge(
+        r#"{"_id":"a","_revisions":{"start":2,"ids":["c","b"]}}"#,
+        ADDED,
+    ),
+    Make(Some("1-b"), false, CONFLICT),
+    Make(Some("9-z"), false, CONFLICT),
+    Make(Some("2-a"), false, CONFLICT),
+    Len(2),
+    Leaves("2-c 1-a "),
+];
 
 #[test]
 fn only_leaves_are_extended(rt: HostRuntime) -> Result<(), Fail> {
-    let alloc = rt.alloc();
-    let id = DocId::read(alloc, "a")?.expect(&rt, "an id");
-    let mut tree = RevTree::new(alloc);
-    for text in [
-        "{\"_id\":\"a\",\"_rev\":\"1-a\"}",
-        "{\"_id\":\"a\",\"_revisions\":{\"start\":2,\"ids\":[\"c\",\"b\"]}}",
-    ] {
-        assert_eq!(rt; merge(alloc, &mut tree, text), Some(Ok(Merged::Added)));
-    }
-    for text in ["1-b", "9-z", "2-a"] {
-        let parent = RevId::read(text);
-        assert_eq!(rt;
-            tree.extend(&id, parent, false, Body::empty(alloc)?),
-            Err(EditFault::Conflict)
-        );
-    }
-    assert_eq!(rt; tree.len(), 2);
-    assert_eq!(rt; leaves_of(alloc, &tree)?.as_slice(), b"2-c 1-a ".as_slice());
-    Ok(())
+    assert_steps(&rt, rt.alloc(), INNER)
 }
+
+// [false,"1-a","a",{}]
+const ON_A: &str = "2-5b422ec71a54e904129dfa7cff6017b4";
+
+const CONFLICTS: &[Step] = &[
+    Merge(r#"{"_id":"a","_rev":"1-a"}"#, ADDED),
+    Merge(r#"{"_id":"a","_rev":"1-b"}"#, ADDED),
+    Make(Some("1-a"), false, Ok(ON_A)),
+    Leaves("2-5b422ec71a54e904129dfa7cff6017b4 1-b "),
+];
 
 #[test]
 fn conflicting_leaves_are_extended(rt: HostRuntime) -> Result<(), Fail> {
-    let alloc = rt.alloc();
-    let id = DocId::read(alloc, "a")?.expect(&rt, "an id");
-    let mut tree = RevTree::new(alloc);
-    for text in [
-        "{\"_id\":\"a\",\"_rev\":\"1-a\"}",
-        "{\"_id\":\"a\",\"_rev\":\"1-b\"}",
-    ] {
-        assert_eq!(rt; merge(alloc, &mut tree, text), Some(Ok(Merged::Added)));
-    }
-    // [false,"1-a","a",{}]
-    let made = RevId::read("2-5b422ec71a54e904129dfa7cff6017b4");
-    assert!(rt; made.is_some());
-    let parent = RevId::read("1-a");
-    assert_eq!(rt;
-        tree.extend(&id, parent, false, Body::empty(alloc)?).ok(),
-        made
-    );
-    assert_eq!(rt;
-        leaves_of(alloc, &tree)?.as_slice(),
-        b"2-5b422ec71a54e904129dfa7cff6017b4 1-b ".as_slice()
-    );
-    Ok(())
+    assert_steps(&rt, rt.alloc(), CONFLICTS)
 }
+
+// [true,"1-a","a",{}]
+const DELETED_ON_A: &str = "2-5bffa76456a463a52635906fedc1dd54";
+
+// The first of these hashes is made on 1-a too, and stands on another parent here.
+const MADE_BEFORE: &[Step] = &[
+    Merge(r#"{"_id":"a","_rev":"1-a"}"#, ADDED),
+    Merge(
+        r#"{"_id":"a","_revisions":{"start":2,"ids":["5b422ec71a54e904129dfa7cff6017b4","q"]}}"#,
+        ADDED,
+    ),
+    Make(Some("1-a"), false, CONFLICT),
+    Len(2),
+    Leaves("2-5b422ec71a54e904129dfa7cff6017b4 1-a "),
+    Make(Some("1-a"), true, Ok(DELETED_ON_A)),
+    Len(3),
+];
 
 #[test]
 fn made_revisions_that_are_known_conflict(rt: HostRuntime) -> Result<(), Fail> {
-    let alloc = rt.alloc();
-    let id = DocId::read(alloc, "a")?.expect(&rt, "an id");
-    let mut tree = RevTree::new(alloc);
-    // [false,"1-a","a",{}] stands on another parent here
-    for text in [
-        "{\"_id\":\"a\",\"_rev\":\"1-a\"}",
-        "{\"_id\":\"a\",\"_revisions\":{\"start\":2,\"ids\":[\"5b422ec71a54e904129dfa7cff6017b4\",\"q\"]}}",
-    ] {
-        assert_eq!(rt; merge(alloc, &mut tree, text), Some(Ok(Merged::Added)));
+    assert_steps(&rt, rt.alloc(), MADE_BEFORE)
+}
+
+// A document whose history has so many revisions.
+fn long_history(alloc: Global, count: u16) -> Result<String, AllocError> {
+    let mut text = format!(in alloc; r#"{{"_id":"a","_revisions":{{"start":{count},"ids":["a""#)?;
+    for _ in 1..count {
+        text.push_str(r#","a""#)?;
     }
-    let parent = RevId::read("1-a");
-    assert!(rt; parent.is_some());
-    assert_eq!(rt;
-        tree.extend(&id, parent, false, Body::empty(alloc)?),
-        Err(EditFault::Conflict)
-    );
-    assert_eq!(rt; tree.len(), 2);
-    assert_eq!(rt;
-        leaves_of(alloc, &tree)?.as_slice(),
-        b"2-5b422ec71a54e904129dfa7cff6017b4 1-a ".as_slice()
-    );
-    assert!(rt; tree.extend(&id, parent, true, Body::empty(alloc)?).is_ok());
-    assert_eq!(rt; tree.len(), 3);
-    Ok(())
+    text.push_str("]}}")?;
+    Ok(text)
+}
+
+// Whether the generation before the last is extended once, and the last is not.
+fn is_last_behind(alloc: Global, tree: &mut RevTree) -> Result<bool, AllocError> {
+    let Some(Ok(last)) = make(alloc, tree, tree.winner(), false)? else {
+        return Ok(false);
+    };
+    let more = make(alloc, tree, Some(last), false)?;
+    Ok(
+        last.generation() == 65535
+            && more == Some(Err(EditFault::GenerationLimit))
+            && tree.len() == 2
+            && tree.winner() == Some(last),
+    )
 }
 
 #[test]
 fn last_generation_is_not_extended(rt: HostRuntime) -> Result<(), Fail> {
     let alloc = rt.alloc();
-    let id = DocId::read(alloc, "a")?.expect(&rt, "an id");
-    let mut text = String::new(alloc);
-    text.push_str("{\"_id\":\"a\",\"_revisions\":{\"start\":65534,\"ids\":[\"a\"")?;
-    for _ in 1..65534 {
-        text.push_str(",\"a\"")?;
-    }
-    text.push_str("]}}")?;
+    let text = long_history(alloc, 65534)?;
     let mut tree = RevTree::new(alloc);
     assert_eq!(rt;
         merge(alloc, &mut tree, text.as_str()),
         Some(Ok(Merged::Added))
     );
-    let parent = tree.winner();
-    assert_eq!(rt; parent, RevId::read("65534-a"));
-    let last = tree.extend(&id, parent, false, Body::empty(alloc)?).ok();
-    let last = last.expect(&rt, "the last generation");
-    assert_eq!(rt; last.generation(), 65535);
-    assert_eq!(rt;
-        tree.extend(&id, Some(last), false, Body::empty(alloc)?),
-        Err(EditFault::GenerationLimit)
-    );
-    assert_eq!(rt; tree.len(), 2);
-    assert_eq!(rt; tree.winner(), Some(last));
+    assert_eq!(rt; tree.winner(), RevId::read("65534-a"));
+    let ends = is_last_behind(alloc, &mut tree)?;
+    assert!(rt; ends);
     Ok(())
 }
