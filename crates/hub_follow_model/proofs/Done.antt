@@ -2,9 +2,9 @@
 use Rattle.std.proofs.Common.{◌≡◌, ◌≢◌, ℕ, suc, ◌≤◌, min, cond, List, [], ◌∷◌, ◌++◌, length, map, take, drop, Contains, ◌⊎◌, inl, inr, refl, sym, ap, ⊎_elim, ◌∙◌, subst, arith, Bool, true, false, Option, Some, None, bytes_eq, take-append-drop, length-append}
 use Rattle.std.proofs.lemmas.List.Elements.{Contains-append_left, Contains-append_right, Contains-append_cases}
 use Rattle.std.proofs.lemmas.List.{drop-append-le}
-use Rattle.hub_follow_model.specs.Follow.{Session, log_over}
-use Rattle.hub_follow_model.specs.Handed.{items_of}
-use Rattle.hub_follow_model.specs.Log.{Log, Past, common_sequence, common_past, recorded_of, lesser_or, history_of, IsNumberOf}
+use Rattle.hub_follow_model.specs.Follower.{Session, checkpoint_log}
+use Rattle.hub_follow_model.specs.ChangesFeed.{items_of}
+use Rattle.hub_follow_model.specs.ReplicationLog.{ReplicationLog, HistoryEntry, common_sequence, common_session_sequence, recorded_seq_of, lesser_sequence, history_of, IsRecordedIn}
 use Rattle.hub_model.specs.Current.{IsCurrent}
 use Rattle.hub_model.specs.Journal.{Edit, IsKnown}
 use Rattle.hub_model.specs.Leaves.{IsLeaf}
@@ -69,50 +69,50 @@ pub done_zero : (J J' : List Edit) → IsDone J J' 0
 done_zero J J' = record { within = omega arith; brought = λ id u h l. absurd (u l.0.0 l.0.1.0 l.0.1.1) }
 
 -- logs
-abbrev pub LogDone : List Edit → List Edit → Option Log → Type 0
-LogDone J J' log = (c : ℕ) → IsNumberOf log c → IsDone J J' c
+abbrev pub LogDone : List Edit → List Edit → Option ReplicationLog → Type 0
+LogDone J J' log = (c : ℕ) → IsRecordedIn log c → IsDone J J' c
 
-abbrev pub PastDone : List Edit → List Edit → List Past → Type 0
-PastDone J J' past = (p : Past) → Contains past p → IsDone J J' p.recorded_seq
+abbrev pub PastDone : List Edit → List Edit → List HistoryEntry → Type 0
+PastDone J J' past = (p : HistoryEntry) → Contains past p → IsDone J J' p.recorded_seq
 
 module _ (J J' : List Edit) where
-  pub past_of_log : (log : Option Log) → LogDone J J' log → PastDone J J' (history_of log)
+  pub past_of_log : (log : Option ReplicationLog) → LogDone J J' log → PastDone J J' (history_of log)
   past_of_log None h p c = absurd (contains_none p c)
   past_of_log (Some log) h p c = h p.recorded_seq (inr (p, c, refl))
 
   pub done_min : (m n : ℕ) → IsDone J J' m → IsDone J J' n → IsDone J J' (min m n)
   done_min m n p q = ⊎_elim (λ (e : min m n ≡ m). subst (λ z. IsDone J J' z) (sym e) p) (λ (e : min m n ≡ n). subst (λ z. IsDone J J' z) (sym e) q) (grind arith)
 
-  pub done_recorded : (session : List ℕ) (past : List Past) (n otherwise : ℕ) → PastDone J J' past → IsDone J J' n → IsDone J J' otherwise → IsDone J J' (lesser_or n (recorded_of session past) otherwise)
+  pub done_recorded : (session : List ℕ) (past : List HistoryEntry) (n otherwise : ℕ) → PastDone J J' past → IsDone J J' n → IsDone J J' otherwise → IsDone J J' (lesser_sequence n (recorded_seq_of session past) otherwise)
   done_recorded session [] n otherwise h p q = q
   done_recorded session (x ∷ past) n otherwise h p q = both (bytes_eq session x.session_id) (done_recorded session past n otherwise (λ y c. h y (contains_there x y past c)) p q)
     where
-      both : (b : Bool) → IsDone J J' (lesser_or n (recorded_of session past) otherwise) → IsDone J J' (lesser_or n (cond b (Some x.recorded_seq) (recorded_of session past)) otherwise)
+      both : (b : Bool) → IsDone J J' (lesser_sequence n (recorded_seq_of session past) otherwise) → IsDone J J' (lesser_sequence n (cond b (Some x.recorded_seq) (recorded_seq_of session past)) otherwise)
       both true ih = done_min x.recorded_seq n (h x (contains_here x past)) p
       both false ih = ih
 
-  pub done_past : (source target : List Past) → PastDone J J' source → PastDone J J' target → IsDone J J' (common_past source target)
+  pub done_past : (source target : List HistoryEntry) → PastDone J J' source → PastDone J J' target → IsDone J J' (common_session_sequence source target)
   done_past source [] h k = done_zero J J'
-  done_past source (x ∷ target) h k = done_recorded x.session_id source x.recorded_seq (common_past source target) h (k x (contains_here x target)) (done_past source target h (λ y c. k y (contains_there x y target c)))
+  done_past source (x ∷ target) h k = done_recorded x.session_id source x.recorded_seq (common_session_sequence source target) h (k x (contains_here x target)) (done_past source target h (λ y c. k y (contains_there x y target c)))
 
   -- whichever number two logs agree on
-  pub done_common : (source target : Option Log) → LogDone J J' source → LogDone J J' target → IsDone J J' (common_sequence source target)
+  pub done_common : (source target : Option ReplicationLog) → LogDone J J' source → LogDone J J' target → IsDone J J' (common_sequence source target)
   done_common None target h k = done_zero J J'
   done_common (Some source) None h k = done_zero J J'
   done_common (Some source) (Some target) h k = both (bytes_eq source.session_id target.session_id)
     where
-      both : (b : Bool) → IsDone J J' (cond b (min source.source_last_seq target.source_last_seq) (common_past source.history target.history))
+      both : (b : Bool) → IsDone J J' (cond b (min source.source_last_seq target.source_last_seq) (common_session_sequence source.history target.history))
       both true = done_min source.source_last_seq target.source_last_seq (h source.source_last_seq (inl refl)) (k target.source_last_seq (inl refl))
       both false = done_past source.history target.history (past_of_log (Some source) h) (past_of_log (Some target) k)
 
-  pub take_in : (n : ℕ) (past : List Past) (p : Past) → Contains (take n past) p → Contains past p
+  pub take_in : (n : ℕ) (past : List HistoryEntry) (p : HistoryEntry) → Contains (take n past) p → Contains past p
   take_in n past p c = subst (λ z. Contains z p) (take-append-drop n past) (Contains-append_left (take n past) (drop n past) p c)
 
-  pub log_over_done : (s : Session) (past : List Past) → IsDone J J' s.place → PastDone J J' past → LogDone J J' (Some (log_over s past))
+  pub log_over_done : (s : Session) (past : List HistoryEntry) → IsDone J J' s.place → PastDone J J' past → LogDone J J' (Some (checkpoint_log s past))
   log_over_done s past p h c (inl e) = subst (λ z. IsDone J J' z) e p
   log_over_done s past p h c (inr (x, d, e)) =
-      let own : Past = record { session_id = s.name; start_last_seq = s.began; end_last_seq = s.place; recorded_seq = s.place } in
-      ⊎_elim (λ (q : own ≡ x). subst (λ z. IsDone J J' z) (ap (λ (z : Past). z.recorded_seq) q ∙ e) p)
+      let own : HistoryEntry = record { session_id = s.session_id; start_last_seq = s.start; end_last_seq = s.place; recorded_seq = s.place } in
+      ⊎_elim (λ (q : own ≡ x). subst (λ z. IsDone J J' z) (ap (λ (z : HistoryEntry). z.recorded_seq) q ∙ e) p)
       (λ q. subst (λ z. IsDone J J' z) e (h x q))
       (contains_cases own x past (take_in 50 (own ∷ past) x d))
 

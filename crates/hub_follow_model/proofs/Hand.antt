@@ -3,8 +3,8 @@ use Rattle.std.proofs.Common.{◌≡◌, ◌≢◌, ℕ, ◌+◌, ◌-◌, ◌<�
 use Rattle.std.proofs.lemmas.List.Elements.{Contains-append_left, Contains-append_right, Contains-append_cases, All-contains}
 use Rattle.std.proofs.lemmas.List.{drop-append-le}
 use Rattle.std.proofs.Math.Seq.{drop-append-add}
-use Rattle.hub_follow_model.specs.Follow.{asked_of, lacking, all_open, all_first, Fault}
-use Rattle.hub_follow_model.specs.Handed.{items_of, ended_at, IsHanded}
+use Rattle.hub_follow_model.specs.Follower.{revisions_of_row, missing_revisions, all_documents, with_document, Fault}
+use Rattle.hub_follow_model.specs.ChangesFeed.{items_of, ended_feed, HasChangesAnswer}
 use Rattle.hub_model.specs.Current.{IsCurrent}
 use Rattle.hub_model.specs.Journal.{Edit, IsHead, IsKnown, IsLegal, is_known}
 use Rattle.hub_model.specs.Leaves.{IsLeaf}
@@ -38,7 +38,7 @@ unmoved_current J c n e (b, l, s, m, none) v f d =
     (subst (λ z. Contains (drop z ((b ++ e ∷ []) ++ l)) f) k (subst (λ z. Contains (drop c z) f) (s ∙ sym (append_assoc b (e ∷ []) l)) d))))
 
 -- an answer of `changes` names the leaves of each document that moved since
-module _ (J J' : List Edit) (since last : ℕ) (rows : List ChangeRow) (p : IsHanded J since rows last) (old : IsDone J J' since) where
+module _ (J J' : List Edit) (since last : ℕ) (rows : List ChangeRow) (p : HasChangesAnswer J since rows last) (old : IsDone J J' since) where
   pub in_last : (n : ℕ) (e : Edit) → IsCurrent J n e → IsUnmoved J last e.id → n ≤ last
   in_last n e (b, l, s, m, none) u = ⊎_elim (λ (v : n ≤ last). v) (λ (v : last < n). absurd (u e (subst (λ z. Contains (drop last z) e) (sym s)
       (let w : last ≤ length b = omega arith in subst (λ z. Contains z e) (sym (drop-append-le last b (e ∷ l) w)) (Contains-append_right (drop last b) (e ∷ l) e (contains_here e l)))) refl)) (grind arith)
@@ -53,7 +53,7 @@ module _ (J J' : List Edit) (since last : ℕ) (rows : List ChangeRow) (p : IsHa
   contains_seq {n = n} c = map_contains (λ (r : ChangeRow). r.seq) rows n c
 
   pub shown_row : (row : ChangeRow) → Contains rows row → IsRow (take row.seen J) AllDocs false row
-  shown_row row c = (All-contains (IsRowOf J (ended_at since last (length rows))) rows row (subst (λ (z : List ChangeRow). All (IsRowOf J (ended_at since last (length rows))) z) rows_are p.1.rows) c).shown
+  shown_row row c = (All-contains (IsRowOf J (ended_feed since last (length rows))) rows row (subst (λ (z : List ChangeRow). All (IsRowOf J (ended_feed since last (length rows))) z) rows_are p.1.rows) c).shown
 
   -- the leaves now are those at the row's moment
   pub leaf_then : (n : ℕ) (e : Edit) (id : List ℕ) (h : Revision) (S D : List Edit) (e2 : Edit) → J ≡ S ++ D → IsCurrent S n e2 → IsCurrent J n e → e.id ≡ id → IsLeaf J id h → (e2.id ≡ id) × IsLeaf S id h
@@ -76,17 +76,17 @@ module _ (J J' : List Edit) (since last : ℕ) (rows : List ChangeRow) (p : IsHa
           within (inl v) = Contains-append_left b2 (e2 ∷ l2) f (subst (λ z. Contains z f) p0 v)
           within (inr v) = at_e (contains_cases e f l v)
 
-  pub in_row : (n : ℕ) (e : Edit) (id : List ℕ) (h : Revision) → IsCurrent J n e → e.id ≡ id → IsLeaf J id h → (row : ChangeRow) → Contains rows row → row.seq ≡ n → IsRow (take row.seen J) AllDocs false row → InAsked (map asked_of rows) id h
+  pub in_row : (n : ℕ) (e : Edit) (id : List ℕ) (h : Revision) → IsCurrent J n e → e.id ≡ id → IsLeaf J id h → (row : ChangeRow) → Contains rows row → row.seq ≡ n → IsRow (take row.seen J) AllDocs false row → InAsked (map revisions_of_row rows) id h
   in_row n e id h current q leaf row c at fits =
       let shown = row_is (take row.seen J) false row fits in
       let as_leaf = leaf_then n e id h (take row.seen J) (drop row.seen J) shown.0 (sym (take-append-drop row.seen J)) (subst (λ z. IsCurrent (take row.seen J) z shown.0) at shown.1) current q leaf in
       let same : row.id ≡ id = sym shown.2 ∙ as_leaf.0 in
-      (asked_of row, contains_map asked_of row rows c, same, row_lists (take row.seen J) false row fits h (subst (λ z. IsLeaf (take row.seen J) z h) (sym same) as_leaf.1))
+      (revisions_of_row row, contains_map revisions_of_row row rows c, same, row_lists (take row.seen J) false row fits h (subst (λ z. IsLeaf (take row.seen J) z h) (sym same) as_leaf.1))
 
-  pub handed : IsDoneBut J J' last (InAsked (map asked_of rows))
+  pub handed : IsDoneBut J J' last (InAsked (map revisions_of_row rows))
   handed = record { within = p.1.to_length; brought = λ id h u leaf. found id h u leaf (last_of J id) }
     where
-      found : (id : List ℕ) (h : Revision) → IsUnmoved J last id → IsLeaf J id h → ((n : ℕ) × (e : Edit) × IsCurrent J n e × (e.id ≡ id)) ⊎ ((f : Edit) → Contains J f → f.id ≢ id) → IsKnown J' id h ⊎ InAsked (map asked_of rows) id h
+      found : (id : List ℕ) (h : Revision) → IsUnmoved J last id → IsLeaf J id h → ((n : ℕ) × (e : Edit) × IsCurrent J n e × (e.id ≡ id)) ⊎ ((f : Edit) → Contains J f → f.id ≢ id) → IsKnown J' id h ⊎ InAsked (map revisions_of_row rows) id h
       found id h u leaf (inr none) = absurd (none leaf.0.0 leaf.0.1.0 leaf.0.1.1)
       found id h u leaf (inl (n, e, current, q)) = ⊎_elim
           (λ (v : n ≤ since). inl (old.brought id (subst (λ z. IsUnmoved J since z) q (unmoved_current J since n e current v)) h leaf))
@@ -123,22 +123,22 @@ wanted_in J' (x ∷ asked) id h (a, c, q, i) = both (wanted_in J' asked id h) (c
     both ih (inr d) = ⊎_elim (λ k. inl k) (λ k. inr (asked_rest x.id (missing J' x.id x.revs) (wanted J' asked) id h k)) (ih (a, d, q, i))
 
 -- the differences are what is wanted
-lacking_first : (d : Diff) (rest : List Diff) (lost : List Revision) → d.missing ≡ lost → map lacking (if is_wanted d then (d ∷ rest) else rest) ≡ with_missing d.id lost (map lacking rest)
+lacking_first : (d : Diff) (rest : List Diff) (lost : List Revision) → d.missing ≡ lost → map missing_revisions (if is_wanted d then (d ∷ rest) else rest) ≡ with_missing d.id lost (map missing_revisions rest)
 lacking_first d rest [] e = rw e refl
 lacking_first d rest (r ∷ revs) e =
     let some : is_wanted d ≡ true = lt-ltb 0 (length d.missing) (rw e (omega arith)) in
-    ap (λ b. map lacking (if b then (d ∷ rest) else rest)) some ∙ ap (λ z. record { id = d.id; revs = z } ∷ map lacking rest) e
+    ap (λ b. map missing_revisions (if b then (d ∷ rest) else rest)) some ∙ ap (λ z. record { id = d.id; revs = z } ∷ map missing_revisions rest) e
 
-pub lacking_diffs : (J : List Edit) (asked : List Asked) → map lacking (diffs J asked) ≡ wanted J asked
+pub lacking_diffs : (J : List Edit) (asked : List Asked) → map missing_revisions (diffs J asked) ≡ wanted J asked
 lacking_diffs J [] = refl
 lacking_diffs J (a ∷ asked) = lacking_first (diff_of J a) (diffs J asked) (missing J a.id a.revs) refl ∙ ap (with_missing a.id (missing J a.id a.revs)) (lacking_diffs J asked)
 
 -- an answer of `open_revs` is of copies
-pub opened_in : (J : List Edit) (id : List ℕ) (revs : List Revision) (got : List Edit) → IsLegal J → all_open id revs (map (shown J id) revs) ≡ Ok got → AreCopies J got × ((h : Revision) → Contains revs h → InGot got id h)
+pub opened_in : (J : List Edit) (id : List ℕ) (revs : List Revision) (got : List Edit) → IsLegal J → all_documents id revs (map (shown J id) revs) ≡ Ok got → AreCopies J got × ((h : Revision) → Contains revs h → InGot got id h)
 opened_in J id [] got legal q = let none : got ≡ [] = cc in (λ e c. absurd (contains_none e (subst (λ z. Contains z e) none c)), λ h c. absurd (contains_none h c))
-opened_in J id (r ∷ revs) got legal q = at (shown J id r) refl (all_open id revs (map (shown J id) revs)) (λ es u. opened_in J id revs es legal u) q
+opened_in J id (r ∷ revs) got legal q = at (shown J id r) refl (all_documents id revs (map (shown J id) revs)) (λ es u. opened_in J id revs es legal u) q
   where
-    at : (d : Option Edit) → shown J id r ≡ d → (o : Result (List Edit) Fault) → ((es : List Edit) → o ≡ Ok es → AreCopies J es × ((h : Revision) → Contains revs h → InGot es id h)) → all_first id r d o ≡ Ok got → AreCopies J got × ((h : Revision) → Contains (r ∷ revs) h → InGot got id h)
+    at : (d : Option Edit) → shown J id r ≡ d → (o : Result (List Edit) Fault) → ((es : List Edit) → o ≡ Ok es → AreCopies J es × ((h : Revision) → Contains revs h → InGot es id h)) → with_document id r d o ≡ Ok got → AreCopies J got × ((h : Revision) → Contains (r ∷ revs) h → InGot got id h)
     at None s o ih t = absurd (cc)
     at (Some e) s (Err fault) ih t = absurd (cc)
     at (Some e) s (Ok es) ih t =

@@ -1,7 +1,7 @@
 -- What storing documents brings.
 use Rattle.std.proofs.Common.{◌≡◌, ℕ, List, [], ◌∷◌, ◌++◌, Contains, ◌⊎◌, inl, inr, sym, ap, ⊎_elim, ◌∙◌, subst, append_assoc, append-nil, None}
 use Rattle.std.proofs.lemmas.List.Elements.{Contains-append_left, Contains-push, Contains-push_cases}
-use Rattle.hub_follow_model.specs.Follow.{first_refused}
+use Rattle.hub_follow_model.specs.Follower.{first_refusal}
 use Rattle.hub_model.specs.Journal.{Edit, IsHead, IsKnown, IsLegal}
 use Rattle.hub_model.specs.declared.outcomes.Fault.TheVariants.{Contradicts, SequenceFull}
 use Rattle.hub_model.specs.declared.outcomes.Outcome.{Outcome}
@@ -54,7 +54,7 @@ stored_copies S limit J (e ∷ docs) (o ∷ outcomes) K (mid, t, p) h d = stored
     both (Refused SequenceFull) t = subst (AreCopies S) (sym t.2) h
     both (Refused _) t = absurd t
 
-pub stored_known : (limit : ℕ) (J : List Edit) (docs : List Edit) (outcomes : List (Outcome Revision)) (K : List Edit) → TakesAll limit J docs outcomes K → first_refused docs outcomes ≡ None → (id : List ℕ) (h : Revision) → InGot docs id h → IsKnown K id h
+pub stored_known : (limit : ℕ) (J : List Edit) (docs : List Edit) (outcomes : List (Outcome Revision)) (K : List Edit) → TakesAll limit J docs outcomes K → first_refusal docs outcomes ≡ None → (id : List ℕ) (h : Revision) → InGot docs id h → IsKnown K id h
 stored_known limit J [] [] K p q id h g = absurd (contains_none g.0 g.1)
 stored_known limit J [] (o ∷ outcomes) K p q id h g = absurd p
 stored_known limit J (e ∷ docs) [] K p q id h g = absurd p
@@ -63,7 +63,7 @@ stored_known limit J (e ∷ docs) (o ∷ outcomes) K (mid, t, p) q id h (f, c, n
     rest : (r : Revision) → IsKnown mid id r → IsKnown K id r
     rest r k = let s = stored_holds limit mid docs outcomes K p in known_more K mid id r (λ g v. subst (λ z. Contains z g) (sym s.1) (Contains-append_left mid s.0 g v)) k
 
-    both : (first_refused docs outcomes ≡ None → Contains docs f → IsKnown K id h) → (o : Outcome Revision) → Takes limit J e o mid → first_refused (e ∷ docs) (o ∷ outcomes) ≡ None → (e ≡ f) ⊎ Contains docs f → IsKnown K id h
+    both : (first_refusal docs outcomes ≡ None → Contains docs f → IsKnown K id h) → (o : Outcome Revision) → Takes limit J e o mid → first_refusal (e ∷ docs) (o ∷ outcomes) ≡ None → (e ≡ f) ⊎ Contains docs f → IsKnown K id h
     both later (Stored r) t u (inl v) = rest h (f, (subst (λ z. Contains z f) (sym t.2) (subst (λ z. Contains (J ++ e ∷ []) z) v (Contains-push J e)), n), first_in f.path h i)
     both later (Stored r) t u (inr d) = later u d
     both later Known t u (inl v) = rest h (subst (λ z. IsKnown z id h) (sym t.3) (subst (λ z. IsKnown J z h) (ap (λ (z : Edit). z.id) v ∙ n) (subst (λ z. IsKnown J e.id z) (first_same e.path t.0 h t.1 (subst (λ z. IsHead z h) (sym v) i)) t.2)))
