@@ -12,7 +12,8 @@ use Rattle.hub_model.specs.Journal.{Edit}
 use Rattle.hub_model.specs.RightlyHanded.{ChangeItem, is_end, RightlyHanded}
 use Rattle.hub_model.specs.Row.{ChangeRow}
 
--- what a follower asks for: every leaf of the documents above a sequence, 100 rows at most (the number is own)
+-- what a follower asks for: every leaf of the documents above a sequence, 100 rows at most (the number is
+-- own)
 abbrev pub params_after : ℕ → Params
 params_after since =
     record {

@@ -20,8 +20,10 @@ pub data Side : Type 0 where
 pub data Call : Type 0 where
   LocalGet : (side : Side) → Call  -- its replication log (retrieve replication logs)
   Changes : (since : ℕ) → Call  -- the changes above a sequence (listen to changes feed)
-  RevsDiff : (asked : List Asked) → Call  -- which of these revisions it misses (calculate revision difference)
-  OpenRevs : (id : List ℕ) (revs : List Revision) → Call  -- these with their histories (fetch changed documents)
+  -- which of these revisions it misses (calculate revision difference)
+  RevsDiff : (asked : List Asked) → Call
+  -- these with their histories (fetch changed documents)
+  OpenRevs : (id : List ℕ) (revs : List Revision) → Call
   Merge : (docs : List Edit) → Call  -- to store them with their histories (upload batch of changed documents)
   LocalPut : (side : Side) (log : ReplicationLog) → Call  -- to store the log (record replication checkpoint)
 
@@ -139,7 +141,8 @@ retrieval_or_storage s [] got last = storage_or_ready s got last
 retrieval_or_storage s (next ∷ later) got last = Busy s (Retrieval next later got last)
 
 -- one more document in front of these, or the fault that this revision is missing
-abbrev pub with_document : List ℕ → Revision → Option Edit → Result (List Edit) Fault → Result (List Edit) Fault
+abbrev pub with_document : List ℕ → Revision → Option Edit → Result (List Edit) Fault
+    → Result (List Edit) Fault
 with_document id r None docs = Err (MissingRevision id r)
 with_document id r (Some e) (Ok es) = Ok (e ∷ es)
 with_document id r (Some e) (Err fault) = Err fault
@@ -176,7 +179,8 @@ IsAnswerToNext None answer = ⊥
 IsAnswerToNext (Some call) answer = IsAnswerTo call answer
 
 -- the follower behind the documents of one more row
-abbrev pub after_retrieval : Session → List Asked → List Edit → ℕ → Result (List Edit) Fault → Result Follower Fault
+abbrev pub after_retrieval : Session → List Asked → List Edit → ℕ → Result (List Edit) Fault
+    → Result Follower Fault
 after_retrieval s later got last (Ok docs) = Ok (retrieval_or_storage s later (got ++ docs) last)
 after_retrieval s later got last (Err fault) = Err fault
 

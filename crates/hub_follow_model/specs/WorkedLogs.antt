@@ -1,4 +1,4 @@
--- Worked comparisons of replication logs (own, over the CouchDB Replication Protocol, compare replication logs).
+-- Worked comparisons of replication logs (own, over CouchDB Replication Protocol, compare replication logs).
 use Rattle.std.specs.Prelude.{◌≡◌, ℕ, List, [], ◌∷◌, Some, None, codes}
 use Rattle.hub_follow_model.specs.ReplicationLog.{ReplicationLog, HistoryEntry, common_sequence}
 

@@ -1,5 +1,5 @@
--- Worked rounds: the calls that a follower makes, and what becomes of it, where source and target answer as their
--- journals say (own, over the CouchDB Replication Protocol, replicate changes).
+-- Worked rounds: the calls that a follower makes, and what becomes of it, where source and target answer as
+-- their journals say (own, over the CouchDB Replication Protocol, replicate changes).
 use Rattle.std.specs.Prelude.{◌≡◌, ℕ, List, [], ◌∷◌, ◌++◌, map, filter, false, nat_lt, Option, Some, None}
 use Rattle.std.specs.Prelude.{Err, codes}
 use Rattle.hub_model.specs.declared.feeds.Style.TheVariants.{AllDocs}
@@ -12,7 +12,8 @@ use Rattle.hub_model.specs.Revision.{Revision}
 use Rattle.hub_model.specs.Row.{ChangeRow, row_of}
 use Rattle.hub_model.specs.Walk.{shown}
 use Rattle.hub_model.specs.WorkedFeeds.{rev, doc}
-use Rattle.hub_follow_model.specs.Follower.{Call, Changes, RevsDiff, OpenRevs, Merge, LocalPut, Source, Target}
+use Rattle.hub_follow_model.specs.Follower.{Call, Changes, RevsDiff, OpenRevs, Merge, LocalPut, Source}
+use Rattle.hub_follow_model.specs.Follower.{Target}
 use Rattle.hub_follow_model.specs.Follower.{Answer, LogAnswer, ChangesAnswer, RevsDiffAnswer, OpenRevsAnswer}
 use Rattle.hub_follow_model.specs.Follower.{MergeAnswer, PutAnswer, Session, Listing, Retrieval, Storage}
 use Rattle.hub_follow_model.specs.Follower.{SourceCheckpoint, Follower, SourceStart, Ready, Busy}

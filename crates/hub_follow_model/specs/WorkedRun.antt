@@ -24,7 +24,8 @@ one_row =
 -- the write, a session c, its round and its checkpoint
 abbrev pub one_round : List Event
 one_round =
-    Write (one_edit ∷ []) ∷ Start (99 ∷ []) ∷ Reply ∷ Reply ∷ Round ∷ ChangesReply (items_of (one_row ∷ []) 1 0)
+    Write (one_edit ∷ []) ∷ Start (99 ∷ []) ∷ Reply ∷ Reply ∷ Round
+    ∷ ChangesReply (items_of (one_row ∷ []) 1 0)
     ∷ Reply ∷ Reply ∷ Reply ∷ Checkpoint ∷ Reply ∷ Reply ∷ []
 
 -- the session c at this place

@@ -1,5 +1,5 @@
--- Two databases, a replication log at each, and a follower: what may happen to them, and whole runs of that. Any
--- call may fail (own, over the CouchDB Replication Protocol).
+-- Two databases, a replication log at each, and a follower: what may happen to them, and whole runs of that.
+-- Any call may fail (own, over the CouchDB Replication Protocol).
 use Rattle.std.specs.Prelude.{◌≡◌, ℕ, List, [], ◌∷◌, map, take, Contains, Bool, true, false, IsTrue, Option}
 use Rattle.std.specs.Prelude.{Some, None, MatchOption, ◌⊎◌}
 use Rattle.hub_model.specs.Draft.{Draft, makes}
@@ -13,7 +13,8 @@ use Rattle.hub_follow_model.specs.ChangesFeed.{IsChangesAnswer, HasChangesAnswer
 use Rattle.hub_follow_model.specs.Follower.{Call, LocalGet, Changes, RevsDiff, OpenRevs, Merge, LocalPut}
 use Rattle.hub_follow_model.specs.Follower.{Answer, LogAnswer, ChangesAnswer, RevsDiffAnswer, OpenRevsAnswer}
 use Rattle.hub_follow_model.specs.Follower.{MergeAnswer, PutAnswer, Side, Source, Target, Listing}
-use Rattle.hub_follow_model.specs.Follower.{SourceCheckpoint, Follower, Down, SourceStart, TargetStart, Ready, Busy}
+use Rattle.hub_follow_model.specs.Follower.{SourceCheckpoint, Follower, Down, SourceStart, TargetStart, Ready}
+use Rattle.hub_follow_model.specs.Follower.{Busy}
 use Rattle.hub_follow_model.specs.Follower.{next_call, after_failure, after_answer}
 use Rattle.hub_follow_model.specs.ReplicationLog.{ReplicationLog, IsRecordedIn}
 
@@ -50,9 +51,9 @@ abbrev pub with_log : Side → ReplicationLog → World → World
 with_log Source log w = record w { source_log = Some log }
 with_log Target log w = record w { target_log = Some log }
 
--- From w the call may be answered so, and leaves the world so: the log that stands there; changes rightly handed
--- by the source; what the target misses; what the source shows of each revision; what storing the documents at
--- the target comes to; the log stored. Nothing but the merge and the log changes the world.
+-- From w the call may be answered so, and leaves the world so: the log that stands there; changes rightly
+-- handed by the source; what the target misses; what the source shows of each revision; what storing the
+-- documents at the target comes to; the log stored. Nothing but the merge and the log changes the world.
 abbrev pub IsAnswered : World → Call → Answer → World → Type 0
 IsAnswered w (LocalGet side) (LogAnswer log) new = (log ≡ log_at side w) × (new ≡ w)
 IsAnswered w (Changes since) (ChangesAnswer rows last) new =
@@ -108,8 +109,8 @@ checkpoint_start (Busy s phase) = Busy s phase
 abbrev pub IsFreeFor : World → List ℕ → Type 0
 IsFreeFor w session_id = IsTrue (is_free w.follower) × (¬ Contains w.sessions session_id)
 
--- the next call is a merge, and leaves this world where it fails behind `count` documents; another call changes
--- nothing
+-- the next call is a merge, and leaves this world where it fails behind `count` documents; another call
+-- changes nothing
 abbrev pub IsPartialMerge : World → Option Call → ℕ → World → Type 0
 IsPartialMerge w (Some (Merge docs)) count new =
     new ≡ record w {
@@ -118,8 +119,8 @@ IsPartialMerge w (Some (Merge docs)) count new =
     }
 IsPartialMerge w call count new = new ≡ w
 
--- the next call asks for changes, and leaves this world where the items are an answer to it; other items change
--- nothing, and nor does another call
+-- the next call asks for changes, and leaves this world where the items are an answer to it; other items
+-- change nothing, and nor does another call
 abbrev pub IsChangesReply : World → Option Call → List ChangeItem → World → Type 0
 IsChangesReply w (Some (Changes since)) items new =
     ((rows : List ChangeRow) × (last : ℕ) × IsChangesAnswer w.source since items rows last
