@@ -10,13 +10,16 @@ use Rattle.hub_follow_model.proofs.Paths.{behind_more}
 use Rattle.hub_model.proofs.Walks.{walk_history, legal_histories, walk_steps}
 
 -- a copy whose head isn't known can be added to copies
-pub copy_acceptable : (J J' : List Edit) (e : Edit) → IsLegal J → AreCopies J J' → IsCopy J e → ((r : Revision) → IsHead e r → ¬ IsKnown J' e.id r) → IsAcceptable J' e
+pub copy_acceptable : (J J' : List Edit) (e : Edit) → IsLegal J → AreCopies J J' → IsCopy J e
+    → ((r : Revision) → IsHead e r → ¬ IsKnown J' e.id r) → IsAcceptable J' e
 copy_acceptable J J' e legal copies c new =
     let o = c.shown.doc in
     record {
-      history = walk_history c.front e.id (λ f d. legal_histories J legal f (held f d)) e.path c.r c.shown.head (o.0, o.1, first_in o.0.path c.r o.2) c.shown.walk;
+      history = walk_history c.front e.id (λ f d. legal_histories J legal f (held f d)) e.path c.r
+          c.shown.head (o.0, o.1, first_in o.0.path c.r o.2) c.shown.walk;
       new = new;
-      agrees = λ r other s b k. (legal_sound J legal).tree e.id r other s (in_source r s b) (in_source other s k);
+      agrees = λ r other s b k. (legal_sound J legal).tree e.id r other s (in_source r s b)
+          (in_source other s k);
     }
   where
     held : Holds J c.front
@@ -25,5 +28,7 @@ copy_acceptable J J' e legal copies c new =
     in_source : (r s : Revision) → IsBehind (J' ++ e ∷ []) e.id r s → IsBehind J e.id r s
     in_source r s (f, (d, n), i) = ⊎_elim
         (λ (u : Contains J' f). copied_behind J J' legal copies e.id r s (f, (u, n), i))
-        (λ (v : e ≡ f). behind_more J c.front e.id r s held (walk_steps c.front e.id e.path s r c.shown.walk (subst (λ (z : Edit). IsNext z.path s r) (sym v) i)))
+        (λ (v : e
+        ≡ f). behind_more J c.front e.id r s held
+        (walk_steps c.front e.id e.path s r c.shown.walk (subst (λ (z : Edit). IsNext z.path s r) (sym v) i)))
         (Contains-push_cases J' e f d)

@@ -18,14 +18,18 @@ pub data Side : Type 0 where
 
 -- what a follower asks of a database
 pub data Call : Type 0 where
-  LocalGet : (side : Side) → Call  -- its replication log (retrieve replication logs)
-  Changes : (since : ℕ) → Call  -- the changes above a sequence (listen to changes feed)
+  -- its replication log (retrieve replication logs from source and target)
+  LocalGet : (side : Side) → Call
+  -- the changes above a sequence (listen to changes feed)
+  Changes : (since : ℕ) → Call
   -- which of these revisions it misses (calculate revision difference)
   RevsDiff : (asked : List Asked) → Call
   -- these with their histories (fetch changed documents)
   OpenRevs : (id : List ℕ) (revs : List Revision) → Call
-  Merge : (docs : List Edit) → Call  -- to store them with their histories (upload batch of changed documents)
-  LocalPut : (side : Side) (log : ReplicationLog) → Call  -- to store the log (record replication checkpoint)
+  -- to store them with their histories (upload batch of changed documents)
+  Merge : (docs : List Edit) → Call
+  -- to store the log (record replication checkpoint)
+  LocalPut : (side : Side) (log : ReplicationLog) → Call
 
 -- what it answers to each of them
 pub data Answer : Type 0 where
