@@ -1,0 +1,12 @@
+pub mod Paths
+pub mod Bring
+pub mod Done
+pub mod Hand
+pub mod Storing
+pub mod Work
+pub mod Runs
+pub mod Theorem
+pub mod Accepts
+pub mod Example
+pub mod Ended
+pub mod Fitting

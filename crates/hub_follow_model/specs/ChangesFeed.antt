@@ -1,0 +1,64 @@
+-- What a source answers to a follower that asks for changes: all that a normal feed of every leaf has handed,
+-- its end included (CouchDB Replication Protocol, listen to changes feed).
+use Rattle.std.specs.List.{list_any}
+use Rattle.std.specs.Prelude.{◌≡◌, true, ℕ, List, [], ◌∷◌, ◌++◌, length, map, false, Some}
+use Rattle.hub_model.specs.declared.feeds.Item.TheVariants.{Row, End}
+use Rattle.hub_model.specs.declared.feeds.Mode.TheVariants.{Normal}
+use Rattle.hub_model.specs.declared.feeds.Since.TheVariants.{From}
+use Rattle.hub_model.specs.declared.feeds.Style.TheVariants.{AllDocs}
+use Rattle.hub_model.specs.Feed.{Params, Feed, Ended}
+use Rattle.hub_model.specs.Filter.{Everything}
+use Rattle.hub_model.specs.Journal.{Edit}
+use Rattle.hub_model.specs.RightlyHanded.{ChangeItem, is_end, RightlyHanded}
+use Rattle.hub_model.specs.Row.{ChangeRow}
+
+-- what a follower asks for: every leaf of the documents above a sequence, 100 rows at most (the number is
+-- own)
+abbrev pub params_after : ℕ → Params
+params_after since =
+    record {
+      mode = Normal;
+      since = From since;
+      limit = Some 100;
+      style = AllDocs;
+      include_docs = false;
+      filter = Everything;
+      heartbeat = false;
+    }
+
+-- such a feed behind its End, which names `last`
+abbrev pub ended_feed : (since last rows : ℕ) → Feed
+ended_feed since last rows =
+    record {
+      params = params_after since;
+      since = since;
+      bound = Some last;
+      place = last;
+      rows = rows;
+      status = Ended;
+    }
+
+-- these rows and then the End
+abbrev pub items_of : List ChangeRow → (last pending : ℕ) → List ChangeItem
+items_of rows last pending = map (λ row. Row row) rows ++ End last pending ∷ []
+
+-- The items are an answer of these rows: rows and their End, rightly handed while J is the journal. So a row
+-- is each current document's between `since` and `last`, none is left out, and it lists every leaf. After
+-- a, b, c and then a again, since 1 has the rows of b, c and a, and 4 as its last sequence.
+abbrev pub IsChangesAnswer : List Edit → ℕ → List ChangeItem → List ChangeRow → ℕ → Type 0
+IsChangesAnswer J since items rows last =
+    (pending : ℕ) × (items ≡ items_of rows last pending)
+    × RightlyHanded J (ended_feed since last (length rows)) items
+
+-- some items are an answer of these rows
+abbrev pub HasChangesAnswer : List Edit → ℕ → List ChangeRow → ℕ → Type 0
+HasChangesAnswer J since rows last =
+    (pending : ℕ) × RightlyHanded J (ended_feed since last (length rows)) (items_of rows last pending)
+
+-- the law: whatever a feed that a follower asked for has handed once it ended is an answer
+abbrev pub EndedFeedIsAnswer : Type 0
+EndedFeedIsAnswer =
+    (J : List Edit) (f : Feed) (since : ℕ) (items : List ChangeItem) → f.params ≡ params_after since
+    → RightlyHanded J f items → list_any is_end items ≡ true
+    → (rows : List ChangeRow) × (pending : ℕ) × (items ≡ items_of rows f.place pending)
+    × HasChangesAnswer J f.since rows f.place

@@ -1,0 +1,160 @@
+-- Worked rounds: the calls that a follower makes, and what becomes of it, where source and target answer as
+-- their journals say (own, over the CouchDB Replication Protocol, replicate changes).
+use Rattle.std.specs.Prelude.{◌≡◌, ℕ, List, [], ◌∷◌, ◌++◌, map, filter, false, nat_lt, Option, Some, None}
+use Rattle.std.specs.Prelude.{Err, codes}
+use Rattle.hub_model.specs.declared.feeds.Style.TheVariants.{AllDocs}
+use Rattle.hub_model.specs.declared.outcomes.Fault.TheVariants.{SequenceFull}
+use Rattle.hub_model.specs.Current.{current}
+use Rattle.hub_model.specs.Journal.{Edit}
+use Rattle.hub_model.specs.Missing.{Asked, diffs}
+use Rattle.hub_model.specs.Outcome.{merges_all}
+use Rattle.hub_model.specs.Revision.{Revision}
+use Rattle.hub_model.specs.Row.{ChangeRow, row_of}
+use Rattle.hub_model.specs.Walk.{shown}
+use Rattle.hub_model.specs.WorkedFeeds.{rev, doc}
+use Rattle.hub_follow_model.specs.Follower.{Call, Changes, RevsDiff, OpenRevs, Merge, LocalPut, Source}
+use Rattle.hub_follow_model.specs.Follower.{Target}
+use Rattle.hub_follow_model.specs.Follower.{Answer, LogAnswer, ChangesAnswer, RevsDiffAnswer, OpenRevsAnswer}
+use Rattle.hub_follow_model.specs.Follower.{MergeAnswer, PutAnswer, Session, Listing, Retrieval, Storage}
+use Rattle.hub_follow_model.specs.Follower.{SourceCheckpoint, Follower, SourceStart, Ready, Busy}
+use Rattle.hub_follow_model.specs.Follower.{RefusedDocument, MissingRevision, revisions_of_row, next_call}
+use Rattle.hub_follow_model.specs.Follower.{answer_result, after_answer}
+use Rattle.hub_follow_model.specs.ReplicationLog.{ReplicationLog, HistoryEntry}
+
+-- the calls that a follower makes while these answers come
+abbrev pub calls_of : Follower → List Answer → List (Option Call)
+calls_of follower [] = []
+calls_of follower (answer ∷ answers) = next_call follower ∷ calls_of (after_answer follower answer) answers
+
+-- the follower behind all these answers
+abbrev pub after_answers : Follower → List Answer → Follower
+after_answers follower [] = follower
+after_answers follower (answer ∷ answers) = after_answers (after_answer follower answer) answers
+
+-- a, b and c at the source
+abbrev pub three_edits : List Edit
+three_edits =
+    doc (codes "a") (rev 1 (codes "a") ∷ []) ∷ doc (codes "b") (rev 1 (codes "b") ∷ [])
+    ∷ doc (codes "c") (rev 1 (codes "c") ∷ []) ∷ []
+
+-- a at its second revision
+abbrev pub second_edit : Edit
+second_edit = doc (codes "a") (rev 2 (codes "d") ∷ rev 1 (codes "a") ∷ [])
+
+-- a, b, c, then a again
+abbrev pub four_edits : List Edit
+four_edits = three_edits ++ second_edit ∷ []
+
+-- the rows above a sequence, of all leaves
+abbrev pub rows_above : List Edit → ℕ → List ChangeRow
+rows_above J since = map (row_of J AllDocs false) (filter (λ c. nat_lt since c.seq) (current J))
+
+-- one revision of a document
+abbrev pub one_of : List ℕ → Revision → Asked
+one_of id r = record { id = id; revs = r ∷ [] }
+
+-- a session that began after 0, at this place
+abbrev pub session_at : ℕ → Session
+session_at place =
+    record { session_id = codes "s1"; start = 0; place = place; source_history = []; target_history = [] }
+
+-- what source and target answer in the first round: the target is empty
+abbrev pub first_answers : List Answer
+first_answers =
+    ChangesAnswer (rows_above three_edits 0) 3
+    ∷ RevsDiffAnswer (diffs [] (map revisions_of_row (rows_above three_edits 0)))
+    ∷ OpenRevsAnswer (map (shown three_edits (codes "a")) (rev 1 (codes "a") ∷ []))
+    ∷ OpenRevsAnswer (map (shown three_edits (codes "b")) (rev 1 (codes "b") ∷ []))
+    ∷ OpenRevsAnswer (map (shown three_edits (codes "c")) (rev 1 (codes "c") ∷ []))
+    ∷ MergeAnswer (merges_all 10 [] three_edits).outcomes ∷ []
+
+-- the changes after 0, all that is missing, each document, and then they are stored
+abbrev pub FirstRoundCalls : Type 0
+FirstRoundCalls =
+    calls_of (Busy (session_at 0) Listing) first_answers
+    ≡ Some (Changes 0)
+    ∷ Some (RevsDiff (one_of (codes "a") (rev 1 (codes "a")) ∷ one_of (codes "b") (rev 1 (codes "b"))
+    ∷ one_of (codes "c") (rev 1 (codes "c")) ∷ []))
+    ∷ Some (OpenRevs (codes "a") (rev 1 (codes "a") ∷ []))
+    ∷ Some (OpenRevs (codes "b") (rev 1 (codes "b") ∷ []))
+    ∷ Some (OpenRevs (codes "c") (rev 1 (codes "c") ∷ [])) ∷ Some (Merge three_edits) ∷ []
+
+-- the place is the last sequence
+abbrev pub FirstRoundEnds : Type 0
+FirstRoundEnds = after_answers (Busy (session_at 0) Listing) first_answers ≡ Ready (session_at 3)
+
+-- what they answer in the second round: the target has a, b and c, and a was edited again
+abbrev pub second_answers : List Answer
+second_answers =
+    ChangesAnswer (rows_above four_edits 3) 4
+    ∷ RevsDiffAnswer (diffs three_edits (map revisions_of_row (rows_above four_edits 3)))
+    ∷ OpenRevsAnswer (map (shown four_edits (codes "a")) (rev 2 (codes "d") ∷ []))
+    ∷ MergeAnswer (merges_all 10 three_edits (second_edit ∷ [])).outcomes ∷ []
+
+-- the changes after 3, what is missing of a, and then that is stored with its history
+abbrev pub SecondRoundCalls : Type 0
+SecondRoundCalls =
+    calls_of (Busy (session_at 3) Listing) second_answers
+    ≡ Some (Changes 3) ∷ Some (RevsDiff (one_of (codes "a") (rev 2 (codes "d")) ∷ []))
+    ∷ Some (OpenRevs (codes "a") (rev 2 (codes "d") ∷ [])) ∷ Some (Merge (second_edit ∷ [])) ∷ []
+
+-- the place is the last sequence
+abbrev pub SecondRoundEnds : Type 0
+SecondRoundEnds = after_answers (Busy (session_at 3) Listing) second_answers ≡ Ready (session_at 4)
+
+-- what this session records at 4
+abbrev pub first_entry : HistoryEntry
+first_entry =
+    record { session_id = codes "s1"; start_last_seq = 0; end_last_seq = 4; recorded_seq = 4 }
+
+-- in this log
+abbrev pub first_log : ReplicationLog
+first_log = record { session_id = codes "s1"; source_last_seq = 4; history = first_entry ∷ [] }
+
+-- the log is stored at the source, then at the target
+abbrev pub CheckpointCalls : Type 0
+CheckpointCalls =
+    calls_of (Busy (session_at 4) SourceCheckpoint) (PutAnswer ∷ PutAnswer ∷ [])
+    ≡ Some (LocalPut Source first_log) ∷ Some (LocalPut Target first_log) ∷ []
+
+-- and the place stays
+abbrev pub CheckpointEnds : Type 0
+CheckpointEnds =
+    after_answers (Busy (session_at 4) SourceCheckpoint) (PutAnswer ∷ PutAnswer ∷ []) ≡ Ready (session_at 4)
+
+-- a later session that finds both logs begins after 4, and keeps what they hold
+abbrev pub ResumesAtCheckpoint : Type 0
+ResumesAtCheckpoint =
+    after_answers (SourceStart (codes "s2")) (LogAnswer (Some first_log) ∷ LogAnswer (Some first_log) ∷ [])
+    ≡ Ready (record {
+      session_id = codes "s2";
+      start = 4;
+      place = 4;
+      source_history = first_entry ∷ [];
+      target_history = first_entry ∷ [];
+    })
+
+-- the second round, where it fetches a
+abbrev pub at_retrieval : Follower
+at_retrieval = Busy (session_at 3) (Retrieval (one_of (codes "a") (rev 2 (codes "d"))) [] [] 4)
+
+-- the source misses the revision: the round fails, and the place stays
+abbrev pub MissingLeavesPlace : Type 0
+MissingLeavesPlace =
+    (answer_result at_retrieval (OpenRevsAnswer (None ∷ []))
+    ≡ Err (MissingRevision (codes "a") (rev 2 (codes "d"))))
+    × (after_answer at_retrieval (OpenRevsAnswer (None ∷ [])) ≡ Ready (session_at 3))
+
+-- the second round, where it stores a
+abbrev pub at_storage : Follower
+at_storage = Busy (session_at 3) (Storage (second_edit ∷ []) 4)
+
+-- what a target of three edits at most answers
+abbrev pub full_answer : Answer
+full_answer = MergeAnswer (merges_all 3 three_edits (second_edit ∷ [])).outcomes
+
+-- the target refuses the document: the round fails, and the place stays
+abbrev pub RefusalLeavesPlace : Type 0
+RefusalLeavesPlace =
+    (answer_result at_storage full_answer ≡ Err (RefusedDocument second_edit SequenceFull))
+    × (after_answer at_storage full_answer ≡ Ready (session_at 3))
