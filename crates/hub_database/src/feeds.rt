@@ -1,8 +1,10 @@
 //! The feeds of a database.
 
-ghost use Rattle.std.specs.Prelude.{◌≡◌, ◌⊎◌, Some, None, Err, nat_eq, map, position, IfOk, IfErr, OnErr};
+ghost use Rattle.std.specs.Prelude.{◌≡◌, ◌⊎◌, Some, None, Err, nat_eq, map, position, option_map, IfOk, IfErr, OnErr};
 ghost use Rattle.hub_model.specs.Entries.{entry_in};
+ghost use Rattle.hub_model.specs.Row.{ChangeRow as Shown};
 ghost use Rattle.hub_feed.specs.Host.{is_full, refuses, opened, is_beat_due, expired, item_due, answered, behind_answer, handed, finished, due_to};
+ghost use Rattle.hub_feed.specs.Mark.{mark_of};
 ghost use Rattle.hub_feed.specs.Next.{IsRowDue};
 ghost use Rattle.hub_params.specs.FeedModel.{params_of};
 ghost use Rattle.hub_database.specs.Feeds.{ended};
@@ -11,7 +13,7 @@ ghost use Rattle.hub_database.specs.Hosting.{hosted_of, with_hosted};
 use crate::database::DbState;
 use crate::rows::Rows;
 use hub_document::ChangeRow;
-use hub_feed::{FeedId, FeedState, Next, OpenFault};
+use hub_feed::{FeedId, FeedState, Mark, Next, OpenFault};
 use hub_model::Item;
 use hub_params::FeedParams;
 use std::alloc::AllocError;
@@ -87,12 +89,21 @@ impl DbState {
         requires due { item_due (hosted_of self.old) feed.number ≡ Some item.now }
         ensures { self.new ≡ with_hosted self.old (handed (hosted_of self.old) feed.number) }
     {
+        self.accept_marked(feed, Mark::of::<Rows>(item));
+    }
+
+    /// Goes on behind the item that `next_item` gives now, of which this is the mark. It takes no
+    /// memory, and costs a search among the feeds.
+    pub fn accept_marked(&mut self, feed: FeedId, mark: Mark)
+        requires due { option_map (mark_of (λ (r : Shown). r.seq)) (item_due (hosted_of self.old) feed.number) ≡ Some mark }
+        ensures { self.new ≡ with_hosted self.old (handed (hosted_of self.old) feed.number) }
+    {
         let Some(at) = place_of(self.feeds.as_slice(), feed.number) else {
             return;
         };
         let rows = Rows { store: &self.store };
         let feed = &mut self.feeds[at];
-        feed.1.accept_item(&rows, item);
+        feed.1.accept_marked(&rows, mark);
     }
 
     /// Whether a heartbeat may be handed to a feed now: one was asked for, and the feed is open and

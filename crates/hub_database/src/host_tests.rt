@@ -102,9 +102,10 @@ fn drives(alloc: Global, state: &mut DbState) -> Result<bool, Fail> {
     let normal = does(alloc, state, "", &wanted)?;
     let wanted = [FIRST, SECOND, Step::Nothing, Step::Beat, END, Step::Gone];
     let continuous = does(alloc, state, "feed=continuous&heartbeat=1000", &wanted)?;
+    let counted = FeedHost::length(state) == 2;
     state.delete()?;
     let refused = FeedHost::open_feed(state, asked(alloc, "")?);
-    Ok(normal && continuous && refused == Err(OpenFault::Deleted))
+    Ok(normal && continuous && counted && refused == Err(OpenFault::Deleted))
 }
 
 #[test]

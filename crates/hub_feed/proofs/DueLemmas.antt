@@ -1,5 +1,5 @@
 -- What follows where a row or an end is due.
-use Rattle.std.proofs.Common.{◌≡◌, ℕ, ◌<◌, ◌≤◌, List, true, ◌&&◌, nat_lt, refl, sym, ◌∙◌, ap, subst, Option, Some, None, IfSome, find, option_map, Contains}
+use Rattle.std.proofs.Common.{◌≡◌, ℕ, ◌<◌, ◌≤◌, List, true, ◌&&◌, nat_lt, refl, sym, ◌∙◌, subst, Option, Some, None, IfSome, find, option_map, Contains}
 use Rattle.std.proofs.lemmas.Bool.{and_parts, ltb-true, leb-true}
 use Rattle.std.proofs.lemmas.Option.{same_Some, none-some}
 use Rattle.hub_model.specs.Current.{Current, pending}
@@ -8,7 +8,9 @@ use Rattle.hub_model.specs.Filter.{passes}
 use Rattle.hub_model.specs.Hand.{item_of}
 use Rattle.hub_model.specs.declared.feeds.Item.TheVariants.{Row, End}
 use Rattle.hub_model.proofs.Shown.{find_is}
+use Rattle.hub_feed.specs.Mark.{mark_of}
 use Rattle.hub_feed.specs.Next.{next_of}
+use Rattle.hub_feed.specs.declared.mark.Mark.TheVariants as mark
 use Rattle.hub_feed.specs.declared.next.Next.TheVariants.{Give}
 
 -- a sequence that is found is a row's
@@ -24,12 +26,14 @@ open_row show rows f c waits found = rw waits (rw found refl)
 pub ending_end : {R : Type 0} (show : Current → R) (rows : List Current) (f : Feed) → f.status ≡ Ending → next_of show rows (due rows f) ≡ Give (End f.place (pending rows f.place))
 ending_end show rows f ending = rw ending refl
 
--- a row that is handed is shown of the row that is due
-item_row : {R : Type 0} (show : Current → R) (rows : List Current) (d : Due) (r : R) → item_of show rows d ≡ Some (Row r) → (c : Current) × (d ≡ DueRow c) × (r ≡ show c)
-item_row show rows (DueRow c) r e = (c, refl, cc)
-item_row show rows (DueEnd last_seq) r e = absurd (cc)
-item_row show rows DueNothing r e = absurd (cc)
-item_row show rows DueGone r e = absurd (cc)
+-- a row of this mark is shown of the row that is due
+mark_row : {R : Type 0} (show : Current → R) (seq_of : R → ℕ) (rows : List Current) (d : Due) (seq : ℕ)
+    → option_map (mark_of seq_of) (item_of show rows d) ≡ Some (mark.Row seq)
+    → (c : Current) × (d ≡ DueRow c) × (seq ≡ seq_of (show c))
+mark_row show seq_of rows (DueRow c) seq e = (c, refl, cc)
+mark_row show seq_of rows (DueEnd last_seq) seq e = absurd (cc)
+mark_row show seq_of rows DueNothing seq e = absurd (cc)
+mark_row show seq_of rows DueGone seq e = absurd (cc)
 
 due_open_row : (o : Option Current) (bound : Option ℕ) (c : Current) → due_open o bound ≡ DueRow c → o ≡ Some c
 due_open_row (Some d) bound c e = cc
@@ -43,11 +47,6 @@ due_at_row Ending rows f c e = absurd (cc)
 due_at_row Ended rows f c e = absurd (cc)
 due_at_row Finished rows f c e = absurd (cc)
 
-row_handed : {R : Type 0} (show : Current → R) (rows : List Current) (f : Feed) (r : R) → item_of show rows (due rows f) ≡ Some (Row r) → (c : Current) × (find (is_in_reach f) rows ≡ Some c) × (r ≡ show c)
-row_handed show rows f r e =
-    let (c, d, s) = item_row show rows (due rows f) r e in
-    (c, due_at_row f.status rows f c d, s)
-
 -- a row in reach lies above the place and not above the bound
 within_bound : (bound : Option ℕ) (n : ℕ) → is_within bound n ≡ true → IfSome bound (λ b. n ≤ b)
 within_bound None n e = tt
@@ -59,11 +58,14 @@ reach_lies f c e =
     let q = and_parts (is_within f.bound c.seq) (passes f.params.filter c.id) p.1 in
     (ltb-true f.place c.seq p.0, within_bound f.bound c.seq q.0)
 
--- and so does a row that is handed, where rows that are shown keep their sequences
-pub handed_lies : {R : Type 0} (show : Current → R) (seq_of : R → ℕ) (rows : List Current) (len : ℕ) (f : Feed) (r : R) → ((c : Current) → seq_of (show c) ≡ c.seq) → ((c : Current) → Contains rows c → c.seq ≤ len) → item_of show rows (due rows f) ≡ Some (Row r) → (f.place < seq_of r) × (seq_of r ≤ len) × IfSome f.bound (λ b. seq_of r ≤ b)
-handed_lies show seq_of rows len f r keeps within e =
-    let (c, found, shown) = row_handed show rows f r e in
-    let here = find_is (is_in_reach f) rows c found in
-    let same : c.seq ≡ seq_of r = sym (ap seq_of shown ∙ keeps c) in
+-- and so does the sequence that marks a row, where rows that are shown keep theirs
+pub marked_lies : {R : Type 0} (show : Current → R) (seq_of : R → ℕ) (rows : List Current) (len : ℕ) (f : Feed)
+    (seq : ℕ) → ((c : Current) → seq_of (show c) ≡ c.seq) → ((c : Current) → Contains rows c → c.seq ≤ len)
+    → option_map (mark_of seq_of) (item_of show rows (due rows f)) ≡ Some (mark.Row seq)
+    → (f.place < seq) × (seq ≤ len) × IfSome f.bound (λ b. seq ≤ b)
+marked_lies show seq_of rows len f seq keeps within e =
+    let (c, is, marked) = mark_row show seq_of rows (due rows f) seq e in
+    let here = find_is (is_in_reach f) rows c (due_at_row f.status rows f c is) in
     let lies = reach_lies f c here.0 in
-    subst (λ n. (f.place < n) × (n ≤ len) × IfSome f.bound (λ b. n ≤ b)) same (lies.0, within c here.1, lies.1)
+    subst (λ n. (f.place < n) × (n ≤ len) × IfSome f.bound (λ b. n ≤ b)) (sym (marked ∙ keeps c))
+    (lies.0, within c here.1, lies.1)

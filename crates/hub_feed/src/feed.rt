@@ -6,9 +6,11 @@ ghost use Rattle.hub_model.specs.Hand.{item_of};
 ghost use Rattle.hub_model.specs.declared.feeds.Item.TheVariants.{End};
 ghost use Rattle.hub_model.specs.Current.{pending};
 ghost use Rattle.hub_params.specs.FeedModel.{params_of};
+ghost use Rattle.hub_feed.specs.Mark.{mark_of};
 ghost use Rattle.hub_feed.specs.Next.{next_of, after_next, IsRowDue};
 ghost use Rattle.hub_feed.specs.Shown.{status_of};
 
+use crate::mark::Mark;
 use crate::next::Next;
 use crate::source::Source;
 use hub_model::{Item, Mode, by_mode};
@@ -189,11 +191,20 @@ impl FeedState {
         requires due { item_of (S.shown source.now self.old.params.style self.old.params.include_docs) (S.current source.now) (due (S.current source.now) self.old) ≡ Some item.now }
         ensures { self.new ≡ after_due self.old (due (S.current source.now) self.old) (S.length source.now) }
     {
-        match item {
-            Item::Row(row) => self.accept_row(S::seq(row), source.length()),
-            Item::Beat => {}
-            Item::End { last_seq, .. } => {
-                self.place = *last_seq;
+        self.accept_marked(source, Mark::of::<S>(item));
+    }
+
+    /// Goes on behind the item that `next_item` gives now, of which this is the mark. It takes no
+    /// memory, and constant time.
+    pub fn accept_marked<S: Source>(&mut self, source: &S, mark: Mark)
+        requires due { option_map (mark_of S.seq_of) (item_of (S.shown source.now self.old.params.style self.old.params.include_docs) (S.current source.now) (due (S.current source.now) self.old)) ≡ Some mark }
+        ensures { self.new ≡ after_due self.old (due (S.current source.now) self.old) (S.length source.now) }
+    {
+        match mark {
+            Mark::Row(seq) => self.accept_row(seq, source.length()),
+            Mark::Beat => {}
+            Mark::End(last_seq) => {
+                self.place = last_seq;
                 self.status = Status::Ended;
             }
         }

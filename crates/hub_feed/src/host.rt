@@ -1,13 +1,16 @@
 //! What keeps feeds.
 
-ghost use Rattle.std.specs.Prelude.{◌≡◌, ◌<◌, ◌≤◌, Some, None, Contains, IfOk, IfErr, OnOk, OnErr};
+ghost use Rattle.std.specs.Prelude.{◌≡◌, ◌<◌, ◌≤◌, ℕ, Bool, Some, None, Contains, option_map, IfOk, IfErr, OnOk, OnErr};
 ghost use Rattle.std.specs.List.{AllPairs};
 ghost use Rattle.hub_model.specs.Current.{Current};
 ghost use Rattle.hub_model.specs.Entries.{entry_in};
+ghost use Rattle.hub_model.specs.declared.feeds.Style.{Style as Listing};
 ghost use Rattle.hub_params.specs.FeedModel.{params_of};
+ghost use Rattle.hub_feed.specs.Mark.{mark_of};
 ghost use Rattle.hub_feed.specs.Next.{IsRowDue};
 ghost use Rattle.hub_feed.specs.Host.{Hosted, refuses, opening_fault, opened, due_to, answered, item_due, behind_answer, handed, is_beat_due, expired, finished};
 
+use crate::mark::Mark;
 use crate::next::Next;
 use hub_model::Item;
 use hub_params::FeedParams;
@@ -39,6 +42,13 @@ pub trait FeedHost {
     /// What the feeds follow, and the feeds.
     ghost hosted: { Self → Hosted Self.Row };
 
+    /// The sequence of a row that is handed.
+    ghost seq_of: { Self.Row → ℕ };
+
+    /// How many edits there are. It takes no memory.
+    fn length(&self) -> u64
+        ensures { result ≡ (hosted self.now).length };
+
     /// Opens a feed, which stays until it is finished, under a number that no feed had before.
     /// `descending` is not looked at. A refusal takes no memory.
     fn open_feed(&mut self, params: FeedParams) -> Result<FeedId, OpenFault>
@@ -55,10 +65,23 @@ pub trait FeedHost {
         ensures new { IfOk result (λ next. hosted self.new ≡ behind_answer (hosted self.old) feed.number next) }
         ensures err { OnErr result ((self.new ≡ self.old) × IsRowDue (due_to (hosted self.old) feed.number)) };
 
+    /// The mark of an item. It takes no memory.
+    fn mark(item: &Item<Self::Row>) -> Mark
+        ensures { result ≡ mark_of seq_of item.now };
+
+    /// Goes on behind the item that `next_item` gives now, of which this is the mark: the item may be
+    /// away by then. It takes no memory.
+    fn accept_marked(&mut self, feed: FeedId, mark: Mark)
+        requires due { option_map (mark_of seq_of) (item_due (hosted self.old) feed.number) ≡ Some mark }
+        ensures { hosted self.new ≡ handed (hosted self.old) feed.number };
+
     /// Goes on behind the item that `next_item` gives now. It takes no memory.
     fn accept_item(&mut self, feed: FeedId, item: &Item<Self::Row>)
         requires due { item_due (hosted self.old) feed.number ≡ Some item.now }
-        ensures { hosted self.new ≡ handed (hosted self.old) feed.number };
+        ensures { hosted self.new ≡ handed (hosted self.old) feed.number }
+    {
+        self.accept_marked(feed, Self::mark(item));
+    }
 
     /// Whether a heartbeat may be handed to a feed now: one was asked for, and the feed is open and
     /// waits. It takes no memory.
@@ -78,4 +101,7 @@ pub trait FeedHost {
 
     /// Each is one of the edits.
     ghost within: { (s : Self) (c : Current) → Contains (hosted s).current c → c.seq ≤ (hosted s).length };
+
+    /// A row that is handed has the sequence of its own.
+    ghost keeps: { (s : Self) (style : Listing) (include_docs : Bool) (c : Current) → seq_of ((hosted s).shown style include_docs c) ≡ c.seq };
 }

@@ -4,6 +4,7 @@
 
 mod feed;
 mod host;
+mod mark;
 mod next;
 mod source;
 #[cfg(test)]
@@ -13,5 +14,6 @@ pub use feed::FeedState;
 pub use host::{FeedHost, FeedId, OpenFault};
 pub use hub_document::ChangeRow;
 pub use hub_model::Item;
+pub use mark::Mark;
 pub use next::Next;
 pub use source::Source;
