@@ -1,19 +1,19 @@
 -- What the same bytes cannot be at once.
-use Rattle.std.proofs.Common.{◌≡◌, ℕ, zero, suc, ◌<◌, ◌≤◌, ◌⊎◌, inl, inr, List, [], ◌∷◌, ◌++◌, length, Option, Some, Result, Ok, Err, unwrap_or, refl, sym, ap, subst, ◌∙◌, append-nil, codes, arith}
+use Rattle.std.proofs.Common.{◌≡◌, ℕ, zero, suc, ◌<◌, ◌≤◌, ◌⊎◌, inl, inr, List, [], ◌++◌, length, Option, Some, Result, Ok, Err, unwrap_or, refl, sym, ap, subst, ◌∙◌, append-nil, codes, arith}
 use Rattle.std.proofs.lemmas.Grind.{common_steps}
 use Rattle.std.proofs.lemmas.List.Sums.{AllPass-from_list_all}
 use Rattle.std.proofs.lemmas.List.Elements.{All-nil}
 use Rattle.std.proofs.lemmas.Str.{IsUtf8-from_ascii}
 use Rattle.std.specs.Str.{IsAscii}
-use Rattle.httparse.specs.Grammar.{LineEnd, crlf, Field, IsField, RequestHead, IsRequestHead, print_request, ReadsRequest, HasNoRequest, is_token_byte, is_uri_byte}
+use Rattle.httparse.specs.Grammar.{crlf, IsField, RequestHead, IsRequestHead, print_request, ReadsRequest, HasNoRequest, is_token_byte, is_uri_byte}
 use Rattle.httparse.proofs.GrammarLemmas.{request_unique}
 use Rattle.httparse.proofs.OnLiterals.{httparse_on_literals}
 use Rattle.hub_http.specs.declared.fault.HttpFault.{HttpFault}
 use Rattle.hub_http.specs.declared.fault.HttpFault.TheVariants.{NoMemory, BadHead, HeadTooLong, BodyTooLong, Version, Coding, Ended, IoFault}
-use Rattle.hub_http.specs.Heads.{Begins, BeginsFaulty, NeverHasHead, length_by, pairs_of}
+use Rattle.hub_http.specs.Heads.{Begins, BeginsFaulty, length_by, pairs_of}
 use Rattle.hub_http.specs.Stream.{Asked, Spells, IsCut, Faults}
 use Rattle.hub_http.specs.Exclusions.{IsOutside, IsHeadFault, IsOpenFault}
-use Rattle.hub_http.proofs.HeadLemmas.{asked_faults}
+use Rattle.hub_http.proofs.HeadLemmas.{asked_faults, head_has_bytes}
 
 -- a head within the limits
 record IsWithinLimits (h : RequestHead) : Type 0 where
@@ -146,19 +146,18 @@ short_head_begins = record {
   fields = omega arith;
 }
 
--- a head has bytes
-head_has_bytes : (h : RequestHead) (rest : List ℕ) → ReadsRequest [] h rest → ⊥
-unfolding print_request
-head_has_bytes h rest r = let n = ap length r.1 in grind (arith, common_steps)
+-- no bytes are no head
+no_head : (h : RequestHead) (rest : List ℕ) → ReadsRequest [] h rest → ⊥
+no_head h rest r = let n = head_has_bytes [] h rest r in omega (arith, n)
 
 pub nothing_spells : (a : Asked) (rest : List ℕ) → Spells [] a rest → ⊥
-nothing_spells a rest x = head_has_bytes x.0 (a.body ++ rest) x.1.begins.reads
+nothing_spells a rest x = no_head x.0 (a.body ++ rest) x.1.begins.reads
 
 no_faulty : (e : HttpFault) → BeginsFaulty [] e → ⊥
-no_faulty e x = head_has_bytes x.0 x.1 x.2.reads
+no_faulty e x = no_head x.0 x.1 x.2.reads
 
-pub nothing_faults : (e : HttpFault) → Faults [] e → IsOutside e
-nothing_faults NoMemory f = inl refl
+pub nothing_faults : (e : HttpFault) → Faults [] e → e ≡ IoFault
+nothing_faults NoMemory f = absurd (omega (arith, f))
 nothing_faults BadHead f =
     elim f [ inl x ↦ absurd (x (print_request short_head) short_head [] short_head_begins.reads) | inr x ↦ absurd (no_faulty BadHead x) ]
 nothing_faults HeadTooLong f = absurd (f.0 (print_request short_head) short_head [] short_head_begins)
@@ -166,8 +165,8 @@ nothing_faults BodyTooLong f = absurd (no_faulty BodyTooLong f)
 nothing_faults Version f = absurd (no_faulty Version f)
 nothing_faults Coding f = absurd (no_faulty Coding f)
 nothing_faults Ended f =
-    elim f [ inl x ↦ absurd (omega (arith, x.0)) | inr x ↦ absurd (head_has_bytes x.0 x.1 x.3.reads) ]
-nothing_faults IoFault f = inr refl
+    elim f [ inl x ↦ absurd (omega (arith, x.0)) | inr x ↦ absurd (no_head x.0 x.1 x.3.reads) ]
+nothing_faults IoFault f = refl
 
 no_begin : (bytes : List ℕ) (e : HttpFault) → HasNoRequest bytes → BeginsFaulty bytes e → ⊥
 no_begin bytes e n x = n x.0 x.1 x.2.reads

@@ -3,7 +3,7 @@ use Rattle.std.proofs.Common.{◌≡◌, ℕ, ◌<◌, ◌≤◌, ◌⊎◌, inl
 use Rattle.std.specs.List.{list_all}
 use Rattle.std.specs.Str.Parse.{digits_value}
 use Rattle.std.proofs.lemmas.Grind.{common_steps}
-use Rattle.httparse.specs.Grammar.{RequestHead, print_request}
+use Rattle.httparse.specs.Grammar.{RequestHead, print_request, ReadsRequest}
 use Rattle.httparse.specs.Spans.{header_bytes, span_bytes, name_and_value, IsRequestOf}
 use Rattle.httparse.specs.declared.spans.HeaderSpan.{HeaderSpan}
 use Rattle.httparse.specs.declared.spans.RequestSpans.{RequestSpans}
@@ -12,6 +12,14 @@ use Rattle.hub_http.specs.declared.fault.HttpFault.{HttpFault}
 use Rattle.hub_http.specs.declared.fault.HttpFault.TheVariants.{NoMemory, BadHead, HeadTooLong, BodyTooLong, Version, Coding, Ended, IoFault}
 use Rattle.hub_http.specs.Heads.{Pair, is_digits, body_limit, length_of, asked, is_target, values_named, Begins, BeginsFaulty, BeginsTooLong, NeverHasHead, length_by}
 use Rattle.hub_http.specs.Looking.{LookFaults}
+
+-- a head has bytes
+pub head_has_bytes : (buf : List ℕ) (h : RequestHead) (rest : List ℕ) → ReadsRequest buf h rest → 0 < length buf
+unfolding print_request
+head_has_bytes buf h rest r = let n = ap length r.1 in grind (arith, common_steps)
+
+pub found_has_bytes : (buf : List ℕ) (headers : List HeaderSpan) (r : RequestSpans) → IsRequestOf buf headers r → 0 < length buf
+found_has_bytes buf headers r x = head_has_bytes buf x.0 (drop r.len buf) x.1.reads
 
 -- a head past the limit is the only one
 never_shorter : (buf : List ℕ) (headers : List HeaderSpan) (r : RequestSpans) → IsRequestOf buf headers r → 16384 < r.len → NeverHasHead buf
@@ -74,7 +82,7 @@ asked_faults minor target pairs e h =
     asked_choice _ _ (is_target target) (length_of (values_named (codes "content-length") pairs)) e (length_of_faults _ e) h
 
 pub look_faults : (buf : List ℕ) (e : HttpFault) → IsAskFault e → BeginsFaulty buf e → LookFaults buf e
-look_faults buf NoMemory a b = tt
+look_faults buf NoMemory a b = head_has_bytes buf b.0 b.1 b.2.reads
 look_faults buf BadHead a b = inr b
 look_faults buf HeadTooLong a b = absurd (elim a [ inl x ↦ elim x [ inl y ↦ cc | inr y ↦ cc ] | inr x ↦ elim x [ inl y ↦ cc | inr y ↦ cc ] ])
 look_faults buf BodyTooLong a b = b

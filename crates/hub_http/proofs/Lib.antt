@@ -1,3 +1,4 @@
+pub mod BlockLemmas
 pub mod ExclusionLemmas
 pub mod FrontLemmas
 pub mod HeadLemmas

@@ -1,5 +1,5 @@
 -- From what is held to the bytes that are told.
-use Rattle.std.proofs.Common.{◌≡◌, ℕ, ◌+◌, ◌<◌, ◌≤◌, Bool, true, false, ◌&&◌, cond, List, [], ◌∷◌, ◌++◌, length, take, drop, Option, Some, None, Result, Ok, Err, IfSome, is_some, unwrap_or, refl, sym, ap, subst, ◌∙◌, arith, nat_le, append_assoc, append-nil, inl, inr, take-append-drop, codes, bytes_eq, ◌^◌}
+use Rattle.std.proofs.Common.{◌≡◌, ℕ, ◌+◌, ◌<◌, ◌≤◌, ◌⊎◌, Bool, true, false, ◌&&◌, cond, List, [], ◌∷◌, ◌++◌, length, take, drop, Option, Some, None, Result, Ok, Err, IfSome, is_some, unwrap_or, refl, sym, ap, subst, ◌∙◌, arith, nat_le, append_assoc, append-nil, inl, inr, take-append-drop, codes, bytes_eq, ◌^◌}
 use borrow.Author.Tests.{leb-true}
 use Rattle.std.proofs.lemmas.Grind.{common_steps}
 use Rattle.std.proofs.lemmas.List.{drop-drop, drop_at}
@@ -13,6 +13,7 @@ use Rattle.hub_http.specs.declared.fault.HttpFault.TheVariants.{NoMemory, BadHea
 use Rattle.hub_http.specs.declared.head.Head.{Head}
 use Rattle.hub_http.specs.declared.request.Request.{Request}
 use Rattle.hub_http.specs.Heads.{Pair, Begins, BeginsFaulty, BeginsTooLong, GoesOn, NeverHasHead, length_of, asked, is_digits, is_target, values_named, pairs_of, body_limit}
+use Rattle.hub_http.proofs.HeadLemmas.{head_has_bytes}
 use Rattle.hub_http.specs.Stream.{Spells, asked_by, Leaves}
 use Rattle.hub_http.specs.Looking.{IsHeadAt, FindFaults}
 
@@ -65,7 +66,7 @@ too_long_more held y b =
     ]
 
 faults_more : (held y : List ℕ) (e : HttpFault) → FindFaults held (Some y) e → Leaves (held ++ y) (Err e) (Some (held ++ y))
-faults_more held y NoMemory f = refl
+faults_more held y NoMemory f = (refl, f)
 faults_more held y BadHead f = elim f [ inl x ↦ inl (never_request_more held y x) | inr x ↦ inr (faulty_more held y BadHead x) ]
 faults_more held y HeadTooLong f = (never_more held y f.0, too_long_more held y f.1)
 faults_more held y BodyTooLong f = faulty_more held y BodyTooLong f
@@ -127,6 +128,29 @@ told_request a0 left1 (Some y) held1 held2 held3 f q n k1 x k2 grown room size b
     keeps_some a0 (prepend_known held1 left1) (λ bytes. Leaves bytes (Ok (Some q)) (Some (held3 ++ y))) k1
     (keeps_some (prepend_known held1 left1) (Some (held2 ++ y)) (λ bytes. Leaves bytes (Ok (Some q)) (Some (held3 ++ y))) k2
     (spelled held1 held2 held3 y f q n x grown room size body left method target has close))
+
+-- behind a head that was found no memory was found, or the reader failed
+some_bytes : (held1 held2 y : List ℕ) (f : Head) → ((h : RequestHead) × IsHeadAt held1 f h) → ((more : List ℕ) × (held2 ≡ held1 ++ more)) → 0 < length (held2 ++ y)
+some_bytes held1 held2 y f x grown =
+    let some = head_has_bytes held1 x.0 (drop f.len held1) x.1.begins.reads in
+    let size = ap length grown.1 in
+    grind (arith, common_steps)
+
+left_so : (bytes : List ℕ) (e : HttpFault) → (e ≡ NoMemory) ⊎ (e ≡ IoFault) → 0 < length bytes → Leaves bytes (Err e) (Some bytes)
+left_so bytes e (inl p) some = subst (λ (f : HttpFault). Leaves bytes (Err f) (Some bytes)) (sym p) (refl, some)
+left_so bytes e (inr p) some = subst (λ (f : HttpFault). Leaves bytes (Err f) (Some bytes)) (sym p) tt
+
+pub told_memory : (a0 left1 left2 : Option (List ℕ)) (held1 held2 : List ℕ) (f : Head) (e : HttpFault)
+    → Keeps a0 (prepend_known held1 left1) → ((h : RequestHead) × IsHeadAt held1 f h)
+    → Keeps (prepend_known held1 left1) (prepend_known held2 left2) → ((more : List ℕ) × (held2 ≡ held1 ++ more))
+    → (e ≡ NoMemory) ⊎ (e ≡ IoFault) → IfSome a0 (λ bytes. Leaves bytes (Err e) (prepend_known held2 left2))
+told_memory a0 left1 None held1 held2 f e k1 x k2 grown w =
+    keeps_some a0 (prepend_known held1 left1) (λ bytes. Leaves bytes (Err e) None) k1
+    (keeps_some (prepend_known held1 left1) None (λ bytes. Leaves bytes (Err e) None) k2 tt)
+told_memory a0 left1 (Some y) held1 held2 f e k1 x k2 grown w =
+    keeps_some a0 (prepend_known held1 left1) (λ bytes. Leaves bytes (Err e) (Some (held2 ++ y))) k1
+    (keeps_some (prepend_known held1 left1) (Some (held2 ++ y)) (λ bytes. Leaves bytes (Err e) (Some (held2 ++ y))) k2
+    (left_so (held2 ++ y) e w (some_bytes held1 held2 y f x grown)))
 
 one_bound : (a b : Bool) (m : ℕ) (l : Option ℕ) → (b ≡ true → m ≤ 8388608) → cond a (cond b (Ok (Some m)) (Err BodyTooLong)) (Err BadHead) ≡ Ok l → unwrap_or l 0 ≤ 8388608
 one_bound true true m l e h =

@@ -30,9 +30,10 @@ SpelledHasNoFault =
 abbrev pub NothingSpellsNothing : Type 0
 NothingSpellsNothing = (a : Asked) (rest : List ℕ) → ¬ (Spells [] a rest)
 
--- and have no fault of their own: an end of the input between requests is clean
+-- and have no fault, nor want of memory: an end of the input between requests is clean, unless the reader
+-- failed
 abbrev pub NothingHasNoFault : Type 0
-NothingHasNoFault = (e : HttpFault) → Faults [] e → IsOutside e
+NothingHasNoFault = (e : HttpFault) → Faults [] e → e ≡ IoFault
 
 -- a head within the limits has one fault: one of HTTP/1.0 with a Transfer-Encoding has Version, not Coding
 abbrev pub HeadHasOneFault : Type 0

@@ -1,6 +1,6 @@
 -- own: what the steps that read a request answer.
 use Rattle.std.specs.Prelude.{◌≡◌, ℕ, ◌<◌, ◌⊎◌, true, List, [], ◌∷◌, ◌++◌, length, drop, Option, Some, None}
-use Rattle.std.specs.Prelude.{Result, Ok, Err, if◌then◌else◌, nat_le, bytes_eq, ⊤}
+use Rattle.std.specs.Prelude.{Result, Ok, Err, IfSome, if◌then◌else◌, nat_le, bytes_eq, ⊤}
 use Rattle.std.specs.List.{list_all}
 use Rattle.std.specs.Str.Parse.{digits_value}
 use Rattle.std.specs.Io.KnownBytes.{IsAtEnd}
@@ -36,7 +36,7 @@ pub record IsHeadAt (buf : List ℕ) (f : Head) (h : RequestHead) : Type 0 where
 
 -- what a fault says of the bytes in which a head was looked for
 abbrev pub LookFaults : List ℕ → HttpFault → Type 0
-LookFaults buf NoMemory = ⊤
+LookFaults buf NoMemory = 0 < length buf
 LookFaults buf BadHead = NeverHasRequest buf ⊎ BeginsFaulty buf BadHead
 LookFaults buf HeadTooLong = NeverHasHead buf × BeginsTooLong buf
 LookFaults buf BodyTooLong = BeginsFaulty buf BodyTooLong
@@ -53,7 +53,7 @@ Looks buf (Err e) = LookFaults buf e
 
 -- what a fault of looking for a head says of the bytes that are held and those that are left
 abbrev pub FindFaults : List ℕ → Option (List ℕ) → HttpFault → Type 0
-FindFaults held left NoMemory = ⊤
+FindFaults held left NoMemory = IfSome left (λ more. 0 < length (held ++ more))
 FindFaults held left BadHead = NeverHasRequest held ⊎ BeginsFaulty held BadHead
 FindFaults held left HeadTooLong = NeverHasHead held × BeginsTooLong held
 FindFaults held left BodyTooLong = BeginsFaulty held BodyTooLong

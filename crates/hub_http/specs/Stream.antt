@@ -49,13 +49,17 @@ IsCut bytes =
     (h : RequestHead) × (part : List ℕ) × (n : ℕ) × Begins bytes h part × (length_by h ≡ Ok (Some n))
     × (length part < n)
 
+-- the bytes of the block and then those that are left to read, where they are told
+abbrev pub to_read : List ℕ → Option (List ℕ) → Option (List ℕ)
+to_read block left = prepend_known block left
+
 -- the bytes that are held and then those that are left, where they are told
 abbrev pub known : List ℕ → Option (List ℕ) → Option (List ℕ)
 known held left = prepend_known held left
 
--- the bytes spell no request, and may be refused so
+-- the bytes spell no request, and may be refused so; for want of memory only where there are some
 abbrev pub Faults : List ℕ → HttpFault → Type 0
-Faults bytes NoMemory = ⊤
+Faults bytes NoMemory = 0 < length bytes
 Faults bytes BadHead = (NeverHasRequest bytes) ⊎ BeginsFaulty bytes BadHead
 Faults bytes HeadTooLong = NeverHasHead bytes × BeginsTooLong bytes
 Faults bytes BodyTooLong = BeginsFaulty bytes BodyTooLong
@@ -69,5 +73,5 @@ abbrev pub Leaves : List ℕ → Result (Option Request) HttpFault → Option (L
 Leaves bytes r None = ⊥
 Leaves bytes (Ok (Some q)) (Some rest) = Spells bytes (asked_by q) rest
 Leaves bytes (Ok None) (Some rest) = (bytes ≡ []) × (rest ≡ [])
-Leaves bytes (Err NoMemory) (Some rest) = rest ≡ bytes
+Leaves bytes (Err NoMemory) (Some rest) = (rest ≡ bytes) × (0 < length bytes)
 Leaves bytes (Err e) (Some rest) = Faults bytes e

@@ -1,6 +1,7 @@
 //! Requests and the texts of answers.
 #![tactic(auto)]
 
+mod block;
 mod chunk;
 mod connection;
 mod fault;

@@ -1,59 +1,44 @@
 //! Reading into a buffer.
-ghost use Rattle.std.specs.Prelude.{◌≡◌, ◌<◌, ◌≤◌, ◌+◌, ◌⊎◌, ℕ, List, [], ◌++◌, length, IfOk, OnErr, IfErr};
+ghost use Rattle.std.specs.Prelude.{◌≡◌, ◌<◌, ◌≤◌, ◌+◌, ◌⊎◌, ℕ, List, [], ◌++◌, length, Err, IfOk, OnErr, IfErr};
 ghost use Rattle.std.specs.Io.KnownBytes.{Keeps, IsAtEnd, prepend_known};
 ghost use Rattle.hub_http.specs.Counts.{Rose, GaveUp};
+ghost use Rattle.hub_http.specs.Stream.{to_read};
 
+use crate::block::Block;
 use crate::fault::HttpFault;
 use crate::input::Input;
-use crate::output::is_interrupted;
-
-/// The most bytes of one read.
-pub(crate) const BLOCK: usize = 4096;
-
-/// How often a read is made, where each is interrupted.
-const TRIES: u32 = 1_000_000;
 
 /// Reads some more bytes, at most so many, to the end of those that are held, none only at the
-/// end of the input. Cost: one read of at most 4,096 bytes and a copy of what came; where `held`
+/// end of the input. Where they find no memory they stay in the block, and the same call made again
+/// takes them from there. Cost: one read of at most 4,096 bytes and a copy of what came; where `held`
 /// has room for `most` bytes it does not grow.
 pub(crate) fn read_more<R: Input>(
     reader: &mut R,
+    block: &mut Block,
     held: &mut Vec<u8>,
     most: usize,
 ) -> Result<usize, HttpFault>
     requires { 0 < most }
-    ensures kept { Keeps (prepend_known held.old.items (R.left reader.old))
-        (prepend_known held.new.items (R.left reader.new)) }
+    ensures kept { Keeps (prepend_known held.old.items (to_read block.old (R.left reader.old)))
+        (prepend_known held.new.items (to_read block.new (R.left reader.new))) }
     ensures grown { (more : List ℕ) × (held.new.items ≡ held.old.items ++ more) × IfOk result (λ n. n ≡ length more) }
     ensures len { IfOk result (λ n. length held.new.items ≡ length held.old.items + n) }
     ensures most { IfOk result (λ n. n ≤ most) }
     ensures same { OnErr result (held.new.items ≡ held.old.items) }
-    ensures end { IfOk result (λ n. n ≡ 0 → IsAtEnd (R.left reader.new)) }
+    ensures end { IfOk result (λ n. n ≡ 0 → IsAtEnd (to_read block.new (R.left reader.new))) }
     ensures err { IfErr result (λ e. (e ≡ HttpFault.NoMemory) ⊎ (e ≡ HttpFault.IoFault)) }
+    ensures memory { result ≡ Err HttpFault.NoMemory → 0 < length block.new }
     ensures monotone { R.fault_count reader.old ≤ R.fault_count reader.new }
     ensures fault { IfErr result (λ e. e ≡ HttpFault.IoFault → Rose (R.fault_count reader.old) (R.fault_count reader.new)) }
     ensures tried { IfErr result (λ e. e ≡ HttpFault.IoFault → GaveUp (R.failure_count reader.old) (R.failure_count reader.new)
         (R.fault_count reader.old) (R.fault_count reader.new)) }
 {
-    let size = most.min(BLOCK);
-    if held.reserve(size).is_err() {
-        return Err(HttpFault::NoMemory);
+    match block.refill(reader, most) {
+        Ok(()) => {}
+        Err(e) => return Err(e),
     }
-    let mut block = [0u8; BLOCK];
-    for _ in 0..TRIES {
-        match reader.read(&mut block[..size]) {
-            Ok(n) => {
-                if held.extend_from_slice(&block[..n]).is_err() {
-                    return Err(HttpFault::NoMemory);
-                }
-                return Ok(n);
-            }
-            Err(e) => {
-                if !is_interrupted(&e) {
-                    return Err(HttpFault::IoFault);
-                }
-            }
-        }
+    match block.give(held, most) {
+        Ok(n) => Ok(n),
+        Err(_) => Err(HttpFault::NoMemory),
     }
-    Err(HttpFault::IoFault)
 }

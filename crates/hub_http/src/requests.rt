@@ -2,14 +2,15 @@
 ghost use Rattle.std.specs.Prelude.{◌≡◌, ◌<◌, ◌≤◌, ◌+◌, ◌⊎◌, ℕ, List, ◌++◌, length, min, max, take, drop, IfOk, IfErr, IfSome, OnOk, IsTrue, IsFalse};
 ghost use Rattle.std.specs.Io.KnownBytes.{Keeps, IsAtEnd, prepend_known};
 ghost use Rattle.hub_http.specs.Counts.{Rose};
-ghost use Rattle.hub_http.specs.Stream.{Asked, Leaves, Spells, known};
+ghost use Rattle.hub_http.specs.Stream.{Asked, Leaves, Spells, known, to_read};
 ghost use Rattle.hub_http.specs.Exclusions.{SpelledHasNoFault, NothingSpellsNothing, NothingHasNoFault, HeadHasOneFault, HeadFaultIsNamed, WholeHeadHasOneFault, OtherFaultsAreOpen};
 ghost use Rattle.hub_http.specs.Looking.{Finds};
 
+use crate::block::{BLOCK, Block};
 use crate::fault::HttpFault;
 use crate::head::{HEAD_LIMIT, Head, look};
 use crate::input::Input;
-use crate::read::{BLOCK, read_more};
+use crate::read::read_more;
 use crate::request::Request;
 use std::alloc::Global;
 use std::mem;
@@ -18,11 +19,12 @@ use std::mem;
 fn find_head<R: Input>(
     alloc: Global,
     reader: &mut R,
+    block: &mut Block,
     held: &mut Vec<u8>,
 ) -> Result<Option<Head>, HttpFault>
-    ensures kept { Keeps (prepend_known held.old.items (R.left reader.old))
-        (prepend_known held.new.items (R.left reader.new)) }
-    ensures found { Finds held.new.items (R.left reader.new) result }
+    ensures kept { Keeps (prepend_known held.old.items (to_read block.old (R.left reader.old)))
+        (prepend_known held.new.items (to_read block.new (R.left reader.new))) }
+    ensures found { Finds held.new.items (to_read block.new (R.left reader.new)) result }
     ensures monotone { R.fault_count reader.old ≤ R.fault_count reader.new }
     ensures fault { IfErr result (λ e. e ≡ HttpFault.IoFault → Rose (R.fault_count reader.old) (R.fault_count reader.new)) }
 {
@@ -35,7 +37,7 @@ fn find_head<R: Input>(
         if held.len() >= HEAD_LIMIT {
             return Err(HttpFault::HeadTooLong);
         }
-        match read_more(reader, held, HEAD_LIMIT - held.len()) {
+        match read_more(reader, block, held, HEAD_LIMIT - held.len()) {
             Ok(0) => {
                 if held.is_empty() {
                     return Ok(None);
@@ -60,12 +62,17 @@ fn room(held: usize, wanted: usize) -> usize
 }
 
 /// Makes room for so many bytes and reads until they are held, and answers whether they came.
-fn fill_room<R: Input>(reader: &mut R, held: &mut Vec<u8>, wanted: usize) -> Result<bool, HttpFault>
-    ensures kept { Keeps (prepend_known held.old.items (R.left reader.old))
-        (prepend_known held.new.items (R.left reader.new)) }
+fn fill_room<R: Input>(
+    reader: &mut R,
+    block: &mut Block,
+    held: &mut Vec<u8>,
+    wanted: usize,
+) -> Result<bool, HttpFault>
+    ensures kept { Keeps (prepend_known held.old.items (to_read block.old (R.left reader.old)))
+        (prepend_known held.new.items (to_read block.new (R.left reader.new))) }
     ensures grown { (more : List ℕ) × (held.new.items ≡ held.old.items ++ more) }
     ensures full { IfOk result (λ full. IsTrue full → wanted ≤ length held.new.items) }
-    ensures cut { IfOk result (λ full. IsFalse full → (length held.new.items < wanted) × IsAtEnd (R.left reader.new)) }
+    ensures cut { IfOk result (λ full. IsFalse full → (length held.new.items < wanted) × IsAtEnd (to_read block.new (R.left reader.new))) }
     ensures err { IfErr result (λ e. (e ≡ HttpFault.NoMemory) ⊎ (e ≡ HttpFault.IoFault)) }
     ensures monotone { R.fault_count reader.old ≤ R.fault_count reader.new }
     ensures fault { IfErr result (λ e. e ≡ HttpFault.IoFault → Rose (R.fault_count reader.old) (R.fault_count reader.new)) }
@@ -77,7 +84,7 @@ fn fill_room<R: Input>(reader: &mut R, held: &mut Vec<u8>, wanted: usize) -> Res
         return Err(HttpFault::NoMemory);
     }
     while held.len() < wanted {
-        match read_more(reader, held, wanted - held.len()) {
+        match read_more(reader, block, held, wanted - held.len()) {
             Ok(0) => return Ok(false),
             Ok(_) => {}
             Err(e) => return Err(e),
@@ -90,21 +97,22 @@ fn fill_room<R: Input>(reader: &mut R, held: &mut Vec<u8>, wanted: usize) -> Res
 /// those that came.
 pub(crate) fn fill<R: Input>(
     reader: &mut R,
+    block: &mut Block,
     held: &mut Vec<u8>,
     wanted: usize,
 ) -> Result<bool, HttpFault>
-    ensures kept { Keeps (prepend_known held.old.items (R.left reader.old))
-        (prepend_known held.new.items (R.left reader.new)) }
+    ensures kept { Keeps (prepend_known held.old.items (to_read block.old (R.left reader.old)))
+        (prepend_known held.new.items (to_read block.new (R.left reader.new))) }
     ensures grown { (more : List ℕ) × (held.new.items ≡ held.old.items ++ more) }
     ensures full { IfOk result (λ full. IsTrue full → wanted ≤ length held.new.items) }
-    ensures cut { IfOk result (λ full. IsFalse full → (length held.new.items < wanted) × IsAtEnd (R.left reader.new)) }
+    ensures cut { IfOk result (λ full. IsFalse full → (length held.new.items < wanted) × IsAtEnd (to_read block.new (R.left reader.new))) }
     ensures err { IfErr result (λ e. (e ≡ HttpFault.NoMemory) ⊎ (e ≡ HttpFault.IoFault)) }
     ensures monotone { R.fault_count reader.old ≤ R.fault_count reader.new }
     ensures fault { IfErr result (λ e. e ≡ HttpFault.IoFault → Rose (R.fault_count reader.old) (R.fault_count reader.new)) }
 {
     while held.len() < wanted {
         let goal = room(held.len(), wanted);
-        match fill_room(reader, held, goal) {
+        match fill_room(reader, block, held, goal) {
             Ok(true) => {}
             Ok(false) => return Ok(false),
             Err(e) => return Err(e),
@@ -165,20 +173,21 @@ fn take_body(
 fn read_request<R: Input>(
     alloc: Global,
     reader: &mut R,
+    block: &mut Block,
     held: &mut Vec<u8>,
 ) -> Result<Option<Request>, HttpFault>
-    ensures told { IfSome (known held.old.items (R.left reader.old))
-        (λ bytes. Leaves bytes result (known held.new.items (R.left reader.new))) }
+    ensures told { IfSome (known held.old.items (to_read block.old (R.left reader.old)))
+        (λ bytes. Leaves bytes result (known held.new.items (to_read block.new (R.left reader.new)))) }
     ensures monotone { R.fault_count reader.old ≤ R.fault_count reader.new }
     ensures fault { IfErr result (λ e. e ≡ HttpFault.IoFault → Rose (R.fault_count reader.old) (R.fault_count reader.new)) }
 {
-    let head = match find_head(alloc, reader, held) {
+    let head = match find_head(alloc, reader, block, held) {
         Ok(Some(head)) => head,
         Ok(None) => return Ok(None),
         Err(e) => return Err(e),
     };
     let body_len = head.length.unwrap_or(0) as usize;
-    match fill(reader, held, head.len + body_len) {
+    match fill(reader, block, held, head.len + body_len) {
         Ok(true) => {}
         Ok(false) => return Err(HttpFault::Ended),
         Err(e) => return Err(e),
@@ -209,6 +218,9 @@ fn read_request<R: Input>(
 pub struct Requests<R> {
     reader: R,
     alloc: Global,
+    /// What came and is not held yet.
+    block: Block,
+    /// What came and was not asked for yet, in order.
     held: Vec<u8>,
     ended: bool,
 }
@@ -225,6 +237,7 @@ impl<R: Input> Requests<R> {
         Requests {
             reader,
             alloc,
+            block: Block::new(),
             held: Vec::new(alloc),
             ended: false,
         }
@@ -239,8 +252,8 @@ impl<R: Input> Requests<R> {
 
     /// The next request, `None` at the end of the input. After a fault but want of memory each
     /// call answers `Ended`, and reads nothing. After want of memory the same call reads on where
-    /// it stood. Each call of one that is open may find no memory, also one that would answer
-    /// `None` or a fault, since a read takes room before it is known what comes.
+    /// it stood. Only bytes that came take memory: an end of the input between two requests is
+    /// `None` in spite of want of it.
     ///
     /// A read that is interrupted is made again; after 1,000,000 in a row that were, the call
     /// answers `IoFault`.
@@ -270,7 +283,12 @@ impl<R: Input> Requests<R> {
         if self.ended {
             return Err(HttpFault::Ended);
         }
-        match read_request(self.alloc, &mut self.reader, &mut self.held) {
+        match read_request(
+            self.alloc,
+            &mut self.reader,
+            &mut self.block,
+            &mut self.held,
+        ) {
             Ok(request) => Ok(request),
             Err(HttpFault::NoMemory) => Err(HttpFault::NoMemory),
             Err(e) => {

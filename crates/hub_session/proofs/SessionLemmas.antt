@@ -21,7 +21,7 @@ use Rattle.hub_session.proofs.AnswerLemmas.{Told}
 ends_faulty : (b c : Option (List ℕ)) (e : HttpFault) → IfSome b (λ bytes. Leaves bytes (Err e) c) → IfSome b (λ bytes. Faults bytes e)
 ends_faulty None c e s = tt
 ends_faulty (Some y) None e s = absurd s
-ends_faulty (Some y) (Some z) NoMemory s = tt
+ends_faulty (Some y) (Some z) NoMemory s = s.1
 ends_faulty (Some y) (Some z) BadHead s = s
 ends_faulty (Some y) (Some z) HeadTooLong s = s
 ends_faulty (Some y) (Some z) BodyTooLong s = s

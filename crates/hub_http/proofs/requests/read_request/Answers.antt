@@ -1,6 +1,6 @@
-use Rattle.std.proofs.Common.{arith, refl}
+use Rattle.std.proofs.Common.{arith, refl, inl}
 use Rattle.hub_http.specs.declared.request.Request.{Request}
-use Rattle.hub_http.proofs.RequestLemmas.{told_request, told_fault, head_fits}
+use Rattle.hub_http.proofs.RequestLemmas.{told_request, told_fault, told_memory, head_fits}
 use Rattle.hub_http.proofs.requests.read_request.Goals as goal
 
 pub overflow_add-head : goal.overflow_add-head
@@ -24,3 +24,15 @@ returns-clause-told g c =
 
 pub returns-in-Err-clause-told : goal.returns-in-Err-clause-told
 returns-in-Err-clause-told g c = told_fault _ _ c.find_head.new.held.items c.in-Err.e c.in-Err.ensures.kept c.in-Err.ensures.found
+
+pub returns-in-Err-fill-clause-told : goal.returns-in-Err-fill-clause-told
+returns-in-Err-fill-clause-told g c =
+    let found = rw c.in-Ok-Some.field-0-is at c.in-Ok-Some.ensures.found in
+    told_memory _ _ _ c.find_head.new.held.items c.fill.new.held.items c.in-Ok-Some.head c.in-Err-fill.e
+    c.in-Ok-Some.ensures.kept found c.in-Err-fill.ensures.kept c.in-Err-fill.ensures.grown c.in-Err-fill.ensures.err
+
+pub returns-in-Err-take_body-clause-told : goal.returns-in-Err-take_body-clause-told
+returns-in-Err-take_body-clause-told g c =
+    let found = rw c.in-Ok-Some.field-0-is at c.in-Ok-Some.ensures.found in
+    rw c.in-Err-take_body.ensures.err.1 (told_memory _ _ _ c.find_head.new.held.items c.fill.new.held.items c.in-Ok-Some.head c.in-Err-take_body.e
+    c.in-Ok-Some.ensures.kept found c.in-Ok-true.ensures.kept c.in-Ok-true.ensures.grown (inl c.in-Err-take_body.ensures.err.0))

@@ -1,0 +1,121 @@
+//! The block that a reader's bytes come in.
+ghost use Rattle.std.specs.Prelude.{◌≡◌, ◌<◌, ◌≤◌, ℕ, [], ◌++◌, length, min, take, drop, IfOk, IfErr, OnErr, IsTrue, IsFalse};
+ghost use Rattle.std.specs.Io.KnownBytes.{Keeps, IsAtEnd, prepend_known};
+ghost use Rattle.hub_http.specs.Counts.{Rose, GaveUp};
+ghost use Rattle.hub_http.specs.Stream.{to_read};
+
+use crate::fault::HttpFault;
+use crate::input::Input;
+use crate::output::is_interrupted;
+use std::alloc::AllocError;
+use std::marker::Model;
+
+/// The most bytes of one read.
+pub(crate) const BLOCK: usize = 4096;
+
+/// How often a read is made, where each is interrupted.
+const TRIES: u32 = 1_000_000;
+
+/// The bytes of the last read that were not taken yet. They lie in the block itself, so a read takes
+/// no memory.
+#[derive(Drop)]
+pub(crate) struct Block {
+    bytes: [u8; BLOCK],
+    /// How many of the bytes, from the front, came by a read and were not taken.
+    len: usize,
+}
+
+impl Model for Block {
+    ghost use Rattle.std.specs.Prelude.{ℕ, List, take, ◌≤◌};
+
+    ghost Value = { List ℕ };
+
+    ghost view = { λ a. take a.len a.bytes };
+
+    ghost invariant = { λ a. a.len ≤ 4096 };
+}
+
+impl Block {
+    /// Nothing was read.
+    pub(crate) fn new() -> Block
+        ensures { result ≡ [] }
+    {
+        Block {
+            bytes: [0; BLOCK],
+            len: 0,
+        }
+    }
+
+    /// Whether there is nothing left to take.
+    pub(crate) fn is_empty(&self) -> bool
+        ensures empty { IsTrue result → self.now ≡ [] }
+        ensures full { IsFalse result → 0 < length self.now }
+    {
+        self.len == 0
+    }
+
+    /// Reads some bytes into the empty block, at most so many, none only at the end of the input.
+    pub(crate) fn fill<R: Input>(&mut self, reader: &mut R, most: usize) -> Result<(), HttpFault>
+        requires some { 0 < most }
+        requires empty { self.old ≡ [] }
+        ensures kept { Keeps (R.left reader.old) (prepend_known self.new (R.left reader.new)) }
+        ensures end { IfOk result (λ _. self.new ≡ [] → IsAtEnd (R.left reader.new)) }
+        ensures err { IfErr result (λ e. (e ≡ HttpFault.IoFault) × (self.new ≡ [])) }
+        ensures monotone { R.fault_count reader.old ≤ R.fault_count reader.new }
+        ensures fault { OnErr result (Rose (R.fault_count reader.old) (R.fault_count reader.new)) }
+        ensures tried { OnErr result (GaveUp (R.failure_count reader.old) (R.failure_count reader.new)
+            (R.fault_count reader.old) (R.fault_count reader.new)) }
+    {
+        let size = most.min(BLOCK);
+        for _ in 0..TRIES {
+            match reader.read(&mut self.bytes[..size]) {
+                Ok(n) => {
+                    self.len = n;
+                    return Ok(());
+                }
+                Err(e) => {
+                    if !is_interrupted(&e) {
+                        return Err(HttpFault::IoFault);
+                    }
+                }
+            }
+        }
+        Err(HttpFault::IoFault)
+    }
+
+    /// Reads into the block where it is empty, as `fill` does.
+    pub(crate) fn refill<R: Input>(&mut self, reader: &mut R, most: usize) -> Result<(), HttpFault>
+        requires { 0 < most }
+        ensures kept { Keeps (to_read self.old (R.left reader.old)) (to_read self.new (R.left reader.new)) }
+        ensures end { IfOk result (λ _. self.new ≡ [] → IsAtEnd (R.left reader.new)) }
+        ensures err { IfErr result (λ e. e ≡ HttpFault.IoFault) }
+        ensures monotone { R.fault_count reader.old ≤ R.fault_count reader.new }
+        ensures fault { OnErr result (Rose (R.fault_count reader.old) (R.fault_count reader.new)) }
+        ensures tried { OnErr result (GaveUp (R.failure_count reader.old) (R.failure_count reader.new)
+            (R.fault_count reader.old) (R.fault_count reader.new)) }
+    {
+        if !self.is_empty() {
+            return Ok(());
+        }
+        self.fill(reader, most)
+    }
+
+    /// Moves at most so many bytes from the block's front to the end of those that are held. An
+    /// error changes nothing, and comes only where there are some.
+    pub(crate) fn give(&mut self, held: &mut Vec<u8>, most: usize) -> Result<usize, AllocError>
+        ensures count { IfOk result (λ n. n ≡ min most (length self.old)) }
+        ensures held { IfOk result (λ n. held.new.items ≡ held.old.items ++ take n self.old) }
+        ensures rest { IfOk result (λ n. self.new ≡ drop n self.old) }
+        ensures same { OnErr result ((held.new.items ≡ held.old.items) × (self.new ≡ self.old)) }
+        ensures memory { OnErr result (0 < length self.old) }
+    {
+        let n = most.min(self.len);
+        if n == 0 {
+            return Ok(0);
+        }
+        held.extend_from_slice(&self.bytes[..n])?;
+        self.bytes.copy_within(n..self.len, 0);
+        self.len -= n;
+        Ok(n)
+    }
+}
