@@ -1,21 +1,21 @@
 //! A database by its name, and its answers to calls.
 
-ghost use Rattle.std.specs.Prelude.{◌≡◌, false};
+ghost use Rattle.std.specs.Prelude.{◌≡◌, false, option_map, IfSome};
 ghost use Rattle.hub_database.specs.Hosting.{hosted_of, with_hosted};
 ghost use Rattle.hub_feed.specs.Host.{finished};
 ghost use Rattle.changes_hub.specs.Calls.{calls, answers_standing, says_info, says_commit};
 ghost use Rattle.changes_hub.specs.Came.{Reads, CameOut, Hands, with_status};
+ghost use Rattle.changes_hub.specs.Feeds.{is_end};
 ghost use Rattle.changes_hub.specs.Hub.{MayLeave, MayLeaveStanding, has_name};
 
+use crate::feeds::Handed;
 use crate::refusal::refusal_of;
 use crate::response::Response;
 use crate::{bulk, diff, documents, feeds, locals};
 use http::StatusCode;
 use hub_database::DbState;
-use hub_document::ChangeRow;
 use hub_feed::FeedId;
 use hub_http::Refusal;
-use hub_model::Item;
 use hub_replies::{commit_body, info_body};
 use hub_routes::Call;
 use std::alloc::Global;
@@ -141,8 +141,9 @@ impl Database {
     }
 
     /// What its feed hands next.
-    pub(crate) fn hand(&mut self, feed: FeedId) -> Option<Item<ChangeRow>>
-        ensures hands { Hands self.old.state feed.number result self.new.state }
+    pub(crate) fn hand(&mut self, feed: FeedId) -> Option<Handed>
+        ensures hands { Hands self.old.state feed.number (option_map (λ h. h.item) result) self.new.state }
+        ensures last { IfSome result (λ h. h.is_last ≡ is_end h.item) }
         ensures name { self.new.name ≡ self.old.name }
     {
         feeds::hand(&mut self.state, feed)

@@ -14,6 +14,7 @@ ghost use Rattle.changes_hub.specs.Feeds.{next_listed};
 ghost use Rattle.changes_hub.specs.Laws.{CompleteFeedIsWhole, CompleteListIsWhole};
 
 use crate::database::Database;
+use crate::feeds::Handed;
 use crate::name::is_name;
 use crate::response::{Feed, Listed, Response};
 use http::StatusCode;
@@ -205,8 +206,8 @@ impl Databases {
     {
         self.feed = None;
         let database = self.list.get_mut(at)?;
-        let item = database.hand(id)?;
-        if !item.is_end() {
+        let Handed { item, is_last } = database.hand(id)?;
+        if !is_last {
             self.feed = Some(Sent {
                 at,
                 feed: Feed::Followed(id),

@@ -1,6 +1,6 @@
 //! Feeds of a database (CouchDB API reference, `/{db}/_changes`).
 
-ghost use Rattle.std.specs.Prelude.{◌≡◌, false, Some};
+ghost use Rattle.std.specs.Prelude.{◌≡◌, false, Some, option_map, IfSome};
 ghost use Rattle.hub_database.specs.Hosting.{hosted_of};
 ghost use Rattle.hub_feed.specs.Host.{item_due};
 ghost use Rattle.hub_model.specs.Descending.{descending};
@@ -8,7 +8,7 @@ ghost use Rattle.hub_params.specs.FeedModel.{params_of};
 ghost use Rattle.hub_params.specs.FeedParams.{feed_asked};
 ghost use Rattle.hub_params.specs.FeedShown.{params_asked};
 ghost use Rattle.changes_hub.specs.Came.{Begins, CameOut, Hands};
-ghost use Rattle.changes_hub.specs.Feeds.{lists, opens, begins_asked, begins, of_param_fault, of_open_fault, behind};
+ghost use Rattle.changes_hub.specs.Feeds.{lists, opens, begins_asked, begins, of_param_fault, of_open_fault, behind, is_end};
 
 use crate::refusal::refusal_of;
 use crate::response::{Feed, Listed, Response};
@@ -100,25 +100,37 @@ pub(crate) fn begin(
     }
 }
 
-// Goes on behind the item that is due to a feed.
-fn accept(state: &mut DbState, feed: FeedId, item: &Item<ChangeRow>)
+/// An item that a feed of a database handed.
+#[derive(Drop)]
+pub(crate) struct Handed {
+    pub item: Item<ChangeRow>,
+    /// Whether it is the feed's end, behind which the feed is finished.
+    pub is_last: bool,
+}
+
+// Goes on behind the item that is due to a feed, and says whether it was the feed's end.
+fn accept(state: &mut DbState, feed: FeedId, item: &Item<ChangeRow>) -> bool
     requires due { item_due (hosted_of state.old) feed.number ≡ Some item.now }
-    ensures { state.new ≡ behind state.old feed.number (Some item.now) }
+    ensures state { state.new ≡ behind state.old feed.number (Some item.now) }
+    ensures last { result ≡ is_end item.now }
 {
     state.accept_item(feed, item);
     if item.is_end() {
         state.finish(feed);
+        return true;
     }
+    false
 }
 
 /// Hands the next item of a feed. Behind its end the feed is finished, and so is a feed that hands
 /// nothing, as for want of memory. It costs what `DbState::next_item` does.
-pub(crate) fn hand(state: &mut DbState, feed: FeedId) -> Option<Item<ChangeRow>>
-    ensures { Hands state.old feed.number result state.new }
+pub(crate) fn hand(state: &mut DbState, feed: FeedId) -> Option<Handed>
+    ensures hands { Hands state.old feed.number (option_map (λ h. h.item) result) state.new }
+    ensures last { IfSome result (λ h. h.is_last ≡ is_end h.item) }
 {
     if let Ok(Next::Give(item)) = state.next_item(feed) {
-        accept(state, feed, &item);
-        return Some(item);
+        let is_last = accept(state, feed, &item);
+        return Some(Handed { item, is_last });
     }
     state.finish(feed);
     None
