@@ -34,7 +34,7 @@ use Rattle.hub_feed.specs.declared.next.Next.{Next}
 use Rattle.hub_feed.specs.declared.next.Next.TheVariants.{Give}
 use Rattle.hub_document.specs.declared.doc.Doc.{Doc}
 use Rattle.hub_document.specs.declared.limits.Limits.{Limits}
-use Rattle.hub_database.specs.Database.{Database, Local}
+use Rattle.hub_database.specs.Database.{Contents, Database, Local}
 use Rattle.hub_database.specs.Edits.{draft_of, stores_doc, writes}
 use Rattle.hub_database.specs.Edits as edits
 use Rattle.hub_database.specs.Feeds.{ended}
@@ -79,6 +79,9 @@ write_grows new_edits limit J doc o K h = subst (λ (s : Stores). length J ≤ l
 pub rest_stays : (J : List Edit) {b b' : Bool} {l l' : List Local} {f f' : List (ℕ × Feed)} {n n' : ℕ} {m m' : Limits} → b ≡ b' → l ≡ l' → f ≡ f' → n ≡ n' → m ≡ m'
     → ◌≡◌ {A = Database} (record { journal = J; deleted = b; locals = l; feeds = f; next_feed = n; limits = m }) (record { journal = J; deleted = b'; locals = l'; feeds = f'; next_feed = n'; limits = m' })
 rest_stays J e a b c d = rw (e, a, b, c, d) refl
+
+pub contents_stay : (J : List Edit) {l l' : List Local} {m m' : Limits} → l ≡ l' → m ≡ m' → ◌≡◌ {A = Contents} (record { journal = J; locals = l; limits = m }) (record { journal = J; locals = l'; limits = m' })
+contents_stay J a d = rw (a, d) refl
 
 bound_on : (len len' : ℕ) (bound : Option ℕ) → len ≤ len' → IfSome bound (λ b. b ≤ len) → IfSome bound (λ b. b ≤ len')
 bound_on len len' None h b = tt

@@ -22,7 +22,7 @@ use Rattle.hub_revtree.specs.declared.fault.EditFault.TheVariants as edit_fault
 use Rattle.hub_database.specs.declared.batch.DbFault.TheVariants as db_fault
 use Rattle.hub_database.specs.Edits.{reply_of}
 use Rattle.hub_database.specs.Filed.{named}
-use Rattle.hub_database.specs.Looked.{NeedsRoomFrom, stores_from, stores_edit, look_by, look_made, look_from, look_at, unless_full, outcome_of, joined}
+use Rattle.hub_database.specs.Looked.{NeedsRoomFrom, stores_from, stores_edit, look_by, look_made, look_from, look_at, unless_full, outcome_of, journal_after}
 use Rattle.hub_database.specs.declared.document.Incoming.{Incoming}
 use Rattle.hub_database.specs.declared.document.Origin.{Origin}
 use Rattle.hub_database.specs.declared.document.Origin.TheVariants.{Elsewhere, Here}
@@ -67,7 +67,7 @@ module _ (J : List Edit) (id : List ℕ) (edits : List Edit) (kept : edits_of J 
 
   -- an answer with the journal after it, by what a look says
   abbrev said : Looked → Stores
-  said l = record { outcome = outcome_of l; journal = joined id l J }
+  said l = record { outcome = outcome_of l; journal = journal_after l id J }
 
   -- an edit is added where the journal is not full
   abbrev added : Bool → Edit → Stores
@@ -119,7 +119,7 @@ module _ (J : List Edit) (id : List ℕ) (edits : List Edit) (kept : edits_of J 
         ap (makes_on limit J (draft id rev deleted body)) (extended_named J id edits kept one rev) ∙ made_by (draft id rev deleted body) refl (extended edits [] (leaves_of edits []) rev)
 
     -- storing it answers what the tree's look says
-    pub stores_by : (edit : Incoming) → stores_edit limit J id edit ≡ record { outcome = outcome_of (unless_full full (look_at id edits edit)); journal = joined id (unless_full full (look_at id edits edit)) J }
+    pub stores_by : (edit : Incoming) → stores_edit limit J id edit ≡ record { outcome = outcome_of (unless_full full (look_at id edits edit)); journal = journal_after (unless_full full (look_at id edits edit)) id J }
     stores_by edit = from_origin edit.origin edit.deleted edit.body
 
 -- what a look says of an edit with its history

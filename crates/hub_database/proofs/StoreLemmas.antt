@@ -27,9 +27,9 @@ use Rattle.hub_database.specs.declared.document.Looked.{Looked}
 use Rattle.hub_database.specs.declared.document.Looked.TheVariants.{Known, Refused, Ready}
 use Rattle.hub_database.specs.declared.store.Store.{Store}
 use Rattle.hub_database.specs.Filed.{Filed, named, edit_at, journal_of, IsFiled}
-use Rattle.hub_database.specs.Looked.{Extends, NeedsRoomFor, IsStorable, stores_edit, look_at, unless_full, outcome_of, grown, joined, after, numbered, rowed}
+use Rattle.hub_database.specs.Looked.{Setting, IsWritten, NeedsRoomFor, IsStorable, stores_edit, look_at, look_in, unless_full, outcome_of, document_after, documents_after, entries_after, journal_after, numbers_after, rows_after}
 use Rattle.hub_database.specs.Indexed.{IsIndexed}
-use Rattle.hub_database.specs.Store.{filed, files, IsStore, IsCounted, HasRows, IsSameStore, Inserts, edits_of_store, deleted_in, one_if}
+use Rattle.hub_database.specs.Store.{filed, files, IsStore, IsCounted, HasRows, IsSameStore, IsInserted, edits_of_store, deleted_in, first_setting, one_if, setting_of, unwritten}
 use Rattle.hub_database.proofs.ListLemmas.{get_push, get_push_other, get_set, get_set_other, text_same, text_apart, count_filter}
 use Rattle.hub_database.proofs.CountLemmas.{deleted_more, deleted_some}
 use Rattle.hub_database.proofs.NamedLemmas.{leaves_named, deleted_named}
@@ -39,7 +39,7 @@ use Rattle.hub_database.proofs.IndexedLemmas.{indexed_more}
 
 -- what storing an edit leaves: the documents and the rows in order, and the journal with the edit if it is stored
 abbrev pub Leaves : ℕ → List Filed → List Entry → List ℕ → Looked → (List ℕ → Option ℕ) → List Filed → List Entry → List (ℕ × ℕ) → Type 0
-Leaves limit documents entries id l numbers' documents' entries' index' = IsFiled limit numbers' documents' entries' × (journal_of documents' entries' ≡ joined id l (journal_of documents entries)) × IsIndexed documents' entries' index'
+Leaves limit documents entries id l numbers' documents' entries' index' = IsFiled limit numbers' documents' entries' × (journal_of documents' entries' ≡ journal_after l id (journal_of documents entries)) × IsIndexed documents' entries' index'
 
 -- what is to be stored finds the journal not full
 room_in : (limit n : ℕ) (l : Looked) (e : Edit) → unless_full (nat_le limit n) l ≡ Ready e → n < limit
@@ -59,7 +59,7 @@ stays J J' id same count count' was is w i c h =
     omega (arith, h, c, all, ap one_if now)
 
 -- the count goes on to be that of the documents with a deleted winner
-counted_on : (J J' : List Edit) (id : List ℕ) (l : Looked) → J' ≡ joined id l J → (count count' : ℕ) (was is : Bool) → was ≡ is_deleted (leaves_of J id) → is ≡ is_deleted (leaves_of J' id)
+counted_on : (J J' : List Edit) (id : List ℕ) (l : Looked) → J' ≡ journal_after l id J → (count count' : ℕ) (was is : Bool) → was ≡ is_deleted (leaves_of J id) → is ≡ is_deleted (leaves_of J' id)
     → count ≡ deleted_in J → count' + one_if was ≡ count + one_if is → count' ≡ deleted_in J'
 counted_on J J' id Known same count count' was is w i c h = stays J J' id same count count' was is w i c h
 counted_on J J' id (Refused f) same count count' was is w i c h = stays J J' id same count count' was is w i c h
@@ -124,7 +124,7 @@ module _ (limit : ℕ) (numbers : List ℕ → Option ℕ) (documents : List Doc
       subst (λ i. NeedsRoomFor (journal_of (files documents) entries) i edit) this (needs_in (journal_of (files documents) entries) d.id d.tree.edits kept_at tree.one edit.origin edit.deleted edit.body st.legal n)
 
   leaves_so : (index index' : List (ℕ × ℕ)) → IsIndexed (files documents) entries index → (tree : IsRevTree d.tree.edits) (l : Looked) (room : (e : Edit) → l ≡ Ready e → length entries < limit) (d' : Document) (entries' : List Entry)
-      → IsStorable d.tree.edits l → filed d' ≡ after l (filed d) (length entries + 1) → entries' ≡ grown l entries (record { document = k; revision = length d.tree.edits }) → index' ≡ rowed l index k (length entries + 1)
+      → IsStorable d.tree.edits l → filed d' ≡ document_after l (setting_of k d entries index) → entries' ≡ entries_after l (setting_of k d entries index) → index' ≡ rows_after l (setting_of k d entries index)
       → Leaves limit (files documents) entries d.id l numbers (files (slice_set documents k d')) entries' index'
   leaves_so index index' ix tree (Ready x) room d' entries' s e es is =
       let within : k < length documents = slice_get_within documents k d at in
@@ -140,7 +140,7 @@ module _ (limit : ℕ) (numbers : List ℕ → Option ℕ) (documents : List Doc
 
   -- what storing it leaves
   pub extended : (index index' : List (ℕ × ℕ)) → IsIndexed (files documents) entries index → (id : List ℕ) → numbers id ≡ Some k → IsRevTree d.tree.edits → (edit : Incoming) (d' : Document) (entries' : List Entry) (o : Outcome Revision)
-      → Extends (nat_le limit (length entries)) k edit (filed d) (filed d') entries entries' index index' o → IsRevTree d'.tree.edits
+      → IsWritten (look_in limit (setting_of k d entries index) edit) (setting_of k d entries index) (setting_of k d' entries' index') o → IsRevTree d'.tree.edits
       → (count count' : ℕ) → count ≡ deleted_in (journal_of (files documents) entries) → count' + one_if (is_deleted (leaves_of d.tree.edits [])) ≡ count + one_if (is_deleted (leaves_of d'.tree.edits []))
       → IsFiled limit numbers (files (slice_set documents k d')) entries'
       × (stores_edit limit (journal_of (files documents) entries) id edit ≡ record { outcome = o; journal = journal_of (files (slice_set documents k d')) entries' })
@@ -148,14 +148,14 @@ module _ (limit : ℕ) (numbers : List ℕ → Option ℕ) (documents : List Doc
       × IsIndexed (files (slice_set documents k d')) entries' index'
   extended index index' ix id there tree edit d' entries' o x tree' count count' c h =
       let l : Looked = unless_full (nat_le limit (length entries)) (look_at d.id d.tree.edits edit) in
-      let left = leaves_so index index' ix tree l (λ e r. room_in limit (length entries) (look_at d.id d.tree.edits edit) e r) d' entries' x.storable x.filed x.journal x.index in
+      let left = leaves_so index index' ix tree l (λ e r. room_in limit (length entries) (look_at d.id d.tree.edits edit) e r) d' entries' x.storable x.document x.entries x.rows in
       let full : nat_le limit (length (journal_of (files documents) entries)) ≡ nat_le limit (length entries) = ap (nat_le limit) (length-map entries (edit_at (files documents))) in
       let f = st.found id k there in
       let this : d.id ≡ id = ap (λ (z : Filed). z.id) (same_Some (filed d) f.0 (sym filed_at ∙ f.1)) ∙ f.2 in
       let said = stores_by (journal_of (files documents) entries) d.id d.tree.edits kept_at tree.one limit (nat_le limit (length entries)) full edit in
-      let answers : stores_edit limit (journal_of (files documents) entries) d.id edit ≡ record { outcome = o; journal = journal_of (files (slice_set documents k d')) entries' } = said ∙ (ap (λ (a : Outcome Revision). record { outcome = a; journal = joined d.id l (journal_of (files documents) entries) }) (sym x.answer) ∙ ap (λ (J : List Edit). record { outcome = o; journal = J }) (sym left.1)) in
+      let answers : stores_edit limit (journal_of (files documents) entries) d.id edit ≡ record { outcome = o; journal = journal_of (files (slice_set documents k d')) entries' } = said ∙ (ap (λ (a : Outcome Revision). record { outcome = a; journal = journal_after l d.id (journal_of (files documents) entries) }) (sym x.answer) ∙ ap (λ (J : List Edit). record { outcome = o; journal = J }) (sym left.1)) in
       let now : slice_get (files (slice_set documents k d')) k ≡ Some (filed d') = slice_get-map filed (slice_set documents k d') k ∙ ap (option_map filed) (get_set documents k d' in_range) in
-      let named_now : d'.id ≡ d.id = id_stays l (filed d) (length entries + 1) (filed d') x.filed in
+      let named_now : d'.id ≡ d.id = id_stays l (setting_of k d entries index) (filed d') x.document in
       let kept_now : edits_of (journal_of (files (slice_set documents k d')) entries') d'.id ≡ map (named d'.id) d'.tree.edits = left.0.kept k (filed d') now in
       let mark_now : is_deleted (leaves_of d'.tree.edits []) ≡ is_deleted (leaves_of (journal_of (files (slice_set documents k d')) entries') d.id) =
       sym (ap is_deleted (leaves_named (journal_of (files (slice_set documents k d')) entries') d'.id d'.tree.edits kept_now tree'.one) ∙ deleted_named d'.id (leaves_of d'.tree.edits [])) ∙ ap (λ (i : List ℕ). is_deleted (leaves_of (journal_of (files (slice_set documents k d')) entries') i)) named_now in (
@@ -165,88 +165,88 @@ module _ (limit : ℕ) (numbers : List ℕ → Option ℕ) (documents : List Doc
         left.2,
       )
     where
-      id_stays : (l : Looked) (f : Filed) (n : ℕ) (g : Filed) → g ≡ after l f n → g.id ≡ f.id
-      id_stays Known f n g e = ap (λ (z : Filed). z.id) e
-      id_stays (Refused fault) f n g e = ap (λ (z : Filed). z.id) e
-      id_stays (Ready x) f n g e = ap (λ (z : Filed). z.id) e
+      id_stays : (l : Looked) (s : Setting) (g : Filed) → g ≡ document_after l s → g.id ≡ s.document.id
+      id_stays Known s g e = ap (λ (z : Filed). z.id) e
+      id_stays (Refused fault) s g e = ap (λ (z : Filed). z.id) e
+      id_stays (Ready x) s g e = ap (λ (z : Filed). z.id) e
 
 -- the first edit of a document
-abbrev pub unwritten : List ℕ → Filed
-unwritten id = record { id = id; latest = 0; edits = [] }
+module _ (old : Store) (st : IsStore old) (ix : HasRows old) (id : List ℕ) (absent : get_by_text old.numbers id ≡ None) where
+  inserted : (l : Looked) (room : (e : Edit) → l ≡ Ready e → length old.journal.items < old.limits.journal) (numbers' : List ℕ → Option ℕ) (documents' : List Document) (entries' : List Entry) (index' : List (ℕ × ℕ))
+      → IsStorable [] l → files documents' ≡ documents_after l (first_setting id old) (files old.documents.items) → entries' ≡ entries_after l (first_setting id old)
+      → ((q : List ℕ) → numbers' q ≡ numbers_after l id (length old.documents.items) (get_by_text old.numbers) q) → index' ≡ rows_after l (first_setting id old)
+      → Leaves old.limits.journal (files old.documents.items) old.journal.items id l numbers' (files documents') entries' index'
+  inserted l room numbers' documents' entries' index' s fs es ns is = rw (fs, es, is) (at l s room ns)
+    where
+      many_files : length (files old.documents.items) ≡ length old.documents.items
+      many_files = length-map old.documents.items filed
 
-inserted : (limit : ℕ) (numbers : List ℕ → Option ℕ) (documents : List Document) (entries : List Entry) → IsFiled limit numbers (files documents) entries → (index : List (ℕ × ℕ)) → IsIndexed (files documents) entries index → (id : List ℕ) → numbers id ≡ None
-    → (l : Looked) (room : (e : Edit) → l ≡ Ready e → length entries < limit) (numbers' : List ℕ → Option ℕ) (documents' : List Document) (entries' : List Entry) (index' : List (ℕ × ℕ))
-    → IsStorable [] l → files documents' ≡ grown l (files documents) (after l (unwritten id) (length entries + 1))
-    → entries' ≡ grown l entries (record { document = length documents; revision = 0 }) → ((q : List ℕ) → numbers' q ≡ numbered l numbers id (length documents) q) → index' ≡ rowed l index (length documents) (length entries + 1)
-    → Leaves limit (files documents) entries id l numbers' (files documents') entries' index'
-inserted limit numbers documents entries st index ix id absent l room numbers' documents' entries' index' s fs es ns is = rw (fs, es, is) (at l s room ns)
-  where
-    many_files : length (files documents) ≡ length documents
-    many_files = length-map documents filed
+      past : slice_get (files old.documents.items) (length old.documents.items) ≡ None
+      past = slice_get_past (files old.documents.items) (length old.documents.items) (omega (arith, many_files))
 
-    past : slice_get (files documents) (length documents) ≡ None
-    past = slice_get_past (files documents) (length documents) (omega (arith, many_files))
-
-    at : (l : Looked) → IsStorable [] l → ((e : Edit) → l ≡ Ready e → length entries < limit) → ((q : List ℕ) → numbers' q ≡ numbered l numbers id (length documents) q)
-        → Leaves limit (files documents) entries id l numbers' (grown l (files documents) (after l (unwritten id) (length entries + 1))) (grown l entries (record { document = length documents; revision = 0 })) (rowed l index (length documents) (length entries + 1))
-    at (Ready e) s room ns =
-        let new : Filed = record { id = id; latest = length entries + 1; edits = e ∷ [] } in
-        stores limit numbers (files documents) entries st index ix id (length documents) [] (inr (absent, past, refl)) refl e s (room e refl) numbers' (files documents ++ new ∷ [])
-        (subst (λ n. slice_get (files documents ++ new ∷ []) n ≡ Some new) many_files (get_push (files documents) new))
-        (λ j n. get_push_other (files documents) new j (λ e. n (e ∙ many_files)))
-        (ns id ∙ ap (λ b. if b then Some (length documents) else numbers id) (text_same id id refl))
-        (λ q n. ns q ∙ ap (λ b. if b then Some (length documents) else numbers q) (text_apart id q (λ e. n (sym e))))
-        (λ d g. absurd (none-some d (sym past ∙ g))) (λ g. length_push (files documents) new)
-    at Known s room ns = let same : numbers' ≡ numbers = λ i q. ns q i in (subst (λ f. IsFiled limit f (files documents) entries) (sym same) st, refl, ix)
-    at (Refused fault) s room ns = let same : numbers' ≡ numbers = λ i q. ns q i in (subst (λ f. IsFiled limit f (files documents) entries) (sym same) st, refl, ix)
+      at : (l : Looked) → IsStorable [] l → ((e : Edit) → l ≡ Ready e → length old.journal.items < old.limits.journal) → ((q : List ℕ) → numbers' q ≡ numbers_after l id (length old.documents.items) (get_by_text old.numbers) q)
+          → Leaves old.limits.journal (files old.documents.items) old.journal.items id l numbers' (documents_after l (first_setting id old) (files old.documents.items)) (entries_after l (first_setting id old)) (rows_after l (first_setting id old))
+      at (Ready e) s room ns =
+          let new : Filed = record { id = id; latest = length old.journal.items + 1; edits = e ∷ [] } in
+          stores old.limits.journal (get_by_text old.numbers) (files old.documents.items) old.journal.items st old.index ix id (length old.documents.items) [] (inr (absent, past, refl)) refl e s (room e refl) numbers' (files old.documents.items ++ new ∷ [])
+          (subst (λ n. slice_get (files old.documents.items ++ new ∷ []) n ≡ Some new) many_files (get_push (files old.documents.items) new))
+          (λ j n. get_push_other (files old.documents.items) new j (λ e. n (e ∙ many_files)))
+          (ns id ∙ ap (λ b. if b then Some (length old.documents.items) else get_by_text old.numbers id) (text_same id id refl))
+          (λ q n. ns q ∙ ap (λ b. if b then Some (length old.documents.items) else get_by_text old.numbers q) (text_apart id q (λ e. n (sym e))))
+          (λ d g. absurd (none-some d (sym past ∙ g))) (λ g. length_push (files old.documents.items) new)
+      at Known s room ns = let same : numbers' ≡ get_by_text old.numbers = λ i q. ns q i in (subst (λ f. IsFiled old.limits.journal f (files old.documents.items) old.journal.items) (sym same) st, refl, ix)
+      at (Refused fault) s room ns = let same : numbers' ≡ get_by_text old.numbers = λ i q. ns q i in (subst (λ f. IsFiled old.limits.journal f (files old.documents.items) old.journal.items) (sym same) st, refl, ix)
 
 -- the count after it
-first_counted : (J J' : List Edit) (id : List ℕ) (l : Looked) (n count count' : ℕ) → J' ≡ joined id l J → edits_of J id ≡ [] → IsStorable [] l → count ≡ deleted_in J
-    → count' ≡ count + one_if (is_deleted (leaves_of (after l (unwritten id) n).edits [])) → count' ≡ deleted_in J'
-first_counted J J' id Known n count count' same none s c h = omega (arith, h, c, ap deleted_in same)
-first_counted J J' id (Refused fault) n count count' same none s c h = omega (arith, h, c, ap deleted_in same)
-first_counted J J' id (Ready e) n count count' same none s c h =
-    let one : edits_of (e ∷ []) [] ≡ e ∷ [] = ap (λ b. if b then (e ∷ []) else []) (text_same e.id [] s.0) in
+first_counted : (J J' : List Edit) (id : List ℕ) (l : Looked) (s : Setting) (count count' : ℕ) → s.document ≡ unwritten id → J' ≡ journal_after l id J → edits_of J id ≡ [] → IsStorable [] l → count ≡ deleted_in J
+    → count' ≡ count + one_if (is_deleted (leaves_of (document_after l s).edits [])) → count' ≡ deleted_in J'
+first_counted J J' id Known s count count' first same none storable c h = omega (arith, h, c, ap deleted_in same, ap (λ (z : Filed). one_if (is_deleted (leaves_of z.edits []))) first)
+first_counted J J' id (Refused f) s count count' first same none storable c h = omega (arith, h, c, ap deleted_in same, ap (λ (z : Filed). one_if (is_deleted (leaves_of z.edits []))) first)
+first_counted J J' id (Ready e) s count count' first same none storable c h =
+    let one : edits_of (e ∷ []) [] ≡ e ∷ [] = ap (λ b. if b then (e ∷ []) else []) (text_same e.id [] storable.0) in
     let kept : edits_of (J ++ named id e ∷ []) id ≡ map (named id) (e ∷ []) = filter-append (λ (f : Edit). bytes_eq f.id id) J (named id e ∷ []) ∙ (ap (λ es. es ++ (if bytes_eq id id then (named id e ∷ []) else [])) none ∙ ap (λ b. if b then (named id e ∷ []) else []) (text_same id id refl)) in
     let now : is_deleted (leaves_of (e ∷ []) []) ≡ is_deleted (leaves_of (J ++ named id e ∷ []) id) = sym (ap is_deleted (leaves_named (J ++ named id e ∷ []) id (e ∷ []) kept one) ∙ deleted_named id (leaves_of (e ∷ []) [])) in
     let before : false ≡ is_deleted (leaves_of J id) = sym (ap (λ es. is_deleted (best_first (leaves_among es es))) none) in
-    counted_on J J' id (Ready e) same count count' false (is_deleted (leaves_of (e ∷ []) [])) before (now ∙ ap (λ K. is_deleted (leaves_of K id)) (sym same)) c (omega (arith, h))
+    let only : one_if (is_deleted (leaves_of (s.document.edits ++ e ∷ []) [])) ≡ one_if (is_deleted (leaves_of (e ∷ []) [])) = ap (λ (z : Filed). one_if (is_deleted (leaves_of (z.edits ++ e ∷ []) []))) first in
+    counted_on J J' id (Ready e) same count count' false (is_deleted (leaves_of (e ∷ []) [])) before (now ∙ ap (λ K. is_deleted (leaves_of K id)) (sym same)) c (omega (arith, h, only))
 
 -- what a new document brings, one by one
-pub first_stored : (full : Bool) (id : List ℕ) (edit : Incoming) (old new : Store) (none d : Filed) (l : Looked) (e : Edit) (r : Revision) (number : ℕ)
-    → none ≡ unwritten id → l ≡ unless_full full (look_at none.id none.edits edit) → l ≡ Ready e → IsStorable none.edits l → head_of e ≡ Some r
+pub first_stored : (id : List ℕ) (edit : Incoming) (old new : Store) (none d : Filed) (look : Looked) (e : Edit) (r : Revision) (number : ℕ)
+    → none ≡ unwritten id → look ≡ unless_full (nat_le old.limits.journal (length old.journal.items)) (look_at none.id none.edits edit) → look ≡ Ready e → IsStorable none.edits look → head_of e ≡ Some r
     → d ≡ record { id = none.id; latest = length old.journal.items + 1; edits = none.edits ++ e ∷ [] } → number ≡ length old.documents.items
     → files new.documents.items ≡ files old.documents.items ++ d ∷ [] → new.journal.items ≡ old.journal.items ++ record { document = number; revision = length none.edits } ∷ []
     → ((q : List ℕ) → get_by_text new.numbers q ≡ update bytes_eq (get_by_text old.numbers) id (Some number) q)
-    → new.deleted ≡ old.deleted + one_if (is_deleted (leaves_of d.edits [])) → new.index ≡ moved old.index number (length old.journal.items + 1) → Inserts full id edit old new (outcome.Stored r)
-first_stored full id edit old new none d l e r number first looked ready storable head now place fs js ns count rows =
-    let is : unless_full full (look_at id [] edit) ≡ Ready e = sym (ap (λ (z : Filed). unless_full full (look_at z.id z.edits edit)) first) ∙ (sym looked ∙ ready) in
-    let filed_now : d ≡ after (Ready e) (unwritten id) (length old.journal.items + 1) = now ∙ ap (λ (z : Filed). record { id = z.id; latest = length old.journal.items + 1; edits = z.edits ++ e ∷ [] }) first in
+    → new.deleted ≡ old.deleted + one_if (is_deleted (leaves_of d.edits [])) → new.index ≡ moved old.index number (length old.journal.items + 1)
+    → IsInserted id (look_in old.limits.journal (first_setting id old) edit) old new (outcome.Stored r)
+first_stored id edit old new none d look e r number first looked ready storable head now place fs js ns count rows =
+    let s : Setting = first_setting id old in
+    let is : look_in old.limits.journal s edit ≡ Ready e = sym (ap (λ (z : Filed). unless_full (nat_le old.limits.journal (length old.journal.items)) (look_at z.id z.edits edit)) first) ∙ (sym looked ∙ ready) in
+    let filed_now : d ≡ document_after (Ready e) s = now ∙ ap (λ (z : Filed). record { id = z.id; latest = length old.journal.items + 1; edits = z.edits ++ e ∷ [] }) first in
     record {
       answer = sym (ap outcome_of is ∙ ap (λ o. outcome.Stored (unwrap_or o (record { generation = 0; hash = [] }))) head);
-      files = fs ∙ (ap (λ x. files old.documents.items ++ x ∷ []) filed_now ∙ sym (ap (λ k. grown k (files old.documents.items) (after k (unwritten id) (length old.journal.items + 1))) is));
-      journal = js ∙ (ap (λ n. old.journal.items ++ record { document = n; revision = length none.edits } ∷ []) place
+      files = fs ∙ (ap (λ x. files old.documents.items ++ x ∷ []) filed_now ∙ sym (ap (λ k. documents_after k s (files old.documents.items)) is));
+      entries = js ∙ (ap (λ n. old.journal.items ++ record { document = n; revision = length none.edits } ∷ []) place
           ∙ (ap (λ (z : Filed). old.journal.items ++ record { document = length old.documents.items; revision = length z.edits } ∷ []) first
-          ∙ sym (ap (λ k. grown k old.journal.items (record { document = length old.documents.items; revision = 0 })) is)));
-      numbers = λ q. ns q ∙ (ap (λ n. update bytes_eq (get_by_text old.numbers) id (Some n) q) place ∙ sym (ap (λ k. numbered k (get_by_text old.numbers) id (length old.documents.items) q) is));
-      storable = subst (IsStorable []) (ready ∙ sym is) (subst (λ (z : Filed). IsStorable z.edits l) first storable);
-      deleted = count ∙ (ap (λ (z : Filed). old.deleted + one_if (is_deleted (leaves_of z.edits []))) filed_now ∙ sym (ap (λ k. old.deleted + one_if (is_deleted (leaves_of (after k (unwritten id) 0).edits []))) is));
-      index = rows ∙ (ap (λ n. moved old.index n (length old.journal.items + 1)) place ∙ sym (ap (λ k. rowed k old.index (length old.documents.items) (length old.journal.items + 1)) is));
+          ∙ sym (ap (λ k. entries_after k s) is)));
+      rows = rows ∙ (ap (λ n. moved old.index n (length old.journal.items + 1)) place ∙ sym (ap (λ k. rows_after k s) is));
+      numbers = λ q. ns q ∙ (ap (λ n. update bytes_eq (get_by_text old.numbers) id (Some n) q) place ∙ sym (ap (λ k. numbers_after k id (length old.documents.items) (get_by_text old.numbers) q) is));
+      deleted = count ∙ (ap (λ (z : Filed). old.deleted + one_if (is_deleted (leaves_of z.edits []))) filed_now ∙ sym (ap (λ k. old.deleted + one_if (is_deleted (leaves_of (document_after k s).edits []))) is));
+      storable = subst (IsStorable []) (ready ∙ sym is) (subst (λ (z : Filed). IsStorable z.edits look) first storable);
     }
 
 -- what storing it leaves
 pub inserted_so : (old new : Store) → IsStore old → IsCounted old → HasRows old → (id : List ℕ) → get_by_text old.numbers id ≡ None → (edit : Incoming) (o : Outcome Revision)
-    → Inserts (nat_le old.limits.journal (length old.journal.items)) id edit old new o → new.limits ≡ old.limits
+    → IsInserted id (look_in old.limits.journal (first_setting id old) edit) old new o → new.limits ≡ old.limits
     → IsStore new × (stores_edit old.limits.journal (edits_of_store old) id edit ≡ record { outcome = o; journal = edits_of_store new }) × IsCounted new × HasRows new
 inserted_so old new st counted ix id absent edit o x stay =
     let l : Looked = unless_full (nat_le old.limits.journal (length old.journal.items)) (look_at id [] edit) in
-    let left = inserted old.limits.journal (get_by_text old.numbers) old.documents.items old.journal.items st old.index ix id absent l (λ e r. room_in old.limits.journal (length old.journal.items) (look_at id [] edit) e r) (get_by_text new.numbers) new.documents.items new.journal.items new.index x.storable x.files x.journal x.numbers x.index in
+    let left = inserted old st ix id absent l (λ e r. room_in old.limits.journal (length old.journal.items) (look_at id [] edit) e r) (get_by_text new.numbers) new.documents.items new.journal.items new.index x.storable x.files x.entries x.numbers x.rows in
     let none : edits_of (edits_of_store old) id ≡ [] = st.others id absent in
     let full : nat_le old.limits.journal (length (edits_of_store old)) ≡ nat_le old.limits.journal (length old.journal.items) = ap (nat_le old.limits.journal) (length-map old.journal.items (edit_at (files old.documents.items))) in
     let said = stores_by (edits_of_store old) id [] none refl old.limits.journal (nat_le old.limits.journal (length old.journal.items)) full edit in (
       rw stay left.0,
-      said ∙ (ap (λ (a : Outcome Revision). record { outcome = a; journal = joined id l (edits_of_store old) }) (sym x.answer) ∙ ap (λ (J : List Edit). record { outcome = o; journal = J }) (sym left.1)),
-      first_counted (edits_of_store old) (edits_of_store new) id l 0 old.deleted new.deleted left.1 none x.storable counted x.deleted,
+      said ∙ (ap (λ (a : Outcome Revision). record { outcome = a; journal = journal_after l id (edits_of_store old) }) (sym x.answer) ∙ ap (λ (J : List Edit). record { outcome = o; journal = J }) (sym left.1)),
+      first_counted (edits_of_store old) (edits_of_store new) id l (first_setting id old) old.deleted new.deleted refl left.1 none x.storable counted x.deleted,
       left.2,
     )
 
@@ -258,7 +258,7 @@ same_store old new st counted ix w stay =
 
 -- what the call leaves
 pub inserted_all : (old new : Store) → IsStore old → IsCounted old → HasRows old → (id : List ℕ) → get_by_text old.numbers id ≡ None → (edit : Incoming) (result : Result (Outcome Revision) AllocError)
-    → IfOk result (Inserts (nat_le old.limits.journal (length old.journal.items)) id edit old new) → OnErr result (IsSameStore old new) → new.limits ≡ old.limits
+    → IfOk result (IsInserted id (look_in old.limits.journal (first_setting id old) edit) old new) → OnErr result (IsSameStore old new) → new.limits ≡ old.limits
     → IsStore new × IfOk result (λ o. stores_edit old.limits.journal (edits_of_store old) id edit ≡ record { outcome = o; journal = edits_of_store new }) × IsCounted new × HasRows new
 inserted_all old new st counted ix id absent edit (Ok o) x w stay = let left = inserted_so old new st counted ix id absent edit o x stay in (left.0, left.1, left.2, left.3)
 inserted_all old new st counted ix id absent edit (Err e) x w stay = let left = same_store old new st counted ix w stay in (left.0, tt, left.1, left.3)

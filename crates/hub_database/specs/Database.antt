@@ -22,6 +22,17 @@ pub record Database : Type 0 where
   pub next_feed : ℕ  -- the number of the next feed
   pub limits : Limits
 
+-- What a database keeps, whether it stands or was deleted: all of it but its feeds. A database of two edits,
+-- one local document and three feeds has the contents of two edits and that local document.
+pub record Contents : Type 0 where
+  pub journal : List Edit  -- the accepted edits, first to last
+  pub locals : List Local  -- in the byte order of their ids
+  pub limits : Limits
+
+-- the contents of a database
+abbrev pub contents_of : Database → Contents
+contents_of db = record { journal = db.journal; locals = db.locals; limits = db.limits }
+
 -- why a call that reads gives up: once the database is deleted that is told before anything else
 abbrev pub reading_fault : Database → DbFault
 reading_fault db = if db.deleted then Refused fault.Deleted else NoMemory

@@ -1,7 +1,6 @@
--- What a look at a document's tree says of an edit, and what that does to the documents and the journal
--- (own).
+-- What a look at a document's tree says of an edit, and what the write of that edit leaves (own).
 use Rattle.std.specs.Prelude.{◌≡◌, ◌+◌, ◌≤◌, ℕ, List, [], ◌∷◌, ◌++◌, length, Bool, true, if◌then◌else◌}
-use Rattle.std.specs.Prelude.{Option, Some, Result, Ok, Err, unwrap_or}
+use Rattle.std.specs.Prelude.{nat_le, Option, Some, Result, Ok, Err, unwrap_or}
 use Rattle.std.specs.Map.{update}
 use Rattle.std.specs.Str.{bytes_eq}
 use Rattle.hub_model.specs.Revision.{Revision}
@@ -24,16 +23,19 @@ use Rattle.hub_database.specs.declared.document.Origin.TheVariants.{Elsewhere, H
 use Rattle.hub_database.specs.declared.document.Looked.{Looked}
 use Rattle.hub_database.specs.declared.document.Looked.TheVariants.{Known, Refused, Ready}
 
--- what storing an edit of the document answers, and the journal after it
+-- what storing an edit of the document answers, and the journal after it: an edit that comes with its history
+-- is merged, and one that is made here gets its revision
 abbrev pub stores_from : ℕ → List Edit → List ℕ → Origin → Bool → List ℕ → Stores
 stores_from limit J id (Elsewhere path) deleted body = merges limit J (named id (nameless path deleted body))
 stores_from limit J id (Here rev) deleted body = makes limit J (draft id rev deleted body)
 
--- the same of a document's part of a write
+-- what storing an incoming edit of the document answers, and the journal after it
 abbrev pub stores_edit : ℕ → List Edit → List ℕ → Incoming → Stores
 stores_edit limit J id edit = stores_from limit J id edit.origin edit.deleted edit.body
 
--- what is said of an edit with its history, by the tests
+-- ---- looks
+
+-- what is said of an edit with its history, by whether its head is known, and whether the edits may take it
 abbrev pub look_by : Edit → Bool → Bool → Looked
 look_by e known acceptable =
     if known then Known else if acceptable then Ready e else Refused fault.Contradicts
@@ -51,11 +53,12 @@ look_from id edits (Elsewhere path) deleted body =
     (is_acceptable edits (nameless path deleted body))
 look_from id edits (Here rev) deleted body = look_made (extends edits (draft id rev deleted body))
 
--- the same of a document's part of a write
+-- what is said of an incoming edit after these edits of its document
 abbrev pub look_at : List ℕ → List Edit → Incoming → Looked
 look_at id edits edit = look_from id edits edit.origin edit.deleted edit.body
 
--- where the journal is full nothing is stored
+-- what is said where the journal is full, or is not: a full one takes no edit, but what is known stays known,
+-- and what is refused keeps its reason
 abbrev pub unless_full : Bool → Looked → Looked
 unless_full true (Ready e) = Refused fault.SequenceFull
 unless_full full l = l
@@ -65,62 +68,83 @@ abbrev pub IsStorable : List Edit → Looked → Type 0
 IsStorable edits (Ready e) = (e.id ≡ []) × IsAcceptable edits e
 IsStorable edits l = Unit {0}
 
--- a tree with this room has room for it
+-- a tree with room for so many revisions has room for an edit that is to be stored
 abbrev pub HasRoom : ℕ → Looked → Type 0
 HasRoom room (Ready e) = length e.path ≤ room
 HasRoom room l = Unit {0}
 
--- storing it takes memory: an edit with its history may be stored, and one that is made here has a leaf to
--- extend and a generation left
+-- storing an edit of the document takes memory: one with its history may be stored, and one that is made here
+-- has a leaf to extend and a generation left
 abbrev pub NeedsRoomFrom : List Edit → List ℕ → Origin → Bool → List ℕ → Type 0
 NeedsRoomFrom J id (Elsewhere path) deleted body = IsAcceptable J (named id (nameless path deleted body))
 NeedsRoomFrom J id (Here rev) deleted body = HasNextRevision J (draft id rev deleted body)
 
--- the same of a document's part of a write
+-- storing an incoming edit of the document takes memory
 abbrev pub NeedsRoomFor : List Edit → List ℕ → Incoming → Type 0
 NeedsRoomFor J id edit = NeedsRoomFrom J id edit.origin edit.deleted edit.body
 
--- the answer
+-- what a write answers that was said this of
 abbrev pub outcome_of : Looked → Outcome Revision
 outcome_of Known = outcome.Known
 outcome_of (Refused f) = outcome.Refused f
 outcome_of (Ready e) = outcome.Stored (unwrap_or (head_of e) (record { generation = 0; hash = [] }))
 
--- the list with x at its end, where the edit is stored
-abbrev pub grown : {A : Type 0} → Looked → List A → A → List A
-grown (Ready e) xs x = xs ++ x ∷ []
-grown l xs x = xs
+-- ---- what a write leaves
 
--- the rows with that of this document at their end, if the edit is stored
-abbrev pub rowed : Looked → List (ℕ × ℕ) → ℕ → ℕ → List (ℕ × ℕ)
-rowed (Ready e) rows k n = moved rows k n
-rowed l rows k n = rows
+-- where a write stores its edit: the document and its number, the journal's entries, and the rows by sequence
+pub record Setting : Type 0 where
+  pub number : ℕ
+  pub document : Filed
+  pub entries : List Entry
+  pub rows : List (ℕ × ℕ)
 
--- the journal with the edit at its end, if it is stored
-abbrev pub joined : List ℕ → Looked → List Edit → List Edit
-joined id (Ready e) J = J ++ named id e ∷ []
-joined id l J = J
+-- what is said there of an incoming edit, where the journal takes so many edits
+abbrev pub look_in : ℕ → Setting → Incoming → Looked
+look_in limit s edit =
+    unless_full (nat_le limit (length s.entries)) (look_at s.document.id s.document.edits edit)
 
--- the document with the edit as its latest one, if it is stored
-abbrev pub after : Looked → Filed → ℕ → Filed
-after (Ready e) d n = record { id = d.id; latest = n; edits = d.edits ++ e ∷ [] }
-after l d n = d
+-- The definitions below say what a write leaves of each thing that it may change, by what was said of its
+-- edit. Only Ready changes anything. Where document 3 has two edits and the journal seven entries, Ready
+-- leaves a document of three edits with the latest sequence 8, an eighth entry, which names edit 2 of
+-- document 3, and the row of document 3 at sequence 8 in place of the one that it had.
 
--- the numbers by id, with this one if the edit is stored
-abbrev pub numbered : Looked → (List ℕ → Option ℕ) → List ℕ → ℕ → List ℕ → Option ℕ
-numbered (Ready e) numbers id k = update bytes_eq numbers id (Some k)
-numbered l numbers id k = numbers
+-- the document: an edit that is stored is its latest
+abbrev pub document_after : Looked → Setting → Filed
+document_after (Ready e) s =
+    record { id = s.document.id; latest = length s.entries + 1; edits = s.document.edits ++ e ∷ [] }
+document_after l s = s.document
 
--- what storing an edit leaves: L is what a look says of it
-pub record Extends (full : Bool) (number : ℕ) (edit : Incoming) (old new : Filed) (before later : List Entry)
-    (rows rows_later : List (ℕ × ℕ)) (o : Outcome Revision) : Type 0 where
-  pub answer : o ≡ outcome_of (unless_full full (look_at old.id old.edits edit))
-  pub filed : new ≡ after (unless_full full (look_at old.id old.edits edit)) old (length before + 1)
-  pub journal : later
-      ≡ grown (unless_full full (look_at old.id old.edits edit)) before (record {
-        document = number;
-        revision = length old.edits;
-      })
-  pub storable : IsStorable old.edits (unless_full full (look_at old.id old.edits edit))
-  pub index : rows_later
-      ≡ rowed (unless_full full (look_at old.id old.edits edit)) rows number (length before + 1)
+-- the entries: the last is that of the edit that is stored
+abbrev pub entries_after : Looked → Setting → List Entry
+entries_after (Ready e) s =
+    s.entries ++ record { document = s.number; revision = length s.document.edits } ∷ []
+entries_after l s = s.entries
+
+-- the rows: the document's is the last, at the sequence of the edit that is stored
+abbrev pub rows_after : Looked → Setting → List (ℕ × ℕ)
+rows_after (Ready e) s = moved s.rows s.number (length s.entries + 1)
+rows_after l s = s.rows
+
+-- the journal: the edit that is stored stands last, with its document's id
+abbrev pub journal_after : Looked → List ℕ → List Edit → List Edit
+journal_after (Ready e) id J = J ++ named id e ∷ []
+journal_after l id J = J
+
+-- the documents: that of a first edit that is stored stands last
+abbrev pub documents_after : Looked → Setting → List Filed → List Filed
+documents_after (Ready e) s documents = documents ++ document_after (Ready e) s ∷ []
+documents_after l s documents = documents
+
+-- the numbers by id: the document of a first edit that is stored has this one
+abbrev pub numbers_after : Looked → List ℕ → ℕ → (List ℕ → Option ℕ) → List ℕ → Option ℕ
+numbers_after (Ready e) id number numbers = update bytes_eq numbers id (Some number)
+numbers_after l id number numbers = numbers
+
+-- An edit of a document that was there was written: the write answers what the look says, and leaves the
+-- document, the entries and the rows that follow from it.
+pub record IsWritten (look : Looked) (before after : Setting) (reply : Outcome Revision) : Type 0 where
+  pub answer : reply ≡ outcome_of look
+  pub document : after.document ≡ document_after look before
+  pub entries : after.entries ≡ entries_after look before
+  pub rows : after.rows ≡ rows_after look before
+  pub storable : IsStorable before.document.edits look

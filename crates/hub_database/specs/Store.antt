@@ -7,10 +7,11 @@ use Rattle.hub_model.specs.Current.{current}
 use Rattle.hub_model.specs.Row.{is_deleted}
 use Rattle.hub_model.specs.Revision.{Revision}
 use Rattle.hub_model.specs.declared.outcomes.Outcome.{Outcome}
-use Rattle.hub_database.specs.Looked.{outcome_of, unless_full, look_at, grown, after, numbered, rowed}
-use Rattle.hub_database.specs.Looked.{IsStorable}
-use Rattle.hub_database.specs.declared.document.Incoming.{Incoming}
+use Rattle.hub_database.specs.Looked.{Setting, IsStorable, outcome_of, document_after, documents_after}
+use Rattle.hub_database.specs.Looked.{entries_after, rows_after, numbers_after}
 use Rattle.hub_database.specs.declared.document.Document.{Document}
+use Rattle.hub_database.specs.declared.document.Looked.{Looked}
+use Rattle.hub_database.specs.declared.entry.Entry.{Entry}
 use Rattle.hub_database.specs.declared.store.Store.{Store}
 use Rattle.hub_database.specs.Filed.{Filed, IsFiled, journal_of}
 use Rattle.hub_database.specs.Indexed.{IsIndexed}
@@ -36,20 +37,20 @@ IsStore store =
 abbrev pub deleted_in : List Edit → ℕ
 deleted_in J = count_by (λ c. is_deleted (leaves_of J c.id)) (current J)
 
--- a store counts them
+-- the store's count of documents with a deleted winner is that of its journal
 abbrev pub IsCounted : Store → Type 0
 IsCounted store = store.deleted ≡ deleted_in (edits_of_store store)
 
--- and keeps the current rows
+-- the rows of the store are its journal's current ones
 abbrev pub HasRows : Store → Type 0
 HasRows store = IsIndexed (files store.documents.items) store.journal.items store.index
 
--- 1 where it is so
+-- 1 for true and 0 for false
 abbrev pub one_if : Bool → ℕ
 one_if true = 1
 one_if false = 0
 
--- the same documents, numbers, rows and journal
+-- both stores show the same documents, numbers, entries, count and rows
 pub record IsSameStore (old new : Store) : Type 0 where
   pub documents : files new.documents.items ≡ files old.documents.items
   pub numbers : (id : List ℕ) → get_by_text new.numbers id ≡ get_by_text old.numbers id
@@ -57,32 +58,38 @@ pub record IsSameStore (old new : Store) : Type 0 where
   pub deleted : new.deleted ≡ old.deleted
   pub index : new.index ≡ old.index
 
--- what storing the first edit of a document leaves
-pub record Inserts (full : Bool) (id : List ℕ) (edit : Incoming) (old new : Store) (o : Outcome Revision) :
-    Type 0 where
-  pub answer : o ≡ outcome_of (unless_full full (look_at id [] edit))
-  pub files : files new.documents.items
-      ≡ grown (unless_full full (look_at id [] edit)) (files old.documents.items)
-      (after (unless_full full (look_at id [] edit)) (record {
-        id = id;
-        latest = 0;
-        edits = [];
-      }) (length old.journal.items + 1))
-  pub journal : new.journal.items
-      ≡ grown (unless_full full (look_at id [] edit)) old.journal.items
-      (record { document = length old.documents.items; revision = 0 })
-  pub numbers : (q : List ℕ)
-      → get_by_text new.numbers q
-      ≡ numbered (unless_full full (look_at id [] edit)) (get_by_text old.numbers) id
-      (length old.documents.items) q
-  pub storable : IsStorable [] (unless_full full (look_at id [] edit))
-  pub deleted : new.deleted
-      ≡ old.deleted + one_if
-      (is_deleted (leaves_of (after (unless_full full (look_at id [] edit)) (record {
-        id = id;
-        latest = 0;
-        edits = [];
-      }) 0).edits []))
-  pub index : new.index
-      ≡ rowed (unless_full full (look_at id [] edit)) old.index (length old.documents.items)
-      (length old.journal.items + 1)
+-- where an edit is stored of a document that is there
+abbrev pub setting_of : ℕ → Document → List Entry → List (ℕ × ℕ) → Setting
+setting_of number d entries rows =
+    record { number = number; document = filed d; entries = entries; rows = rows }
+
+-- a document before its first edit
+abbrev pub unwritten : List ℕ → Filed
+unwritten id = record { id = id; latest = 0; edits = [] }
+
+-- Where a write stores the first edit of a document: behind the store's other documents. In a store of three,
+-- whose numbers are 0, 1 and 2, it is document 3.
+abbrev pub first_setting : List ℕ → Store → Setting
+first_setting id store =
+    record {
+      number = length store.documents.items;
+      document = unwritten id;
+      entries = store.journal.items;
+      rows = store.index;
+    }
+
+-- The first edit of a document was written: the write answers what the look says, and where the edit is
+-- stored the document stands behind the others, is found by its id, and is counted if it is deleted.
+pub record IsInserted (id : List ℕ) (look : Looked) (old new : Store) (reply : Outcome Revision) : Type 0
+  where
+    pub answer : reply ≡ outcome_of look
+    pub files : files new.documents.items
+        ≡ documents_after look (first_setting id old) (files old.documents.items)
+    pub entries : new.journal.items ≡ entries_after look (first_setting id old)
+    pub rows : new.index ≡ rows_after look (first_setting id old)
+    pub numbers : (q : List ℕ)
+        → get_by_text new.numbers q
+        ≡ numbers_after look id (length old.documents.items) (get_by_text old.numbers) q
+    pub deleted : new.deleted
+        ≡ old.deleted + one_if (is_deleted (leaves_of (document_after look (first_setting id old)).edits []))
+    pub storable : IsStorable [] look

@@ -52,5 +52,9 @@ impl Model for Diff {
 
     ghost Value = { Difference };
 
-    ghost view = { λ a. record { id = string_bytes a.id; missing = a.missing; possible_ancestors = a.possible_ancestors } };
+    ghost view = { λ a. record {
+      id = string_bytes a.id;
+      missing = a.missing;
+      possible_ancestors = a.possible_ancestors;
+    } };
 }

@@ -1,37 +1,43 @@
-//! One database.
+//! One database, and its calls but those of its feeds.
 
-ghost use Rattle.std.specs.Prelude.{◌≡◌, ◌⊎◌, ◌<◌, ◌≤◌, [], false, true, length, take, replicate, Err, IfOk, IfErr, OnErr, OnOk, IsTrue};
+ghost use Rattle.std.specs.Prelude.{◌≡◌, ◌⊎◌, ◌<◌, ◌≤◌, ◌^◌, [], false, true, length, map, take, option_map, replicate, Err, IfOk, IfErr, IsSome, OnErr, OnOk, IsTrue};
+ghost use Rattle.hub_model.specs.Descending.{descending};
+ghost use Rattle.hub_model.specs.Draft.{HasNextRevision};
 ghost use Rattle.hub_model.specs.Journal.{IsLegal};
-ghost use Rattle.hub_model.specs.Draft.{HasNextRevision, makes};
+ghost use Rattle.hub_model.specs.Leaves.{leaves_of};
+ghost use Rattle.hub_model.specs.Missing.{diffs};
 ghost use Rattle.hub_model.specs.Outcome.{refuses};
 ghost use Rattle.hub_model.specs.declared.outcomes.Fault.{Fault};
-ghost use Rattle.hub_model.specs.declared.outcomes.Fault.TheVariants.{Deleted};
+ghost use Rattle.hub_model.specs.declared.outcomes.Fault.TheVariants.{Deleted, SequenceFull};
 ghost use Rattle.hub_model.specs.declared.outcomes.Outcome.TheVariants.{Stored, Refused};
-ghost use Rattle.hub_database.specs.Edits.{StopsAt, draft_of, writes, makes_one, reply_of};
+ghost use Rattle.hub_params.specs.FeedModel.{params_of};
+ghost use Rattle.hub_revtree.specs.Winner.{winner_of};
+ghost use Rattle.hub_database.specs.Database.{GivesUp, contents_of, reading_fault};
+ghost use Rattle.hub_database.specs.Edits.{StopsAt, draft_of, writes, makes_one};
 ghost use Rattle.hub_database.specs.Feeds.{deleted};
-ghost use Rattle.hub_database.specs.Reads.{info_of};
+ghost use Rattle.hub_database.specs.Locals.{local_of, put_local, written};
+ghost use Rattle.hub_database.specs.Reads.{HasDocument, entry_at, entry_doc_of, entry_of, info_of, lookup, open_revs as open_revs_of};
 
-use crate::answers::Info;
+use crate::answers::{Diff, Info, Lookup, OpenRev};
 use crate::batch::{Batch, DbFault, Replies};
+use crate::contents::Contents;
+use crate::descending::Descending;
 use crate::feeds::end_all;
 use crate::local::Local;
-use crate::store::Store;
-use hub_document::{Doc, Limits, RevId};
+use hub_document::{Asked, Doc, Limits, LocalDoc, OpenRevs, RevId};
 use hub_feed::FeedState;
 use hub_model::{Fault, Outcome};
+use hub_params::FeedParams;
+use hub_revtree::Winner;
 use std::alloc::{AllocError, Global};
-use std::collections::BTreeMap;
 use std::marker::Model;
 
-/// The state of one database: the journal of its accepted edits, the tree of each document, its
-/// feeds, and the limits.
+/// The state of one database: what it keeps, whether it was deleted, and its feeds.
 #[derive(Debug, Drop)]
 pub struct DbState {
-    pub(crate) store: Store,
+    pub(crate) contents: Contents,
     /// Whether it was deleted: then it takes and shows nothing, and its feeds come to their ends.
     pub(crate) deleted: bool,
-    /// The local documents by their ids.
-    pub(crate) locals: BTreeMap<String, Local>,
     /// The feeds that are not finished, by their numbers, which rise.
     pub(crate) feeds: Vec<(u64, FeedState)>,
     /// The number of the next feed.
@@ -45,23 +51,30 @@ impl Model for DbState {
 
     ghost use Rattle.std.specs.Prelude.{length};
     ghost use Rattle.hub_database.specs.Followed.{AreFeeds};
-    ghost use Rattle.hub_database.specs.Kept.{kept};
-    ghost use Rattle.hub_database.specs.Store.{IsStore, IsCounted, HasRows, edits_of_store};
 
-    ghost view = { λ a. record { journal = edits_of_store a.store; deleted = a.deleted; locals = kept a.locals; feeds = a.feeds.items; next_feed = a.next_feed; limits = a.store.limits } };
+    ghost view = { λ a. record {
+      journal = a.contents.journal;
+      deleted = a.deleted;
+      locals = a.contents.locals;
+      feeds = a.feeds.items;
+      next_feed = a.next_feed;
+      limits = a.contents.limits;
+    } };
 
-    ghost invariant = { λ a. IsStore a.store × IsCounted a.store × HasRows a.store × AreFeeds (length (edits_of_store a.store)) a.next_feed a.feeds.items };
+    ghost invariant = { λ a. AreFeeds (length a.contents.journal) a.next_feed a.feeds.items };
 }
 
-// What a call answers whose edit came so. No edit that is made here was known before.
-fn reply(outcome: Outcome<RevId>) -> Result<RevId, DbFault>
-    ensures { result ≡ reply_of outcome }
+// Refuses as many documents of a deleted database.
+fn refuse_all(alloc: Global, count: usize) -> Result<Batch, DbFault>
+    ensures ok { IfOk result (λ batch. (batch.replies ≡ replicate count (Refused Deleted))
+        × (batch.stopped ≡ false)) }
+    ensures err { IfErr result (λ e. e ≡ DbFault.NoMemory) }
 {
-    match outcome {
-        Outcome::Stored(rev) => Ok(rev),
-        Outcome::Refused(fault) => Err(DbFault::Refused(fault)),
-        Outcome::Known => Err(DbFault::Refused(Fault::Conflict)),
-    }
+    let list = vec![in alloc; Outcome::Refused(Fault::Deleted); count]?;
+    Ok(Batch {
+        replies: Replies::new(list),
+        stopped: false,
+    })
 }
 
 impl DbState {
@@ -75,21 +88,11 @@ impl DbState {
         ensures limits { result.limits ≡ limits }
     {
         DbState {
-            store: Store::new(alloc, limits),
+            contents: Contents::new(alloc, limits),
             deleted: false,
-            locals: BTreeMap::new(alloc),
             feeds: Vec::new(alloc),
             next_feed: 0,
         }
-    }
-
-    /// How many edits were accepted: the sequence of the last one.
-    pub fn update_seq(&self) -> u64
-        ensures value { result ≡ length self.now.journal }
-        ensures legal { IsLegal self.now.journal }
-        ensures within { result ≤ self.now.limits.journal }
-    {
-        self.store.journal.len() as u64
     }
 
     /// Whether it was deleted.
@@ -99,55 +102,138 @@ impl DbState {
         self.deleted
     }
 
-    // That it was not deleted.
-    pub(crate) fn check(&self) -> Result<(), DbFault>
-        ensures ok { OnOk result (self.now.deleted ≡ false) }
+    /// What it keeps, where it was not deleted. Each call below that refuses a deleted database asks
+    /// this, once.
+    pub fn standing(&self) -> Result<&Contents, DbFault>
+        ensures ok { IfOk result (λ contents. (self.now.deleted ≡ false)
+            × (contents.now ≡ contents_of self.now)) }
         ensures err { IfErr result (λ e. (self.now.deleted ≡ true) × (e ≡ DbFault.Refused Deleted)) }
     {
         if self.deleted {
             return Err(DbFault::Refused(Fault::Deleted));
         }
-        Ok(())
+        Ok(&self.contents)
     }
 
-    // Refuses as many documents of a deleted database.
-    fn refuse_all(&self, count: usize) -> Result<Batch, DbFault>
-        ensures ok { IfOk result (λ batch. (batch.replies ≡ replicate count (Refused Deleted)) × (batch.stopped ≡ false)) }
-        ensures err { IfErr result (λ e. e ≡ DbFault.NoMemory) }
+    /// How many edits were accepted: the sequence of the last one.
+    pub fn update_seq(&self) -> u64
+        ensures value { result ≡ length self.now.journal }
+        ensures legal { IsLegal self.now.journal }
+        ensures within { result ≤ self.now.limits.journal }
     {
-        let list = vec![in self.store.alloc; Outcome::Refused(Fault::Deleted); count]?;
-        Ok(Batch {
-            replies: Replies::new(list),
-            stopped: false,
-        })
+        self.contents.update_seq()
     }
 
-    // Stores documents one after the other in a database that stands.
-    fn store_all(&mut self, docs: Vec<Doc>, new_edits: bool) -> Result<Batch, DbFault>
-        ensures ok { IfOk result (λ batch. writes new_edits false self.old.limits.journal self.old.journal (take (length batch.replies) docs.items) ≡ record { outcomes = batch.replies; journal = self.new.journal }) }
-        ensures whole { IfOk result (λ batch. batch.stopped ≡ false → length batch.replies ≡ length docs.items) }
-        ensures stopped { IfOk result (λ batch. IsTrue batch.stopped → length batch.replies < length docs.items) }
-        ensures stops { IfOk result (λ batch. IsTrue batch.stopped → StopsAt new_edits false self.new.journal (length batch.replies) docs.items) }
-        ensures rest { self.new ≡ record self.old { journal = self.new.journal } }
-        ensures err { IfErr result (λ e. (e ≡ DbFault.NoMemory) × (self.new ≡ self.old)) }
+    /// The winner of a document, with its mark; None where there is no such document. It costs what
+    /// `Contents::winner` does.
+    pub fn winner(&self, id: &str) -> Option<Winner>
+        ensures { result ≡ winner_of (leaves_of self.now.journal id.now) }
     {
-        let mut list = Vec::new(self.store.alloc);
-        list.try_reserve(docs.len())?;
-        for doc in docs {
-            match self.store.write(doc, new_edits) {
-                Ok(outcome) => list.push_reserved(outcome),
-                Err(AllocError) => {
-                    return Ok(Batch {
-                        replies: Replies::new(list),
-                        stopped: true,
-                    });
-                }
-            }
-        }
-        Ok(Batch {
-            replies: Replies::new(list),
-            stopped: false,
-        })
+        self.contents.winner(id)
+    }
+
+    /// The id and the revision of the edit of this sequence; None of a sequence that no edit has.
+    /// Constant time.
+    pub fn entry(&self, seq: u64) -> Option<(&str, RevId)>
+        ensures { option_map (λ p. (p.0.now, p.1)) result ≡ entry_of self.now.journal seq }
+    {
+        self.contents.entry(seq)
+    }
+
+    /// The edit of this sequence, with its history; None of a sequence that no edit has. It costs
+    /// a copy of the edit.
+    pub fn entry_doc(&self, seq: u64) -> Result<Option<Doc>, AllocError>
+        ensures doc { IfOk result (λ doc. doc ≡ entry_doc_of self.now.journal seq) }
+        ensures memory { OnErr result (IsSome (entry_at self.now.journal seq)) }
+    {
+        self.contents.entry_doc(seq)
+    }
+
+    /// How many documents there are, and how many edits (CouchDB API reference, `GET /{db}`).
+    /// Constant time: the counts are kept.
+    pub fn info(&self) -> Result<Info, DbFault>
+        ensures ok { IfOk result (λ info. (self.now.deleted ≡ false) × (info ≡ info_of self.now.journal)) }
+        ensures err { IfErr result (λ e. (self.now.deleted ≡ true) × (e ≡ DbFault.Refused Deleted)) }
+    {
+        Ok(self.standing()?.info())
+    }
+
+    /// A document: its winner, with its history where `revs` asks for it. It costs what
+    /// `Contents::get` does.
+    pub fn get(&self, id: &str, revs: bool) -> Result<Lookup, DbFault>
+        ensures ok { IfOk result (λ found. (self.now.deleted ≡ false)
+            × (found ≡ lookup self.now.journal id.now revs)) }
+        ensures err { IfErr result (λ e. e ≡ reading_fault self.now) }
+        ensures memory { IfErr result (GivesUp self.now (HasDocument self.now.journal id.now revs)) }
+    {
+        Ok(self.standing()?.get(id, revs)?)
+    }
+
+    /// The revisions of a document that are asked for, each with its history where `revs` asks for
+    /// it. Of an unknown document there is no leaf, and each listed revision is missing. It costs
+    /// what `Contents::open_revs` does.
+    pub fn open_revs(&self, id: &str, which: &OpenRevs, revs: bool) -> Result<Vec<OpenRev>, DbFault>
+        ensures ok { IfOk result (λ found. (self.now.deleted ≡ false)
+            × (found.items ≡ open_revs_of self.now.journal id.now which.now revs)) }
+        ensures err { IfErr result (λ e. e ≡ reading_fault self.now) }
+        ensures memory { IfErr result (GivesUp self.now
+            (¬ (open_revs_of self.now.journal id.now which.now revs ≡ []))) }
+    {
+        Ok(self.standing()?.open_revs(id, which, revs)?)
+    }
+
+    /// Which of the revisions asked for are missing, of the documents alone of which some are, in
+    /// the order asked. It costs what `Contents::revs_diff` does.
+    pub fn revs_diff(&self, asked: Vec<Asked>) -> Result<Vec<Diff>, DbFault>
+        ensures ok { IfOk result (λ found. (self.now.deleted ≡ false)
+            × (found.items ≡ diffs self.now.journal asked.items)) }
+        ensures err { IfErr result (λ e. e ≡ reading_fault self.now) }
+        ensures memory { IfErr result (GivesUp self.now (¬ (diffs self.now.journal asked.items ≡ []))) }
+    {
+        Ok(self.standing()?.revs_diff(asked)?)
+    }
+
+    /// The current rows that pass, the greatest sequence first, in one answer. Only `since`,
+    /// `limit`, `style`, `include_docs` and `filter` are looked at. It costs what
+    /// `Contents::changes_descending` does.
+    pub fn changes_descending(&self, params: &FeedParams) -> Result<Descending, DbFault>
+        ensures ok { IfOk result (λ answer. (self.now.deleted ≡ false)
+            × (answer ≡ descending self.now.journal (params_of params.now))) }
+        ensures err { IfErr result (λ e. e ≡ reading_fault self.now) }
+        ensures memory { IfErr result (GivesUp self.now
+            (¬ ((descending self.now.journal (params_of params.now)).rows ≡ []))) }
+    {
+        Ok(self.standing()?.changes_descending(params)?)
+    }
+
+    /// The local document of this id. A look in the map of local documents.
+    pub fn local_get(&self, id: &str) -> Result<Option<&Local>, DbFault>
+        ensures ok { IfOk result (λ found. (self.now.deleted ≡ false)
+            × (option_map (λ l. record { id = id.now; count = l.now.count; body = l.now.body }) found
+            ≡ local_of self.now.locals id.now)) }
+        ensures err { IfErr result (λ e. (self.now.deleted ≡ true) × (e ≡ DbFault.Refused Deleted)) }
+    {
+        Ok(self.standing()?.local_get(id))
+    }
+
+    /// Stores a local document in place of the one of its id, and says how often it was written. At
+    /// the last count, 2^64 - 1, it is refused as a full sequence. Two looks in the map of local
+    /// documents.
+    pub fn local_put(&mut self, doc: LocalDoc) -> Result<u64, DbFault>
+        ensures ok { IfOk result (λ count. (self.old.deleted ≡ false)
+            × (count ≡ (written self.old.locals doc).count)
+            × (self.new ≡ record self.old {
+              locals = put_local (written self.old.locals doc) self.old.locals;
+            })) }
+        ensures err { IfErr result (λ e. (self.new ≡ self.old)
+            × (((self.old.deleted ≡ true) × (e ≡ DbFault.Refused Deleted))
+            ⊎ ((self.old.deleted ≡ false) × ((e ≡ DbFault.NoMemory)
+            ⊎ ((e ≡ DbFault.Refused SequenceFull) × (2 ^ 64 ≤ (written self.old.locals doc).count)))))) }
+        ensures memory { result ≡ Err DbFault.NoMemory
+            → (self.old.deleted ≡ false) × ((written self.old.locals doc).count < 2 ^ 64) }
+    {
+        self.standing()?;
+        self.contents.local_put(doc)
     }
 
     /// Stores documents one after the other: with `new_edits` as edits whose revisions are made here,
@@ -160,36 +246,30 @@ impl DbState {
     /// of ids, what `RevTree::look_extend` or `RevTree::look_merge` does, a move in the index of
     /// rows, and what `RevTree::best` does.
     pub fn write_edits(&mut self, docs: Vec<Doc>, new_edits: bool) -> Result<Batch, DbFault>
-        ensures ok { IfOk result (λ batch. writes new_edits self.old.deleted self.old.limits.journal self.old.journal (take (length batch.replies) docs.items) ≡ record { outcomes = batch.replies; journal = self.new.journal }) }
-        ensures whole { IfOk result (λ batch. batch.stopped ≡ false → length batch.replies ≡ length docs.items) }
-        ensures stopped { IfOk result (λ batch. IsTrue batch.stopped → length batch.replies < length docs.items) }
-        ensures stops { IfOk result (λ batch. IsTrue batch.stopped → StopsAt new_edits self.old.deleted self.new.journal (length batch.replies) docs.items) }
+        ensures ok { IfOk result (λ batch.
+            writes new_edits self.old.deleted self.old.limits.journal self.old.journal
+            (take (length batch.replies) docs.items)
+            ≡ record { outcomes = batch.replies; journal = self.new.journal }) }
+        ensures whole { IfOk result (λ batch. batch.stopped ≡ false
+            → length batch.replies ≡ length docs.items) }
+        ensures stopped { IfOk result (λ batch. IsTrue batch.stopped
+            → length batch.replies < length docs.items) }
+        ensures stops { IfOk result (λ batch. IsTrue batch.stopped
+            → StopsAt new_edits self.old.deleted self.new.journal (length batch.replies) docs.items) }
         ensures rest { self.new ≡ record self.old { journal = self.new.journal } }
         ensures err { IfErr result (λ e. (e ≡ DbFault.NoMemory) × (self.new ≡ self.old)) }
         ensures memory { OnErr result (0 < length docs.items) }
     {
         if docs.is_empty() {
             return Ok(Batch {
-                replies: Replies::new(Vec::new(self.store.alloc)),
+                replies: Replies::new(Vec::new(self.contents.alloc())),
                 stopped: false,
             });
         }
         if self.deleted {
-            return self.refuse_all(docs.len());
+            return refuse_all(self.contents.alloc(), docs.len());
         }
-        self.store_all(docs, new_edits)
-    }
-
-    // Stores one edit whose revision is made here in a database that stands.
-    fn make_one(&mut self, doc: Doc) -> Result<RevId, DbFault>
-        ensures ok { IfOk result (λ rev. makes self.old.limits.journal self.old.journal (draft_of doc) ≡ record { outcome = Stored rev; journal = self.new.journal }) }
-        ensures rest { self.new ≡ record self.old { journal = self.new.journal } }
-        ensures err { IfErr result (λ e. (self.new ≡ self.old) × ((e ≡ DbFault.NoMemory)
-            ⊎ ((fault : Fault) × (e ≡ DbFault.Refused fault) × (makes self.old.limits.journal self.old.journal (draft_of doc) ≡ refuses self.old.journal fault)))) }
-        ensures memory { result ≡ Err DbFault.NoMemory → HasNextRevision self.old.journal (draft_of doc) }
-    {
-        let outcome = self.store.write(doc, true)?;
-        reply(outcome)
+        self.contents.write_edits(docs, new_edits)
     }
 
     /// Stores one edit whose revision is made here, and says that revision (CouchDB API reference,
@@ -199,46 +279,29 @@ impl DbState {
     /// (`SequenceFull`). It costs a look in the map of ids, what `RevTree::look_extend` does, a move
     /// in the index of rows, and what `RevTree::best` does.
     pub fn write_one(&mut self, doc: Doc) -> Result<RevId, DbFault>
-        ensures ok { IfOk result (λ rev. makes_one self.old.deleted self.old.limits.journal self.old.journal doc ≡ record { outcome = Stored rev; journal = self.new.journal }) }
+        ensures ok { IfOk result (λ rev.
+            makes_one self.old.deleted self.old.limits.journal self.old.journal doc
+            ≡ record { outcome = Stored rev; journal = self.new.journal }) }
         ensures rest { self.new ≡ record self.old { journal = self.new.journal } }
         ensures err { IfErr result (λ e. (self.new ≡ self.old) × ((e ≡ DbFault.NoMemory)
-            ⊎ ((fault : Fault) × (e ≡ DbFault.Refused fault) × (makes_one self.old.deleted self.old.limits.journal self.old.journal doc ≡ refuses self.old.journal fault)))) }
-        ensures memory { result ≡ Err DbFault.NoMemory → (self.old.deleted ≡ false) × HasNextRevision self.old.journal (draft_of doc) }
+            ⊎ ((fault : Fault) × (e ≡ DbFault.Refused fault)
+            × (makes_one self.old.deleted self.old.limits.journal self.old.journal doc
+            ≡ refuses self.old.journal fault)))) }
+        ensures memory { result ≡ Err DbFault.NoMemory
+            → (self.old.deleted ≡ false) × HasNextRevision self.old.journal (draft_of doc) }
     {
-        self.check()?;
-        self.make_one(doc)
-    }
-
-    // How many documents there are, and how many edits.
-    fn counts(&self) -> Info
-        ensures { result ≡ info_of self.now.journal }
-    {
-        let doc_count = self.store.documents.len() as u64;
-        let doc_del_count = self.store.deleted;
-        Info {
-            doc_count: doc_count - doc_del_count,
-            doc_del_count,
-            update_seq: self.update_seq(),
-        }
-    }
-
-    /// How many documents there are, and how many edits (CouchDB API reference, `GET /{db}`).
-    /// Constant time: the counts are kept.
-    pub fn info(&self) -> Result<Info, DbFault>
-        ensures ok { IfOk result (λ info. (self.now.deleted ≡ false) × (info ≡ info_of self.now.journal)) }
-        ensures err { IfErr result (λ e. (self.now.deleted ≡ true) × (e ≡ DbFault.Refused Deleted)) }
-    {
-        self.check()?;
-        Ok(self.counts())
+        self.standing()?;
+        self.contents.write_one(doc)
     }
 
     /// Deletes the database, and ends its open feeds: what is left of each is its end. It takes no
     /// memory, and costs a step for each feed.
     pub fn delete(&mut self) -> Result<(), DbFault>
         ensures ok { OnOk result ((self.old.deleted ≡ false) × (self.new ≡ deleted self.old)) }
-        ensures err { IfErr result (λ e. (self.old.deleted ≡ true) × (e ≡ DbFault.Refused Deleted) × (self.new ≡ self.old)) }
+        ensures err { IfErr result (λ e. (self.old.deleted ≡ true) × (e ≡ DbFault.Refused Deleted)
+            × (self.new ≡ self.old)) }
     {
-        self.check()?;
+        self.standing()?;
         self.deleted = true;
         end_all(&mut self.feeds);
         Ok(())

@@ -1,15 +1,13 @@
 //! Descending answers.
 
-ghost use Rattle.std.specs.Prelude.{◌≡◌, ◌≤◌, ◌&&◌, [], map, count_by, nat_lt, IfOk, false, IfErr, OnErr};
+ghost use Rattle.std.specs.Prelude.{◌≡◌, ◌≤◌, ◌&&◌, [], map, count_by, nat_lt, IfOk, OnErr};
 ghost use Rattle.hub_model.specs.Current.{Current, current};
 ghost use Rattle.hub_model.specs.Descending.{descending, falling_rows};
 ghost use Rattle.hub_model.specs.Row.{row_of};
 ghost use Rattle.hub_database.specs.Falling.{lowest_row, most_of};
 ghost use Rattle.hub_params.specs.FeedModel.{params_of};
-ghost use Rattle.hub_database.specs.Database.{GivesUp, reading_fault};
 
-use crate::batch::DbFault;
-use crate::database::DbState;
+use crate::contents::Contents;
 use crate::rows::Rows;
 use hub_document::ChangeRow;
 use hub_feed::Source;
@@ -62,7 +60,8 @@ impl Rows<'_> {
     // How many current rows lie above `since` and below `last_seq`, which is no lower.
     fn count_between(&self, since: u64, last_seq: u64) -> u64
         requires { since ≤ last_seq }
-        ensures { result ≡ count_by (λ (c : Current). nat_lt since c.seq && nat_lt c.seq last_seq) (current self.now) }
+        ensures { result
+            ≡ count_by (λ (c : Current). nat_lt since c.seq && nat_lt c.seq last_seq) (current self.now) }
     {
         let above = self.count_after(last_seq.saturating_sub(1));
         self.count_after(since).saturating_sub(above)
@@ -70,7 +69,9 @@ impl Rows<'_> {
 
     // The current rows above `since` that pass, the greatest sequence first, up to the limit.
     fn falling(&self, params: &FeedParams, since: u64) -> Result<Vec<ChangeRow>, AllocError>
-        ensures ok { let asked = params_of params.now in IfOk result (λ rows. rows.items ≡ map (row_of self.now asked.style asked.include_docs) (falling_rows self.now asked since)) }
+        ensures ok { let asked = params_of params.now in
+            IfOk result (λ rows. rows.items
+            ≡ map (row_of self.now asked.style asked.include_docs) (falling_rows self.now asked since)) }
         ensures memory { OnErr result (¬ (falling_rows self.now (params_of params.now) since ≡ [])) }
     {
         let most = most_of(params.limit, self.length());
@@ -93,13 +94,16 @@ impl Rows<'_> {
     }
 }
 
-impl DbState {
-    // The current rows that pass, of a database that stands.
-    fn falling_answer(&self, params: &FeedParams) -> Result<Descending, AllocError>
+impl Contents {
+    /// The current rows that pass, the greatest sequence first, in one answer. Only `since`,
+    /// `limit`, `style`, `include_docs` and `filter` are looked at. It costs a step in the index for
+    /// each row from the end to the last that is shown, what each shown row costs, and the count of
+    /// the rows below it.
+    pub fn changes_descending(&self, params: &FeedParams) -> Result<Descending, AllocError>
         ensures ok { IfOk result (λ answer. answer ≡ descending self.now.journal (params_of params.now)) }
         ensures memory { OnErr result (¬ ((descending self.now.journal (params_of params.now)).rows ≡ [])) }
     {
-        let rows = Rows { store: &self.store };
+        let rows = self.rows();
         let since = params.since.within(rows.length());
         let falling = rows.falling(params, since)?;
         let last_seq = lowest_row(falling.as_slice(), since);
@@ -109,19 +113,5 @@ impl DbState {
             last_seq,
             pending,
         })
-    }
-
-    /// The current rows that pass, the greatest sequence first, in one answer. Only `since`,
-    /// `limit`, `style`, `include_docs` and `filter` are looked at. It costs a step in the index for
-    /// each row from the end to the last that is shown, what each shown row costs, and the count of
-    /// the rows below it.
-    pub fn changes_descending(&self, params: &FeedParams) -> Result<Descending, DbFault>
-        ensures ok { IfOk result (λ answer. (self.now.deleted ≡ false) × (answer ≡ descending self.now.journal (params_of params.now))) }
-        ensures err { IfErr result (λ e. e ≡ reading_fault self.now) }
-        ensures memory { IfErr result (GivesUp self.now (¬ ((descending self.now.journal (params_of params.now)).rows ≡ []))) }
-    {
-        self.check()?;
-        let answer = self.falling_answer(params)?;
-        Ok(answer)
     }
 }

@@ -1,17 +1,15 @@
 //! Revisions that are missing.
 
-ghost use Rattle.std.specs.Prelude.{◌≡◌, [], IfOk, None, false, IfErr, OnErr};
+ghost use Rattle.std.specs.Prelude.{◌≡◌, [], IfOk, None, OnErr};
 ghost use Rattle.hub_model.specs.Missing.{diffs};
 ghost use Rattle.hub_database.specs.Found.{wanted_diff};
-ghost use Rattle.hub_database.specs.Database.{GivesUp, reading_fault};
 
 use crate::answers::Diff;
-use crate::batch::DbFault;
-use crate::database::DbState;
+use crate::contents::Contents;
 use hub_document::{Asked, Revisions};
 use std::alloc::AllocError;
 
-impl DbState {
+impl Contents {
     // What a document misses of the revisions asked for; None where it misses nothing.
     fn diff(&self, asked: Asked) -> Result<Option<Diff>, AllocError>
         ensures ok { IfOk result (λ diff. diff ≡ wanted_diff self.now.journal asked) }
@@ -41,8 +39,10 @@ impl DbState {
         }))
     }
 
-    // Which of the revisions asked for are missing in a database that stands.
-    fn differences(&self, asked: Vec<Asked>) -> Result<Vec<Diff>, AllocError>
+    /// Which of the revisions asked for are missing, of the documents alone of which some are, in
+    /// the order asked. It costs a look in the map of ids for each document, and what
+    /// `RevTree::missing` and `RevTree::possible_ancestors` do.
+    pub fn revs_diff(&self, asked: Vec<Asked>) -> Result<Vec<Diff>, AllocError>
         ensures ok { IfOk result (λ found. found.items ≡ diffs self.now.journal asked.items) }
         ensures memory { OnErr result (¬ (diffs self.now.journal asked.items ≡ [])) }
     {
@@ -52,19 +52,6 @@ impl DbState {
                 found.push(diff)?;
             }
         }
-        Ok(found)
-    }
-
-    /// Which of the revisions asked for are missing, of the documents alone of which some are, in
-    /// the order asked. It costs a look in the map of ids for each document, and what
-    /// `RevTree::missing` and `RevTree::possible_ancestors` do.
-    pub fn revs_diff(&self, asked: Vec<Asked>) -> Result<Vec<Diff>, DbFault>
-        ensures ok { IfOk result (λ found. (self.now.deleted ≡ false) × (found.items ≡ diffs self.now.journal asked.items)) }
-        ensures err { IfErr result (λ e. e ≡ reading_fault self.now) }
-        ensures memory { IfErr result (GivesUp self.now (¬ (diffs self.now.journal asked.items ≡ []))) }
-    {
-        self.check()?;
-        let found = self.differences(asked)?;
         Ok(found)
     }
 }

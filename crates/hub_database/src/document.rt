@@ -7,8 +7,8 @@ ghost use Rattle.hub_model.specs.Journal.{IsAcceptable, head_of};
 ghost use Rattle.hub_model.specs.Leaves.{leaves_of};
 ghost use Rattle.hub_model.specs.Row.{is_deleted};
 ghost use Rattle.hub_revtree.specs.Tree.{IsRevTree};
-ghost use Rattle.hub_database.specs.Looked.{IsStorable, NeedsRoomFrom, NeedsRoomFor, HasRoom, look_from, look_at, unless_full, Extends};
-ghost use Rattle.hub_database.specs.Store.{filed};
+ghost use Rattle.hub_database.specs.Looked.{IsStorable, IsWritten, NeedsRoomFrom, NeedsRoomFor, HasRoom, look_from, look_at, look_in, unless_full};
+ghost use Rattle.hub_database.specs.Store.{filed, setting_of};
 ghost use Rattle.hub_database.specs.declared.document.Origin.TheVariants.{Elsewhere, Here};
 
 use crate::entry::Entry;
@@ -179,8 +179,13 @@ impl Document {
         requires few { length self.old.tree.edits ≤ length journal.old.items }
         requires limit { length journal.old.items + 1 < 2 ^ 32 }
         ensures rev { head_of ready ≡ Some result }
-        ensures filed { filed self.new ≡ record { id = self.old.id; latest = length journal.old.items + 1; edits = self.old.tree.edits ++ ready ∷ [] } }
-        ensures journal { journal.new.items ≡ journal.old.items ++ record { document = number; revision = length self.old.tree.edits } ∷ [] }
+        ensures filed { filed self.new ≡ record {
+          id = self.old.id;
+          latest = length journal.old.items + 1;
+          edits = self.old.tree.edits ++ ready ∷ [];
+        } }
+        ensures journal { journal.new.items ≡ journal.old.items
+            ++ record { document = number; revision = length self.old.tree.edits } ∷ [] }
     {
         let rev = ready.rev();
         let revision = self.tree.len() as u32;
@@ -208,8 +213,11 @@ impl Document {
         requires own { seq_of number index.old ≡ Some self.old.latest }
         requires above { All (λ r. r.0 < length journal.old.items + 1) index.old }
         ensures tree { IsRevTree self.old.tree.edits }
-        ensures extended { IfOk result (Extends (nat_le limit (length journal.old.items)) number edit (filed self.old) (filed self.new) journal.old.items journal.new.items index.old index.new) }
-        ensures err { OnErr result ((filed self.new ≡ filed self.old) × (journal.new.items ≡ journal.old.items) × (index.new ≡ index.old)) }
+        ensures written { let before = setting_of number self.old journal.old.items index.old in
+            let after = setting_of number self.new journal.new.items index.new in
+            IfOk result (IsWritten (look_in limit before edit) before after) }
+        ensures err { OnErr result ((filed self.new ≡ filed self.old)
+            × (journal.new.items ≡ journal.old.items) × (index.new ≡ index.old)) }
         ensures memory { OnErr result (NeedsRoomFor self.old.tree.edits [] edit) }
     {
         let full = journal.len() as u64 >= limit;

@@ -95,7 +95,15 @@ impl Document {
         style: Style,
         include_docs: bool,
     ) -> Result<ChangeRow, AllocError>
-        ensures row { let leaves = leaves_of self.now.tree.edits [] in IfOk result (λ row. row ≡ record { seq = seq; id = self.now.id; changes = changes_of style leaves; deleted = is_deleted leaves; doc = doc_of include_docs leaves; seen = seen }) }
+        ensures row { let leaves = leaves_of self.now.tree.edits [] in
+            IfOk result (λ row. row ≡ record {
+              seq = seq;
+              id = self.now.id;
+              changes = changes_of style leaves;
+              deleted = is_deleted leaves;
+              doc = doc_of include_docs leaves;
+              seen = seen;
+            }) }
         ensures tree { OnOk result (IsRevTree self.now.tree.edits) }
     {
         let winner = self.tree.best();

@@ -6,7 +6,7 @@ ghost use Rattle.hub_database.specs.Filed.{named};
 ghost use Rattle.hub_database.specs.Reads.{entry_at, entry_of, entry_doc_of};
 ghost use Rattle.hub_database.specs.Store.{IsStore, edits_of_store};
 
-use crate::database::DbState;
+use crate::contents::Contents;
 use crate::document::Document;
 use crate::store::Store;
 use hub_document::{Doc, RevId};
@@ -17,7 +17,8 @@ impl Store {
     // The edit of this sequence, with its document. Constant time.
     fn edit(&self, seq: u64) -> Option<(&Document, StoredEdit<'_>)>
         requires { IsStore self.now }
-        ensures { option_map (λ p. named p.0.now.id (nameless p.1.path.now p.1.deleted p.1.body.now)) result ≡ entry_at (edits_of_store self.now) seq }
+        ensures { option_map (λ p. named p.0.now.id (nameless p.1.path.now p.1.deleted p.1.body.now)) result
+            ≡ entry_at (edits_of_store self.now) seq }
     {
         let at = seq.checked_sub(1)?;
         let entry = self.journal.get(at as usize)?;
@@ -27,7 +28,7 @@ impl Store {
     }
 }
 
-impl DbState {
+impl Contents {
     /// The id and the revision of the edit of this sequence; None of a sequence that no edit has.
     /// Constant time.
     pub fn entry(&self, seq: u64) -> Option<(&str, RevId)>

@@ -40,15 +40,18 @@ impl DbState {
     pub fn feeds_are_full(&self) -> bool
         ensures { result ≡ is_full (hosted_of self.now) }
     {
-        self.feeds.len() as u64 >= self.store.limits.feeds || self.next_feed == u64::MAX
+        self.feeds.len() as u64 >= self.contents.limits().feeds || self.next_feed == u64::MAX
     }
 
     /// Opens a feed, which stays until it is finished. `descending` is not looked at. It costs a
     /// search among the feeds.
     pub fn open_feed(&mut self, params: FeedParams) -> Result<FeedId, OpenFault>
-        ensures ok { IfOk result (λ id. (id.number ≡ self.old.next_feed) × (refuses (hosted_of self.old) ≡ None) × (self.new ≡ with_hosted self.old (opened (hosted_of self.old) (params_of params)))) }
+        ensures ok { IfOk result (λ id. (id.number ≡ self.old.next_feed)
+            × (refuses (hosted_of self.old) ≡ None)
+            × (self.new ≡ with_hosted self.old (opened (hosted_of self.old) (params_of params)))) }
         ensures new { IfOk result (λ id. entry_in id.number self.old.feeds ≡ None) }
-        ensures err { IfErr result (λ e. (self.new ≡ self.old) × ((e ≡ OpenFault.NoMemory) ⊎ (refuses (hosted_of self.old) ≡ Some e))) }
+        ensures err { IfErr result (λ e. (self.new ≡ self.old)
+            × ((e ≡ OpenFault.NoMemory) ⊎ (refuses (hosted_of self.old) ≡ Some e))) }
         ensures memory { result ≡ Err OpenFault.NoMemory → refuses (hosted_of self.old) ≡ None }
     {
         if self.deleted {
@@ -57,7 +60,7 @@ impl DbState {
         if self.feeds_are_full() {
             return Err(OpenFault::TooManyFeeds);
         }
-        let length = self.store.journal.len() as u64;
+        let length = self.contents.update_seq();
         let number = self.next_feed;
         if let Err(AllocError) = self.feeds.try_reserve(1) {
             return Err(OpenFault::NoMemory);
@@ -72,13 +75,15 @@ impl DbState {
     /// feed that has nothing to hand goes to the journal's length. It costs a search among the feeds
     /// and what `FeedState::next_item` does.
     pub fn next_item(&mut self, feed: FeedId) -> Result<Next<ChangeRow>, AllocError>
-        ensures ok { IfOk result (λ next. (next ≡ answered (hosted_of self.old) feed.number) × (self.new ≡ with_hosted self.old (behind_answer (hosted_of self.old) feed.number next))) }
-        ensures err { OnErr result ((self.new ≡ self.old) × IsRowDue (due_to (hosted_of self.old) feed.number)) }
+        ensures ok { IfOk result (λ next. (next ≡ answered (hosted_of self.old) feed.number)
+            × (self.new ≡ with_hosted self.old (behind_answer (hosted_of self.old) feed.number next))) }
+        ensures err { OnErr result ((self.new ≡ self.old)
+            × IsRowDue (due_to (hosted_of self.old) feed.number)) }
     {
         let Some(at) = place_of(self.feeds.as_slice(), feed.number) else {
             return Ok(Next::Gone);
         };
-        let rows = Rows { store: &self.store };
+        let rows = self.contents.rows();
         let feed = &mut self.feeds[at];
         feed.1.next_item(&rows)
     }
@@ -95,13 +100,14 @@ impl DbState {
     /// Goes on behind the item that `next_item` gives now, of which this is the mark. It takes no
     /// memory, and costs a search among the feeds.
     pub fn accept_marked(&mut self, feed: FeedId, mark: Mark)
-        requires due { option_map (mark_of (λ (r : Shown). r.seq)) (item_due (hosted_of self.old) feed.number) ≡ Some mark }
+        requires due { option_map (mark_of (λ (r : Shown). r.seq)) (item_due (hosted_of self.old) feed.number)
+            ≡ Some mark }
         ensures { self.new ≡ with_hosted self.old (handed (hosted_of self.old) feed.number) }
     {
         let Some(at) = place_of(self.feeds.as_slice(), feed.number) else {
             return;
         };
-        let rows = Rows { store: &self.store };
+        let rows = self.contents.rows();
         let feed = &mut self.feeds[at];
         feed.1.accept_marked(&rows, mark);
     }

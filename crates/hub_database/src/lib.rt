@@ -3,6 +3,7 @@
 
 mod answers;
 mod batch;
+mod contents;
 mod database;
 #[cfg(test)]
 mod deletion_tests;
@@ -36,6 +37,7 @@ mod waiting_tests;
 
 pub use answers::{Diff, Info, Lookup, OpenRev};
 pub use batch::{Batch, DbFault, Replies};
+pub use contents::Contents;
 pub use database::DbState;
 pub use descending::Descending;
 pub use local::Local;

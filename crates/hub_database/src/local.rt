@@ -1,12 +1,12 @@
 //! Local documents.
 
-ghost use Rattle.std.specs.Prelude.{◌≡◌, ◌⊎◌, ◌<◌, ◌≤◌, ◌^◌, false, true, option_map, Err, IfSome, IfNone, IfOk, IfErr, OnOk, OnErr};
-ghost use Rattle.hub_model.specs.declared.outcomes.Fault.TheVariants.{Deleted, SequenceFull};
+ghost use Rattle.std.specs.Prelude.{◌≡◌, ◌⊎◌, ◌<◌, ◌≤◌, ◌^◌, option_map, Err, IfSome, IfNone, IfOk, IfErr, OnOk, OnErr};
+ghost use Rattle.hub_model.specs.declared.outcomes.Fault.TheVariants.{SequenceFull};
 ghost use Rattle.hub_database.specs.Kept.{kept};
 ghost use Rattle.hub_database.specs.Locals.{local_of, next_count, put_local, written};
 
 use crate::batch::DbFault;
-use crate::database::DbState;
+use crate::contents::Contents;
 use hub_document::{Body, LocalDoc, LocalId};
 use hub_model::Fault;
 use std::alloc::AllocError;
@@ -24,7 +24,8 @@ pub struct Local {
 
 // The local document of this id.
 fn local_in<'a>(locals: &'a BTreeMap<String, Local>, id: &str) -> Option<&'a Local>
-    ensures { option_map (λ l. record { id = id.now; count = l.now.count; body = l.now.body }) result ≡ local_of (kept locals.now) id.now }
+    ensures { option_map (λ l. record { id = id.now; count = l.now.count; body = l.now.body }) result
+        ≡ local_of (kept locals.now) id.now }
 {
     locals.get(id)
 }
@@ -42,35 +43,34 @@ fn count_after(locals: &BTreeMap<String, Local>, id: &str) -> Option<u64>
 
 // Puts a local document in the place of the one of its id, if there is one.
 fn put(locals: &mut BTreeMap<String, Local>, id: LocalId, local: Local) -> Result<(), AllocError>
-    ensures ok { OnOk result (kept locals.new ≡ put_local (record { id = id; count = local.count; body = local.body }) (kept locals.old)) }
+    ensures ok { OnOk result (kept locals.new
+        ≡ put_local (record { id = id; count = local.count; body = local.body }) (kept locals.old)) }
     ensures err { OnErr result (kept locals.new ≡ kept locals.old) }
 {
     locals.insert(id.into_string(), local)?;
     Ok(())
 }
 
-impl DbState {
+impl Contents {
     /// The local document of this id. A look in the map of local documents.
-    pub fn local_get(&self, id: &str) -> Result<Option<&Local>, DbFault>
-        ensures ok { IfOk result (λ found. (self.now.deleted ≡ false) × (option_map (λ l. record { id = id.now; count = l.now.count; body = l.now.body }) found ≡ local_of self.now.locals id.now)) }
-        ensures err { IfErr result (λ e. (self.now.deleted ≡ true) × (e ≡ DbFault.Refused Deleted)) }
+    pub fn local_get(&self, id: &str) -> Option<&Local>
+        ensures { option_map (λ l. record { id = id.now; count = l.now.count; body = l.now.body }) result
+            ≡ local_of self.now.locals id.now }
     {
-        self.check()?;
-        Ok(local_in(&self.locals, id))
+        local_in(&self.locals, id)
     }
 
-    /// Stores a local document in place of the one of its id, and says how often it was written. At
-    /// the last count, 2^64 - 1, it is refused as a full sequence. Two looks in the map of local
-    /// documents.
-    pub fn local_put(&mut self, doc: LocalDoc) -> Result<u64, DbFault>
-        ensures ok { IfOk result (λ count. (self.old.deleted ≡ false) × (count ≡ (written self.old.locals doc).count)
-            × (self.new ≡ record self.old { locals = put_local (written self.old.locals doc) self.old.locals })) }
-        ensures err { IfErr result (λ e. (self.new ≡ self.old)
-            × (((self.old.deleted ≡ true) × (e ≡ DbFault.Refused Deleted)) ⊎ ((self.old.deleted ≡ false) × ((e ≡ DbFault.NoMemory)
-            ⊎ ((e ≡ DbFault.Refused SequenceFull) × (2 ^ 64 ≤ (written self.old.locals doc).count)))))) }
-        ensures memory { result ≡ Err DbFault.NoMemory → (self.old.deleted ≡ false) × ((written self.old.locals doc).count < 2 ^ 64) }
+    /// Stores a local document, as `DbState::local_put` says.
+    pub(crate) fn local_put(&mut self, doc: LocalDoc) -> Result<u64, DbFault>
+        ensures ok { IfOk result (λ count. (count ≡ (written self.old.locals doc).count)
+            × (self.new ≡ record self.old {
+              locals = put_local (written self.old.locals doc) self.old.locals;
+            })) }
+        ensures rest { self.new ≡ record self.old { locals = self.new.locals } }
+        ensures err { IfErr result (λ e. (self.new ≡ self.old) × ((e ≡ DbFault.NoMemory)
+            ⊎ ((e ≡ DbFault.Refused SequenceFull) × (2 ^ 64 ≤ (written self.old.locals doc).count)))) }
+        ensures memory { result ≡ Err DbFault.NoMemory → (written self.old.locals doc).count < 2 ^ 64 }
     {
-        self.check()?;
         let LocalDoc { id, body } = doc;
         let Some(count) = count_after(&self.locals, id.as_str()) else {
             return Err(DbFault::Refused(Fault::SequenceFull));

@@ -78,7 +78,7 @@ fn fill(alloc: Global, state: &mut DbState) -> Result<(), Fail> {
         body,
     };
     let id = String::from_str(alloc, "_local/x")?;
-    state.locals.insert(id, last)?;
+    state.contents.locals.insert(id, last)?;
     Ok(())
 }
 

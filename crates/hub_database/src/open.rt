@@ -1,14 +1,12 @@
 //! Revisions that are asked for.
 
-ghost use Rattle.std.specs.Prelude.{◌≡◌, [], map, option_map, IfOk, false, IfErr, OnErr};
+ghost use Rattle.std.specs.Prelude.{◌≡◌, [], map, option_map, IfOk, OnErr};
 ghost use Rattle.hub_database.specs.Found.{history_of, shown_in};
 ghost use Rattle.hub_database.specs.Reads.{doc_shown, open_rev_of, open_revs as open_revs_of};
 ghost use Rattle.hub_database.specs.declared.answers.OpenRev.TheVariants.{Missing};
-ghost use Rattle.hub_database.specs.Database.{GivesUp, reading_fault};
 
 use crate::answers::OpenRev;
-use crate::batch::DbFault;
-use crate::database::DbState;
+use crate::contents::Contents;
 use crate::document::Document;
 use hub_document::{Doc, OpenRevs, Path, RevId};
 use std::alloc::{AllocError, Global};
@@ -64,7 +62,8 @@ impl Document {
         asked: &[RevId],
         revs: bool,
     ) -> Result<Vec<OpenRev>, AllocError>
-        ensures ok { IfOk result (λ found. found.items ≡ map (λ r. open_rev_of revs r (shown_in self.now r)) asked.now) }
+        ensures ok { IfOk result (λ found. found.items
+            ≡ map (λ r. open_rev_of revs r (shown_in self.now r)) asked.now) }
         ensures memory { OnErr result (¬ (asked.now ≡ [])) }
     {
         let mut found = Vec::new(alloc);
@@ -87,15 +86,18 @@ fn all_missing(alloc: Global, asked: &[RevId]) -> Result<Vec<OpenRev>, AllocErro
     Ok(found)
 }
 
-impl DbState {
-    // The revisions of a document of a database that stands.
-    fn revisions_of(
+impl Contents {
+    /// The revisions of a document that are asked for, each with its history where `revs` asks for
+    /// it. Of an unknown document there is no leaf, and each listed revision is missing. A look in
+    /// the map of ids, and for each revision a look an edit and a copy.
+    pub fn open_revs(
         &self,
         id: &str,
         which: &OpenRevs,
         revs: bool,
     ) -> Result<Vec<OpenRev>, AllocError>
-        ensures ok { IfOk result (λ found. found.items ≡ open_revs_of self.now.journal id.now which.now revs) }
+        ensures ok { IfOk result (λ found. found.items
+            ≡ open_revs_of self.now.journal id.now which.now revs) }
         ensures memory { OnErr result (¬ (open_revs_of self.now.journal id.now which.now revs ≡ [])) }
     {
         let alloc = self.store.alloc;
@@ -110,18 +112,5 @@ impl DbState {
             (None, OpenRevs::All) => Ok(Vec::new(alloc)),
             (None, OpenRevs::Listed(listed)) => all_missing(alloc, listed.as_slice()),
         }
-    }
-
-    /// The revisions of a document that are asked for, each with its history where `revs` asks for
-    /// it. Of an unknown document there is no leaf, and each listed revision is missing. A look in
-    /// the map of ids, and for each revision a look an edit and a copy.
-    pub fn open_revs(&self, id: &str, which: &OpenRevs, revs: bool) -> Result<Vec<OpenRev>, DbFault>
-        ensures ok { IfOk result (λ found. (self.now.deleted ≡ false) × (found.items ≡ open_revs_of self.now.journal id.now which.now revs)) }
-        ensures err { IfErr result (λ e. e ≡ reading_fault self.now) }
-        ensures memory { IfErr result (GivesUp self.now (¬ (open_revs_of self.now.journal id.now which.now revs ≡ []))) }
-    {
-        self.check()?;
-        let found = self.revisions_of(id, which, revs)?;
-        Ok(found)
     }
 }

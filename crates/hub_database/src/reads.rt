@@ -1,17 +1,15 @@
 //! What a database is asked.
 
-ghost use Rattle.std.specs.Prelude.{◌≡◌, [], IfOk, IfSome, IfNone, false, IfErr, OnErr};
+ghost use Rattle.std.specs.Prelude.{◌≡◌, [], IfOk, IfSome, IfNone, OnErr};
 ghost use Rattle.hub_model.specs.Journal.{edits_of};
 ghost use Rattle.hub_model.specs.Leaves.{leaves_of};
 ghost use Rattle.hub_revtree.specs.Winner.{winner_of};
 ghost use Rattle.hub_database.specs.Found.{IsFound};
 ghost use Rattle.hub_database.specs.Reads.{HasDocument, lookup};
 ghost use Rattle.hub_database.specs.Store.{IsStore, edits_of_store};
-ghost use Rattle.hub_database.specs.Database.{GivesUp, reading_fault};
 
 use crate::answers::Lookup;
-use crate::batch::DbFault;
-use crate::database::DbState;
+use crate::contents::Contents;
 use crate::document::Document;
 use crate::store::Store;
 use hub_revtree::Winner;
@@ -30,7 +28,7 @@ impl Store {
     }
 }
 
-impl DbState {
+impl Contents {
     /// The winner of a document, with its mark; None where there is no such document. A look in the
     /// map of ids, and what `RevTree::best` costs.
     pub fn winner(&self, id: &str) -> Option<Winner>
@@ -40,8 +38,9 @@ impl DbState {
         document.tree.best()
     }
 
-    // A document of a database that stands.
-    fn look_up(&self, id: &str, revs: bool) -> Result<Lookup, AllocError>
+    /// A document: its winner, with its history where `revs` asks for it. A look in the map of ids,
+    /// what `RevTree::best` costs, and a copy of the document.
+    pub fn get(&self, id: &str, revs: bool) -> Result<Lookup, AllocError>
         ensures found { IfOk result (λ found. found ≡ lookup self.now.journal id.now revs) }
         ensures memory { OnErr result (HasDocument self.now.journal id.now revs) }
     {
@@ -58,17 +57,5 @@ impl DbState {
             Some(doc) => Ok(Lookup::Found(doc)),
             None => Ok(Lookup::Unknown),
         }
-    }
-
-    /// A document: its winner, with its history where `revs` asks for it. A look in the map of ids,
-    /// what `RevTree::best` costs, and a copy of the document.
-    pub fn get(&self, id: &str, revs: bool) -> Result<Lookup, DbFault>
-        ensures ok { IfOk result (λ found. (self.now.deleted ≡ false) × (found ≡ lookup self.now.journal id.now revs)) }
-        ensures err { IfErr result (λ e. e ≡ reading_fault self.now) }
-        ensures memory { IfErr result (GivesUp self.now (HasDocument self.now.journal id.now revs)) }
-    {
-        self.check()?;
-        let found = self.look_up(id, revs)?;
-        Ok(found)
     }
 }

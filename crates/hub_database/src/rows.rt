@@ -33,7 +33,8 @@ impl<'a> Model for Rows<'a> {
 impl Rows<'_> {
     /// The last current row below a place: its sequence and its id. It takes no memory.
     pub(crate) fn last_before(&self, place: u64) -> Option<(u64, &str)>
-        ensures { option_map (λ p. record { seq = p.0; id = p.1.now }) result ≡ find (λ (c : Current). nat_lt c.seq place) (reverse (current self.now)) }
+        ensures { option_map (λ p. record { seq = p.0; id = p.1.now }) result
+            ≡ find (λ (c : Current). nat_lt c.seq place) (reverse (current self.now)) }
     {
         let Some((seq, number)) = self.store.index.last_before(place) else {
             return None;

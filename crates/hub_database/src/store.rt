@@ -7,8 +7,8 @@ ghost use Rattle.std.specs.Map.{update};
 ghost use Rattle.std.specs.Str.{bytes_eq};
 ghost use Rattle.hub_index.specs.Rows.{seq_of, moved};
 ghost use Rattle.hub_database.specs.Edits.{NeedsRoom, stores_doc};
-ghost use Rattle.hub_database.specs.Looked.{NeedsRoomFor, stores_edit};
-ghost use Rattle.hub_database.specs.Store.{IsStore, IsCounted, HasRows, IsSameStore, Inserts, edits_of_store, one_if};
+ghost use Rattle.hub_database.specs.Looked.{NeedsRoomFor, look_in, stores_edit};
+ghost use Rattle.hub_database.specs.Store.{IsStore, IsCounted, HasRows, IsSameStore, IsInserted, edits_of_store, first_setting, one_if};
 
 use crate::document::{Document, Incoming, Looked, Origin, look};
 use crate::entry::Entry;
@@ -62,9 +62,11 @@ fn enter(
     requires own { seq_of number index.old ≡ None }
     requires positive { 0 < seq }
     requires above { All (λ r. r.0 < seq) index.old }
-    ensures numbers { OnOk result ((q : List ℕ) → get_by_text numbers.new q ≡ update bytes_eq (get_by_text numbers.old) id.now (Some number) q) }
+    ensures numbers { OnOk result ((q : List ℕ)
+        → get_by_text numbers.new q ≡ update bytes_eq (get_by_text numbers.old) id.now (Some number) q) }
     ensures index { OnOk result (index.new ≡ moved index.old number seq) }
-    ensures err { OnErr result (((q : List ℕ) → get_by_text numbers.new q ≡ get_by_text numbers.old q) × (index.new ≡ index.old)) }
+    ensures err { OnErr result (((q : List ℕ) → get_by_text numbers.new q ≡ get_by_text numbers.old q)
+        × (index.new ≡ index.old)) }
 {
     numbers.insert(key, number)?;
     if let Err(AllocError) = index.move_to(number, None, seq) {
@@ -101,7 +103,8 @@ impl Store {
         requires new { get_by_text self.old.numbers id ≡ None }
         requires own { seq_of (length self.old.documents.items) self.old.index ≡ None }
         requires above { All (λ r. r.0 < length self.old.journal.items + 1) self.old.index }
-        ensures inserted { IfOk result (Inserts (nat_le self.old.limits.journal (length self.old.journal.items)) id edit self.old self.new) }
+        ensures inserted { let look = look_in self.old.limits.journal (first_setting id self.old) edit in
+            IfOk result (IsInserted id look self.old self.new) }
         ensures limits { self.new.limits ≡ self.old.limits }
         ensures err { OnErr result (IsSameStore self.old self.new) }
         ensures memory { OnErr result (NeedsRoomFor [] [] edit) }
@@ -149,7 +152,9 @@ impl Store {
         ensures counted { IsCounted self.new }
         ensures rows { HasRows self.new }
         ensures limits { self.new.limits ≡ self.old.limits }
-        ensures ok { IfOk result (λ o. stores_edit self.old.limits.journal (edits_of_store self.old) id edit ≡ record { outcome = o; journal = edits_of_store self.new }) }
+        ensures ok { IfOk result (λ o.
+            stores_edit self.old.limits.journal (edits_of_store self.old) id edit
+            ≡ record { outcome = o; journal = edits_of_store self.new }) }
         ensures err { OnErr result (edits_of_store self.new ≡ edits_of_store self.old) }
         ensures memory { OnErr result (NeedsRoomFor (edits_of_store self.old) id edit) }
     {
@@ -182,7 +187,9 @@ impl Store {
         ensures counted { IsCounted self.new }
         ensures rows { HasRows self.new }
         ensures limits { self.new.limits ≡ self.old.limits }
-        ensures ok { IfOk result (λ o. stores_doc new_edits self.old.limits.journal (edits_of_store self.old) doc ≡ record { outcome = o; journal = edits_of_store self.new }) }
+        ensures ok { IfOk result (λ o.
+            stores_doc new_edits self.old.limits.journal (edits_of_store self.old) doc
+            ≡ record { outcome = o; journal = edits_of_store self.new }) }
         ensures err { OnErr result (edits_of_store self.new ≡ edits_of_store self.old) }
         ensures memory { OnErr result (NeedsRoom new_edits (edits_of_store self.old) doc) }
     {

@@ -9,48 +9,44 @@ use Rattle.hub_database.specs.Database.{Database}
 use Rattle.hub_database.specs.Followed.{AreFeeds}
 use Rattle.hub_database.specs.Hosting.{hosted_of, with_hosted}
 use Rattle.hub_database.specs.Laid.{rows_below}
-use Rattle.hub_database.specs.Store.{edits_of_store}
 use Rattle.hub_database.proofs.FeedLemmas.{changed_here, feed_here, feeds_changed, goes_behind, none_changed, rest_stays}
 use Rattle.hub_database.proofs.database.DbState.accept_marked.Goals as goal
 
 pub returns-in_default : goal.returns-in_default
 returns-in_default c =
     let none : position (λ (p : ℕ × Feed). nat_eq p.0 c.args.feed.number) c.self.inside.feeds.items ≡ None = rw c.as_slice.ensures.value at (sym c.place_of.ensures ∙ c.in_default.is) in
-    subst (λ (z : Database). z ≡ with_hosted z (handed (hosted_of z) c.args.feed.number)) c.self.view_is (rest_stays (edits_of_store c.self.inside.store) refl refl (sym (none_changed c.args.feed.number c.self.inside.feeds.items none _)) refl refl)
+    subst (λ (z : Database). z ≡ with_hosted z (handed (hosted_of z) c.args.feed.number)) c.self.view_is (rest_stays c.self.inside.contents.journal refl refl (sym (none_changed c.args.feed.number c.self.inside.feeds.items none _)) refl refl)
 
 pub accept_marked-requires : goal.accept_marked-requires
 accept_marked-requires c =
     let db = c.self.inside in
-    let J = edits_of_store db.store in
     let id = c.args.feed.number in
     let placed : Some c.in-Some.at ≡ position (λ (p : ℕ × Feed). nat_eq p.0 id) db.feeds.items = rw c.as_slice.ensures.value at c.in-Some.ensures in
     let p = c.index_mut-feed.result.now in
     let asked = subst (λ (z : Database). option_map (mark_of (λ (r : ChangeRow). r.seq)) (item_due (hosted_of z) id) ≡ Some c.args.mark) (sym c.self.view_is) c.requires.due in
-    record { due = rw (feed_here id db.feeds.items c.in-Some.at placed p c.index_mut-feed.ensures.value) at asked }
+    record { due = rw c.rows-rows.ensures (rw (feed_here id db.feeds.items c.in-Some.at placed p c.index_mut-feed.ensures.value) at asked) }
 
 pub invariant_of-self : goal.invariant_of-self
 invariant_of-self c =
     let db = c.self.inside in
-    let J = edits_of_store db.store in
+    let J = db.contents.journal in
     let id = c.args.feed.number in
     let placed : Some c.in-Some.at ≡ position (λ (p : ℕ × Feed). nat_eq p.0 id) db.feeds.items = rw c.as_slice.ensures.value at c.in-Some.ensures in
     let p = c.index_mut-feed.result.now in
     let i = c.self.invariant in
     let change : Feed → Feed = λ f. after_due f (due (current J) f) (length J) in
-    let now = changed_here id db.feeds.items c.in-Some.at placed p c.index_mut-feed.ensures.value change c.accept_marked.new.self i.3.rising c.accept_marked.ensures in (
-      i.0,
-      i.1,
-      i.2,
-      subst (AreFeeds (length J) db.next_feed) (sym now) (feeds_changed id change (length J) db.next_feed db.feeds.items (goes_behind (current J) (length J) (rows_below J)) i.3),
-    )
+    let moves = rw c.rows-rows.ensures at c.accept_marked.ensures in
+    let now = changed_here id db.feeds.items c.in-Some.at placed p c.index_mut-feed.ensures.value change c.accept_marked.new.self i.rising moves in
+    subst (AreFeeds (length J) db.next_feed) (sym now) (feeds_changed id change (length J) db.next_feed db.feeds.items (goes_behind (current J) (length J) (rows_below J)) i)
 
 pub returns : goal.returns
 returns c =
     let db = c.self.inside in
-    let J = edits_of_store db.store in
+    let J = db.contents.journal in
     let id = c.args.feed.number in
     let placed : Some c.in-Some.at ≡ position (λ (p : ℕ × Feed). nat_eq p.0 id) db.feeds.items = rw c.as_slice.ensures.value at c.in-Some.ensures in
     let p = c.index_mut-feed.result.now in
     let change : Feed → Feed = λ f. after_due f (due (current J) f) (length J) in
-    let now = changed_here id db.feeds.items c.in-Some.at placed p c.index_mut-feed.ensures.value change c.accept_marked.new.self c.self.invariant.3.rising c.accept_marked.ensures in
+    let moves = rw c.rows-rows.ensures at c.accept_marked.ensures in
+    let now = changed_here id db.feeds.items c.in-Some.at placed p c.index_mut-feed.ensures.value change c.accept_marked.new.self c.self.invariant.rising moves in
     rw (sym c.self.view_is) (rest_stays J refl refl now refl refl)

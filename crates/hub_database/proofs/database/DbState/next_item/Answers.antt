@@ -8,7 +8,6 @@ use Rattle.hub_feed.specs.declared.next.Next.TheVariants.{Gone}
 use Rattle.hub_database.specs.Database.{Database}
 use Rattle.hub_database.specs.Followed.{AreFeeds}
 use Rattle.hub_database.specs.Hosting.{hosted_of}
-use Rattle.hub_database.specs.Store.{edits_of_store}
 use Rattle.hub_database.proofs.FeedLemmas.{behind_here, both_ok, changed_here, feed_here, feeds_changed, looks_behind, no_feed, ok_or_err, rest_stays, stays_here}
 use Rattle.hub_database.proofs.StoreLemmas.{err_then}
 use Rattle.hub_database.proofs.database.DbState.next_item.Goals as goal
@@ -23,38 +22,34 @@ returns-in_default-clause-ok c =
 pub invariant_of-self : goal.invariant_of-self
 invariant_of-self c =
     let db = c.self.inside in
-    let J = edits_of_store db.store in
+    let J = db.contents.journal in
     let id = c.args.feed.number in
     let placed : Some c.in-Some.at ≡ position (λ (p : ℕ × Feed). nat_eq p.0 id) db.feeds.items = rw c.as_slice.ensures.value at c.in-Some.ensures in
     let p = c.index_mut-feed.result.now in
     let i = c.self.invariant in
-    let change : Feed → Feed = λ f. after_next f (due (current J) f) (length J) in (
-      i.0,
-      i.1,
-      i.2,
-      ok_or_err {P = AreFeeds (length J) db.next_feed (slice_set db.feeds.items c.in-Some.at (p.0, c.next_item.new.self))} c.next_item.result
-          (λ next new. subst (AreFeeds (length J) db.next_feed) (sym (changed_here id db.feeds.items c.in-Some.at placed p c.index_mut-feed.ensures.value change c.next_item.new.self i.3.rising new)) (feeds_changed id change (length J) db.next_feed db.feeds.items (λ f. looks_behind (length J) (due (current J) f) f) i.3))
-          (λ w. subst (AreFeeds (length J) db.next_feed) (sym (stays_here id db.feeds.items c.in-Some.at placed p c.index_mut-feed.ensures.value c.next_item.new.self w.0)) i.3)
-          c.next_item.ensures.new c.next_item.ensures.err,
-    )
+    let change : Feed → Feed = λ f. after_next f (due (current J) f) (length J) in
+    ok_or_err {P = AreFeeds (length J) db.next_feed (slice_set db.feeds.items c.in-Some.at (p.0, c.next_item.new.self))} c.next_item.result
+    (λ next new. subst (AreFeeds (length J) db.next_feed) (sym (changed_here id db.feeds.items c.in-Some.at placed p c.index_mut-feed.ensures.value change c.next_item.new.self i.rising new)) (feeds_changed id change (length J) db.next_feed db.feeds.items (λ f. looks_behind (length J) (due (current J) f) f) i))
+    (λ w. subst (AreFeeds (length J) db.next_feed) (sym (stays_here id db.feeds.items c.in-Some.at placed p c.index_mut-feed.ensures.value c.next_item.new.self w.0)) i)
+    (rw c.rows-rows.ensures at c.next_item.ensures.new) (rw c.rows-rows.ensures at c.next_item.ensures.err)
 
 pub returns-clause-ok : goal.returns-clause-ok
 returns-clause-ok c =
     let db = c.self.inside in
-    let J = edits_of_store db.store in
+    let J = db.contents.journal in
     let id = c.args.feed.number in
     let placed : Some c.in-Some.at ≡ position (λ (p : ℕ × Feed). nat_eq p.0 id) db.feeds.items = rw c.as_slice.ensures.value at c.in-Some.ensures in
     let p = c.index_mut-feed.result.now in
     both_ok c.next_item.result
     (λ next is new. (
       subst (λ (z : Database). next ≡ answered (hosted_of z) id) c.self.view_is (rw (feed_here id db.feeds.items c.in-Some.at placed p c.index_mut-feed.ensures.value) is),
-      rw (sym c.self.view_is) (rest_stays J refl refl (behind_here id db.feeds.items c.in-Some.at placed p c.index_mut-feed.ensures.value _ (current J) (length J) c.next_item.new.self c.self.invariant.3.rising (due (current J) p.1) next is new) refl refl),
-    )) c.next_item.ensures.ok c.next_item.ensures.new
+      rw (sym c.self.view_is) (rest_stays J refl refl (behind_here id db.feeds.items c.in-Some.at placed p c.index_mut-feed.ensures.value _ (current J) (length J) c.next_item.new.self c.self.invariant.rising (due (current J) p.1) next is new) refl refl),
+    )) (rw c.rows-rows.ensures at c.next_item.ensures.ok) (rw c.rows-rows.ensures at c.next_item.ensures.new)
 
 pub returns-clause-err : goal.returns-clause-err
 returns-clause-err c =
     let db = c.self.inside in
-    let J = edits_of_store db.store in
+    let J = db.contents.journal in
     let id = c.args.feed.number in
     let placed : Some c.in-Some.at ≡ position (λ (p : ℕ × Feed). nat_eq p.0 id) db.feeds.items = rw c.as_slice.ensures.value at c.in-Some.ensures in
     let p = c.index_mut-feed.result.now in
@@ -62,4 +57,4 @@ returns-clause-err c =
     (λ w. (
       rw (sym c.self.view_is) (rest_stays J refl refl (stays_here id db.feeds.items c.in-Some.at placed p c.index_mut-feed.ensures.value c.next_item.new.self w.0) refl refl),
       subst (λ (z : Database). IsRowDue (due_to (hosted_of z) id)) c.self.view_is (subst IsRowDue (sym (ap (due_of (current J)) (feed_here id db.feeds.items c.in-Some.at placed p c.index_mut-feed.ensures.value))) w.1),
-    )) c.next_item.ensures.err
+    )) (rw c.rows-rows.ensures at c.next_item.ensures.err)

@@ -15,7 +15,7 @@ returns-in_ok-enter-in-Ready-clause-inserted c =
     let many : c.len.result ≡ length c.args.self.now.journal.items = omega (arith, c.len.ensures, c.args.self.now.journal.ok.0) in
     let entries : length c.try_reserve-in-Ready.new.self.items ≡ length c.args.self.now.journal.items = ap length c.try_reserve-in-Ready.ensures.items in
     let last : c.len-in-Ready.result + 1 ≡ length c.args.self.now.journal.items + 1 = omega (arith, c.len-in-Ready.ensures, c.try_reserve-in-Ready.ensures.len, c.args.self.now.journal.ok.0) in
-    first_stored (nat_le c.args.self.now.limits.journal (length c.args.self.now.journal.items)) c.args.id c.args.edit c.args.self.now _ (filed c.new-document.result) (filed c.take-rev.new.self) c.in_ok-look.field-0 c.in-Ready.ready c.take-rev.result c.len-number.result
+    first_stored c.args.id c.args.edit c.args.self.now _ (filed c.new-document.result) (filed c.take-rev.new.self) c.in_ok-look.field-0 c.in-Ready.ready c.take-rev.result c.len-number.result
     c.new-document.ensures
     (c.in_ok-look.ensures.looked ∙ ap (λ n. unless_full (nat_le c.args.self.now.limits.journal n) (look_at c.new-document.result.id c.new-document.result.tree.edits c.args.edit)) many)
     c.in-Ready.is c.in_ok-look.ensures.storable c.take-rev.ensures.rev

@@ -53,7 +53,7 @@ returns-in_ok-outcome-in-Some-clause-state c =
     let there : get_by_text c.args.self.now.numbers c.args.id ≡ Some c.in-Some.number = sym (rw c.as_str.ensures.value at c.in-Some.ensures) in
     let low = number_below c.args.self.now.limits.journal (get_by_text c.args.self.now.numbers) c.args.self.now.documents.items c.args.self.now.journal.items c.requires.state c.args.id c.in-Some.number there in
     let at : slice_get c.args.self.now.documents.items c.in-Some.number ≡ Some c.index_mut-document.result.now = get_at c.args.self.now.documents.items c.in-Some.number c.index_mut-document.result.now low c.index_mut-document.ensures.value in
-    (extended c.args.self.now.limits.journal (get_by_text c.args.self.now.numbers) c.args.self.now.documents.items c.args.self.now.journal.items c.requires.state c.in-Some.number c.index_mut-document.result.now at c.args.self.now.index c.extend.new.index c.requires.rows c.args.id there c.is_deleted-was.ensures.tree c.args.edit c.extend.new.self c.extend.new.journal.items c.in_ok-outcome-in-Some.outcome c.in_ok-outcome-in-Some.ensures.extended c.is_deleted.ensures.tree
+    (extended c.args.self.now.limits.journal (get_by_text c.args.self.now.numbers) c.args.self.now.documents.items c.args.self.now.journal.items c.requires.state c.in-Some.number c.index_mut-document.result.now at c.args.self.now.index c.extend.new.index c.requires.rows c.args.id there c.is_deleted-was.ensures.tree c.args.edit c.extend.new.self c.extend.new.journal.items c.in_ok-outcome-in-Some.outcome c.in_ok-outcome-in-Some.ensures.written c.is_deleted.ensures.tree
     c.args.self.now.deleted c.recounted-self.result c.requires.counted (rw (c.is_deleted-was.ensures.mark, c.is_deleted.ensures.mark) at c.recounted-self.ensures)).0
 
 pub returns-in_ok-outcome-in-Some-clause-rows : goal.returns-in_ok-outcome-in-Some-clause-rows
@@ -61,7 +61,7 @@ returns-in_ok-outcome-in-Some-clause-rows c =
     let there : get_by_text c.args.self.now.numbers c.args.id ≡ Some c.in-Some.number = sym (rw c.as_str.ensures.value at c.in-Some.ensures) in
     let low = number_below c.args.self.now.limits.journal (get_by_text c.args.self.now.numbers) c.args.self.now.documents.items c.args.self.now.journal.items c.requires.state c.args.id c.in-Some.number there in
     let at : slice_get c.args.self.now.documents.items c.in-Some.number ≡ Some c.index_mut-document.result.now = get_at c.args.self.now.documents.items c.in-Some.number c.index_mut-document.result.now low c.index_mut-document.ensures.value in
-    (extended c.args.self.now.limits.journal (get_by_text c.args.self.now.numbers) c.args.self.now.documents.items c.args.self.now.journal.items c.requires.state c.in-Some.number c.index_mut-document.result.now at c.args.self.now.index c.extend.new.index c.requires.rows c.args.id there c.is_deleted-was.ensures.tree c.args.edit c.extend.new.self c.extend.new.journal.items c.in_ok-outcome-in-Some.outcome c.in_ok-outcome-in-Some.ensures.extended c.is_deleted.ensures.tree
+    (extended c.args.self.now.limits.journal (get_by_text c.args.self.now.numbers) c.args.self.now.documents.items c.args.self.now.journal.items c.requires.state c.in-Some.number c.index_mut-document.result.now at c.args.self.now.index c.extend.new.index c.requires.rows c.args.id there c.is_deleted-was.ensures.tree c.args.edit c.extend.new.self c.extend.new.journal.items c.in_ok-outcome-in-Some.outcome c.in_ok-outcome-in-Some.ensures.written c.is_deleted.ensures.tree
     c.args.self.now.deleted c.recounted-self.result c.requires.counted (rw (c.is_deleted-was.ensures.mark, c.is_deleted.ensures.mark) at c.recounted-self.ensures)).3
 
 pub returns-in_ok-outcome-in-Some-clause-ok : goal.returns-in_ok-outcome-in-Some-clause-ok
@@ -69,7 +69,7 @@ returns-in_ok-outcome-in-Some-clause-ok c =
     let there : get_by_text c.args.self.now.numbers c.args.id ≡ Some c.in-Some.number = sym (rw c.as_str.ensures.value at c.in-Some.ensures) in
     let low = number_below c.args.self.now.limits.journal (get_by_text c.args.self.now.numbers) c.args.self.now.documents.items c.args.self.now.journal.items c.requires.state c.args.id c.in-Some.number there in
     let at : slice_get c.args.self.now.documents.items c.in-Some.number ≡ Some c.index_mut-document.result.now = get_at c.args.self.now.documents.items c.in-Some.number c.index_mut-document.result.now low c.index_mut-document.ensures.value in
-    (extended c.args.self.now.limits.journal (get_by_text c.args.self.now.numbers) c.args.self.now.documents.items c.args.self.now.journal.items c.requires.state c.in-Some.number c.index_mut-document.result.now at c.args.self.now.index c.extend.new.index c.requires.rows c.args.id there c.is_deleted-was.ensures.tree c.args.edit c.extend.new.self c.extend.new.journal.items c.in_ok-outcome-in-Some.outcome c.in_ok-outcome-in-Some.ensures.extended c.is_deleted.ensures.tree
+    (extended c.args.self.now.limits.journal (get_by_text c.args.self.now.numbers) c.args.self.now.documents.items c.args.self.now.journal.items c.requires.state c.in-Some.number c.index_mut-document.result.now at c.args.self.now.index c.extend.new.index c.requires.rows c.args.id there c.is_deleted-was.ensures.tree c.args.edit c.extend.new.self c.extend.new.journal.items c.in_ok-outcome-in-Some.outcome c.in_ok-outcome-in-Some.ensures.written c.is_deleted.ensures.tree
     c.args.self.now.deleted c.recounted-self.result c.requires.counted (rw (c.is_deleted-was.ensures.mark, c.is_deleted.ensures.mark) at c.recounted-self.ensures)).1
 
 pub returns-in_ok-outcome-in-Some-clause-counted : goal.returns-in_ok-outcome-in-Some-clause-counted
@@ -77,7 +77,7 @@ returns-in_ok-outcome-in-Some-clause-counted c =
     let there : get_by_text c.args.self.now.numbers c.args.id ≡ Some c.in-Some.number = sym (rw c.as_str.ensures.value at c.in-Some.ensures) in
     let low = number_below c.args.self.now.limits.journal (get_by_text c.args.self.now.numbers) c.args.self.now.documents.items c.args.self.now.journal.items c.requires.state c.args.id c.in-Some.number there in
     let at : slice_get c.args.self.now.documents.items c.in-Some.number ≡ Some c.index_mut-document.result.now = get_at c.args.self.now.documents.items c.in-Some.number c.index_mut-document.result.now low c.index_mut-document.ensures.value in
-    (extended c.args.self.now.limits.journal (get_by_text c.args.self.now.numbers) c.args.self.now.documents.items c.args.self.now.journal.items c.requires.state c.in-Some.number c.index_mut-document.result.now at c.args.self.now.index c.extend.new.index c.requires.rows c.args.id there c.is_deleted-was.ensures.tree c.args.edit c.extend.new.self c.extend.new.journal.items c.in_ok-outcome-in-Some.outcome c.in_ok-outcome-in-Some.ensures.extended c.is_deleted.ensures.tree
+    (extended c.args.self.now.limits.journal (get_by_text c.args.self.now.numbers) c.args.self.now.documents.items c.args.self.now.journal.items c.requires.state c.in-Some.number c.index_mut-document.result.now at c.args.self.now.index c.extend.new.index c.requires.rows c.args.id there c.is_deleted-was.ensures.tree c.args.edit c.extend.new.self c.extend.new.journal.items c.in_ok-outcome-in-Some.outcome c.in_ok-outcome-in-Some.ensures.written c.is_deleted.ensures.tree
     c.args.self.now.deleted c.recounted-self.result c.requires.counted (rw (c.is_deleted-was.ensures.mark, c.is_deleted.ensures.mark) at c.recounted-self.ensures)).2
 
 pub returns-in-None-clause-state : goal.returns-in-None-clause-state

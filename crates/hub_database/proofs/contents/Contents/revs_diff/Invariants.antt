@@ -1,6 +1,6 @@
 use Rattle.std.proofs.Common.{◌≡◌, ◌++◌}
 use Rattle.hub_model.specs.Missing.{diffs}
-use Rattle.hub_database.proofs.database.DbState.differences.Given as goal
+use Rattle.hub_database.proofs.contents.Contents.revs_diff.Given as goal
 
 abbrev pub invariant-loop-asked : goal.invariant-loop-asked
 invariant-loop-asked l = record {

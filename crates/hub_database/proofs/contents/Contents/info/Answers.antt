@@ -1,8 +1,8 @@
 use Rattle.std.proofs.Common.{◌≡◌, ◌∙◌, ◌+◌, ◌-◌, ap, sym, length, arith}
-use Rattle.hub_database.specs.Database.{Database}
+use Rattle.hub_database.specs.Database.{Contents}
 use Rattle.hub_database.specs.Reads.{info_of}
 use Rattle.hub_database.proofs.InfoLemmas.{count_below, info_by}
-use Rattle.hub_database.proofs.database.DbState.counts.Goals as goal
+use Rattle.hub_database.proofs.contents.Contents.info.Goals as goal
 
 pub returns : goal.returns
 returns c =
@@ -10,4 +10,4 @@ returns c =
     let below = count_below store c.self.invariant.0 c.self.invariant.1 in
     let sum : (c.len-doc_count.result - store.deleted) + store.deleted ≡ length store.documents.items = omega (arith, below, c.len-doc_count.ensures, store.documents.ok.0) in
     info_by store c.self.invariant.0 c.self.invariant.1 (c.len-doc_count.result - store.deleted) c.update_seq.result sum
-    (c.update_seq.ensures.value ∙ sym (ap (λ (z : Database). length z.journal) c.self.view_is)) ∙ ap (λ (z : Database). info_of z.journal) c.self.view_is
+    (c.update_seq.ensures.value ∙ sym (ap (λ (z : Contents). length z.journal) c.self.view_is)) ∙ ap (λ (z : Contents). info_of z.journal) c.self.view_is
