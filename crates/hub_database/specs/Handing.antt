@@ -9,8 +9,8 @@ pub record IsFitting (J : List Edit) (f : Feed) (items : List ChangeItem) : Type
   pub legal : IsLegal J
   pub fits : Fits J f items
 
--- the list is rightly handed, by these parameters and above this sequence, for some journal that a database can
--- have, some place and some bound
+-- the list is rightly handed, by these parameters and above this sequence, for some journal that a database
+-- can have, some place and some bound
 pub record IsRightFor (params : Params) (since : ℕ) (items : List ChangeItem) : Type 0 where
   pub journal : List Edit
   pub legal : IsLegal journal

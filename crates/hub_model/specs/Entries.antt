@@ -1,6 +1,6 @@
 -- Lists of entries by number (own).
-use Rattle.std.specs.Prelude.{ℕ, ◌<◌, List, AllPairs, Bool, map, filter, find, not, nat_eq, Option, option_map}
-use Rattle.std.specs.Prelude.{if◌then◌else◌}
+use Rattle.std.specs.Prelude.{ℕ, ◌<◌, List, AllPairs, Bool, map, filter, find, not, nat_eq, Option}
+use Rattle.std.specs.Prelude.{option_map, if◌then◌else◌}
 
 -- their numbers rise, so none stands twice
 -- of 3 and 5, of none, but not of 5 and 3, nor of 3 and 3
