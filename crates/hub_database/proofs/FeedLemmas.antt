@@ -11,7 +11,8 @@ use Rattle.std.proofs.lemmas.List.Kept.{AllPairs-cons, AllPairs-filter}
 use Rattle.std.proofs.lemmas.Option.{same_Some, none-some, slice_get_past}
 use Rattle.hub_index.proofs.IndexLemmas.{of_head, of_tail}
 use Rattle.hub_model.specs.Current.{Current, current}
-use Rattle.hub_model.specs.Entries.{changed, entry_in, without}
+use Rattle.hub_model.specs.Entries.{changed, entry_in, without, AreRising}
+use Rattle.hub_model.proofs.Entries.{changed_here, stays_here, rising_changed, rising_without, below_changed, below_without}
 use Rattle.hub_model.specs.Draft.{Draft, parent_of, generation_of, made, edit_of, extended, makes_on}
 use Rattle.hub_model.specs.Feed.{Feed, Status, Open, Ending, Ended, Finished, Due, DueRow, DueEnd, DueNothing, DueGone, due, due_at, due_open, is_in_reach, is_open, waits, expire, end, bound_after, after_due, after_nothing}
 use Rattle.hub_model.specs.Journal.{Edit, head_of, is_head_known, is_acceptable, is_known}
@@ -40,8 +41,6 @@ use Rattle.hub_database.specs.Edits as edits
 use Rattle.hub_database.specs.Feeds.{ended}
 use Rattle.hub_database.specs.Followed.{IsBehind, AreFeeds}
 use Rattle.hub_database.specs.Hosting.{hosted_of}
-use Rattle.hub_database.proofs.ListLemmas.{set_back}
-use Rattle.hub_database.proofs.StoreLemmas.{get_at}
 
 -- a write takes no edit away
 adds_grow : (limit : ℕ) (J : List Edit) (e : Edit) → length J ≤ length (adds limit J e).journal
@@ -98,8 +97,8 @@ feeds_on len len' next feeds h x = record {
 -- and those that are left stay so
 pub feeds_left : (len next id : ℕ) (feeds : List (ℕ × Feed)) → AreFeeds len next feeds → AreFeeds len next (without id feeds)
 feeds_left len next id feeds x = record {
-  rising = AllPairs-filter (λ (a b : ℕ × Feed). a.0 < b.0) (λ (p : ℕ × Feed). not (nat_eq p.0 id)) feeds x.rising;
-  given = All-filter (λ (p : ℕ × Feed). not (nat_eq p.0 id)) (λ (p : ℕ × Feed). p.0 < next) feeds x.given;
+  rising = rising_without id feeds x.rising;
+  given = below_without id next feeds x.given;
   behind = All-filter (λ (p : ℕ × Feed). not (nat_eq p.0 id)) (λ (p : ℕ × Feed). IsBehind len p.1) feeds x.behind;
 }
 
@@ -112,13 +111,6 @@ module _ (id : ℕ) (change : Feed → Feed) where
   abbrev changed_one : ℕ × Feed → ℕ × Feed
   changed_one p = if nat_eq p.0 id then (p.0, change p.1) else p
 
-  same_id : (p : ℕ × Feed) → (changed_one p).0 ≡ p.0
-  same_id p = from (nat_eq p.0 id)
-    where
-      from : (b : Bool) → (if b then (p.0, change p.1) else p).0 ≡ p.0
-      from true = refl
-      from false = refl
-
   one_behind : (len : ℕ) → ((f : Feed) → IsBehind len f → IsBehind len (change f)) → (p : ℕ × Feed) → IsBehind len p.1 → IsBehind len (changed_one p).1
   one_behind len keeps p h = from (nat_eq p.0 id)
     where
@@ -128,61 +120,10 @@ module _ (id : ℕ) (change : Feed → Feed) where
 
   pub feeds_changed : (len next : ℕ) (feeds : List (ℕ × Feed)) → ((f : Feed) → IsBehind len f → IsBehind len (change f)) → AreFeeds len next feeds → AreFeeds len next (changed id change feeds)
   feeds_changed len next feeds keeps x = record {
-    rising = pairs_map (λ (a b : ℕ × Feed). a.0 < b.0) changed_one feeds (λ i j d a b. let r = x.rising i j d a b in omega (arith, r, same_id (get_or feeds i d), same_id (get_or feeds j d)));
-    given = All-map (λ (p : ℕ × Feed). p.0 < next) changed_one feeds (λ k d l. let g = x.given k d l in omega (arith, g, same_id (get_or feeds k d)));
+    rising = rising_changed id change feeds x.rising;
+    given = below_changed id change next feeds x.given;
     behind = All-map (λ (p : ℕ × Feed). IsBehind len p.1) changed_one feeds (λ k d l. one_behind len keeps (get_or feeds k d) (x.behind k d l));
   }
-
-  -- none of this number
-  pub changed_none : (feeds : List (ℕ × Feed)) → ((p : ℕ × Feed) → Contains feeds p → nat_eq p.0 id ≡ true → ⊥) → changed id change feeds ≡ feeds
-  changed_none [] h = refl
-  changed_none (p ∷ feeds) h = from (nat_eq p.0 id) refl (changed_none feeds (λ q c. h q (contains_there p q feeds c)))
-    where
-      from : (b : Bool) → nat_eq p.0 id ≡ b → changed id change feeds ≡ feeds → (if b then (p.0, change p.1) else p) ∷ changed id change feeds ≡ p ∷ feeds
-      from true t rest = absurd (h p (contains_here p feeds) t)
-      from false t rest = ap (λ ps. p ∷ ps) rest
-
-  -- the one of this number
-  pub changed_at : (feeds : List (ℕ × Feed)) (at : ℕ) (p : ℕ × Feed) → AllPairs (λ (a b : ℕ × Feed). a.0 < b.0) feeds → slice_get feeds at ≡ Some p → p.0 ≡ id → slice_set feeds at (p.0, change p.1) ≡ changed id change feeds
-  changed_at [] at p rising there own = absurd (none-some p there)
-  changed_at (q ∷ feeds) zero p rising there own =
-      let same : q ≡ p = same_Some q p there in
-      let named_so : q.0 ≡ id = ap (λ (z : ℕ × Feed). z.0) same ∙ own in
-      ap (λ (z : ℕ × Feed). (z.0, change z.1) ∷ feeds) (sym same)
-      ∙ (ap (λ b. (if b then (q.0, change q.1) else q) ∷ feeds) (sym (eq-eqb q.0 id named_so))
-      ∙ ap (λ ps. changed_one q ∷ ps) (sym (changed_none feeds (λ r c t. let above : q.0 < r.0 = subst (λ (z : ℕ × Feed). q.0 < z.0) c.2 (of_head (λ (a b : ℕ × Feed). a.0 < b.0) q feeds rising c.0 r c.1) in let here : r.0 ≡ id = eqb-true r.0 id t in omega (arith, above, here, named_so)))))
-  changed_at (q ∷ feeds) (suc at) p rising there own =
-      let below : q.0 < p.0 = found_above feeds at there (of_head (λ (a b : ℕ × Feed). a.0 < b.0) q feeds rising) in
-      ap (λ ps. q ∷ ps) (changed_at feeds at p (of_tail (λ (a b : ℕ × Feed). a.0 < b.0) q feeds rising) there own)
-      ∙ ap (λ b. (if b then (q.0, change q.1) else q) ∷ changed id change feeds) (sym (not_this (omega (arith, below, own))))
-    where
-      not_this : q.0 ≢ id → nat_eq q.0 id ≡ false
-      not_this n = elim (cases_Bool (nat_eq q.0 id)) [ inl t ↦ absurd (n (eqb-true q.0 id t)) | inr t ↦ t ]
-
-      found_above : (ps : List (ℕ × Feed)) (at : ℕ) → slice_get ps at ≡ Some p → All (λ (b : ℕ × Feed). q.0 < b.0) ps → q.0 < p.0
-      found_above [] at g all = absurd (none-some p g)
-      found_above (r ∷ ps) zero g all = subst (λ (z : ℕ × Feed). q.0 < z.0) (same_Some r p g) (all 0 r (omega arith))
-      found_above (r ∷ ps) (suc at) g all = found_above ps at g (λ k d l. all (suc k) d (omega arith))
-
--- what stands where one is looked for
-module _ {A : Type 0} (p : A → Bool) (xs : List A) where
-  pub place_found : (at : ℕ) → Some at ≡ position p xs → (x : A) → x ≡ get_or xs at x → (find p xs ≡ Some x) × (slice_get xs at ≡ Some x)
-  place_found at e x is = from (nat_lt (position_or_len p xs) (length xs)) refl e
-    where
-      from : (b : Bool) → nat_lt (position_or_len p xs) (length xs) ≡ b → Some at ≡ (if b then Some (position_or_len p xs) else None) → (find p xs ≡ Some x) × (slice_get xs at ≡ Some x)
-      from true t e =
-          let same : position_or_len p xs ≡ at = sym (same_Some at (position_or_len p xs) e) in
-          let low : position_or_len p xs < length xs = ltb-true (position_or_len p xs) (length xs) t in
-          let there : slice_get xs at ≡ Some x = get_at xs at x (omega (arith, low, same)) is in
-          (find_at p xs ∙ (ap (slice_get xs) same ∙ there), there)
-      from false t e = absurd (none-some at (sym e))
-
-  pub place_none : position p xs ≡ None → find p xs ≡ None
-  place_none e = from (nat_lt (position_or_len p xs) (length xs)) refl e
-    where
-      from : (b : Bool) → nat_lt (position_or_len p xs) (length xs) ≡ b → (if b then Some (position_or_len p xs) else None) ≡ None → find p xs ≡ None
-      from true t e = absurd (none-some (position_or_len p xs) (sym e))
-      from false t e = find_at p xs ∙ slice_get_past xs (position_or_len p xs) (ltb-false (position_or_len p xs) (length xs) t)
 
 -- a feed that looks, or goes on, stays behind
 behind_bound : (len : ℕ) (mode : Mode) (bound : Option ℕ) → IfSome bound (λ b. b ≤ len) → IfSome (bound_after mode bound len) (λ b. b ≤ len)
@@ -246,42 +187,13 @@ refused_batch new_edits deleted limit J docs n replies t e r =
 
 -- the feed of this number stands here
 module _ (id : ℕ) (feeds : List (ℕ × Feed)) (at : ℕ) (placed : Some at ≡ position (λ (p : ℕ × Feed). nat_eq p.0 id) feeds) (p : ℕ × Feed) (is : p ≡ get_or feeds at p) where
-  pub feed_here : entry_in id feeds ≡ Some p.1
-  feed_here = ap (option_map (λ (q : ℕ × Feed). q.1)) (place_found (λ (q : ℕ × Feed). nat_eq q.0 id) feeds at placed p is).0
-
-  own_id : p.0 ≡ id
-  own_id = eqb-true p.0 id (find_is (λ (q : ℕ × Feed). nat_eq q.0 id) feeds p (place_found (λ (q : ℕ × Feed). nat_eq q.0 id) feeds at placed p is).0).0
-
-  -- and changes there
-  pub changed_here : (change : Feed → Feed) (new : Feed) → AllPairs (λ (a b : ℕ × Feed). a.0 < b.0) feeds → new ≡ change p.1 → slice_set feeds at (p.0, new) ≡ changed id change feeds
-  changed_here change new rising e =
-      ap (λ (f : Feed). slice_set feeds at (p.0, f)) e ∙ changed_at id change feeds at p rising (place_found (λ (q : ℕ × Feed). nat_eq q.0 id) feeds at placed p is).1 own_id
-
-  -- or stays as it was
-  pub stays_here : (new : Feed) → new ≡ p.1 → slice_set feeds at (p.0, new) ≡ feeds
-  stays_here new e = ap (λ (f : Feed). slice_set feeds at (p.0, f)) e ∙ set_back feeds at p (place_found (λ (q : ℕ × Feed). nat_eq q.0 id) feeds at placed p is).1
-
   -- the feeds behind what the feed there answers
-  pub behind_here : (show : Current → ChangeRow) (rows : List Current) (len : ℕ) (new : Feed) → AllPairs (λ (a b : ℕ × Feed). a.0 < b.0) feeds → (d : Due) (next : Next ChangeRow)
+  pub behind_here : (show : Current → ChangeRow) (rows : List Current) (len : ℕ) (new : Feed) → AreRising feeds → (d : Due) (next : Next ChangeRow)
       → next ≡ next_of show rows d → new ≡ after_next p.1 d len → slice_set feeds at (p.0, new) ≡ feeds_behind id len next feeds
-  behind_here show rows len new rising (DueRow c) next e h = rw e (stays_here new h)
-  behind_here show rows len new rising (DueEnd last_seq) next e h = rw e (stays_here new h)
-  behind_here show rows len new rising DueNothing next e h = rw e (changed_here (λ f. after_nothing f len) new rising h)
-  behind_here show rows len new rising DueGone next e h = rw e (stays_here new h)
-
--- no feed has a number that lies above all of theirs
-pub none_above : (next : ℕ) (feeds : List (ℕ × Feed)) → All (λ (p : ℕ × Feed). p.0 < next) feeds → entry_in next feeds ≡ None
-none_above next [] all = refl
-none_above next (p ∷ feeds) all =
-    rw (ne_eqb p.0 next (λ e. omega (arith, all 0 p (omega arith), e))) (none_above next feeds (λ k d l. all (suc k) d (omega arith)))
-
--- there is no feed of this number
-module _ (id : ℕ) (feeds : List (ℕ × Feed)) (none : position (λ (p : ℕ × Feed). nat_eq p.0 id) feeds ≡ None) where
-  pub no_feed : entry_in id feeds ≡ None
-  no_feed = ap (option_map (λ (q : ℕ × Feed). q.1)) (place_none (λ (q : ℕ × Feed). nat_eq q.0 id) feeds none)
-
-  pub none_changed : (change : Feed → Feed) → changed id change feeds ≡ feeds
-  none_changed change = changed_none id change feeds (find_not (λ (q : ℕ × Feed). nat_eq q.0 id) feeds (place_none (λ (q : ℕ × Feed). nat_eq q.0 id) feeds none))
+  behind_here show rows len new rising (DueRow c) next e h = rw e (stays_here id feeds at placed p is new h)
+  behind_here show rows len new rising (DueEnd last_seq) next e h = rw e (stays_here id feeds at placed p is new h)
+  behind_here show rows len new rising DueNothing next e h = rw e (changed_here id feeds at placed p is (λ f. after_nothing f len) new rising h)
+  behind_here show rows len new rising DueGone next e h = rw e (stays_here id feeds at placed p is new h)
 
 -- of a result, what two facts give
 pub both_ok : {T E : Type 0} {P Q R : T → Type 0} (r : Result T E) → ((x : T) → P x → Q x → R x) → IfOk r P → IfOk r Q → IfOk r R

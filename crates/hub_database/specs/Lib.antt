@@ -5,6 +5,7 @@ pub mod Feeds
 pub mod Filed
 pub mod Followed
 pub mod Found
+pub mod Handing
 pub mod Hosting
 pub mod Indexed
 pub mod Kept

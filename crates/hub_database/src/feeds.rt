@@ -1,6 +1,6 @@
 //! The feeds of a database.
 
-ghost use Rattle.std.specs.Prelude.{◌≡◌, ◌⊎◌, Some, None, Err, nat_eq, map, position, option_map, IfOk, IfErr, OnErr};
+ghost use Rattle.std.specs.Prelude.{◌≡◌, ◌⊎◌, Some, None, Err, map, option_map, IfOk, IfErr, OnErr};
 ghost use Rattle.hub_model.specs.Entries.{entry_in};
 ghost use Rattle.hub_model.specs.Row.{ChangeRow as Shown};
 ghost use Rattle.hub_feed.specs.Host.{is_full, refuses, opened, is_beat_due, expired, item_due, answered, behind_answer, handed, finished, due_to};
@@ -14,16 +14,9 @@ use crate::database::DbState;
 use crate::rows::Rows;
 use hub_document::ChangeRow;
 use hub_feed::{FeedId, FeedState, Mark, Next, OpenFault};
-use hub_model::Item;
+use hub_model::{Item, place_of};
 use hub_params::FeedParams;
 use std::alloc::AllocError;
-
-// Where the feed of this number stands.
-fn place_of(feeds: &[(u64, FeedState)], number: u64) -> Option<usize>
-    ensures { result ≡ position (λ p. nat_eq p.0 number) feeds.now }
-{
-    feeds.iter().position(|feed| feed.0 == number)
-}
 
 // Ends each feed that is open.
 pub(crate) fn end_all(feeds: &mut Vec<(u64, FeedState)>)
@@ -43,8 +36,8 @@ impl DbState {
         self.feeds.len() as u64 >= self.contents.limits().feeds || self.next_feed == u64::MAX
     }
 
-    /// Opens a feed, which stays until it is finished. `descending` is not looked at. It costs a
-    /// search among the feeds.
+    /// Opens a feed, which stays until it is finished. `descending` is not looked at. It costs
+    /// what the list of feeds does that grows by one.
     pub fn open_feed(&mut self, params: FeedParams) -> Result<FeedId, OpenFault>
         ensures ok { IfOk result (λ id. (id.number ≡ self.old.next_feed)
             × (refuses (hosted_of self.old) ≡ None)
@@ -72,8 +65,8 @@ impl DbState {
     }
 
     /// What a feed has to hand now. An item is made and nothing changes: `accept_item` goes on. A
-    /// feed that has nothing to hand goes to the journal's length. It costs a search among the feeds
-    /// and what `FeedState::next_item` does.
+    /// feed that has nothing to hand goes to the journal's length. It costs a binary search
+    /// among the feeds and what `FeedState::next_item` does.
     pub fn next_item(&mut self, feed: FeedId) -> Result<Next<ChangeRow>, AllocError>
         ensures ok { IfOk result (λ next. (next ≡ answered (hosted_of self.old) feed.number)
             × (self.new ≡ with_hosted self.old (behind_answer (hosted_of self.old) feed.number next))) }
@@ -88,8 +81,8 @@ impl DbState {
         feed.1.next_item(&rows)
     }
 
-    /// Goes on behind the item that `next_item` gives now. It takes no memory, and costs a search
-    /// among the feeds.
+    /// Goes on behind the item that `next_item` gives now. It takes no memory, and costs a binary
+    /// search among the feeds.
     pub fn accept_item(&mut self, feed: FeedId, item: &Item<ChangeRow>)
         requires due { item_due (hosted_of self.old) feed.number ≡ Some item.now }
         ensures { self.new ≡ with_hosted self.old (handed (hosted_of self.old) feed.number) }
@@ -98,7 +91,7 @@ impl DbState {
     }
 
     /// Goes on behind the item that `next_item` gives now, of which this is the mark. It takes no
-    /// memory, and costs a search among the feeds.
+    /// memory, and costs a binary search among the feeds.
     pub fn accept_marked(&mut self, feed: FeedId, mark: Mark)
         requires due { option_map (mark_of (λ (r : Shown). r.seq)) (item_due (hosted_of self.old) feed.number)
             ≡ Some mark }
@@ -113,7 +106,7 @@ impl DbState {
     }
 
     /// Whether a heartbeat may be handed to a feed now: one was asked for, and the feed is open and
-    /// waits. It takes no memory, and costs a search among the feeds.
+    /// waits. It takes no memory, and costs a binary search among the feeds.
     pub fn beat_due(&self, feed: FeedId) -> bool
         ensures { result ≡ is_beat_due (entry_in feed.number self.now.feeds) }
     {
@@ -125,7 +118,7 @@ impl DbState {
     }
 
     /// A feed's time without an item is over: an open feed that waits is ending. It takes no memory,
-    /// and costs a search among the feeds.
+    /// and costs a binary search among the feeds.
     pub fn expire(&mut self, feed: FeedId)
         ensures { self.new ≡ with_hosted self.old (expired (hosted_of self.old) feed.number) }
     {
@@ -136,8 +129,8 @@ impl DbState {
         feed.1.expire();
     }
 
-    /// Forgets a feed, if there is one of this number. It takes no memory, and costs a search among
-    /// the feeds.
+    /// Forgets a feed, if there is one of this number. It takes no memory, and costs a look at each
+    /// feed.
     pub fn finish(&mut self, feed: FeedId)
         ensures { self.new ≡ with_hosted self.old (finished (hosted_of self.old) feed.number) }
     {

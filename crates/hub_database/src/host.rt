@@ -1,9 +1,5 @@
 //! A database as what keeps feeds.
 
-ghost use Rattle.std.specs.Prelude.{◌≡◌};
-ghost use Rattle.hub_feed.specs.Host.{refuses};
-ghost use Rattle.hub_database.specs.Hosting.{hosted_of};
-
 use crate::database::DbState;
 use crate::rows::Rows;
 use hub_document::ChangeRow;
@@ -12,24 +8,11 @@ use hub_model::Item;
 use hub_params::FeedParams;
 use std::alloc::AllocError;
 
-impl DbState {
-    // Why no feed is opened now, where none is.
-    fn refusal(&self) -> Option<OpenFault>
-        ensures { result ≡ refuses (hosted_of self.now) }
-    {
-        if self.deleted {
-            return Some(OpenFault::Deleted);
-        }
-        if self.feeds_are_full() {
-            return Some(OpenFault::TooManyFeeds);
-        }
-        None
-    }
-}
-
 impl FeedHost for DbState {
-    ghost use Rattle.hub_database.specs.Hosting.{hosted_of};
+    ghost use Rattle.hub_database.specs.Handing.{IsFitting, IsRightFor};
+    ghost use Rattle.hub_database.specs.Hosting.{hosted_of, with_hosted};
     ghost use Rattle.hub_database.specs.Laid.{rows_below};
+    ghost use Rattle.hub_model.proofs.Fitting.{fits_beat, fits_expire, fits_handed, fits_nothing};
     ghost use Rattle.hub_model.proofs.Laws.{rows_rise};
     ghost use Rattle.hub_model.specs.Row.{ChangeRow as Shown};
     ghost use Rattle.std.proofs.Common.{refl};
@@ -38,7 +21,13 @@ impl FeedHost for DbState {
 
     ghost hosted = { hosted_of };
 
+    ghost with_hosted = { with_hosted };
+
     ghost seq_of = { λ (r : Shown). r.seq };
+
+    ghost fits = { λ db f items. IsFitting db.journal f items };
+
+    ghost right = { IsRightFor };
 
     ghost rise = { λ db. rows_rise db.journal };
 
@@ -46,12 +35,58 @@ impl FeedHost for DbState {
 
     ghost keeps = { λ db style include_docs c. refl };
 
+    ghost same = { λ db. refl };
+
+    ghost hosts = { λ db feeds next. refl };
+
+    ghost rightly = { λ db f items fitting. record {
+      journal = db.journal;
+      legal = fitting.legal;
+      feed = f;
+      asks = refl;
+      begins = refl;
+      right = fitting.fits.right;
+    } };
+
+    ghost stays = { λ db h f items fitting. fitting };
+
+    ghost handed_fits = { λ db f items item due fitting. record {
+      legal = fitting.legal;
+      fits = fits_handed db.journal f items item due fitting.fits;
+    } };
+
+    ghost waiting_fits = { λ db f items due fitting. record {
+      legal = fitting.legal;
+      fits = fits_nothing db.journal f items due fitting.fits;
+    } };
+
+    ghost beat_fits = { λ db f items due fitting. record {
+      legal = fitting.legal;
+      fits = fits_beat db.journal f items due fitting.fits;
+    } };
+
+    ghost expired_fits = { λ db f items fitting. record {
+      legal = fitting.legal;
+      fits = fits_expire db.journal f items fitting.fits;
+    } };
+
     /// Constant time.
     fn length(&self) -> u64 {
         self.update_seq()
     }
 
-    /// It costs a search among the feeds.
+    /// Constant time.
+    fn refusal(&self) -> Option<OpenFault> {
+        if self.deleted {
+            return Some(OpenFault::Deleted);
+        }
+        if self.feeds_are_full() {
+            return Some(OpenFault::TooManyFeeds);
+        }
+        None
+    }
+
+    /// It costs what the list of feeds does that grows by one.
     fn open_feed(&mut self, params: FeedParams) -> Result<FeedId, OpenFault> {
         match self.refusal() {
             Some(fault) => Err(fault),
@@ -59,7 +94,7 @@ impl FeedHost for DbState {
         }
     }
 
-    /// It costs a search among the feeds and what `FeedState::next_item` does.
+    /// It costs a binary search among the feeds and what `FeedState::next_item` does.
     fn next_item(&mut self, feed: FeedId) -> Result<Next<ChangeRow>, AllocError> {
         DbState::next_item(self, feed)
     }
@@ -69,22 +104,22 @@ impl FeedHost for DbState {
         Mark::of::<Rows>(item)
     }
 
-    /// It costs a search among the feeds.
+    /// It costs a binary search among the feeds.
     fn accept_marked(&mut self, feed: FeedId, mark: Mark) {
         DbState::accept_marked(self, feed, mark);
     }
 
-    /// It costs a search among the feeds.
+    /// It costs a binary search among the feeds.
     fn beat_due(&self, feed: FeedId) -> bool {
         DbState::beat_due(self, feed)
     }
 
-    /// It costs a search among the feeds.
+    /// It costs a binary search among the feeds.
     fn expire(&mut self, feed: FeedId) {
         DbState::expire(self, feed);
     }
 
-    /// It costs a search among the feeds.
+    /// It costs a look at each feed.
     fn finish(&mut self, feed: FeedId) {
         DbState::finish(self, feed);
     }

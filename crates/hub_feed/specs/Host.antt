@@ -25,6 +25,10 @@ pub record Hosted (R : Type 0) : Type 0 where
   pub deleted : Bool  -- whether what they follow was deleted
   pub limit : ℕ  -- how many feeds there may be at most
 
+-- the same with these feeds, and this number for the next one
+abbrev pub with_feeds : {R : Type 0} → Hosted R → List (ℕ × Feed) → ℕ → Hosted R
+with_feeds h feeds next_feed = record h { feeds = feeds; next_feed = next_feed }
+
 -- whether there are as many feeds as there may be, or no number of 64 bits is left for those that come
 abbrev pub is_full : {R : Type 0} → Hosted R → Bool
 is_full h = nat_le h.limit (length h.feeds) || nat_le (2 ^ 64 - 1) h.next_feed
@@ -61,11 +65,13 @@ answer_of h (Some f) = next_of (h.shown f.params.style f.params.include_docs) h.
 abbrev pub answered : {R : Type 0} → Hosted R → ℕ → Next R
 answered h id = answer_of h (entry_in id h.feeds)
 
+-- the item that is due to a feed, if there is one
+abbrev pub item_for : {R : Type 0} → Hosted R → Feed → Option (Item R)
+item_for h f = item_of (h.shown f.params.style f.params.include_docs) h.current (due h.current f)
+
 -- the item that is due to the feed of this number, if there is one
 abbrev pub item_due : {R : Type 0} → Hosted R → ℕ → Option (Item R)
-item_due h id =
-    option_and_then (λ f. item_of (h.shown f.params.style f.params.include_docs) h.current (due h.current f))
-    (entry_in id h.feeds)
+item_due h id = option_and_then (item_for h) (entry_in id h.feeds)
 
 -- the feeds once that of this number answered so: only where it had nothing to hand it moves, to the length
 abbrev pub feeds_behind : {R : Type 0} → ℕ → ℕ → Next R → List (ℕ × Feed) → List (ℕ × Feed)
@@ -77,9 +83,13 @@ feeds_behind id len Gone feeds = feeds
 abbrev pub behind_answer : {R : Type 0} → Hosted R → ℕ → Next R → Hosted R
 behind_answer h id next = record h { feeds = feeds_behind id h.length next h.feeds }
 
+-- a feed once it handed what was due to it
+abbrev pub behind_due : {R : Type 0} → Hosted R → Feed → Feed
+behind_due h f = after_due f (due h.current f) h.length
+
 -- once the feed of this number handed the item that was due to it
 abbrev pub handed : {R : Type 0} → Hosted R → ℕ → Hosted R
-handed h id = record h { feeds = changed id (λ f. after_due f (due h.current f) h.length) h.feeds }
+handed h id = record h { feeds = changed id (behind_due h) h.feeds }
 
 -- whether a heartbeat may be handed to a feed
 abbrev pub is_beat_due : Option Feed → Bool

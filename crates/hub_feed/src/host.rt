@@ -1,14 +1,17 @@
 //! What keeps feeds.
 
-ghost use Rattle.std.specs.Prelude.{◌≡◌, ◌<◌, ◌≤◌, ℕ, Bool, Some, None, Contains, option_map, IfOk, IfErr, OnOk, OnErr};
+ghost use Rattle.std.specs.Prelude.{◌≡◌, ◌<◌, ◌≤◌, ◌++◌, ◌∷◌, [], ℕ, List, Bool, true, Some, None, Contains, option_map, IfOk, IfErr, OnOk, OnErr};
 ghost use Rattle.std.specs.List.{AllPairs};
 ghost use Rattle.hub_model.specs.Current.{Current};
 ghost use Rattle.hub_model.specs.Entries.{entry_in};
+ghost use Rattle.hub_model.specs.Feed.{Feed, Params, DueNothing, after_nothing, begin, beat_due, due, expire};
+ghost use Rattle.hub_model.specs.declared.feeds.Item.{Item as Handed};
+ghost use Rattle.hub_model.specs.declared.feeds.Item.TheVariants.{Beat};
 ghost use Rattle.hub_model.specs.declared.feeds.Style.{Style as Listing};
 ghost use Rattle.hub_params.specs.FeedModel.{params_of};
 ghost use Rattle.hub_feed.specs.Mark.{mark_of};
 ghost use Rattle.hub_feed.specs.Next.{IsRowDue};
-ghost use Rattle.hub_feed.specs.Host.{Hosted, refuses, opening_fault, opened, due_to, answered, item_due, behind_answer, handed, is_beat_due, expired, finished};
+ghost use Rattle.hub_feed.specs.Host.{Hosted, with_feeds, refuses, opening_fault, opened, due_to, answered, item_for, item_due, behind_answer, behind_due, handed, is_beat_due, expired, finished};
 
 use crate::mark::Mark;
 use crate::next::Next;
@@ -34,20 +37,37 @@ pub enum OpenFault {
     TooManyFeeds,
 }
 
-/// What keeps feeds that follow it, each from its opening until it is finished.
+/// What keeps feeds that follow it, each from its opening until it is finished. Each step of a feed
+/// changes only the feeds and the number of the next one (`with_hosted`).
 pub trait FeedHost {
     /// A row as it is handed.
-    type Row;
+    type Row: Drop;
 
     /// What the feeds follow, and the feeds.
     ghost hosted: { Self → Hosted Self.Row };
 
+    /// The same with the feeds, and the number of the next one, of this picture.
+    ghost with_hosted: { Self → Hosted Self.Row → Self };
+
     /// The sequence of a row that is handed.
     ghost seq_of: { Self.Row → ℕ };
 
-    /// How many edits there are. It takes no memory.
+    /// The lists of items that fit a feed while the host is so: what the feed has handed is one.
+    ghost fits: { Self → Feed → List (Handed Self.Row) → Type 0 };
+
+    /// The lists of items that a feed of these parameters, which shows what lies above this sequence,
+    /// may have handed by some time.
+    ghost right: { Params → ℕ → List (Handed Self.Row) → Type 0 };
+
+    /// How many edits there are. A feed that begins behind them has handed nothing, which fits it. It
+    /// takes no memory.
     fn length(&self) -> u64
-        ensures { result ≡ (hosted self.now).length };
+        ensures length { result ≡ (hosted self.now).length }
+        ensures begins { (params : Params) → fits self.now (begin params (hosted self.now).length) [] };
+
+    /// Why no feed is opened now, where memory is not what is missing. It takes no memory.
+    fn refusal(&self) -> Option<OpenFault>
+        ensures { result ≡ refuses (hosted self.now) };
 
     /// Opens a feed, which stays until it is finished, under a number that no feed had before.
     /// `descending` is not looked at. A refusal takes no memory.
@@ -55,14 +75,14 @@ pub trait FeedHost {
         ensures free { OnOk result (refuses (hosted self.old) ≡ None) }
         ensures new { IfOk result (λ id. entry_in id.number (hosted self.old).feeds ≡ None) }
         ensures number { IfOk result (λ id. id.number ≡ (hosted self.old).next_feed) }
-        ensures ok { OnOk result (hosted self.new ≡ opened (hosted self.old) (params_of params)) }
+        ensures ok { OnOk result (self.new ≡ with_hosted self.old (opened (hosted self.old) (params_of params))) }
         ensures err { IfErr result (λ e. (self.new ≡ self.old) × (e ≡ opening_fault (hosted self.old))) };
 
     /// What a feed has to hand now. An item is made and nothing changes: `accept_item` goes on. A
     /// feed that has nothing to hand goes to the length of what it follows. Only a row takes memory.
     fn next_item(&mut self, feed: FeedId) -> Result<Next<Self::Row>, AllocError>
         ensures ok { IfOk result (λ next. next ≡ answered (hosted self.old) feed.number) }
-        ensures new { IfOk result (λ next. hosted self.new ≡ behind_answer (hosted self.old) feed.number next) }
+        ensures new { IfOk result (λ next. self.new ≡ with_hosted self.old (behind_answer (hosted self.old) feed.number next)) }
         ensures err { OnErr result ((self.new ≡ self.old) × IsRowDue (due_to (hosted self.old) feed.number)) };
 
     /// The mark of an item. It takes no memory.
@@ -73,12 +93,12 @@ pub trait FeedHost {
     /// away by then. It takes no memory.
     fn accept_marked(&mut self, feed: FeedId, mark: Mark)
         requires due { option_map (mark_of seq_of) (item_due (hosted self.old) feed.number) ≡ Some mark }
-        ensures { hosted self.new ≡ handed (hosted self.old) feed.number };
+        ensures { self.new ≡ with_hosted self.old (handed (hosted self.old) feed.number) };
 
     /// Goes on behind the item that `next_item` gives now. It takes no memory.
     fn accept_item(&mut self, feed: FeedId, item: &Item<Self::Row>)
         requires due { item_due (hosted self.old) feed.number ≡ Some item.now }
-        ensures { hosted self.new ≡ handed (hosted self.old) feed.number }
+        ensures { self.new ≡ with_hosted self.old (handed (hosted self.old) feed.number) }
     {
         self.accept_marked(feed, Self::mark(item));
     }
@@ -90,11 +110,11 @@ pub trait FeedHost {
 
     /// A feed's time without an item is over: an open feed that waits is ending. It takes no memory.
     fn expire(&mut self, feed: FeedId)
-        ensures { hosted self.new ≡ expired (hosted self.old) feed.number };
+        ensures { self.new ≡ with_hosted self.old (expired (hosted self.old) feed.number) };
 
     /// Forgets a feed, if there is one of this number. It takes no memory.
     fn finish(&mut self, feed: FeedId)
-        ensures { hosted self.new ≡ finished (hosted self.old) feed.number };
+        ensures { self.new ≡ with_hosted self.old (finished (hosted self.old) feed.number) };
 
     /// The current rows rise.
     ghost rise: { (s : Self) → AllPairs (λ (c d : Current). c.seq < d.seq) (hosted s).current };
@@ -104,4 +124,28 @@ pub trait FeedHost {
 
     /// A row that is handed has the sequence of its own.
     ghost keeps: { (s : Self) (style : Listing) (include_docs : Bool) (c : Current) → seq_of ((hosted s).shown style include_docs c) ≡ c.seq };
+
+    /// With its own feeds it is the same.
+    ghost same: { (s : Self) → with_hosted s (hosted s) ≡ s };
+
+    /// With other feeds it is seen with just those.
+    ghost hosts: { (s : Self) (feeds : List (ℕ × Feed)) (next : ℕ) → hosted (with_hosted s (with_feeds (hosted s) feeds next)) ≡ with_feeds (hosted s) feeds next };
+
+    /// A list that fits a feed is right for it.
+    ghost rightly: { (s : Self) (f : Feed) (items : List (Handed Self.Row)) → fits s f items → right f.params f.since items };
+
+    /// It fits whatever other feeds there are.
+    ghost stays: { (s : Self) (h : Hosted Self.Row) (f : Feed) (items : List (Handed Self.Row)) → fits s f items → fits (with_hosted s h) f items };
+
+    /// With the item that is due it fits the feed that handed that.
+    ghost handed_fits: { (s : Self) (f : Feed) (items : List (Handed Self.Row)) (item : Handed Self.Row) → item_for (hosted s) f ≡ Some item → fits s f items → fits s (behind_due (hosted s) f) (items ++ item ∷ []) };
+
+    /// It fits the feed that was found to have nothing to hand.
+    ghost waiting_fits: { (s : Self) (f : Feed) (items : List (Handed Self.Row)) → due (hosted s).current f ≡ DueNothing → fits s f items → fits s (after_nothing f (hosted s).length) items };
+
+    /// It fits with a heartbeat that may be handed.
+    ghost beat_fits: { (s : Self) (f : Feed) (items : List (Handed Self.Row)) → beat_due f ≡ true → fits s f items → fits s f (items ++ Beat ∷ []) };
+
+    /// It fits the feed whose time is over.
+    ghost expired_fits: { (s : Self) (f : Feed) (items : List (Handed Self.Row)) → fits s f items → fits s (expire f) items };
 }

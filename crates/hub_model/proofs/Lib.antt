@@ -14,5 +14,6 @@ pub mod Laws
 pub mod WorkedRows
 pub mod Due
 pub mod Items
+pub mod Entries
 pub mod Right
 pub mod Fitting

@@ -1,6 +1,11 @@
 -- Lists of entries by number (own).
-use Rattle.std.specs.Prelude.{ℕ, List, Bool, map, filter, find, not, nat_eq, Option, option_map}
-use Rattle.std.specs.Prelude.{if◌then◌else◌}
+use Rattle.std.specs.Prelude.{ℕ, ◌<◌, List, AllPairs, Bool, map, filter, find, not, nat_eq, Option}
+use Rattle.std.specs.Prelude.{option_map, if◌then◌else◌}
+
+-- their numbers rise, so none stands twice
+-- of 3 and 5, of none, but not of 5 and 3, nor of 3 and 3
+abbrev pub AreRising : {A : Type 0} → List (ℕ × A) → Type 0
+AreRising {A} entries = AllPairs (λ (a b : ℕ × A). a.0 < b.0) entries
 
 -- whether the entry is of this number
 abbrev pub is_of : {A : Type 0} → ℕ → ℕ × A → Bool

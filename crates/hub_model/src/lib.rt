@@ -10,9 +10,11 @@ ghost use Rattle.hub_model.specs.WorkedFeeds.{FallsAfterTwo, FallsAfterAll, Fall
 mod arms;
 mod feeds;
 mod outcomes;
+mod places;
 
 pub use feeds::{Item, Mode, Since, Style};
 pub use outcomes::{Fault, Outcome};
+pub use places::place_of;
 
 /// The tests of what is known, of histories and of what may be stored are right.
 pub fn tests_decide()

@@ -14,10 +14,11 @@ use Rattle.hub_model.specs.Journal.{Edit}
 use Rattle.hub_model.specs.RightlyHanded.{ChangeItem}
 use Rattle.hub_world.specs.Core.{Core, Shows, IsEmptied}
 use Rattle.hub_model.specs.Entries.{entry_in, changed, without}
+use Rattle.hub_model.proofs.Entries.{without_absent}
 use Rattle.hub_world.specs.Lane.{Lanes, IsRising}
 use Rattle.hub_world.specs.World.{World, Subscription, is_finished, open_feeds, has_no_room, subscription, with_subscription, lane_of, with_feed, expired, took, finished, ended}
-pub use Rattle.hub_world.proofs.StandingLists.{changed_same, changed_absent}
-use Rattle.hub_world.proofs.StandingLists.{shown, seen, looked, turned, left_out, without_absent, added, counted, rising, ended_stands, all_ended}
+pub use Rattle.hub_model.proofs.Entries.{changed_same, changed_absent}
+use Rattle.hub_world.proofs.StandingLists.{shown, seen, looked, turned, left_out, added, counted, rising, ended_stands, all_ended}
 
 -- there is no feed, or it is finished
 abbrev pub IsGone : Option Subscription → Type 0

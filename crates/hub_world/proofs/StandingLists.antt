@@ -8,34 +8,8 @@ use Rattle.std.proofs.lemmas.List.Sums.{sum_by-cons}
 use Rattle.hub_model.specs.Feed.{Status, Open, Ending, Ended, Finished, is_open}
 use Rattle.hub_world.specs.Core.{standing_from}
 use Rattle.hub_model.specs.Entries.{is_of, entry_in, changed, without}
+use Rattle.hub_model.proofs.Entries.{changed_absent, without_absent}
 use Rattle.hub_world.specs.World.{Subscription, is_finished, ended}
-
--- an entry that stays changes nothing
-pub changed_same : {A : Type 0} (f : ℕ) (xs : List (ℕ × A)) → changed f (λ x. x) xs ≡ xs
-changed_same f [] = refl
-changed_same {A = A} f (p ∷ xs) = from (is_of f p) (changed_same f xs)
-  where
-    from : (b : Bool) → changed f (λ x. x) xs ≡ xs → ◌≡◌ {A = List (ℕ × A)} ((if b then (p.0, p.1) else p) ∷ changed f (λ x. x) xs) (p ∷ xs)
-    from true e = ap (λ (ps : List (ℕ × A)). p ∷ ps) e
-    from false e = ap (λ (ps : List (ℕ × A)). p ∷ ps) e
-
--- none is changed where there is none of the number
-pub changed_absent : {A : Type 0} (f : ℕ) (change : A → A) (xs : List (ℕ × A)) → entry_in f xs ≡ None → changed f change xs ≡ xs
-changed_absent f change [] h = refl
-changed_absent {A = A} f change (p ∷ xs) h =
-    elim (cases_Bool (is_of f p)) [
-      | inl t ↦ absurd (none-some p.1 (sym (rw t at h)))
-      | inr t ↦ rw t (ap (λ (ps : List (ℕ × A)). p ∷ ps) (changed_absent f change xs (rw t at h)))
-    ]
-
--- and none is left out
-pub without_absent : {A : Type 0} (f : ℕ) (xs : List (ℕ × A)) → entry_in f xs ≡ None → without f xs ≡ xs
-without_absent f [] h = refl
-without_absent {A = A} f (p ∷ xs) h =
-    elim (cases_Bool (is_of f p)) [
-      | inl t ↦ absurd (none-some p.1 (sym (rw t at h)))
-      | inr t ↦ rw t (ap (λ (ps : List (ℕ × A)). p ∷ ps) (without_absent f xs (rw t at h)))
-    ]
 
 -- this part of the feeds that are not finished, by their numbers from n
 abbrev pub shown : {A : Type 0} → (Subscription → A) → ℕ → List Subscription → List (ℕ × A)

@@ -1,8 +1,8 @@
 -- Lanes by the numbers of their feeds (own).
-use Rattle.std.specs.Prelude.{ℕ, ◌<◌, List, AllPairs, [], ◌∷◌, ◌++◌, length, drop, Bool, false, nat_lt}
+use Rattle.std.specs.Prelude.{ℕ, List, [], ◌∷◌, ◌++◌, length, drop, Bool, false, nat_lt}
 use Rattle.std.specs.Prelude.{slice_get, unwrap_or, Option, Some, None, option_and_then, if◌then◌else◌}
 use Rattle.hub_model.specs.RightlyHanded.{ChangeItem}
-use Rattle.hub_model.specs.Entries.{changed, entry_in}
+use Rattle.hub_model.specs.Entries.{changed, entry_in, AreRising}
 
 -- the lanes of a core
 abbrev pub Lanes : Type 0
@@ -10,7 +10,7 @@ Lanes = List (ℕ × List ChangeItem)
 
 -- their numbers rise
 abbrev pub IsRising : Lanes → Type 0
-IsRising lanes = AllPairs (λ (a b : ℕ × List ChangeItem). a.0 < b.0) lanes
+IsRising lanes = AreRising lanes
 
 -- whether this lane has room for one more
 abbrev pub takes_more : ℕ → Option (List ChangeItem) → Bool

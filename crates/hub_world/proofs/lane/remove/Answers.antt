@@ -2,7 +2,7 @@ use Rattle.std.proofs.Common.{◌≡◌, ◌∙◌, sym, ap, ℕ, List, [], Some
 use Rattle.std.specs.Prelude.{position, get_or, unwrap_or}
 use Rattle.hub_model.specs.RightlyHanded.{ChangeItem}
 use Rattle.hub_model.specs.Entries.{is_of}
-use Rattle.hub_world.proofs.LaneLemmas.{entry_here, without_here, no_entry, none_out}
+use Rattle.hub_model.proofs.Entries.{entry_here, without_here, no_entry, without_absent}
 use Rattle.hub_world.proofs.lane.remove.Goals as goal
 
 pub returns-in_default-clause-items : goal.returns-in_default-clause-items
@@ -13,7 +13,7 @@ returns-in_default-clause-items c =
 pub returns-in_default-clause-lanes : goal.returns-in_default-clause-lanes
 returns-in_default-clause-lanes c =
     let none : position (is_of c.args.feed) c.args.lanes.now.items ≡ None = rw c.as_slice.ensures.value at (sym c.place_of.ensures ∙ c.in_default.is) in
-    sym (none_out c.args.feed c.args.lanes.now.items none)
+    sym (without_absent c.args.feed c.args.lanes.now.items (no_entry c.args.feed c.args.lanes.now.items none))
 
 pub returns-clause-items : goal.returns-clause-items
 returns-clause-items c =

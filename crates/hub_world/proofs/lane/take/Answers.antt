@@ -2,7 +2,8 @@ use Rattle.std.proofs.Common.{◌≡◌, ◌∙◌, sym, ap, ℕ, List, Some, No
 use Rattle.std.specs.Prelude.{option_and_then, position, slice_get, get_or}
 use Rattle.hub_model.specs.RightlyHanded.{ChangeItem}
 use Rattle.hub_model.specs.Entries.{is_of}
-use Rattle.hub_world.proofs.LaneLemmas.{entry_here, changed_here, no_entry, none_changed, front_of}
+use Rattle.hub_model.proofs.Entries.{entry_here, changed_here, no_entry, changed_absent}
+use Rattle.hub_world.proofs.LaneLemmas.{front_of}
 use Rattle.hub_world.proofs.lane.take.Goals as goal
 
 pub returns-in_err-at-clause-item : goal.returns-in_err-at-clause-item
@@ -14,7 +15,7 @@ returns-in_err-at-clause-item c =
 pub returns-in_err-at-clause-lanes : goal.returns-in_err-at-clause-lanes
 returns-in_err-at-clause-lanes c =
     let none : position (is_of c.args.feed) c.args.lanes.now.items ≡ None = rw c.as_slice.ensures.value at (sym c.place_of.ensures ∙ c.in_err-at.was) in
-    sym (none_changed c.args.feed c.args.lanes.now.items none (drop 1))
+    sym (changed_absent c.args.feed (drop 1) c.args.lanes.now.items (no_entry c.args.feed c.args.lanes.now.items none))
 
 pub returns-clause-item : goal.returns-clause-item
 returns-clause-item c =

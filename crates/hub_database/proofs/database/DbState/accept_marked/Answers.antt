@@ -9,13 +9,14 @@ use Rattle.hub_database.specs.Database.{Database}
 use Rattle.hub_database.specs.Followed.{AreFeeds}
 use Rattle.hub_database.specs.Hosting.{hosted_of, with_hosted}
 use Rattle.hub_database.specs.Laid.{rows_below}
-use Rattle.hub_database.proofs.FeedLemmas.{changed_here, feed_here, feeds_changed, goes_behind, none_changed, rest_stays}
+use Rattle.hub_model.proofs.Entries.{changed_absent, changed_here, entry_here, no_entry}
+use Rattle.hub_database.proofs.FeedLemmas.{feeds_changed, goes_behind, rest_stays}
 use Rattle.hub_database.proofs.database.DbState.accept_marked.Goals as goal
 
 pub returns-in_default : goal.returns-in_default
 returns-in_default c =
     let none : position (λ (p : ℕ × Feed). nat_eq p.0 c.args.feed.number) c.self.inside.feeds.items ≡ None = rw c.as_slice.ensures.value at (sym c.place_of.ensures ∙ c.in_default.is) in
-    subst (λ (z : Database). z ≡ with_hosted z (handed (hosted_of z) c.args.feed.number)) c.self.view_is (rest_stays c.self.inside.contents.journal refl refl (sym (none_changed c.args.feed.number c.self.inside.feeds.items none _)) refl refl)
+    subst (λ (z : Database). z ≡ with_hosted z (handed (hosted_of z) c.args.feed.number)) c.self.view_is (rest_stays c.self.inside.contents.journal refl refl (sym (changed_absent c.args.feed.number _ c.self.inside.feeds.items (no_entry c.args.feed.number c.self.inside.feeds.items none))) refl refl)
 
 pub accept_marked-requires : goal.accept_marked-requires
 accept_marked-requires c =
@@ -24,7 +25,7 @@ accept_marked-requires c =
     let placed : Some c.in-Some.at ≡ position (λ (p : ℕ × Feed). nat_eq p.0 id) db.feeds.items = rw c.as_slice.ensures.value at c.in-Some.ensures in
     let p = c.index_mut-feed.result.now in
     let asked = subst (λ (z : Database). option_map (mark_of (λ (r : ChangeRow). r.seq)) (item_due (hosted_of z) id) ≡ Some c.args.mark) (sym c.self.view_is) c.requires.due in
-    record { due = rw c.rows-rows.ensures (rw (feed_here id db.feeds.items c.in-Some.at placed p c.index_mut-feed.ensures.value) at asked) }
+    record { due = rw c.rows-rows.ensures (rw (entry_here id db.feeds.items c.in-Some.at placed p c.index_mut-feed.ensures.value) at asked) }
 
 pub invariant_of-self : goal.invariant_of-self
 invariant_of-self c =

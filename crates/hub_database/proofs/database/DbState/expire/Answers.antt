@@ -5,13 +5,14 @@ use Rattle.hub_model.specs.Feed.{Feed, expire}
 use Rattle.hub_database.specs.Database.{Database}
 use Rattle.hub_database.specs.Followed.{AreFeeds}
 use Rattle.hub_database.specs.Hosting.{hosted_of, with_hosted}
-use Rattle.hub_database.proofs.FeedLemmas.{changed_here, expired_behind, feeds_changed, none_changed, rest_stays}
+use Rattle.hub_model.proofs.Entries.{changed_absent, changed_here, no_entry}
+use Rattle.hub_database.proofs.FeedLemmas.{expired_behind, feeds_changed, rest_stays}
 use Rattle.hub_database.proofs.database.DbState.expire.Goals as goal
 
 pub returns-in_default : goal.returns-in_default
 returns-in_default c =
     let none : position (λ (p : ℕ × Feed). nat_eq p.0 c.args.feed.number) c.self.inside.feeds.items ≡ None = rw c.as_slice.ensures.value at (sym c.place_of.ensures ∙ c.in_default.is) in
-    subst (λ (z : Database). z ≡ with_hosted z (expired (hosted_of z) c.args.feed.number)) c.self.view_is (rest_stays c.self.inside.contents.journal refl refl (sym (none_changed c.args.feed.number c.self.inside.feeds.items none _)) refl refl)
+    subst (λ (z : Database). z ≡ with_hosted z (expired (hosted_of z) c.args.feed.number)) c.self.view_is (rest_stays c.self.inside.contents.journal refl refl (sym (changed_absent c.args.feed.number _ c.self.inside.feeds.items (no_entry c.args.feed.number c.self.inside.feeds.items none))) refl refl)
 
 pub invariant_of-self : goal.invariant_of-self
 invariant_of-self c =

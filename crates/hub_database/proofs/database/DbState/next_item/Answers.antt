@@ -8,14 +8,15 @@ use Rattle.hub_feed.specs.declared.next.Next.TheVariants.{Gone}
 use Rattle.hub_database.specs.Database.{Database}
 use Rattle.hub_database.specs.Followed.{AreFeeds}
 use Rattle.hub_database.specs.Hosting.{hosted_of}
-use Rattle.hub_database.proofs.FeedLemmas.{behind_here, both_ok, changed_here, feed_here, feeds_changed, looks_behind, no_feed, ok_or_err, rest_stays, stays_here}
+use Rattle.hub_model.proofs.Entries.{changed_here, entry_here, no_entry, stays_here}
+use Rattle.hub_database.proofs.FeedLemmas.{behind_here, both_ok, feeds_changed, looks_behind, ok_or_err, rest_stays}
 use Rattle.hub_database.proofs.StoreLemmas.{err_then}
 use Rattle.hub_database.proofs.database.DbState.next_item.Goals as goal
 
 pub returns-in_default-clause-ok : goal.returns-in_default-clause-ok
 returns-in_default-clause-ok c =
     let none : position (λ (p : ℕ × Feed). nat_eq p.0 c.args.feed.number) c.self.inside.feeds.items ≡ None = rw c.as_slice.ensures.value at (sym c.place_of.ensures ∙ c.in_default.is) in (
-      subst (λ (z : Database). Gone ≡ answered (hosted_of z) c.args.feed.number) c.self.view_is (rw (no_feed c.args.feed.number c.self.inside.feeds.items none) refl),
+      subst (λ (z : Database). Gone ≡ answered (hosted_of z) c.args.feed.number) c.self.view_is (rw (no_entry c.args.feed.number c.self.inside.feeds.items none) refl),
       refl,
     )
 
@@ -42,7 +43,7 @@ returns-clause-ok c =
     let p = c.index_mut-feed.result.now in
     both_ok c.next_item.result
     (λ next is new. (
-      subst (λ (z : Database). next ≡ answered (hosted_of z) id) c.self.view_is (rw (feed_here id db.feeds.items c.in-Some.at placed p c.index_mut-feed.ensures.value) is),
+      subst (λ (z : Database). next ≡ answered (hosted_of z) id) c.self.view_is (rw (entry_here id db.feeds.items c.in-Some.at placed p c.index_mut-feed.ensures.value) is),
       rw (sym c.self.view_is) (rest_stays J refl refl (behind_here id db.feeds.items c.in-Some.at placed p c.index_mut-feed.ensures.value _ (current J) (length J) c.next_item.new.self c.self.invariant.rising (due (current J) p.1) next is new) refl refl),
     )) (rw c.rows-rows.ensures at c.next_item.ensures.ok) (rw c.rows-rows.ensures at c.next_item.ensures.new)
 
@@ -56,5 +57,5 @@ returns-clause-err c =
     err_then c.next_item.result
     (λ w. (
       rw (sym c.self.view_is) (rest_stays J refl refl (stays_here id db.feeds.items c.in-Some.at placed p c.index_mut-feed.ensures.value c.next_item.new.self w.0) refl refl),
-      subst (λ (z : Database). IsRowDue (due_to (hosted_of z) id)) c.self.view_is (subst IsRowDue (sym (ap (due_of (current J)) (feed_here id db.feeds.items c.in-Some.at placed p c.index_mut-feed.ensures.value))) w.1),
+      subst (λ (z : Database). IsRowDue (due_to (hosted_of z) id)) c.self.view_is (subst IsRowDue (sym (ap (due_of (current J)) (entry_here id db.feeds.items c.in-Some.at placed p c.index_mut-feed.ensures.value))) w.1),
     )) (rw c.rows-rows.ensures at c.next_item.ensures.err)

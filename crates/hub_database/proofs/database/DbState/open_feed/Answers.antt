@@ -1,7 +1,7 @@
 use Rattle.std.proofs.Common.{◌≡◌, subst, None}
 use Rattle.hub_database.specs.Database.{Database}
 use Rattle.hub_model.specs.Entries.{entry_in}
-use Rattle.hub_database.proofs.FeedLemmas.{none_above}
+use Rattle.hub_model.proofs.Entries.{none_above}
 use Rattle.hub_database.proofs.database.DbState.open_feed.Goals as goal
 
 pub returns-clause-new : goal.returns-clause-new

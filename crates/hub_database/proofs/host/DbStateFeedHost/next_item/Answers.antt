@@ -1,8 +1,5 @@
-use Rattle.std.proofs.Common.{ap}
-use Rattle.hub_database.specs.Hosting.{hosted_of}
 use Rattle.hub_database.proofs.FeedLemmas.{both_ok}
 use Rattle.hub_database.proofs.host.DbStateFeedHost.next_item.Goals as goal
 
 pub returns-clause-new : goal.returns-clause-new
-returns-clause-new c =
-    both_ok c.next_item.result (λ next ok _. ap hosted_of ok.1) c.next_item.ensures.ok c.next_item.ensures.ok
+returns-clause-new c = both_ok c.next_item.result (λ next ok _. ok.1) c.next_item.ensures.ok c.next_item.ensures.ok

@@ -1,0 +1,14 @@
+use Rattle.std.proofs.Common.{sym, subst}
+use Rattle.hub_shared.specs.Locked.{AreSendersOf}
+use Rattle.hub_shared.proofs.Sending.{expires}
+use Rattle.hub_shared.proofs.locked.Locked.expire.Goals as goal
+
+pub invariant_of-self : goal.invariant_of-self
+invariant_of-self g c =
+    let h = g.S.FeedHost in
+    let laws = g.met.S.FeedHost in
+    let senders = c.self.inside.senders.items in (
+      c.self.invariant.0,
+      subst (λ s. AreSendersOf (h.fits s) (h.hosted s) senders) (sym c.expire.ensures)
+          (expires h.hosted h.with_hosted h.fits h.right laws.hosts laws.rightly laws.stays c.self.inside.state c.args.feed.number senders c.self.invariant.1 laws.expired_fits),
+    )

@@ -1,0 +1,91 @@
+-- What lies under a lock: a host of feeds, and the sender of each of its feeds (own).
+use Rattle.std.specs.Prelude.{◌≡◌, ℕ, ◌<◌, List, All, Bool, true, false, Option, Some, None, ⊤}
+use Rattle.hub_model.specs.Entries.{entry_in, AreRising}
+use Rattle.hub_model.specs.Feed.{Feed}
+use Rattle.hub_model.specs.declared.feeds.Item.{Item}
+use Rattle.hub_model.specs.declared.feeds.Item.TheVariants.{Row, Beat, End}
+use Rattle.hub_params.specs.FeedModel.{params_in}
+use Rattle.hub_feed.specs.Host.{Hosted, behind_answer}
+use Rattle.hub_feed.specs.Host as host
+use Rattle.hub_feed.specs.declared.next.Next.{Next}
+use Rattle.hub_feed.specs.declared.next.Next.TheVariants as next
+use Rattle.hub_lane.specs.Ends.{SenderState}
+use Rattle.hub_shared.specs.Label.{Label}
+use Rattle.hub_shared.specs.Senders.{sends, IsRefused}
+use Rattle.hub_shared.specs.declared.locked.Handed.{Handed}
+use Rattle.hub_shared.specs.declared.locked.Handed.TheVariants as handed
+
+-- the sender of a feed of such rows, as it is seen
+abbrev pub FeedSender : Type 0 → Type 0
+FeedSender R = SenderState Label (Item R)
+
+-- a host, and the senders of its feeds that are not finished
+pub record LockedState (S R : Type 0) : Type 0 where
+  pub state : S
+  pub senders : List (ℕ × FeedSender R)  -- by the numbers of their feeds, which rise
+  pub lane : ℕ  -- how many items a feed's lane holds at most
+
+module _ {R : Type 0} (fits : Feed → List (Item R) → Type 0) where
+  -- the sender of a feed: its label is the feed's parameters and since, and what it sent fits the feed
+  pub record IsSenderOf (f : Feed) (s : FeedSender R) : Type 0 where
+    pub asks : params_in s.label.asked ≡ f.params
+    pub begins : s.label.since ≡ f.since
+    pub list : fits f s.sent
+
+  -- a feed has its sender, and where there is no feed there is no sender
+  abbrev pub IsServed : Option Feed → Option (FeedSender R) → Type 0
+  IsServed None None = ⊤
+  IsServed None (Some s) = ⊥
+  IsServed (Some f) None = ⊥
+  IsServed (Some f) (Some s) = IsSenderOf f s
+
+  -- the senders are those of the feeds that are not finished: each has its own, and there are no others
+  -- with feeds 3 and 5 these are a sender of feed 3, with what feed 3 handed, and one of feed 5
+  pub record AreSendersOf (h : Hosted R) (senders : List (ℕ × FeedSender R)) : Type 0 where
+    pub rising : AreRising senders
+    pub given : All (λ (p : ℕ × FeedSender R). p.0 < h.next_feed) senders
+    pub each : (number : ℕ) → IsServed (entry_in number h.feeds) (entry_in number senders)
+
+-- what a hand answers that sent this item
+abbrev pub handed_as : {R : Type 0} → Item R → Handed
+handed_as (Row row) = handed.Row
+handed_as Beat = handed.Row
+handed_as (End last_seq pending) = handed.End
+
+module _ {S R : Type 0} (hosted : S → Hosted R) (with_hosted : S → Hosted R → S) where
+  -- a step of the feeds, with no sender
+  abbrev pub stepped : LockedState S R → (Hosted R → Hosted R) → LockedState S R
+  stepped l step = record l { state = with_hosted l.state (step (hosted l.state)) }
+
+  -- the feed of this number handed the item that was due, and its sender sent that
+  abbrev pub handed_on : LockedState S R → ℕ → Item R → LockedState S R
+  handed_on l number item =
+      record (stepped l (λ h. host.handed h number)) { senders = sends number item l.senders }
+
+  -- What one hand does, of the feed of this number that answers so, where `refuses` says what is told of a
+  -- sender whose item was refused. An item that is due is sent, and the feed goes on behind it; or it is
+  -- refused, and nothing changes. A feed that has nothing to hand moves to the length.
+  abbrev pub Hands : (FeedSender R → Item R → Type 0) → Next R → LockedState S R → ℕ → Handed
+      → LockedState S R → Type 0
+  Hands refuses (next.Give item) l number handed.Row new =
+      (handed_as item ≡ handed.Row) × (new ≡ handed_on l number item)
+  Hands refuses (next.Give item) l number handed.End new =
+      (handed_as item ≡ handed.End) × (new ≡ handed_on l number item)
+  Hands refuses (next.Give item) l number handed.Full new =
+      IsRefused refuses l.senders number item × (new ≡ l)
+  Hands refuses (next.Give item) l number handed.Nothing new = ⊥
+  Hands refuses (next.Give item) l number handed.Gone new = ⊥
+  Hands refuses next.Nothing l number answer new =
+      (answer ≡ handed.Nothing) × (new ≡ stepped l (λ h. behind_answer h number next.Nothing))
+  Hands refuses next.Gone l number answer new = (answer ≡ handed.Gone) × (new ≡ l)
+
+-- What one beat does, where one is due or not. One that is due is sent, and the feed stays; or it is refused,
+-- and nothing changes.
+abbrev pub Beats : {S R : Type 0} → (FeedSender R → Item R → Type 0) → Bool → LockedState S R → ℕ → Handed
+    → LockedState S R → Type 0
+Beats refuses true l number handed.Full new = IsRefused refuses l.senders number Beat × (new ≡ l)
+Beats refuses true l number handed.Nothing new = new ≡ record l { senders = sends number Beat l.senders }
+Beats refuses true l number handed.Row new = ⊥
+Beats refuses true l number handed.End new = ⊥
+Beats refuses true l number handed.Gone new = ⊥
+Beats refuses false l number answer new = (answer ≡ handed.Nothing) × (new ≡ l)

@@ -1,0 +1,60 @@
+//! The labels of feeds' lanes.
+
+ghost use Rattle.std.specs.Prelude.{◌≡◌};
+ghost use Rattle.hub_params.specs.FeedShown.{params_asked};
+
+use hub_feed::FeedHost;
+use hub_lane::Kept;
+use hub_model::Item;
+use hub_params::FeedParams;
+use std::marker::{Model, PhantomData};
+
+/// What a feed of a host `S` was asked for, and where it began. It says which lists of items may be
+/// sent for the feed: those that the host calls right for such a feed.
+#[derive(Drop)]
+pub struct FeedLabel<S> {
+    params: FeedParams,
+    since: u64,
+    host: PhantomData<S>,
+}
+
+impl<S> Model for FeedLabel<S> {
+    ghost use Rattle.hub_params.specs.FeedShown.{params_asked};
+    ghost use Rattle.hub_shared.specs.Label.{Label};
+
+    ghost Value = { Label };
+
+    ghost view = { λ a. record { asked = params_asked a.params; since = a.since } };
+}
+
+impl<S> FeedLabel<S> {
+    pub(crate) fn new(params: FeedParams, since: u64) -> FeedLabel<S>
+        ensures { result ≡ record { asked = params_asked params; since = since } }
+    {
+        FeedLabel {
+            params,
+            since,
+            host: PhantomData,
+        }
+    }
+
+    /// What was asked for. Constant time.
+    pub fn params(&self) -> &FeedParams
+        ensures { params_asked result.now ≡ self.now.asked }
+    {
+        &self.params
+    }
+
+    /// The sequence that the feed began at: it shows what lies above. Constant time.
+    pub fn since(&self) -> u64
+        ensures { result ≡ self.now.since }
+    {
+        self.since
+    }
+}
+
+impl<S: FeedHost> Kept<Item<S::Row>> for FeedLabel<S> {
+    ghost use Rattle.hub_params.specs.FeedModel.{params_in};
+
+    ghost allows = { λ l items. S.right (params_in l.asked) l.since items };
+}

@@ -1,0 +1,16 @@
+//! A host of feeds and the senders of its feeds, as they lie under a lock: each step of a feed is
+//! one step of the host and of the feed's sender together.
+#![tactic(auto)]
+
+mod label;
+mod locked;
+mod receipt;
+mod senders;
+#[cfg(test)]
+mod tests;
+mod write;
+
+pub use label::FeedLabel;
+pub use locked::{Handed, Locked};
+pub use receipt::Receipt;
+pub use write::Accepted;

@@ -1,0 +1,84 @@
+//! Writes to a database that lies under a lock.
+
+ghost use Rattle.std.specs.Prelude.{◌≡◌, ◌+◌, ◌<◌, length, take, true, false, ℕ, Some, IsTrue, IfOk, IfErr, OnErr, OnOk};
+ghost use Rattle.hub_model.specs.Entries.{entry_in};
+ghost use Rattle.hub_model.specs.Feed.{Feed};
+ghost use Rattle.hub_model.specs.Journal.{IsLegal};
+ghost use Rattle.hub_model.specs.RightlyHanded.{RightlyHanded};
+ghost use Rattle.hub_model.specs.Row.{ChangeRow};
+ghost use Rattle.hub_model.specs.declared.outcomes.Fault.TheVariants.{Deleted};
+ghost use Rattle.hub_params.specs.FeedModel.{params_in};
+ghost use Rattle.hub_database.specs.Edits.{StopsAt, writes};
+ghost use Rattle.hub_database.specs.Feeds.{deleted};
+ghost use Rattle.hub_shared.specs.Locked.{FeedSender};
+ghost use Rattle.hub_shared.specs.Receipts.{AreAdded, ids_of, receipts_from};
+
+use crate::locked::Locked;
+use crate::receipt::{self, Receipt};
+use hub_database::{DbFault, DbState, Replies};
+use hub_document::Doc;
+
+/// What a write did.
+#[derive(Debug, Drop)]
+pub struct Accepted {
+    /// What became of each document, in order; where the write stopped, of those before the stop.
+    pub replies: Replies,
+    /// Whether memory ran out at the document behind those.
+    pub stopped: bool,
+    /// The receipts of the documents that were stored, in order.
+    pub receipts: Vec<Receipt>,
+}
+
+impl Locked<DbState> {
+    /// Whenever a database is got from a lock, its journal is legal, and what was sent for each feed
+    /// that is not finished is rightly handed for that journal, under the feed's own parameters and
+    /// since.
+    pub fn feeds_are_right(&self)
+        ensures legal { IsLegal self.now.state.journal }
+        ensures asks { (number : ℕ) (f : Feed) (s : FeedSender ChangeRow) → entry_in number self.now.state.feeds ≡ Some f → entry_in number self.now.senders ≡ Some s → (params_in s.label.asked ≡ f.params) × (s.label.since ≡ f.since) }
+        ensures right { (number : ℕ) (f : Feed) (s : FeedSender ChangeRow) → entry_in number self.now.state.feeds ≡ Some f → entry_in number self.now.senders ≡ Some s → RightlyHanded self.now.state.journal f s.sent }
+        ensures served { (number : ℕ) (f : Feed) → entry_in number self.now.state.feeds ≡ Some f → (s : FeedSender ChangeRow) × (entry_in number self.now.senders ≡ Some s) }
+    {
+        let _legal = self.state.update_seq();
+    }
+
+    /// Stores documents one after the other, as `DbState::write_edits`, and gives a receipt of each
+    /// that was stored. The memory for the receipts is taken before any edit: the call fails only
+    /// where it, or the list of replies, finds none, and then nothing changes. It costs what
+    /// `write_edits` does, and copies of the documents' ids.
+    pub fn write(&mut self, docs: Vec<Doc>, new_edits: bool) -> Result<Accepted, DbFault>
+        ensures ok { IfOk result (λ a. writes new_edits self.old.state.deleted self.old.state.limits.journal self.old.state.journal (take (length a.replies) docs.items) ≡ record { outcomes = a.replies; journal = self.new.state.journal }) }
+        ensures whole { IfOk result (λ a. a.stopped ≡ false → length a.replies ≡ length docs.items) }
+        ensures stopped { IfOk result (λ a. IsTrue a.stopped → length a.replies < length docs.items) }
+        ensures stops { IfOk result (λ a. IsTrue a.stopped → StopsAt new_edits self.old.state.deleted self.new.state.journal (length a.replies) docs.items) }
+        ensures receipts { IfOk result (λ a. a.receipts.items ≡ receipts_from (length self.old.state.journal) (ids_of docs.items) a.replies) }
+        ensures longer { IfOk result (λ a. length self.new.state.journal ≡ length self.old.state.journal + length a.receipts.items) }
+        ensures added { IfOk result (λ a. AreAdded self.old.state.journal self.new.state.journal a.receipts.items) }
+        ensures rest { self.new ≡ record self.old { state = record self.old.state { journal = self.new.state.journal } } }
+        ensures err { IfErr result (λ e. (e ≡ DbFault.NoMemory) × (self.new ≡ self.old)) }
+        ensures memory { OnErr result (0 < length docs.items) }
+    {
+        let ids = receipt::ids_of(self.alloc, docs.as_slice())?;
+        let mut room = Vec::new(self.alloc);
+        room.try_reserve(ids.len())?;
+        let before = self.state.update_seq();
+        let batch = self.state.write_edits(docs, new_edits)?;
+        let _legal = self.state.update_seq();
+        let receipts = receipt::receipts_of(room, before, ids, batch.replies.as_slice());
+        Ok(Accepted {
+            replies: batch.replies,
+            stopped: batch.stopped,
+            receipts,
+        })
+    }
+
+    /// Deletes the database, and ends its open feeds: what is left of each is its end. It takes no
+    /// memory, and costs a step for each feed.
+    pub fn delete(&mut self) -> Result<(), DbFault>
+        ensures ok { OnOk result ((self.old.state.deleted ≡ false) × (self.new ≡ record self.old { state = deleted self.old.state })) }
+        ensures err { IfErr result (λ e. (self.old.state.deleted ≡ true) × (e ≡ DbFault.Refused Deleted) × (self.new ≡ self.old)) }
+    {
+        let _legal = self.state.update_seq();
+        self.state.delete()
+    }
+}
