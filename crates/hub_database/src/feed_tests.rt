@@ -5,7 +5,7 @@ use crate::feed_tests::FeedStep::{Beats, Expire, Finish, Hands, Open};
 use crate::feed_tests::Handed::{Beat, End, Gone, Nothing, Row, Whole};
 use crate::read_tests::ReadStep::Descending;
 use crate::tests::Step::{Batch, Feed, Read};
-use crate::tests::{Step, assert_steps, assert_within};
+use crate::tests::{Step, all_are, assert_steps, assert_within};
 use hub_document::{ChangeRow, Limits, RevId};
 use hub_feed::{FeedId, Next, OpenFault};
 use hub_model::Item;
@@ -69,14 +69,14 @@ pub(crate) fn asked(alloc: Global, query: &str) -> Option<FeedParams> {
     FeedParams::read(alloc, query.as_bytes(), b"").ok()
 }
 
+// Whether a revision is written so.
+fn is_rev(rev: &RevId, text: &&str) -> bool {
+    RevId::read(text) == Some(*rev)
+}
+
 /// Whether these are the revisions that the texts are.
 pub(crate) fn are_revs(revs: &[RevId], texts: &[&str]) -> bool {
-    for (rev, text) in revs.iter().zip(texts.iter()) {
-        if RevId::read(text) != Some(*rev) {
-            return false;
-        }
-    }
-    revs.len() == texts.len()
+    all_are(revs, texts, is_rev)
 }
 
 // Whether a row brings these members.

@@ -6,9 +6,9 @@ use crate::local::Local;
 use crate::local_tests::LocalStep::{Fill, Get, Put};
 use crate::tests::Step::{Counts, Local as On, Seq};
 use crate::tests::{Step, assert_steps};
-use hub_document::{Body, LocalDoc};
+use hub_document::LocalDoc;
 use hub_model::Fault;
-use std::alloc::{AllocError, Global};
+use std::alloc::Global;
 
 /// A step on local documents, by their ids, and its answer.
 pub(crate) enum LocalStep {
@@ -16,7 +16,7 @@ pub(crate) enum LocalStep {
     Put(&'static str, &'static str, Result<u64, DbFault>),
     /// How often one was written, and its members.
     Get(&'static str, Result<Option<(u64, &'static str)>, DbFault>),
-    /// One without members gets the last count.
+    /// The count of one that is stored becomes the last.
     Fill(&'static str),
 }
 
@@ -54,15 +54,15 @@ fn keeps(state: &DbState, id: &str, answer: Result<Option<(u64, &str)>, DbFault>
     }
 }
 
-// Gives a local document without members the last count, which no test can count to.
-fn fill(alloc: Global, state: &mut DbState, id: &str) -> Result<(), AllocError> {
-    let last = Local {
-        count: u64::MAX,
-        body: Body::empty(alloc)?,
-    };
-    let id = String::from_str(alloc, id)?;
-    state.locals.insert(id, last)?;
-    Ok(())
+// Whether a stored local document gets the last count, to which no test can count.
+fn fill(state: &mut DbState, id: &str) -> bool {
+    match state.locals.get_mut(id) {
+        Some(local) => {
+            local.count = u64::MAX;
+            true
+        }
+        None => false,
+    }
 }
 
 /// Whether a step has its answer.
@@ -70,7 +70,7 @@ pub(crate) fn local_holds(alloc: Global, state: &mut DbState, step: &LocalStep) 
     match step {
         Put(id, text, answer) => puts(alloc, state, id, text, *answer),
         Get(id, answer) => keeps(state, id, *answer),
-        Fill(id) => fill(alloc, state, id).is_ok(),
+        Fill(id) => fill(state, id),
     }
 }
 
@@ -102,6 +102,7 @@ fn local_documents_are_no_edits(rt: HostRuntime) {
 }
 
 const LAST: &[Step] = &[
+    On(Put("_local/x", "{}", Ok(1))),
     On(Fill("_local/x")),
     On(Put(
         "_local/x",

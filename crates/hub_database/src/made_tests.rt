@@ -102,7 +102,7 @@ fn a_made_revision_that_is_known_is_a_conflict(rt: HostRuntime) {
 }
 
 const GENERATIONS: &[Step] = &[
-    LongHistory(65535, Stored("65535-x")),
+    LongHistory(Stored("65535-x")),
     Make(r#"{"_id":"a","_rev":"65535-x"}"#, LAST),
     Counts(Ok((1, 0, 1))),
 ];

@@ -4,11 +4,11 @@ use crate::feed_tests::{are_revs, asked};
 use crate::read_tests::ReadStep::{All, Descending, Diff, Entry, Get, Listed, Winner};
 use crate::read_tests::Shown::{Absent, Deleted, Found, Unknown};
 use crate::tests::Step::{Batch, Read};
-use crate::tests::{Step, assert_steps};
+use crate::tests::{Step, all_are, assert_steps};
 use crate::{DbFault, DbState, Descending as Falling, Diff as Difference, Lookup, OpenRev};
 use hub_document::{Asked, ChangeRow, Doc, OpenRevs, RevId, Revisions};
 use hub_model::Outcome::Stored;
-use std::alloc::Global;
+use std::alloc::{AllocError, Global};
 
 /// What is asked of the documents, and its answer.
 pub(crate) enum ReadStep {
@@ -79,6 +79,15 @@ fn is_shown(alloc: Global, found: &Lookup, shown: &Shown) -> bool {
     }
 }
 
+// Whether an answer to a look for a document is this.
+fn is_got(alloc: Global, found: &Result<Lookup, DbFault>, answer: &Result<Shown, DbFault>) -> bool {
+    match (found, answer) {
+        (Ok(found), Ok(shown)) => is_shown(alloc, found, shown),
+        (Err(fault), Err(other)) => fault == other,
+        _ => false,
+    }
+}
+
 // Whether asking for a document has this answer.
 fn gets(
     alloc: Global,
@@ -87,11 +96,8 @@ fn gets(
     revs: bool,
     answer: &Result<Shown, DbFault>,
 ) -> bool {
-    match (&state.get(id, revs), answer) {
-        (Ok(found), Ok(shown)) => is_shown(alloc, found, shown),
-        (Err(fault), Err(other)) => fault == other,
-        _ => false,
-    }
+    let found = state.get(id, revs);
+    is_got(alloc, &found, answer)
 }
 
 // Whether this is shown of a revision.
@@ -103,14 +109,19 @@ fn is_opened(alloc: Global, found: &OpenRev, shown: &Shown) -> bool {
     }
 }
 
-// Whether these are shown of revisions.
-fn are_opened(alloc: Global, found: &[OpenRev], shown: &[Shown]) -> bool {
-    for (open, shown) in found.iter().zip(shown.iter()) {
-        if !is_opened(alloc, open, shown) {
-            return false;
-        }
+// Whether an answer to a look for revisions is this.
+fn are_opened(
+    alloc: Global,
+    found: &Result<Vec<OpenRev>, DbFault>,
+    answer: Result<&[Shown], DbFault>,
+) -> bool {
+    match (found, answer) {
+        (Ok(found), Ok(shown)) => all_are(found.as_slice(), shown, |open, shown| {
+            is_opened(alloc, open, shown)
+        }),
+        (Err(fault), Err(other)) => *fault == other,
+        _ => false,
     }
-    found.len() == shown.len()
 }
 
 // Whether asking for revisions of a document has this answer.
@@ -122,11 +133,19 @@ fn opens(
     revs: bool,
     answer: Result<&[Shown], DbFault>,
 ) -> bool {
-    match (&state.open_revs(id, which, revs), answer) {
-        (Ok(found), Ok(shown)) => are_opened(alloc, found.as_slice(), shown),
-        (Err(fault), Err(other)) => *fault == other,
-        _ => false,
-    }
+    let found = state.open_revs(id, which, revs);
+    are_opened(alloc, &found, answer)
+}
+
+// Whether asking for the leaves of a document has this answer.
+fn opens_all(
+    alloc: Global,
+    state: &DbState,
+    id: &str,
+    revs: bool,
+    answer: Result<&[Shown], DbFault>,
+) -> bool {
+    opens(alloc, state, id, &OpenRevs::All, revs, answer)
 }
 
 // The revisions that the texts are; None where one is none.
@@ -176,14 +195,13 @@ fn misses(diff: &Difference, missed: &Missed) -> bool {
         && are_revs(diff.possible_ancestors.as_slice(), missed.ancestors)
 }
 
-// Whether documents miss this.
-fn all_miss(found: &[Difference], missed: &[Missed]) -> bool {
-    for (diff, missed) in found.iter().zip(missed.iter()) {
-        if !misses(diff, missed) {
-            return false;
-        }
+// Whether an answer to what documents miss is this.
+fn all_miss(found: &Result<Vec<Difference>, DbFault>, answer: Result<&[Missed], DbFault>) -> bool {
+    match (found, answer) {
+        (Ok(found), Ok(missed)) => all_are(found.as_slice(), missed, misses),
+        (Err(fault), Err(other)) => *fault == other,
+        _ => false,
     }
-    found.len() == missed.len()
 }
 
 // Whether asking what documents miss has this answer.
@@ -193,13 +211,12 @@ fn differs(
     wanted: &[Wanted],
     answer: Result<&[Missed], DbFault>,
 ) -> bool {
-    let Some(list) = all_asked(alloc, wanted) else {
-        return false;
-    };
-    match (&state.revs_diff(list), answer) {
-        (Ok(found), Ok(missed)) => all_miss(found.as_slice(), missed),
-        (Err(fault), Err(other)) => *fault == other,
-        _ => false,
+    match all_asked(alloc, wanted) {
+        Some(list) => {
+            let found = state.revs_diff(list);
+            all_miss(&found, answer)
+        }
+        None => false,
     }
 }
 
@@ -212,31 +229,45 @@ fn is_named(state: &DbState, seq: u64, name: Option<(&str, &str)>) -> bool {
     }
 }
 
-// Whether the edit of a sequence is written so; where there is none, None.
-fn is_edit(alloc: Global, state: &DbState, seq: u64, text: Option<&str>) -> bool {
-    match (&state.entry_doc(seq), text) {
-        (Ok(Some(doc)), Some(text)) => is_written(alloc, doc, text),
-        (Ok(None), None) => true,
+// Whether the document of an edit is written so; where there is none, None.
+fn is_edit(alloc: Global, found: &Option<Doc>, text: Option<&str>) -> bool {
+    match (found, text) {
+        (Some(doc), Some(text)) => is_written(alloc, doc, text),
+        (None, None) => true,
         _ => false,
     }
 }
 
-// Whether the sequences of the rows are these.
-fn has_sequences(rows: &[ChangeRow], seqs: &[u64]) -> bool {
-    for (row, seq) in rows.iter().zip(seqs.iter()) {
-        if row.seq != *seq {
-            return false;
-        }
+// Whether the edit of a sequence is written so; where there is none, None.
+fn has_edit(alloc: Global, state: &DbState, seq: u64, text: Option<&str>) -> bool {
+    match state.entry_doc(seq) {
+        Ok(found) => is_edit(alloc, &found, text),
+        Err(AllocError) => false,
     }
-    rows.len() == seqs.len()
 }
 
-// Whether a descending answer has rows of these sequences, this last one and this count.
-fn is_falling(found: &Falling, answer: (&[u64], u64, u64)) -> bool {
-    let (seqs, last_seq, pending) = answer;
-    has_sequences(found.rows.as_slice(), seqs)
+// Whether a row is of this sequence.
+fn is_at(row: &ChangeRow, seq: &u64) -> bool {
+    row.seq == *seq
+}
+
+// Whether descending rows have these sequences, this last one and this count.
+fn is_falling(found: &Falling, (seqs, last_seq, pending): (&[u64], u64, u64)) -> bool {
+    all_are(found.rows.as_slice(), seqs, is_at)
         && found.last_seq == last_seq
         && found.pending == pending
+}
+
+// Whether an answer to a descending feed is this.
+fn are_falling(
+    found: &Result<Falling, DbFault>,
+    answer: Result<(&[u64], u64, u64), DbFault>,
+) -> bool {
+    match (found, answer) {
+        (Ok(found), Ok(rows)) => is_falling(found, rows),
+        (Err(fault), Err(other)) => *fault == other,
+        _ => false,
+    }
 }
 
 // Whether asking for descending rows has this answer.
@@ -246,13 +277,12 @@ fn falls(
     query: &str,
     answer: Result<(&[u64], u64, u64), DbFault>,
 ) -> bool {
-    let Some(params) = asked(alloc, query) else {
-        return false;
-    };
-    match (&state.changes_descending(&params), answer) {
-        (Ok(found), Ok(rows)) => is_falling(found, rows),
-        (Err(fault), Err(other)) => *fault == other,
-        _ => false,
+    match asked(alloc, query) {
+        Some(params) => {
+            let found = state.changes_descending(&params);
+            are_falling(&found, answer)
+        }
+        None => false,
     }
 }
 
@@ -260,9 +290,9 @@ fn falls(
 fn has_entry(alloc: Global, state: &DbState, seq: u64, answer: Option<(&str, &str, &str)>) -> bool {
     match answer {
         Some((id, rev, text)) => {
-            is_named(state, seq, Some((id, rev))) && is_edit(alloc, state, seq, Some(text))
+            is_named(state, seq, Some((id, rev))) && has_edit(alloc, state, seq, Some(text))
         }
-        None => is_named(state, seq, None) && is_edit(alloc, state, seq, None),
+        None => is_named(state, seq, None) && has_edit(alloc, state, seq, None),
     }
 }
 
@@ -271,7 +301,7 @@ pub(crate) fn read_holds(alloc: Global, state: &DbState, step: &ReadStep) -> boo
     match step {
         Winner(id, answer) => wins(state, id, *answer),
         Get(id, revs, answer) => gets(alloc, state, id, *revs, answer),
-        All(id, revs, answer) => opens(alloc, state, id, &OpenRevs::All, *revs, *answer),
+        All(id, revs, answer) => opens_all(alloc, state, id, *revs, *answer),
         Listed(id, texts, revs, shown) => lists(alloc, state, id, texts, *revs, shown),
         Diff(wanted, answer) => differs(alloc, state, wanted, *answer),
         Entry(seq, answer) => has_entry(alloc, state, *seq, *answer),

@@ -21,8 +21,9 @@ pub(crate) enum Step {
     Batch(&'static [&'static str], &'static [Outcome<&'static str>]),
     /// A batch of documents whose revisions are made here, and what each is told.
     Edits(&'static [&'static str], &'static [Outcome<&'static str>]),
-    /// A batch of one document `a` that another database made, with so many revisions `x`.
-    LongHistory(u16, Outcome<&'static str>),
+    /// A batch of one document `a` that another database made, with 65,535 revisions `x`, which is
+    /// the longest history that there is.
+    LongHistory(Outcome<&'static str>),
     /// A document whose revision is made here, and that revision.
     Make(&'static str, Result<&'static str, DbFault>),
     /// How many documents there are, how many deleted ones, and how many edits.
@@ -48,19 +49,34 @@ pub(crate) enum Step {
 /// What each call tells whose database is deleted.
 pub(crate) const DELETED: DbFault = DbFault::Refused(Fault::Deleted);
 
+/// Whether each of these is as wanted, and there are as many.
+pub(crate) fn all_are<T, W, F: Fn(&T, &W) -> bool>(found: &[T], wanted: &[W], is: F) -> bool
+    requires { F.IsAlwaysCallable is }
+{
+    for (at, found) in found.iter().enumerate() {
+        let Some(wanted) = wanted.get(at) else {
+            return false;
+        };
+        if !is(found, wanted) {
+            return false;
+        }
+    }
+    found.len() == wanted.len()
+}
+
 // The documents that the texts are; None where one is none.
 fn docs(alloc: Global, texts: &[&str], new_edits: bool) -> Option<Vec<Doc>> {
     let mut docs = Vec::new(alloc);
     for text in texts {
-        let doc = Doc::read(alloc, text.as_bytes(), new_edits).ok()?;
-        docs.push(doc).ok()?;
+        docs.try_reserve(1).ok()?;
+        docs.push_reserved(Doc::read(alloc, text.as_bytes(), new_edits).ok()?);
     }
     Some(docs)
 }
 
 // Whether a document was told so.
-fn is_told(reply: Outcome<RevId>, told: Outcome<&str>) -> bool {
-    match (reply, told) {
+fn is_told(reply: &Outcome<RevId>, told: &Outcome<&str>) -> bool {
+    match (*reply, *told) {
         (Stored(rev), Stored(text)) => RevId::read(text) == Some(rev),
         (Refused(fault), Refused(other)) => fault == other,
         (Known, Known) => true,
@@ -70,13 +86,7 @@ fn is_told(reply: Outcome<RevId>, told: Outcome<&str>) -> bool {
 
 // Whether the documents of a whole batch were told so.
 fn are_told(batch: &Written, told: &[Outcome<&str>]) -> bool {
-    let replies = batch.replies.as_slice();
-    for (reply, told) in replies.iter().zip(told.iter()) {
-        if !is_told(*reply, *told) {
-            return false;
-        }
-    }
-    !batch.stopped && replies.len() == told.len()
+    !batch.stopped && all_are(batch.replies.as_slice(), told, is_told)
 }
 
 // Whether the documents of a batch are told so.
@@ -96,19 +106,22 @@ fn tells(
     }
 }
 
-// A document `a` whose history has so many revisions `x`.
-fn long_history(alloc: Global, count: u16) -> Result<String, AllocError> {
-    let mut text = format!(in alloc; r#"{{"_id":"a","_revisions":{{"start":{count},"ids":["x""#)?;
-    for _ in 1..count {
+// A document `a` whose history has 65,535 revisions `x`.
+fn long_history(alloc: Global) -> Result<String, AllocError> {
+    let mut text = String::from_str(
+        alloc,
+        r#"{"_id":"a","_revisions":{"start":65535,"ids":["x""#,
+    )?;
+    for _ in 1..65535 {
         text.push_str(r#","x""#)?;
     }
     text.push_str("]}}")?;
     Ok(text)
 }
 
-// Whether a document with so long a history is told so.
-fn tells_long(alloc: Global, state: &mut DbState, count: u16, told: Outcome<&str>) -> bool {
-    match long_history(alloc, count) {
+// Whether the document with the longest history is told so.
+fn tells_long(alloc: Global, state: &mut DbState, told: Outcome<&str>) -> bool {
+    match long_history(alloc) {
         Ok(text) => tells(alloc, state, &[text.as_str()], false, &[told]),
         Err(AllocError) => false,
     }
@@ -144,7 +157,7 @@ fn holds(alloc: Global, state: &mut DbState, step: &Step) -> bool {
     match step {
         Step::Batch(texts, told) => tells(alloc, state, texts, false, told),
         Step::Edits(texts, told) => tells(alloc, state, texts, true, told),
-        Step::LongHistory(count, told) => tells_long(alloc, state, *count, *told),
+        Step::LongHistory(told) => tells_long(alloc, state, *told),
         Step::Make(text, answer) => makes(alloc, state, text, *answer),
         Step::Counts(answer) => has_counts(state, *answer),
         Step::Seq(seq) => state.update_seq() == *seq,
@@ -170,11 +183,16 @@ fn count_held(alloc: Global, state: &mut DbState, steps: &[Step]) -> usize {
     count
 }
 
+// That count in a new database within these limits.
+fn count_within(alloc: Global, limits: Limits, steps: &[Step]) -> usize {
+    let mut state = DbState::new(alloc, limits);
+    count_held(alloc, &mut state, steps)
+}
+
 /// Asserts that these steps, one at least, have their answers in a new database within these limits.
 /// Where one has another, the count that the assertion shows is its place.
 pub(crate) fn assert_within(rt: &impl Abort, alloc: Global, limits: Limits, steps: &[Step]) {
-    let mut state = DbState::new(alloc, limits);
-    let count = count_held(alloc, &mut state, steps);
+    let count = count_within(alloc, limits, steps);
     assert_eq!(rt; count, steps.len());
     assert!(rt; count > 0);
 }
