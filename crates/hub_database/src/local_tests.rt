@@ -2,9 +2,9 @@
 
 use crate::batch::DbFault;
 use crate::database::DbState;
-use crate::local::Local;
+use crate::local::Local as Kept;
 use crate::local_tests::LocalStep::{Fill, Get, Put};
-use crate::tests::Step::{Counts, Local as On, Seq};
+use crate::tests::Step::{Counts, Local, Seq};
 use crate::tests::{Step, assert_steps};
 use hub_document::LocalDoc;
 use hub_model::Fault;
@@ -35,7 +35,7 @@ fn puts(
 }
 
 // Whether a local document was written so often and has these members.
-fn is_kept(found: Option<&Local>, kept: Option<(u64, &str)>) -> bool {
+fn is_kept(found: Option<&Kept>, kept: Option<(u64, &str)>) -> bool {
     match (found, kept) {
         (Some(local), Some((count, text))) => {
             local.count == count && local.body.as_bytes() == text.as_bytes()
@@ -75,14 +75,14 @@ pub(crate) fn local_holds(alloc: Global, state: &mut DbState, step: &LocalStep) 
 }
 
 const COUNTED: &[Step] = &[
-    On(Get("_local/x", Ok(None))),
-    On(Put("_local/x", r#"{"v":1}"#, Ok(1))),
-    On(Get("_local/x", Ok(Some((1, r#"{"v":1}"#))))),
-    On(Get("_local/y", Ok(None))),
-    On(Put("_local/x", r#"{"v":2}"#, Ok(2))),
-    On(Put("_local/a", "{}", Ok(1))),
-    On(Get("_local/x", Ok(Some((2, r#"{"v":2}"#))))),
-    On(Get("_local/a", Ok(Some((1, "{}"))))),
+    Local(Get("_local/x", Ok(None))),
+    Local(Put("_local/x", r#"{"v":1}"#, Ok(1))),
+    Local(Get("_local/x", Ok(Some((1, r#"{"v":1}"#))))),
+    Local(Get("_local/y", Ok(None))),
+    Local(Put("_local/x", r#"{"v":2}"#, Ok(2))),
+    Local(Put("_local/a", "{}", Ok(1))),
+    Local(Get("_local/x", Ok(Some((2, r#"{"v":2}"#))))),
+    Local(Get("_local/a", Ok(Some((1, "{}"))))),
 ];
 
 #[test]
@@ -91,7 +91,7 @@ fn local_documents_are_counted_one_by_one(rt: HostRuntime) {
 }
 
 const NO_EDIT: &[Step] = &[
-    On(Put("_local/x", "{}", Ok(1))),
+    Local(Put("_local/x", "{}", Ok(1))),
     Seq(0),
     Counts(Ok((0, 0, 0))),
 ];
@@ -102,14 +102,14 @@ fn local_documents_are_no_edits(rt: HostRuntime) {
 }
 
 const LAST: &[Step] = &[
-    On(Put("_local/x", "{}", Ok(1))),
-    On(Fill("_local/x")),
-    On(Put(
+    Local(Put("_local/x", "{}", Ok(1))),
+    Local(Fill("_local/x")),
+    Local(Put(
         "_local/x",
         r#"{"v":1}"#,
         Err(DbFault::Refused(Fault::SequenceFull)),
     )),
-    On(Get("_local/x", Ok(Some((u64::MAX, "{}"))))),
+    Local(Get("_local/x", Ok(Some((u64::MAX, "{}"))))),
 ];
 
 #[test]

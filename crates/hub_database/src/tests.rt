@@ -53,15 +53,17 @@ pub(crate) const DELETED: DbFault = DbFault::Refused(Fault::Deleted);
 pub(crate) fn all_are<T, W, F: Fn(&T, &W) -> bool>(found: &[T], wanted: &[W], is: F) -> bool
     requires { F.IsAlwaysCallable is }
 {
-    for (at, found) in found.iter().enumerate() {
+    let mut at = 0usize;
+    for found in found {
         let Some(wanted) = wanted.get(at) else {
             return false;
         };
         if !is(found, wanted) {
             return false;
         }
+        at = at.saturating_add(1);
     }
-    found.len() == wanted.len()
+    at == wanted.len()
 }
 
 // The documents that the texts are; None where one is none.
