@@ -1,265 +1,187 @@
 //! Feeds of a database, and descending answers.
 
 use crate::DbState;
-use hub_document::{ChangeRow, Doc, Limits, RevId};
+use crate::feed_tests::FeedStep::{Beats, Expire, Finish, Hands, Open};
+use crate::feed_tests::Handed::{Beat, End, Gone, Nothing, Row, Whole};
+use crate::read_tests::ReadStep::Descending;
+use crate::tests::Step::{Batch, Feed, Read};
+use crate::tests::{Step, all_are, assert_steps, assert_within};
+use hub_document::{ChangeRow, Limits, RevId};
 use hub_feed::{FeedId, Next, OpenFault};
 use hub_model::Item;
+use hub_model::Outcome::{self, Stored};
 use hub_params::FeedParams;
-use std::alloc::Global;
-use std::test::Fail;
+use std::alloc::{AllocError, Global};
 
-/// The parameters that a query gives.
-pub(crate) fn asked(alloc: Global, query: &str) -> Result<FeedParams, Fail> {
-    match FeedParams::read(alloc, query.as_bytes(), b"") {
-        Ok(params) => Ok(params),
-        Err(_) => Err(Fail::new("no parameters")),
-    }
+/// A step on feeds, and its answer.
+pub(crate) enum FeedStep {
+    /// The feed that this query asks for is opened.
+    Open(&'static str, Result<FeedId, OpenFault>),
+    /// What a feed hands, one after the other.
+    Hands(FeedId, &'static [Handed]),
+    /// Whether a beat is due to a feed.
+    Beats(FeedId, bool),
+    /// The time of a feed is over.
+    Expire(FeedId),
+    /// A feed is finished.
+    Finish(FeedId),
 }
 
-/// A feed that the query opens.
-pub(crate) fn open(alloc: Global, state: &mut DbState, query: &str) -> Result<FeedId, Fail> {
-    match state.open_feed(asked(alloc, query)?) {
-        Ok(feed) => Ok(feed),
-        Err(_) => Err(Fail::new("no feed")),
-    }
+/// What a feed hands.
+pub(crate) enum Handed {
+    /// A row of this sequence.
+    Row(u64),
+    /// This row.
+    Whole(ShownRow),
+    /// A beat.
+    Beat,
+    /// Its end: the last sequence and how many rows are pending.
+    End(u64, u64),
+    /// Nothing now.
+    Nothing,
+    /// Nothing any more.
+    Gone,
 }
 
-/// Stores the document that the text is, which another database made.
-pub(crate) fn put(alloc: Global, state: &mut DbState, text: &str) -> Result<(), Fail> {
-    let mut docs = Vec::new(alloc);
-    docs.push(Doc::read(alloc, text.as_bytes(), false)?)?;
-    let _replies = state.write_edits(docs, false)?;
-    Ok(())
+/// What a row shows.
+pub(crate) struct ShownRow {
+    pub(crate) seq: u64,
+    pub(crate) id: &'static str,
+    pub(crate) revs: &'static [&'static str],
+    pub(crate) deleted: bool,
+    pub(crate) members: Option<&'static str>,
 }
 
-// A database that stores the documents that the texts are, one after the other.
-fn database(alloc: Global, texts: &[&str]) -> Result<DbState, Fail> {
-    let mut state = DbState::new(alloc, Limits::full());
-    for text in texts {
-        put(alloc, &mut state, text)?;
-    }
-    Ok(state)
+// Feeds, by the order in which they are opened.
+
+pub(crate) const FIRST: FeedId = FeedId { number: 0 };
+
+pub(crate) const SECOND: FeedId = FeedId { number: 1 };
+
+pub(crate) const THIRD: FeedId = FeedId { number: 2 };
+
+pub(crate) const FOURTH: FeedId = FeedId { number: 3 };
+
+pub(crate) const FIFTH: FeedId = FeedId { number: 4 };
+
+/// The parameters that a query gives; None where it is refused.
+pub(crate) fn asked(alloc: Global, query: &str) -> Option<FeedParams> {
+    FeedParams::read(alloc, query.as_bytes(), b"").ok()
 }
 
-/// Whether a case holds of a database. The database stands here, so that a case owns none: what owns
-/// one is dear to prove.
-pub(crate) fn holds_in<F: FnOnce(Global, &mut DbState) -> Result<bool, Fail>>(
-    alloc: Global,
-    mut state: DbState,
-    case: F,
-) -> Result<bool, Fail>
-    requires { F.IsAlwaysCallable case }
-{
-    case(alloc, &mut state)
-}
-
-/// Whether a case holds of a new database that stores these documents.
-pub(crate) fn holds<F: FnOnce(Global, &mut DbState) -> Result<bool, Fail>>(
-    alloc: Global,
-    texts: &[&str],
-    case: F,
-) -> Result<bool, Fail>
-    requires { F.IsAlwaysCallable case }
-{
-    holds_in(alloc, database(alloc, texts)?, case)
-}
-
-// Stores a document of this number, at a first revision of this hash.
-fn put_numbered(alloc: Global, state: &mut DbState, id: u64, hash: &str) -> Result<(), Fail> {
-    let text = format!(in alloc; r#"{{"_id":"{id}","_rev":"1-{hash}"}}"#)?;
-    put(alloc, state, text.as_str())
-}
-
-// Stores documents of these numbers, each at a first revision of this hash.
-fn put_all(alloc: Global, state: &mut DbState, ids: &[u64], hash: &str) -> Result<(), Fail> {
-    for id in ids {
-        put_numbered(alloc, state, *id, hash)?;
-    }
-    Ok(())
-}
-
-// The next item of a feed, if there is one, which is then accepted.
-fn take(state: &mut DbState, feed: FeedId) -> Result<Option<Item<ChangeRow>>, Fail> {
-    match state.next_item(feed)? {
-        Next::Give(item) => {
-            state.accept_item(feed, &item);
-            Ok(Some(item))
-        }
-        _ => Ok(None),
-    }
-}
-
-/// The row that a feed hands next.
-pub(crate) fn row(state: &mut DbState, feed: FeedId) -> Result<ChangeRow, Fail> {
-    match take(state, feed)? {
-        Some(Item::Row(row)) => Ok(row),
-        _ => Err(Fail::new("no row")),
-    }
-}
-
-// The last sequence and the count of an end.
-fn end_of(item: &Option<Item<ChangeRow>>) -> Option<(u64, u64)> {
-    match item {
-        Some(Item::End { last_seq, pending }) => Some((*last_seq, *pending)),
-        _ => None,
-    }
-}
-
-/// Whether a feed hands this end next: the last sequence and the count.
-pub(crate) fn hands_end(
-    state: &mut DbState,
-    feed: FeedId,
-    wanted: (u64, u64),
-) -> Result<bool, Fail> {
-    let item = take(state, feed)?;
-    Ok(end_of(&item) == Some(wanted))
-}
-
-/// Whether a feed has nothing to hand any more.
-pub(crate) fn is_gone(state: &mut DbState, feed: FeedId) -> Result<bool, Fail> {
-    match state.next_item(feed)? {
-        Next::Gone => Ok(true),
-        _ => Ok(false),
-    }
-}
-
-/// Whether a feed hands rows of these sequences next.
-pub(crate) fn hands_rows(state: &mut DbState, feed: FeedId, seqs: &[u64]) -> Result<bool, Fail> {
-    for seq in seqs {
-        if row(state, feed)?.seq != *seq {
-            return Ok(false);
-        }
-    }
-    Ok(true)
-}
-
-/// Whether a feed hands this end next, and nothing behind it.
-pub(crate) fn ends(state: &mut DbState, feed: FeedId, wanted: (u64, u64)) -> Result<bool, Fail> {
-    Ok(hands_end(state, feed, wanted)? && is_gone(state, feed)?)
-}
-
-/// A feed of a table: the query that opens it, the rows that it hands at first, and its end later.
-pub(crate) type Planned<'a> = (&'a str, &'a [u64], (u64, u64));
-
-/// The feeds of a table, each of which has handed its rows.
-pub(crate) fn open_all(
-    alloc: Global,
-    state: &mut DbState,
-    table: &[Planned<'_>],
-) -> Result<Vec<FeedId>, Fail> {
-    let mut feeds = Vec::new(alloc);
-    for (query, seqs, _) in table {
-        let feed = open(alloc, state, query)?;
-        if !hands_rows(state, feed, seqs)? {
-            return Err(Fail::new("other rows"));
-        }
-        feeds.push(feed)?;
-    }
-    Ok(feeds)
-}
-
-/// Whether the feeds of a table come to their ends.
-pub(crate) fn all_end(
-    state: &mut DbState,
-    feeds: &[FeedId],
-    table: &[Planned<'_>],
-) -> Result<bool, Fail> {
-    for (feed, (_, _, wanted)) in feeds.iter().zip(table.iter()) {
-        if !ends(state, *feed, *wanted)? {
-            return Ok(false);
-        }
-    }
-    Ok(feeds.len() == table.len())
+// Whether a revision is written so.
+fn is_rev(rev: &RevId, text: &&str) -> bool {
+    RevId::read(text) == Some(*rev)
 }
 
 /// Whether these are the revisions that the texts are.
 pub(crate) fn are_revs(revs: &[RevId], texts: &[&str]) -> bool {
-    if revs.len() != texts.len() {
-        return false;
+    all_are(revs, texts, is_rev)
+}
+
+// Whether a row brings these members.
+fn brings(row: &ChangeRow, members: Option<&str>) -> bool {
+    match (&row.doc, members) {
+        (Some(body), Some(text)) => body.as_bytes() == text.as_bytes(),
+        (None, None) => true,
+        _ => false,
     }
-    for (rev, text) in revs.iter().zip(texts.iter()) {
-        if RevId::read(text) != Some(*rev) {
+}
+
+// Whether a row shows this.
+fn shows(row: &ChangeRow, shown: &ShownRow) -> bool {
+    row.seq == shown.seq
+        && row.id.as_str() == shown.id
+        && are_revs(row.changes.as_slice(), shown.revs)
+        && row.deleted == shown.deleted
+        && brings(row, shown.members)
+}
+
+// Whether an item is this.
+fn is_item(item: &Item<ChangeRow>, handed: &Handed) -> bool {
+    match (item, handed) {
+        (Item::Row(row), Row(seq)) => row.seq == *seq,
+        (Item::Row(row), Whole(shown)) => shows(row, shown),
+        (Item::End { last_seq, pending }, End(last, rest)) => last_seq == last && pending == rest,
+        (Item::Beat, Beat) => true,
+        _ => false,
+    }
+}
+
+/// Whether what a feed has to hand is this.
+pub(crate) fn is_handed(next: &Next<ChangeRow>, handed: &Handed) -> bool {
+    match next {
+        Next::Give(item) => is_item(item, handed),
+        Next::Nothing => matches!(handed, Nothing),
+        Next::Gone => matches!(handed, Gone),
+    }
+}
+
+// What a feed has to hand, which is then accepted.
+fn take(state: &mut DbState, feed: FeedId) -> Result<Next<ChangeRow>, AllocError> {
+    match state.next_item(feed)? {
+        Next::Give(item) => {
+            state.accept_item(feed, &item);
+            Ok(Next::Give(item))
+        }
+        Next::Nothing => Ok(Next::Nothing),
+        Next::Gone => Ok(Next::Gone),
+    }
+}
+
+// Whether a feed hands this next.
+fn hands(state: &mut DbState, feed: FeedId, handed: &Handed) -> bool {
+    match take(state, feed) {
+        Ok(next) => is_handed(&next, handed),
+        Err(AllocError) => false,
+    }
+}
+
+// Whether a feed hands these, one after the other.
+fn hands_all(state: &mut DbState, feed: FeedId, all: &[Handed]) -> bool {
+    for handed in all {
+        if !hands(state, feed, handed) {
             return false;
         }
     }
     true
 }
 
-// The members that a row brings.
-fn members(row: &ChangeRow) -> &[u8] {
-    match &row.doc {
-        Some(body) => body.as_bytes(),
-        None => b"",
-    }
-}
-
-// Whether a row lists these revisions and brings these members.
-fn brings(row: &ChangeRow, revs: &[&str], text: &str) -> bool {
-    are_revs(row.changes.as_slice(), revs) && members(row) == text.as_bytes()
-}
-
-// Whether a feed hands a row of this sequence and document next, that lists this revision and
-// brings these members.
-fn hands(
-    state: &mut DbState,
-    feed: FeedId,
-    seq: u64,
-    id: &str,
-    rev: &str,
-    text: &str,
-) -> Result<bool, Fail> {
-    let row = row(state, feed)?;
-    Ok(row.seq == seq && row.id.as_str() == id && brings(&row, &[rev], text))
-}
-
-// The row that a new feed with these parameters hands first.
-fn first_row(alloc: Global, state: &mut DbState, query: &str) -> Result<ChangeRow, Fail> {
-    let feed = open(alloc, state, query)?;
-    row(state, feed)
-}
-
-// Whether the rows are of these sequences.
-fn has_sequences(rows: &[ChangeRow], wanted: &[u64]) -> bool {
-    if rows.len() != wanted.len() {
-        return false;
-    }
-    for (row, seq) in rows.iter().zip(wanted.iter()) {
-        if row.seq != *seq {
-            return false;
-        }
-    }
-    true
-}
-
-// Whether a descending answer has rows of these sequences, this last sequence and this count.
-fn falls(
-    alloc: Global,
-    state: &DbState,
-    query: &str,
-    seqs: &[u64],
-    rest: (u64, u64),
-) -> Result<bool, Fail> {
-    let params = asked(alloc, query)?;
-    let answer = state.changes_descending(&params)?;
-    Ok(has_sequences(answer.rows.as_slice(), seqs) && (answer.last_seq, answer.pending) == rest)
-}
-
-/// The rows that a new feed with these parameters hands before its end.
-pub(crate) fn rows_of(
+// Whether opening a feed has this answer.
+fn opens(
     alloc: Global,
     state: &mut DbState,
     query: &str,
-) -> Result<Vec<ChangeRow>, Fail> {
-    let feed = open(alloc, state, query)?;
-    let mut rows = Vec::new(alloc);
-    for _ in 0..20 {
-        match take(state, feed)? {
-            Some(Item::Row(row)) => rows.push(row)?,
-            _ => break,
+    answer: Result<FeedId, OpenFault>,
+) -> bool {
+    match asked(alloc, query) {
+        Some(params) => state.open_feed(params) == answer,
+        None => false,
+    }
+}
+
+/// Whether a step has its answer.
+pub(crate) fn feed_holds(alloc: Global, state: &mut DbState, step: &FeedStep) -> bool {
+    match step {
+        Open(query, answer) => opens(alloc, state, query, *answer),
+        Hands(feed, handed) => hands_all(state, *feed, handed),
+        Beats(feed, answer) => state.beat_due(*feed) == *answer,
+        Expire(feed) => {
+            state.expire(*feed);
+            true
+        }
+        Finish(feed) => {
+            state.finish(*feed);
+            true
         }
     }
-    state.finish(feed);
-    Ok(rows)
+}
+
+// Limits within which one feed may be open.
+fn one_feed() -> Limits {
+    let mut limits = Limits::full();
+    limits.feeds = 1;
+    limits
 }
 
 const A: &str = r#"{"_id":"a","_rev":"1-a","v":1}"#;
@@ -272,99 +194,139 @@ const A2: &str = r#"{"_id":"a","_revisions":{"start":2,"ids":["b","a"]},"v":2}"#
 
 const A3: &str = r#"{"_id":"a","_revisions":{"start":3,"ids":["c","b","a"]},"v":3}"#;
 
-// Three leaves of one document, the best of them in the middle.
-const LEAVES: [&str; 3] = [
-    r#"{"_id":"a","_rev":"1-z","v":"z"}"#,
-    r#"{"_id":"a","_revisions":{"start":2,"ids":["a","x"]},"v":"a"}"#,
-    r#"{"_id":"a","_revisions":{"start":2,"ids":["b","x"]},"v":"b","_deleted":true}"#,
+const LIMITED: &[Step] = &[
+    Feed(Open("", Ok(FIRST))),
+    Feed(Open("", Err(OpenFault::TooManyFeeds))),
+    Feed(Finish(FIRST)),
+    Feed(Open("", Ok(SECOND))),
 ];
 
-// Whether a second feed is opened once the first is finished, and not before.
-fn opens_one_feed(alloc: Global, state: &mut DbState) -> Result<bool, Fail> {
-    let first = open(alloc, state, "")?;
-    let refused = state.open_feed(asked(alloc, "")?) == Err(OpenFault::TooManyFeeds);
-    state.finish(first);
-    let second = open(alloc, state, "")?;
-    Ok(refused && second != first)
+#[test]
+fn feeds_are_limited(rt: HostRuntime) {
+    assert_within(&rt, rt.alloc(), one_feed(), LIMITED);
 }
+
+const NORMAL: &[Step] = &[
+    Batch(&[A, B, A2], &[Stored("1-a"), Stored("1-b"), Stored("2-b")]),
+    Feed(Open("include_docs=true", Ok(FIRST))),
+    Feed(Hands(
+        FIRST,
+        &[
+            Whole(ShownRow {
+                seq: 2,
+                id: "b",
+                revs: &["1-b"],
+                deleted: false,
+                members: Some("{}"),
+            }),
+            Whole(ShownRow {
+                seq: 3,
+                id: "a",
+                revs: &["2-b"],
+                deleted: false,
+                members: Some(r#"{"v":2}"#),
+            }),
+            End(3, 0),
+            Gone,
+        ],
+    )),
+    Feed(Finish(FIRST)),
+    Feed(Hands(FIRST, &[Gone])),
+];
 
 #[test]
-fn feeds_are_limited(rt: HostRuntime) -> Result<(), Fail> {
-    let alloc = rt.alloc();
-    let mut limits = Limits::full();
-    limits.feeds = 1;
-    let state = DbState::new(alloc, limits);
-    assert!(rt; holds_in(alloc, state, opens_one_feed)?);
-    Ok(())
+fn a_normal_feed_hands_rows_and_an_end(rt: HostRuntime) {
+    assert_steps(&rt, rt.alloc(), NORMAL);
 }
 
-// Whether a feed with documents hands the rows of `a` and `b`, its end, and no more.
-fn hands_all(alloc: Global, state: &mut DbState) -> Result<bool, Fail> {
-    let feed = open(alloc, state, "include_docs=true")?;
-    let first = hands(state, feed, 2, "b", "1-b", "{}")?;
-    let second = hands(state, feed, 3, "a", "2-b", r#"{"v":2}"#)?;
-    let over = ends(state, feed, (3, 0))?;
-    state.finish(feed);
-    Ok(first && second && over && is_gone(state, feed)?)
-}
+const WINNER: Handed = Whole(ShownRow {
+    seq: 3,
+    id: "a",
+    revs: &["2-a"],
+    deleted: false,
+    members: Some(r#"{"v":"a"}"#),
+});
 
-#[test]
-fn a_normal_feed_hands_rows_and_an_end(rt: HostRuntime) -> Result<(), Fail> {
-    assert!(rt; holds(rt.alloc(), &[A, B, A2], hands_all)?);
-    Ok(())
-}
+const LEAVES: Handed = Whole(ShownRow {
+    seq: 3,
+    id: "a",
+    revs: &["2-a", "1-z", "2-b"],
+    deleted: false,
+    members: None,
+});
 
-// Whether a row lists the best leaf alone, and brings its members.
-fn lists_winner(alloc: Global, state: &mut DbState) -> Result<bool, Fail> {
-    let row = first_row(alloc, state, "style=main_only&include_docs=true")?;
-    Ok(brings(&row, &["2-a"], r#"{"v":"a"}"#) && !row.deleted)
-}
-
-// Whether a row lists all leaves, and brings no members.
-fn lists_leaves(alloc: Global, state: &mut DbState) -> Result<bool, Fail> {
-    let row = first_row(alloc, state, "style=all_docs")?;
-    Ok(are_revs(row.changes.as_slice(), &["2-a", "1-z", "2-b"]) && row.doc.is_none())
-}
-
-#[test]
-fn styles_list_the_winner_or_all_leaves(rt: HostRuntime) -> Result<(), Fail> {
-    let alloc = rt.alloc();
-    assert!(rt; holds(alloc, &LEAVES, lists_winner)?);
-    assert!(rt; holds(alloc, &LEAVES, lists_leaves)?);
-    Ok(())
-}
-
-// Whether a feed counts rows in its end that left its reach.
-fn counts_rows_that_left(alloc: Global, state: &mut DbState) -> Result<bool, Fail> {
-    put_all(alloc, state, &[1, 2, 3, 4, 5, 6, 7, 8], "a")?;
-    let feed = open(alloc, state, "")?;
-    let before = hands_rows(state, feed, &[1, 2, 3])?;
-    put_all(alloc, state, &[3, 5], "b")?;
-    let behind = hands_rows(state, feed, &[4, 6, 7, 8])?;
-    Ok(before && behind && ends(state, feed, (8, 2))?)
-}
+// Three leaves of one document, the best of them in the middle.
+const STYLES: &[Step] = &[
+    Batch(
+        &[
+            r#"{"_id":"a","_rev":"1-z","v":"z"}"#,
+            r#"{"_id":"a","_revisions":{"start":2,"ids":["a","x"]},"v":"a"}"#,
+            r#"{"_id":"a","_revisions":{"start":2,"ids":["b","x"]},"v":"b","_deleted":true}"#,
+        ],
+        &[Stored("1-z"), Stored("2-a"), Stored("2-b")],
+    ),
+    Feed(Open("style=main_only&include_docs=true", Ok(FIRST))),
+    Feed(Hands(FIRST, &[WINNER])),
+    Feed(Open("style=all_docs", Ok(SECOND))),
+    Feed(Hands(SECOND, &[LEAVES])),
+];
 
 #[test]
-fn rows_leave_the_reach_of_a_normal_feed(rt: HostRuntime) -> Result<(), Fail> {
-    assert!(rt; holds(rt.alloc(), &[], counts_rows_that_left)?);
-    Ok(())
+fn styles_list_the_winner_or_all_leaves(rt: HostRuntime) {
+    assert_steps(&rt, rt.alloc(), STYLES);
 }
 
-// Whether descending answers have the last rows first, up to the limit.
-fn falls_from_the_last(alloc: Global, state: &mut DbState) -> Result<bool, Fail> {
-    let all = falls(alloc, state, "descending=true&since=2", &[5, 3], (3, 0))?;
-    let one = falls(
-        alloc,
-        state,
-        "descending=true&since=2&limit=1",
-        &[5],
-        (5, 1),
-    )?;
-    Ok(all && one)
-}
+const ALL: &[&str] = &[
+    r#"{"_id":"1","_rev":"1-a"}"#,
+    r#"{"_id":"2","_rev":"1-a"}"#,
+    r#"{"_id":"3","_rev":"1-a"}"#,
+    r#"{"_id":"4","_rev":"1-a"}"#,
+    r#"{"_id":"5","_rev":"1-a"}"#,
+    r#"{"_id":"6","_rev":"1-a"}"#,
+    r#"{"_id":"7","_rev":"1-a"}"#,
+    r#"{"_id":"8","_rev":"1-a"}"#,
+];
+
+const STORED: Outcome<&str> = Stored("1-a");
+
+// A row in front of the feed's place and one behind it get new sequences, above the feed's reach.
+const LEFT: &[Step] = &[
+    Batch(
+        ALL,
+        &[
+            STORED, STORED, STORED, STORED, STORED, STORED, STORED, STORED,
+        ],
+    ),
+    Feed(Open("", Ok(FIRST))),
+    Feed(Hands(FIRST, &[Row(1), Row(2), Row(3)])),
+    Batch(
+        &[r#"{"_id":"3","_rev":"1-b"}"#, r#"{"_id":"5","_rev":"1-b"}"#],
+        &[Stored("1-b"), Stored("1-b")],
+    ),
+    Feed(Hands(FIRST, &[Row(4), Row(6), Row(7), Row(8), End(8, 2), Gone])),
+];
 
 #[test]
-fn descending_answers_begin_at_the_last_row(rt: HostRuntime) -> Result<(), Fail> {
-    assert!(rt; holds(rt.alloc(), &[A, B, C, A2, A3], falls_from_the_last)?);
-    Ok(())
+fn rows_leave_the_reach_of_a_normal_feed(rt: HostRuntime) {
+    assert_steps(&rt, rt.alloc(), LEFT);
+}
+
+const FALLING: &[Step] = &[
+    Batch(
+        &[A, B, C, A2, A3],
+        &[
+            Stored("1-a"),
+            Stored("1-b"),
+            Stored("1-c"),
+            Stored("2-b"),
+            Stored("3-c"),
+        ],
+    ),
+    Read(Descending("descending=true&since=2", Ok((&[5, 3], 3, 0)))),
+    Read(Descending("descending=true&since=2&limit=1", Ok((&[5], 5, 1)))),
+];
+
+#[test]
+fn descending_answers_begin_at_the_last_row(rt: HostRuntime) {
+    assert_steps(&rt, rt.alloc(), FALLING);
 }

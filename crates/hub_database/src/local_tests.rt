@@ -2,96 +2,117 @@
 
 use crate::batch::DbFault;
 use crate::database::DbState;
-use crate::feed_tests::holds;
-use crate::local::Local;
-use hub_document::{Body, LocalDoc};
+use crate::local::Local as Kept;
+use crate::local_tests::LocalStep::{Fill, Get, Put};
+use crate::tests::Step::{Counts, Local, Seq};
+use crate::tests::{Step, assert_steps};
+use hub_document::LocalDoc;
 use hub_model::Fault;
 use std::alloc::Global;
-use std::test::Fail;
 
-fn put(alloc: Global, state: &mut DbState, id: &str, text: &str) -> Option<Result<u64, DbFault>> {
-    let doc = LocalDoc::read(alloc, id, text.as_bytes()).ok()?;
-    Some(state.local_put(doc))
+/// A step on local documents, by their ids, and its answer.
+pub(crate) enum LocalStep {
+    /// One is stored with these members, and was then written this often.
+    Put(&'static str, &'static str, Result<u64, DbFault>),
+    /// How often one was written, and its members.
+    Get(&'static str, Result<Option<(u64, &'static str)>, DbFault>),
+    /// The count of one that is stored becomes the last.
+    Fill(&'static str),
 }
 
-fn keeps(state: &DbState, id: &str, count: u64, body: &str) -> bool {
-    match state.local_get(id) {
-        Ok(Some(local)) => local.count == count && local.body.as_bytes() == body.as_bytes(),
-        _ => false,
-    }
-}
-
-// Whether a local document is stored, and was then written this often.
-fn counts(alloc: Global, state: &mut DbState, id: &str, text: &str, count: u64) -> bool {
-    put(alloc, state, id, text) == Some(Ok(count))
-}
-
-// Whether there is no local document of this id.
-fn is_unknown(state: &DbState, id: &str) -> bool {
-    match state.local_get(id) {
-        Ok(found) => found.is_none(),
+// Whether storing a local document has this answer.
+fn puts(
+    alloc: Global,
+    state: &mut DbState,
+    id: &str,
+    text: &str,
+    answer: Result<u64, DbFault>,
+) -> bool {
+    match LocalDoc::read(alloc, id, text.as_bytes()) {
+        Ok(doc) => state.local_put(doc) == answer,
         Err(_) => false,
     }
 }
 
-// Whether each local document is counted, and its last text is kept.
-fn counts_one_by_one(alloc: Global, state: &mut DbState) -> Result<bool, Fail> {
-    for (id, text, count) in [
-        ("_local/x", r#"{"v":1}"#, 1),
-        ("_local/x", r#"{"v":2}"#, 2),
-        ("_local/a", "{}", 1),
-    ] {
-        if !counts(alloc, state, id, text, count) {
-            return Ok(false);
+// Whether a local document was written so often and has these members.
+fn is_kept(found: Option<&Kept>, kept: Option<(u64, &str)>) -> bool {
+    match (found, kept) {
+        (Some(local), Some((count, text))) => {
+            local.count == count && local.body.as_bytes() == text.as_bytes()
         }
+        (None, None) => true,
+        _ => false,
     }
-    Ok(keeps(state, "_local/x", 2, r#"{"v":2}"#) && keeps(state, "_local/a", 1, "{}"))
 }
 
-// Whether a local document is found once it is stored, and no other.
-fn finds_what_is_stored(alloc: Global, state: &mut DbState) -> Result<bool, Fail> {
-    let unknown = is_unknown(state, "_local/x");
-    let stored = counts(alloc, state, "_local/x", "{}", 1);
-    Ok(unknown && stored && !is_unknown(state, "_local/x") && is_unknown(state, "_local/y"))
+// Whether asking for a local document has this answer.
+fn keeps(state: &DbState, id: &str, answer: Result<Option<(u64, &str)>, DbFault>) -> bool {
+    match (state.local_get(id), answer) {
+        (Ok(found), Ok(kept)) => is_kept(found, kept),
+        (Err(fault), Err(other)) => fault == other,
+        _ => false,
+    }
 }
 
-// Whether a local document is no edit, and no document that is counted.
-fn counts_no_edit(alloc: Global, state: &mut DbState) -> Result<bool, Fail> {
-    let stored = counts(alloc, state, "_local/x", "{}", 1);
-    Ok(stored && state.update_seq() == 0 && state.info()?.doc_count == 0)
+// Whether a stored local document gets the last count, to which no test can count.
+fn fill(state: &mut DbState, id: &str) -> bool {
+    match state.contents.locals.get_mut(id) {
+        Some(local) => {
+            local.count = u64::MAX;
+            true
+        }
+        None => false,
+    }
 }
 
-#[test]
-fn local_documents_are_counted_one_by_one(rt: HostRuntime) -> Result<(), Fail> {
-    let alloc = rt.alloc();
-    assert!(rt; holds(alloc, &[], counts_one_by_one)?);
-    assert!(rt; holds(alloc, &[], finds_what_is_stored)?);
-    assert!(rt; holds(alloc, &[], counts_no_edit)?);
-    Ok(())
+/// Whether a step has its answer.
+pub(crate) fn local_holds(alloc: Global, state: &mut DbState, step: &LocalStep) -> bool {
+    match step {
+        Put(id, text, answer) => puts(alloc, state, id, text, *answer),
+        Get(id, answer) => keeps(state, id, *answer),
+        Fill(id) => fill(state, id),
+    }
 }
 
-// Gives a database a local document `_local/x` of the last count.
-fn fill(alloc: Global, state: &mut DbState) -> Result<(), Fail> {
-    let body = Body::empty(alloc)?;
-    let last = Local {
-        count: u64::MAX,
-        body,
-    };
-    let id = String::from_str(alloc, "_local/x")?;
-    state.contents.locals.insert(id, last)?;
-    Ok(())
-}
-
-// Whether a local document of the last count is not stored again.
-fn keeps_the_last(alloc: Global, state: &mut DbState) -> Result<bool, Fail> {
-    fill(alloc, state)?;
-    let full = Some(Err(DbFault::Refused(Fault::SequenceFull)));
-    let refused = put(alloc, state, "_local/x", r#"{"v":1}"#) == full;
-    Ok(refused && keeps(state, "_local/x", u64::MAX, "{}"))
-}
+const COUNTED: &[Step] = &[
+    Local(Get("_local/x", Ok(None))),
+    Local(Put("_local/x", r#"{"v":1}"#, Ok(1))),
+    Local(Get("_local/x", Ok(Some((1, r#"{"v":1}"#))))),
+    Local(Get("_local/y", Ok(None))),
+    Local(Put("_local/x", r#"{"v":2}"#, Ok(2))),
+    Local(Put("_local/a", "{}", Ok(1))),
+    Local(Get("_local/x", Ok(Some((2, r#"{"v":2}"#))))),
+    Local(Get("_local/a", Ok(Some((1, "{}"))))),
+];
 
 #[test]
-fn the_last_count_is_kept(rt: HostRuntime) -> Result<(), Fail> {
-    assert!(rt; holds(rt.alloc(), &[], keeps_the_last)?);
-    Ok(())
+fn local_documents_are_counted_one_by_one(rt: HostRuntime) {
+    assert_steps(&rt, rt.alloc(), COUNTED);
+}
+
+const NO_EDIT: &[Step] = &[
+    Local(Put("_local/x", "{}", Ok(1))),
+    Seq(0),
+    Counts(Ok((0, 0, 0))),
+];
+
+#[test]
+fn local_documents_are_no_edits(rt: HostRuntime) {
+    assert_steps(&rt, rt.alloc(), NO_EDIT);
+}
+
+const LAST: &[Step] = &[
+    Local(Put("_local/x", "{}", Ok(1))),
+    Local(Fill("_local/x")),
+    Local(Put(
+        "_local/x",
+        r#"{"v":1}"#,
+        Err(DbFault::Refused(Fault::SequenceFull)),
+    )),
+    Local(Get("_local/x", Ok(Some((u64::MAX, "{}"))))),
+];
+
+#[test]
+fn the_last_count_is_kept(rt: HostRuntime) {
+    assert_steps(&rt, rt.alloc(), LAST);
 }

@@ -1,81 +1,214 @@
-//! Writes, their replies, and the rows after them.
+//! Databases as tables: what is done to one, and what it answers. Writes and their replies.
 
-use crate::feed_tests::{holds, holds_in, rows_of};
-use crate::{Batch, DbState};
-use hub_document::{ChangeRow, Doc, Limits, RevId};
-use hub_model::{Fault, Outcome};
-use std::alloc::Global;
-use std::test::Fail;
+use crate::feed_tests::FeedStep::{Finish, Hands, Open};
+use crate::feed_tests::Handed::{End, Whole};
+use crate::feed_tests::{FIRST, FeedStep, Handed, SECOND, ShownRow, feed_holds};
+use crate::host_tests::host_holds;
+use crate::local_tests::{LocalStep, local_holds};
+use crate::read_tests::{ReadStep, read_holds};
+use crate::tests::Step::{Batch, Feed, Seq};
+use crate::{Batch as Written, DbFault, DbState, Info};
+use hub_document::{Doc, Limits, RevId};
+use hub_feed::FeedHost;
+use hub_model::Fault;
+use hub_model::Outcome::{self, Known, Refused, Stored};
+use std::alloc::{AllocError, Global};
+use std::process::Abort;
 
-/// The documents that the texts are.
-pub(crate) fn docs(alloc: Global, texts: &[&str], new_edits: bool) -> Result<Vec<Doc>, Fail> {
-    let mut docs = Vec::new(alloc);
-    for text in texts {
-        docs.push(Doc::read(alloc, text.as_bytes(), new_edits)?)?;
-    }
-    Ok(docs)
+/// A step on a database, and its answer. Revisions are written as in documents.
+pub(crate) enum Step {
+    /// A batch of documents that another database made, and what each is told.
+    Batch(&'static [&'static str], &'static [Outcome<&'static str>]),
+    /// A batch of documents whose revisions are made here, and what each is told.
+    Edits(&'static [&'static str], &'static [Outcome<&'static str>]),
+    /// A batch of one document `a` that another database made, with 65,535 revisions `x`, which is
+    /// the longest history that there is.
+    LongHistory(Outcome<&'static str>),
+    /// A document whose revision is made here, and that revision.
+    Make(&'static str, Result<&'static str, DbFault>),
+    /// How many documents there are, how many deleted ones, and how many edits.
+    Counts(Result<(u64, u64, u64), DbFault>),
+    /// How many edits there are.
+    Seq(u64),
+    /// How many edits there are for a host of feeds.
+    Length(u64),
+    /// The database is deleted.
+    Delete(Result<(), DbFault>),
+    /// Whether the database is deleted.
+    IsDeleted(bool),
+    /// A step on its feeds.
+    Feed(FeedStep),
+    /// A step on its feeds as those of any host.
+    Hosted(FeedStep),
+    /// A step on its local documents.
+    Local(LocalStep),
+    /// What it shows of its documents.
+    Read(ReadStep),
 }
 
-// Whether a row is of this sequence and document, and lists this revision first.
-fn shows(row: &ChangeRow, seq: u64, id: &str, rev: &str) -> bool {
-    row.seq == seq
-        && row.id.as_str() == id
-        && row.changes.as_slice().first().copied() == RevId::read(rev)
-}
+/// What each call tells whose database is deleted.
+pub(crate) const DELETED: DbFault = DbFault::Refused(Fault::Deleted);
 
-// Whether the rows that a new feed hands are of these sequences, documents and revisions.
-fn has_rows(
-    alloc: Global,
-    state: &mut DbState,
-    wanted: &[(u64, &str, &str)],
-) -> Result<bool, Fail> {
-    let rows = rows_of(alloc, state, "")?;
-    for (row, (seq, id, rev)) in rows.iter().zip(wanted.iter()) {
-        if !shows(row, *seq, id, rev) {
-            return Ok(false);
-        }
-    }
-    Ok(rows.len() == wanted.len())
-}
-
-// Whether these are the replies of a whole batch.
-fn tells(batch: &Batch, wanted: &[Option<Outcome<RevId>>]) -> bool {
-    let replies = batch.replies.as_slice();
-    for (reply, wanted) in replies.iter().zip(wanted.iter()) {
-        if Some(*reply) != *wanted {
+/// Whether each of these is as wanted, and there are as many.
+pub(crate) fn all_are<T, W, F: Fn(&T, &W) -> bool>(found: &[T], wanted: &[W], is: F) -> bool
+    requires { F.IsAlwaysCallable is }
+{
+    let mut at = 0usize;
+    for found in found {
+        let Some(wanted) = wanted.get(at) else {
+            return false;
+        };
+        if !is(found, wanted) {
             return false;
         }
+        at = at.saturating_add(1);
     }
-    !batch.stopped && replies.len() == wanted.len()
+    at == wanted.len()
 }
 
-/// Whether a batch of documents is told these outcomes.
-pub(crate) fn writes(
+// The documents that the texts are; None where one is none.
+fn docs(alloc: Global, texts: &[&str], new_edits: bool) -> Option<Vec<Doc>> {
+    let mut docs = Vec::new(alloc);
+    for text in texts {
+        docs.try_reserve(1).ok()?;
+        docs.push_reserved(Doc::read(alloc, text.as_bytes(), new_edits).ok()?);
+    }
+    Some(docs)
+}
+
+// Whether a document was told so.
+fn is_told(reply: &Outcome<RevId>, told: &Outcome<&str>) -> bool {
+    match (*reply, *told) {
+        (Stored(rev), Stored(text)) => RevId::read(text) == Some(rev),
+        (Refused(fault), Refused(other)) => fault == other,
+        (Known, Known) => true,
+        _ => false,
+    }
+}
+
+// Whether the documents of a whole batch were told so.
+fn are_told(batch: &Written, told: &[Outcome<&str>]) -> bool {
+    !batch.stopped && all_are(batch.replies.as_slice(), told, is_told)
+}
+
+// Whether the documents of a batch are told so.
+fn tells(
     alloc: Global,
     state: &mut DbState,
     texts: &[&str],
     new_edits: bool,
-    wanted: &[Option<Outcome<RevId>>],
-) -> Result<bool, Fail> {
-    let docs = docs(alloc, texts, new_edits)?;
-    let batch = state.write_edits(docs, new_edits)?;
-    Ok(tells(&batch, wanted))
+    told: &[Outcome<&str>],
+) -> bool {
+    let Some(docs) = docs(alloc, texts, new_edits) else {
+        return false;
+    };
+    match state.write_edits(docs, new_edits) {
+        Ok(batch) => are_told(&batch, told),
+        Err(_) => false,
+    }
 }
 
-/// That a document is stored, with this revision.
-pub(crate) fn stored(rev: &str) -> Option<Outcome<RevId>> {
-    let rev = RevId::read(rev)?;
-    Some(Outcome::Stored(rev))
+// A document `a` whose history has 65,535 revisions `x`.
+fn long_history(alloc: Global) -> Result<String, AllocError> {
+    let mut text = String::from_str(
+        alloc,
+        r#"{"_id":"a","_revisions":{"start":65535,"ids":["x""#,
+    )?;
+    for _ in 1..65535 {
+        text.push_str(r#","x""#)?;
+    }
+    text.push_str("]}}")?;
+    Ok(text)
 }
 
-// That an edit was there before.
-fn known() -> Option<Outcome<RevId>> {
-    Some(Outcome::Known)
+// Whether the document with the longest history is told so.
+fn tells_long(alloc: Global, state: &mut DbState, told: Outcome<&str>) -> bool {
+    match long_history(alloc) {
+        Ok(text) => tells(alloc, state, &[text.as_str()], false, &[told]),
+        Err(AllocError) => false,
+    }
 }
 
-/// That a document is refused.
-pub(crate) fn refused(fault: Fault) -> Option<Outcome<RevId>> {
-    Some(Outcome::Refused(fault))
+// Whether an edit is made with this answer.
+fn makes(alloc: Global, state: &mut DbState, text: &str, answer: Result<&str, DbFault>) -> bool {
+    let Ok(doc) = Doc::read(alloc, text.as_bytes(), true) else {
+        return false;
+    };
+    match (state.write_one(doc), answer) {
+        (Ok(rev), Ok(text)) => RevId::read(text) == Some(rev),
+        (Err(fault), Err(other)) => fault == other,
+        _ => false,
+    }
+}
+
+// Whether these are the counts of a database.
+fn has_counts(state: &DbState, answer: Result<(u64, u64, u64), DbFault>) -> bool {
+    let counts = match answer {
+        Ok((doc_count, doc_del_count, update_seq)) => Ok(Info {
+            doc_count,
+            doc_del_count,
+            update_seq,
+        }),
+        Err(fault) => Err(fault),
+    };
+    state.info() == counts
+}
+
+// Whether a step has its answer. Want of memory is another answer.
+fn holds(alloc: Global, state: &mut DbState, step: &Step) -> bool {
+    match step {
+        Step::Batch(texts, told) => tells(alloc, state, texts, false, told),
+        Step::Edits(texts, told) => tells(alloc, state, texts, true, told),
+        Step::LongHistory(told) => tells_long(alloc, state, *told),
+        Step::Make(text, answer) => makes(alloc, state, text, *answer),
+        Step::Counts(answer) => has_counts(state, *answer),
+        Step::Seq(seq) => state.update_seq() == *seq,
+        Step::Length(length) => FeedHost::length(state) == *length,
+        Step::Delete(answer) => state.delete() == *answer,
+        Step::IsDeleted(answer) => state.is_deleted() == *answer,
+        Step::Feed(step) => feed_holds(alloc, state, step),
+        Step::Hosted(step) => host_holds(alloc, state, step),
+        Step::Local(step) => local_holds(alloc, state, step),
+        Step::Read(step) => read_holds(alloc, state, step),
+    }
+}
+
+// How many steps have their answers, before the first that has another.
+fn count_held(alloc: Global, state: &mut DbState, steps: &[Step]) -> usize {
+    let mut count = 0usize;
+    for step in steps {
+        if !holds(alloc, state, step) {
+            return count;
+        }
+        count = count.saturating_add(1);
+    }
+    count
+}
+
+// That count in a new database within these limits.
+fn count_within(alloc: Global, limits: Limits, steps: &[Step]) -> usize {
+    let mut state = DbState::new(alloc, limits);
+    count_held(alloc, &mut state, steps)
+}
+
+/// Asserts that these steps, one at least, have their answers in a new database within these limits.
+/// Where one has another, the count that the assertion shows is its place.
+pub(crate) fn assert_within(rt: &impl Abort, alloc: Global, limits: Limits, steps: &[Step]) {
+    let count = count_within(alloc, limits, steps);
+    assert_eq!(rt; count, steps.len());
+    assert!(rt; count > 0);
+}
+
+/// Asserts that these steps, one at least, have their answers in a new database.
+pub(crate) fn assert_steps(rt: &impl Abort, alloc: Global, steps: &[Step]) {
+    assert_within(rt, alloc, Limits::full(), steps);
+}
+
+/// Limits within which a database has one edit.
+pub(crate) fn one_edit() -> Limits {
+    let mut limits = Limits::full();
+    limits.journal = 1;
+    limits
 }
 
 const A: &str = r#"{"_id":"a","_rev":"1-a"}"#;
@@ -88,63 +221,82 @@ const TREE: &str = r#"{"_id":"b","_revisions":{"start":2,"ids":["y","x"]}}"#;
 
 const OTHER: &str = r#"{"_id":"b","_revisions":{"start":3,"ids":["w","y","q"]}}"#;
 
-// Whether the rows are those of the latest edits.
-fn rows_follow(alloc: Global, state: &mut DbState) -> Result<bool, Fail> {
-    let stored_both = [stored("1-a"), stored("1-b")];
-    let first = writes(alloc, state, &[A, B], false, &stored_both)?;
-    let before = has_rows(alloc, state, &[(1, "a", "1-a"), (2, "b", "1-b")])?;
-    let second = writes(alloc, state, &[NEWER], false, &[stored("2-c")])?;
-    let after = has_rows(alloc, state, &[(2, "b", "1-b"), (3, "a", "2-c")])?;
-    Ok(first && before && second && after)
-}
+// Rows, by their document and their sequence.
 
-// Whether edits that are known get no new sequence.
-fn knows_edits(alloc: Global, state: &mut DbState) -> Result<bool, Fail> {
-    let told = writes(alloc, state, &[A, B], false, &[known(), known()])?;
-    Ok(told && state.update_seq() == 3)
-}
+const A1: Handed = Whole(ShownRow {
+    seq: 1,
+    id: "a",
+    revs: &["1-a"],
+    deleted: false,
+    members: None,
+});
 
-#[test]
-fn rows_follow_the_latest_edits(rt: HostRuntime) -> Result<(), Fail> {
-    let alloc = rt.alloc();
-    assert!(rt; holds(alloc, &[], rows_follow)?);
-    assert!(rt; holds(alloc, &[A, B, NEWER], knows_edits)?);
-    Ok(())
-}
+const B2: Handed = Whole(ShownRow {
+    seq: 2,
+    id: "b",
+    revs: &["1-b"],
+    deleted: false,
+    members: None,
+});
 
-// Whether the documents beside a refused one are stored.
-fn stores_the_others(alloc: Global, state: &mut DbState) -> Result<bool, Fail> {
-    let first = writes(alloc, state, &[TREE], false, &[stored("2-y")])?;
-    let wanted = [stored("1-a"), refused(Fault::Contradicts), stored("2-c")];
-    let second = writes(alloc, state, &[A, OTHER, NEWER], false, &wanted)?;
-    Ok(first && second && state.update_seq() == 3)
-}
+const A3: Handed = Whole(ShownRow {
+    seq: 3,
+    id: "a",
+    revs: &["2-c"],
+    deleted: false,
+    members: None,
+});
 
-#[test]
-fn refused_documents_stop_no_others(rt: HostRuntime) -> Result<(), Fail> {
-    assert!(rt; holds(rt.alloc(), &[], stores_the_others)?);
-    Ok(())
-}
-
-/// A database of one edit.
-pub(crate) fn short(alloc: Global) -> DbState {
-    let mut limits = Limits::full();
-    limits.journal = 1;
-    DbState::new(alloc, limits)
-}
-
-// Whether a database of one edit takes no second one.
-fn is_full(alloc: Global, state: &mut DbState) -> Result<bool, Fail> {
-    let one = [stored("1-a"), refused(Fault::SequenceFull)];
-    let first = writes(alloc, state, &[A, B], false, &one)?;
-    let none = [refused(Fault::SequenceFull), known()];
-    let second = writes(alloc, state, &[NEWER, A], false, &none)?;
-    Ok(first && second && state.update_seq() == 1)
-}
+const LATEST: &[Step] = &[
+    Batch(&[A, B], &[Stored("1-a"), Stored("1-b")]),
+    Feed(Open("", Ok(FIRST))),
+    Feed(Hands(FIRST, &[A1, B2, End(2, 0)])),
+    Feed(Finish(FIRST)),
+    Batch(&[NEWER], &[Stored("2-c")]),
+    Feed(Open("", Ok(SECOND))),
+    Feed(Hands(SECOND, &[B2, A3, End(3, 0)])),
+];
 
 #[test]
-fn a_full_journal_takes_no_more(rt: HostRuntime) -> Result<(), Fail> {
-    let alloc = rt.alloc();
-    assert!(rt; holds_in(alloc, short(alloc), is_full)?);
-    Ok(())
+fn rows_follow_the_latest_edits(rt: HostRuntime) {
+    assert_steps(&rt, rt.alloc(), LATEST);
+}
+
+const KNOWN: &[Step] = &[
+    Batch(
+        &[A, B, NEWER],
+        &[Stored("1-a"), Stored("1-b"), Stored("2-c")],
+    ),
+    Batch(&[A, B], &[Known, Known]),
+    Seq(3),
+];
+
+#[test]
+fn known_edits_get_no_new_sequence(rt: HostRuntime) {
+    assert_steps(&rt, rt.alloc(), KNOWN);
+}
+
+const BESIDE: &[Step] = &[
+    Batch(&[TREE], &[Stored("2-y")]),
+    Batch(
+        &[A, OTHER, NEWER],
+        &[Stored("1-a"), Refused(Fault::Contradicts), Stored("2-c")],
+    ),
+    Seq(3),
+];
+
+#[test]
+fn refused_documents_stop_no_others(rt: HostRuntime) {
+    assert_steps(&rt, rt.alloc(), BESIDE);
+}
+
+const FULL: &[Step] = &[
+    Batch(&[A, B], &[Stored("1-a"), Refused(Fault::SequenceFull)]),
+    Batch(&[NEWER, A], &[Refused(Fault::SequenceFull), Known]),
+    Seq(1),
+];
+
+#[test]
+fn a_full_journal_takes_no_more(rt: HostRuntime) {
+    assert_within(&rt, rt.alloc(), one_edit(), FULL);
 }
