@@ -1,3 +1,4 @@
+use crate::block::Block;
 use crate::requests::fill;
 use crate::{HttpFault, Input, Request, Requests, Tally};
 use std::alloc::Global;
@@ -418,7 +419,7 @@ fn has_room(
 ) -> Result<(), Fail> {
     let mut reader = Tally::new(come);
     let mut held = Vec::new(alloc);
-    let full = fill(&mut reader, &mut held, wanted)?;
+    let full = fill(&mut reader, &mut Block::new(), &mut held, wanted)?;
     assert_eq!(rt;
         (full, held.len(), held.capacity()),
         (come.len() == wanted, come.len(), room)
