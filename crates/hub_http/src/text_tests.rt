@@ -233,10 +233,10 @@ fn refusal_text(
     error: &str,
     reason: &str,
 ) -> Result<String, AllocError> {
-    let body = format!(in alloc; "{{\"error\":\"{error}\",\"reason\":\"{reason}\"}}\n")?;
-    let len = body.len();
+    let body = format!(in alloc; r#"{{"error":"{error}","reason":"{reason}"}}"#)?;
+    let len = body.len() + 1;
     format!(in alloc;
-        "HTTP/1.1 {status}\r\nContent-Type: application/json\r\nContent-Length: {len}\r\n\r\n{body}"
+        "HTTP/1.1 {status}\r\nContent-Type: application/json\r\nContent-Length: {len}\r\n\r\n{body}\n"
     )
 }
 
@@ -260,7 +260,7 @@ fn refusals_of_faults(rt: HostRuntime) {
 fn done(alloc: Global) -> Result<Reply, AllocError> {
     Ok(Reply::Done {
         status: StatusCode::CREATED,
-        body: Vec::from_slice(alloc, b"{\"ok\":true}\n")?,
+        body: Vec::from_slice(alloc, concat!(r#"{"ok":true}"#, "\n").as_bytes())?,
     })
 }
 
@@ -268,7 +268,8 @@ fn done(alloc: Global) -> Result<Reply, AllocError> {
 fn a_whole_reply(rt: HostRuntime) -> Result<(), Fail> {
     let expected = concat!(
         "HTTP/1.1 201 Created\r\nContent-Type: application/json\r\nContent-Length: 12\r\n\r\n",
-        "{\"ok\":true}\n"
+        r#"{"ok":true}"#,
+        "\n"
     );
     let done = done(rt.alloc())?;
     is_sent(&rt, rt.alloc(), &done, (false, false), expected)
@@ -288,7 +289,9 @@ fn a_head_alone_before_the_end(rt: HostRuntime) -> Result<(), Fail> {
 fn a_refusal_before_the_end(rt: HostRuntime) -> Result<(), Fail> {
     let expected = concat!(
         "HTTP/1.1 400 Bad Request\r\nContent-Type: application/json\r\nContent-Length: 44\r\n",
-        "Connection: close\r\n\r\n{\"error\":\"bad_request\",\"reason\":\"bad head\"}\n"
+        "Connection: close\r\n\r\n",
+        r#"{"error":"bad_request","reason":"bad head"}"#,
+        "\n"
     );
     let bad = Reply::Refused(Refusal::BadHead);
     is_sent(&rt, rt.alloc(), &bad, (false, true), expected)
@@ -436,10 +439,18 @@ fn two_rows_in_chunks(alloc: Global) -> Result<Vec<u8>, Fail> {
 fn a_feed_of_two_rows_in_chunks(rt: HostRuntime) -> Result<(), Fail> {
     let sent = two_rows_in_chunks(rt.alloc())?;
     let expected = concat!(
-        "d\r\n{\"results\":[\n\r\n",
-        "2c\r\n{\"seq\":1,\"id\":\"a\",\"changes\":[{\"rev\":\"1-a\"}]}\r\n",
-        "2e\r\n,\n{\"seq\":2,\"id\":\"b\",\"changes\":[{\"rev\":\"1-b\"}]}\r\n",
-        "1e\r\n\n],\n\"last_seq\":2,\"pending\":0}\n\r\n"
+        "d\r\n",
+        r#"{"results":["#,
+        "\n\r\n",
+        "2c\r\n",
+        r#"{"seq":1,"id":"a","changes":[{"rev":"1-a"}]}"#,
+        "\r\n",
+        "2e\r\n,\n",
+        r#"{"seq":2,"id":"b","changes":[{"rev":"1-b"}]}"#,
+        "\r\n",
+        "1e\r\n\n],\n",
+        r#""last_seq":2,"pending":0}"#,
+        "\n\r\n"
     );
     assert_eq!(rt; sent.as_slice(), expected.as_bytes());
     Ok(())
@@ -493,7 +504,7 @@ fn heartbeats_by_mode(rt: HostRuntime) -> Result<(), Fail> {
 
 #[test]
 fn heads_by_mode(rt: HostRuntime) {
-    assert_eq!(rt; feed_head(Mode::Longpoll), "{\"results\":[\n");
+    assert_eq!(rt; feed_head(Mode::Longpoll), concat!(r#"{"results":["#, "\n"));
     assert_eq!(rt; feed_head(Mode::Continuous), "");
 }
 

@@ -8,6 +8,9 @@ use std::io;
 use std::io::{ErrorKind, Read, Write};
 use std::test::Fail;
 
+/// The body of an answer that a database was made.
+const DONE: &str = concat!(r#"{"ok":true}"#, "\n");
+
 /// Serves a feed of two rows, of a and of b, whose winner is deleted.
 #[derive(Drop)]
 struct Rows {
@@ -64,7 +67,7 @@ impl Service for Rows {
             b"/normal" => self.open(Mode::Normal),
             b"/longpoll" => self.open(Mode::Longpoll),
             b"/continuous" => self.open(Mode::Continuous),
-            b"/d" => match Vec::from_slice(self.alloc, b"{\"ok\":true}\n") {
+            b"/d" => match Vec::from_slice(self.alloc, DONE.as_bytes()) {
                 Ok(body) => Answer::Whole(Reply::Done {
                     status: StatusCode::CREATED,
                     body,
@@ -80,8 +83,8 @@ impl Service for Rows {
         self.next = number.saturating_add(1);
         match (number, self.mode) {
             (0, Mode::Longpoll) => Some(Item::Beat),
-            (1, Mode::Longpoll) | (0, _) => row(self.alloc, 1, "{\"_id\":\"a\"}", "1-a", false),
-            (1, _) => row(self.alloc, 2, "{\"_id\":\"b\"}", "2-b", true),
+            (1, Mode::Longpoll) | (0, _) => row(self.alloc, 1, r#"{"_id":"a"}"#, "1-a", false),
+            (1, _) => row(self.alloc, 2, r#"{"_id":"b"}"#, "2-b", true),
             (2, Mode::Continuous) => Some(Item::Beat),
             _ => {
                 if self.stops {
@@ -218,29 +221,84 @@ fn served(alloc: Global, input: &[u8], mut service: Rows) -> (Closing, Vec<u8>) 
     (closing, writer.into_inner())
 }
 
-const CREATED: &str =
-    "HTTP/1.1 201 Created\r\nContent-Type: application/json\r\nContent-Length: 12\r\n\r\n{\"ok\":true}\n";
+const CREATED: &str = concat!(
+    "HTTP/1.1 201 Created\r\nContent-Type: application/json\r\nContent-Length: 12\r\n\r\n",
+    r#"{"ok":true}"#,
+    "\n"
+);
 
 const FEED_HEAD: &str =
     "HTTP/1.1 200 OK\r\nContent-Type: application/json\r\nTransfer-Encoding: chunked\r\n\r\n";
 
-const NORMAL: &str =
-    "d\r\n{\"results\":[\n\r\n2c\r\n{\"seq\":1,\"id\":\"a\",\"changes\":[{\"rev\":\"1-a\"}]}\r\n3d\r\n,\n{\"seq\":2,\"id\":\"b\",\"changes\":[{\"rev\":\"2-b\"}],\"deleted\":true}\r\n1e\r\n\n],\n\"last_seq\":2,\"pending\":0}\n\r\n0\r\n\r\n";
+const NORMAL: &str = concat!(
+    "d\r\n",
+    r#"{"results":["#,
+    "\n\r\n",
+    "2c\r\n",
+    r#"{"seq":1,"id":"a","changes":[{"rev":"1-a"}]}"#,
+    "\r\n",
+    "3d\r\n,\n",
+    r#"{"seq":2,"id":"b","changes":[{"rev":"2-b"}],"deleted":true}"#,
+    "\r\n",
+    "1e\r\n\n],\n",
+    r#""last_seq":2,"pending":0}"#,
+    "\n\r\n",
+    "0\r\n\r\n"
+);
 
-const LONGPOLL: &str =
-    "d\r\n{\"results\":[\n\r\n1\r\n\n\r\n2c\r\n{\"seq\":1,\"id\":\"a\",\"changes\":[{\"rev\":\"1-a\"}]}\r\n1e\r\n\n],\n\"last_seq\":2,\"pending\":0}\n\r\n0\r\n\r\n";
+const LONGPOLL: &str = concat!(
+    "d\r\n",
+    r#"{"results":["#,
+    "\n\r\n",
+    "1\r\n\n\r\n",
+    "2c\r\n",
+    r#"{"seq":1,"id":"a","changes":[{"rev":"1-a"}]}"#,
+    "\r\n",
+    "1e\r\n\n],\n",
+    r#""last_seq":2,"pending":0}"#,
+    "\n\r\n",
+    "0\r\n\r\n"
+);
 
-const CONTINUOUS: &str =
-    "2d\r\n{\"seq\":1,\"id\":\"a\",\"changes\":[{\"rev\":\"1-a\"}]}\n\r\n3c\r\n{\"seq\":2,\"id\":\"b\",\"changes\":[{\"rev\":\"2-b\"}],\"deleted\":true}\n\r\n1\r\n\n\r\n1b\r\n{\"last_seq\":2,\"pending\":0}\n\r\n0\r\n\r\n";
+const CONTINUOUS: &str = concat!(
+    "2d\r\n",
+    r#"{"seq":1,"id":"a","changes":[{"rev":"1-a"}]}"#,
+    "\n\r\n",
+    "3c\r\n",
+    r#"{"seq":2,"id":"b","changes":[{"rev":"2-b"}],"deleted":true}"#,
+    "\n\r\n",
+    "1\r\n\n\r\n",
+    "1b\r\n",
+    r#"{"last_seq":2,"pending":0}"#,
+    "\n\r\n",
+    "0\r\n\r\n"
+);
+
+/// The last chunks of a feed: its End, and the chunk that closes it.
+const NORMAL_END: &str = concat!(
+    "1e\r\n\n],\n",
+    r#""last_seq":2,"pending":0}"#,
+    "\n\r\n",
+    "0\r\n\r\n"
+);
+
+/// The requests of a session.
+const SESSION: &str = concat!(
+    "PUT /d HTTP/1.1\r\nHost: h\r\ncontent-length: 2\r\n\r\n{}",
+    "GET /normal HTTP/1.1\r\n\r\n",
+    "HEAD /normal HTTP/1.1\r\n\r\n",
+    "HEAD /x HTTP/1.1\r\n\r\n",
+    "GET /longpoll HTTP/1.1\r\n\r\n",
+    "GET /continuous HTTP/1.1\r\n\r\n",
+    "PUT /d HTTP/1.1\r\n\r\n"
+);
 
 #[test]
 fn a_session(rt: HostRuntime) -> Result<(), Fail> {
     let alloc = rt.alloc();
-    let input =
-        b"PUT /d HTTP/1.1\r\nHost: h\r\ncontent-length: 2\r\n\r\n{}GET /normal HTTP/1.1\r\n\r\nHEAD /normal HTTP/1.1\r\n\r\nHEAD /x HTTP/1.1\r\n\r\nGET /longpoll HTTP/1.1\r\n\r\nGET /continuous HTTP/1.1\r\n\r\nPUT /d HTTP/1.1\r\n\r\n";
     let missing =
         "HTTP/1.1 404 Not Found\r\nContent-Type: application/json\r\nContent-Length: 41\r\n\r\n";
-    let (closing, output) = served(alloc, input, two_rows(alloc));
+    let (closing, output) = served(alloc, SESSION.as_bytes(), two_rows(alloc));
     let expected = format!(in alloc;
         "{CREATED}{FEED_HEAD}{NORMAL}{FEED_HEAD}{missing}{FEED_HEAD}{LONGPOLL}{FEED_HEAD}{CONTINUOUS}{CREATED}"
     )?;
@@ -249,17 +307,30 @@ fn a_session(rt: HostRuntime) -> Result<(), Fail> {
     Ok(())
 }
 
+/// Two requests, the second of which closes, and one behind them.
+const LAST_OF_TWO: &str = concat!(
+    "PUT /d HTTP/1.1\r\n\r\n",
+    "PUT /d HTTP/1.1\r\nConnection: CLOSE\r\n\r\n",
+    "PUT /d HTTP/1.1\r\n\r\n"
+);
+
+const CREATED_LAST: &str = concat!(
+    "HTTP/1.1 201 Created\r\nContent-Type: application/json\r\nContent-Length: 12\r\n",
+    "Connection: close\r\n\r\n",
+    r#"{"ok":true}"#,
+    "\n"
+);
+
+const FEED_HEAD_LAST: &str = concat!(
+    "HTTP/1.1 200 OK\r\nContent-Type: application/json\r\nTransfer-Encoding: chunked\r\n",
+    "Connection: close\r\n\r\n"
+);
+
 #[test]
 fn a_closed_session(rt: HostRuntime) -> Result<(), Fail> {
     let alloc = rt.alloc();
-    let last =
-        "HTTP/1.1 201 Created\r\nContent-Type: application/json\r\nContent-Length: 12\r\nConnection: close\r\n\r\n{\"ok\":true}\n";
-    let (closing, output) = served(
-        alloc,
-        b"PUT /d HTTP/1.1\r\n\r\nPUT /d HTTP/1.1\r\nConnection: CLOSE\r\n\r\nPUT /d HTTP/1.1\r\n\r\n",
-        two_rows(alloc),
-    );
-    let expected = format!(in alloc; "{CREATED}{last}")?;
+    let (closing, output) = served(alloc, LAST_OF_TWO.as_bytes(), two_rows(alloc));
+    let expected = format!(in alloc; "{CREATED}{CREATED_LAST}")?;
     assert_eq!(rt; output.as_slice(), expected.as_bytes());
     assert_eq!(rt; closing, Closing::Requested);
 
@@ -268,9 +339,7 @@ fn a_closed_session(rt: HostRuntime) -> Result<(), Fail> {
         b"HEAD /normal HTTP/1.1\r\nConnection: close\r\n\r\nPUT /d HTTP/1.1\r\n\r\n",
         two_rows(alloc),
     );
-    let head =
-        "HTTP/1.1 200 OK\r\nContent-Type: application/json\r\nTransfer-Encoding: chunked\r\nConnection: close\r\n\r\n";
-    assert_eq!(rt; output.as_slice(), head.as_bytes());
+    assert_eq!(rt; output.as_slice(), FEED_HEAD_LAST.as_bytes());
     assert_eq!(rt; closing, Closing::Requested);
     Ok(())
 }
@@ -286,52 +355,83 @@ fn a_stopped_stream(rt: HostRuntime) -> Result<(), Fail> {
         service,
     );
     let all = format!(in alloc; "{FEED_HEAD}{NORMAL}")?;
-    let end = "1e\r\n\n],\n\"last_seq\":2,\"pending\":0}\n\r\n0\r\n\r\n";
-    assert_eq!(rt; output.as_slice(), &all.as_bytes()[..all.len() - end.len()]);
+    assert_eq!(rt;
+        output.as_slice(),
+        &all.as_bytes()[..all.len() - NORMAL_END.len()]
+    );
     assert_eq!(rt; closing, Closing::Cut);
     Ok(())
 }
 
+/// Requests, the faults that they close for, and what is answered.
+const FAULTS: [(&[u8], HttpFault, &str); 5] = [
+    (
+        b"GET / HTTP/1.1\r\nHost h\r\n\r\n",
+        HttpFault::BadHead,
+        concat!(
+            "HTTP/1.1 400 Bad Request\r\nContent-Type: application/json\r\nContent-Length: 44\r\n",
+            "Connection: close\r\n\r\n",
+            r#"{"error":"bad_request","reason":"bad head"}"#,
+            "\n"
+        ),
+    ),
+    (
+        b"GET / HTTP/1.1\r\nContent-Length: 8388609\r\n\r\n",
+        HttpFault::BodyTooLong,
+        concat!(
+            "HTTP/1.1 413 Payload Too Large\r\nContent-Type: application/json\r\nContent-Length: 47\r\n",
+            "Connection: close\r\n\r\n",
+            r#"{"error":"too_large","reason":"body too long"}"#,
+            "\n"
+        ),
+    ),
+    (
+        b"GET / HTTP/1.0\r\n\r\nPUT /d HTTP/1.1\r\n\r\n",
+        HttpFault::Version,
+        concat!(
+            "HTTP/1.1 505 HTTP Version Not Supported\r\nContent-Type: application/json\r\nContent-Length: 50\r\n",
+            "Connection: close\r\n\r\n",
+            r#"{"error":"http_version","reason":"HTTP/1.1 only"}"#,
+            "\n"
+        ),
+    ),
+    (
+        b"GET / HTTP/1.1\r\nTransfer-Encoding: chunked\r\n\r\n",
+        HttpFault::Coding,
+        concat!(
+            "HTTP/1.1 501 Not Implemented\r\nContent-Type: application/json\r\nContent-Length: 58\r\n",
+            "Connection: close\r\n\r\n",
+            r#"{"error":"not_implemented","reason":"no transfer coding"}"#,
+            "\n"
+        ),
+    ),
+    (b"GET / HTTP/1.1\r\n", HttpFault::Ended, ""),
+];
+
 #[test]
 fn faults(rt: HostRuntime) {
-    let cases: [(&[u8], HttpFault, &str); 5] = [
-        (
-            b"GET / HTTP/1.1\r\nHost h\r\n\r\n",
-            HttpFault::BadHead,
-            "HTTP/1.1 400 Bad Request\r\nContent-Type: application/json\r\nContent-Length: 44\r\nConnection: close\r\n\r\n{\"error\":\"bad_request\",\"reason\":\"bad head\"}\n",
-        ),
-        (
-            b"GET / HTTP/1.1\r\nContent-Length: 8388609\r\n\r\n",
-            HttpFault::BodyTooLong,
-            "HTTP/1.1 413 Payload Too Large\r\nContent-Type: application/json\r\nContent-Length: 47\r\nConnection: close\r\n\r\n{\"error\":\"too_large\",\"reason\":\"body too long\"}\n",
-        ),
-        (
-            b"GET / HTTP/1.0\r\n\r\nPUT /d HTTP/1.1\r\n\r\n",
-            HttpFault::Version,
-            "HTTP/1.1 505 HTTP Version Not Supported\r\nContent-Type: application/json\r\nContent-Length: 50\r\nConnection: close\r\n\r\n{\"error\":\"http_version\",\"reason\":\"HTTP/1.1 only\"}\n",
-        ),
-        (
-            b"GET / HTTP/1.1\r\nTransfer-Encoding: chunked\r\n\r\n",
-            HttpFault::Coding,
-            "HTTP/1.1 501 Not Implemented\r\nContent-Type: application/json\r\nContent-Length: 58\r\nConnection: close\r\n\r\n{\"error\":\"not_implemented\",\"reason\":\"no transfer coding\"}\n",
-        ),
-        (b"GET / HTTP/1.1\r\n", HttpFault::Ended, ""),
-    ];
-    for (input, fault, text) in cases {
-        let (closing, output) = served(rt.alloc(), input, two_rows(rt.alloc()));
+    for (input, fault, text) in &FAULTS {
+        let (closing, output) = served(rt.alloc(), *input, two_rows(rt.alloc()));
         assert_eq!(rt; output.as_slice(), text.as_bytes());
-        assert_eq!(rt; closing, Closing::Fault(fault));
+        assert_eq!(rt; closing, Closing::Fault(*fault));
     }
 }
+
+/// Requests whose answers are written until the writer breaks.
+const BROKEN_AT: &str = concat!(
+    "PUT /d HTTP/1.1\r\n\r\n",
+    "GET /normal HTTP/1.1\r\n\r\n",
+    "GET /longpoll HTTP/1.1\r\n\r\n",
+    "GET / HTTP/1.0\r\n\r\n"
+);
 
 #[test]
 fn a_writer_that_breaks(rt: HostRuntime) -> Result<(), Fail> {
     let alloc = rt.alloc();
-    let input =
-        b"PUT /d HTTP/1.1\r\n\r\nGET /normal HTTP/1.1\r\n\r\nGET /longpoll HTTP/1.1\r\n\r\nGET / HTTP/1.0\r\n\r\n";
+    let input = BROKEN_AT.as_bytes();
     let (_, whole) = served(alloc, input, two_rows(alloc));
     for room in 0..whole.len() {
-        let mut requests = Requests::new(alloc, Tally::new(input.as_slice()));
+        let mut requests = Requests::new(alloc, Tally::new(input));
         let mut writer = Tally::new(Taker::new(alloc, room));
         let mut service = two_rows(alloc);
         let closing = serve(alloc, &mut requests, &mut writer, &mut service);
@@ -385,12 +485,18 @@ fn one_step(rt: HostRuntime) {
     assert_eq!(rt; writer.into_inner().as_slice(), NORMAL.as_bytes());
 }
 
+/// Requests that come a byte at a time.
+const INTERRUPTED: &str = concat!(
+    "PUT /d HTTP/1.1\r\ncontent-length: 2\r\n\r\n{}",
+    "GET /longpoll HTTP/1.1\r\n\r\n",
+    "HEAD /x HTTP/1.1\r\n\r\n"
+);
+
 /// Interrupted reads and writes are made again.
 #[test]
 fn interrupted_calls_change_no_byte(rt: HostRuntime) {
     let alloc = rt.alloc();
-    let input: &[u8] =
-        b"PUT /d HTTP/1.1\r\ncontent-length: 2\r\n\r\n{}GET /longpoll HTTP/1.1\r\n\r\nHEAD /x HTTP/1.1\r\n\r\n";
+    let input = INTERRUPTED.as_bytes();
     let (_, whole) = served(alloc, input, two_rows(alloc));
     for interrupts in 0..4 {
         let mut requests = Requests::new(alloc, Tally::new(Hesitant::new(input, interrupts)));
