@@ -86,7 +86,7 @@ next_of_rows [] last_seq pending = (End last_seq pending, None)
 next_of_rows (row ∷ rows) last_seq pending =
     (Row row, Some (record { rows = rows; last_seq = last_seq; pending = pending }))
 
--- the same of what is left of an answer
+-- the next item of an answer that was made at once, and what is left of it
 abbrev pub next_listed : Descending → Item ChangeRow × Option Descending
 next_listed answer = next_of_rows answer.rows answer.last_seq answer.pending
 

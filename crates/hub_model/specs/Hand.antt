@@ -7,7 +7,8 @@ use Rattle.hub_model.specs.Feed.{Feed, Due, DueRow, DueEnd, DueNothing, DueGone,
 use Rattle.hub_model.specs.declared.feeds.Item.{Item}
 use Rattle.hub_model.specs.declared.feeds.Item.TheVariants.{Row, End}
 
--- of these current rows, each shown so: a row, or an End with the count of the rows above it
+-- The item that is due, of these current rows; `show` makes of a current row what is handed. An End says how
+-- many rows lie above it: with current rows at 3 and 5, an End at 3 is pending 1.
 abbrev pub item_of : {R : Type 0} → (Current → R) → List Current → Due → Option (Item R)
 item_of show rows (DueRow c) = Some (Row (show c))
 item_of show rows (DueEnd last_seq) = Some (End last_seq (pending rows last_seq))

@@ -45,7 +45,7 @@ asked_of kind.Local Get = Ok GetLocal
 asked_of kind.Local Put = Ok PutLocal
 asked_of other method = Err MethodNotAllowed
 
--- the same of a path, where the table has it
+-- what a method asks for of a path of this kind; a path that the table has not is missing, whatever the method
 abbrev pub asked_at : Option Kind → Method → Result Service RouteFault
 asked_at None method = Err Missing
 asked_at (Some kind) method = asked_of kind method
