@@ -59,7 +59,7 @@ lookup_of J id revs (winner ∷ others) =
       body = winner.edit.body;
     }))
 
--- the same of the journal's document
+-- what is shown of a document of the journal
 abbrev pub lookup : List Edit → List ℕ → Bool → Lookup
 lookup J id revs = lookup_of J id revs (leaves_of J id)
 
