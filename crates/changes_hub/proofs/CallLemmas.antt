@@ -8,10 +8,10 @@ use Rattle.hub_http.specs.declared.refusal.Refusal.{Refusal}
 use Rattle.hub_routes.specs.declared.route.Call.{Call}
 use Rattle.hub_session.specs.declared.service.Answer.{Answer}
 use Rattle.changes_hub.specs.Calls.{answers_standing, calls}
-use Rattle.changes_hub.specs.Said.{Said, Body, Step}
+use Rattle.changes_hub.specs.Said.{Said, Body, Step, reads}
 use Rattle.changes_hub.specs.declared.databases.Sent.{Sent}
-use Rattle.changes_hub.specs.Came.{Responds, Writes, CameOut, CameAt, Goes, IsFound, with_status}
-use Rattle.changes_hub.specs.Hub.{Hub, Named, MayLeaveStanding, MayLeaveBy, Says, after_call, feed_after, place_of, stored_at, with_state, calls_at}
+use Rattle.changes_hub.specs.Came.{Reads, Responds, Writes, CameOut, CameAt, Goes, IsFound, with_status}
+use Rattle.changes_hub.specs.Hub.{Hub, Named, MayLeave, MayLeaveStanding, MayLeaveBy, Says, after_call, feed_after, place_of, stored_at, with_state, calls_at}
 use Rattle.changes_hub.specs.declared.response.Response.{Response}
 use Rattle.changes_hub.specs.declared.response.Response.TheVariants as response
 use Rattle.changes_hub.proofs.PlaceLemmas.{changed_at, stands}
@@ -25,6 +25,25 @@ writes_came status old step (Ok body) new may m n h = (responds status body step
 writes_came status old step (Err e) new may m n (inl h) = inl h
 writes_came status old step (Err e) new may m n (inr (none, inl same)) = inr (none, subst may (sym same) m)
 writes_came status old step (Err e) new may m n (inr (none, inr done)) = inr (none, subst may (sym done) n)
+
+-- a call that changes nothing came out so
+pub reads_came : (status : ℕ) (db : Database) (said : Said) (r : Result (Vec ℕ Global) Refusal) (may : Database → Type 0) → may db → Reads status said r → CameOut (reads db said) may (with_status status r) db
+reads_came status db said (Ok body) may m e = (responds status body said e, refl)
+reads_came status db said (Err x) may m (inl none) = inr (none, m)
+reads_came status db said (Err x) may m (inr e) = inl (e, refl)
+
+-- a call on a database that was not deleted came out so
+pub standing_came : (c : Call) (name body : List ℕ) (db : Database) → db.deleted ≡ false → (r : Result Response Refusal) (new : Database) → CameOut (answers_standing c name body db) (MayLeave c name body db) r new
+    → CameOut (calls c name body db) (MayLeaveStanding c name body db) r new
+standing_came c name body db stands r new h = subst (λ s. CameOut s (MayLeaveStanding c name body db) r new) same (from r h)
+  where
+    same : answers_standing c name body db ≡ calls c name body db
+    same = rw stands refl
+
+    from : (r : Result Response Refusal) → CameOut (answers_standing c name body db) (MayLeave c name body db) r new → CameOut (answers_standing c name body db) (MayLeaveStanding c name body db) r new
+    from (Ok response) h = h
+    from (Err e) (inl h) = inl h
+    from (Err e) (inr (none, may)) = inr (none, (stands, may))
 
 -- what a call leaves of a database that was not deleted
 pub left_standing : (c : Call) (name body : List ℕ) (db : Database) → db.deleted ≡ false → (answers_standing c name body db).state ≡ (calls c name body db).state

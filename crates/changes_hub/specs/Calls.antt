@@ -19,7 +19,7 @@ use Rattle.hub_document.specs.declared.doc.DocFault.TheVariants as doc
 use Rattle.hub_document.specs.declared.local_doc.LocalDoc.{LocalDoc}
 use Rattle.hub_document.specs.declared.open_revs.OpenRevs.{OpenRevs}
 use Rattle.hub_document.specs.declared.open_revs.OpenRevs.TheVariants.{All, Listed}
-use Rattle.hub_database.specs.Database.{Database, Local}
+use Rattle.hub_database.specs.Database.{Contents, Database, Local, contents_of}
 use Rattle.hub_database.specs.Edits.{makes_one, writes}
 use Rattle.hub_database.specs.Locals.{local_of, put_local, written}
 use Rattle.hub_database.specs.Reads.{info_of, lookup, open_revs}
@@ -51,9 +51,9 @@ abbrev pub of_db_fault : DbFault → Refusal
 of_db_fault db_fault.NoMemory = refusal.NoMemory
 of_db_fault (db_fault.Refused fault) = of_fault fault
 
--- what a database says of itself
-abbrev pub says_info : List ℕ → Database → Said
-says_info name db = Body 200 (info_body name (info_of db.journal))
+-- what a database of this name and these contents says of itself
+abbrev pub says_info : List ℕ → Contents → Said
+says_info name contents = Body 200 (info_body name (info_of contents.journal))
 
 -- a commit has nothing to do
 abbrev pub says_commit : Said
@@ -74,19 +74,19 @@ says_revs All (r ∷ revs) = Body 200 (open_revs_body (r ∷ revs))
 says_revs (Listed asked) revs = Body 200 (open_revs_body revs)
 
 -- the revisions that a value of `open_revs` asks for
-abbrev pub gets_revs : Database → List ℕ → Bool → Option OpenRevs → Said
-gets_revs db id revs None = Refusing BadRev
-gets_revs db id revs (Some which) = says_revs which (open_revs db.journal id which revs)
+abbrev pub gets_revs : Contents → List ℕ → Bool → Option OpenRevs → Said
+gets_revs contents id revs None = Refusing BadRev
+gets_revs contents id revs (Some which) = says_revs which (open_revs contents.journal id which revs)
 
 -- a document, or some of its revisions; a revision is not asked for by `rev`
-abbrev pub gets_by : Database → List ℕ → Bool → Option (List ℕ) → Option (List ℕ) → Said
-gets_by db id revs rev (Some text) = gets_revs db id revs (open_revs_in text)
-gets_by db id revs (Some rev) None = Refusing BadRev
-gets_by db id revs None None = says_found (lookup db.journal id revs)
+abbrev pub gets_by : Contents → List ℕ → Bool → Option (List ℕ) → Option (List ℕ) → Said
+gets_by contents id revs rev (Some text) = gets_revs contents id revs (open_revs_in text)
+gets_by contents id revs (Some rev) None = Refusing BadRev
+gets_by contents id revs None None = says_found (lookup contents.journal id revs)
 
--- the same by what a query asks
-abbrev pub gets_doc : Database → List ℕ → DocAsked → Said
-gets_doc db id asked = gets_by db id asked.revs asked.rev asked.open_revs
+-- a document, or some of its revisions, by what a query asks
+abbrev pub gets_doc : Contents → List ℕ → DocAsked → Said
+gets_doc contents id asked = gets_by contents id asked.revs asked.rev asked.open_revs
 
 -- ---- editing documents
 
@@ -163,9 +163,9 @@ abbrev pub asked_by : List ℕ → Result (List Asked) DocFault
 asked_by body = or_fault (json_of body) doc.NotJson asked_in
 
 -- which of them are missing
-abbrev pub says_diffs : Database → Result (List Asked) DocFault → Said
-says_diffs db (Err fault) = Refusing (of_doc_fault fault)
-says_diffs db (Ok asked) = Body 200 (diffs_body (diffs db.journal asked))
+abbrev pub says_diffs : Contents → Result (List Asked) DocFault → Said
+says_diffs contents (Err fault) = Refusing (of_doc_fault fault)
+says_diffs contents (Ok asked) = Body 200 (diffs_body (diffs contents.journal asked))
 
 -- storing a batch, or the refusal of the whole
 abbrev pub stores : Database → Result Batch Refusal → Step
@@ -194,13 +194,13 @@ pub record HasFront (db : Database) (batch : Batch) (new : Database) : Type 0 wh
 -- what a database of this name that was not deleted answers to a call with this body, and the database after
 -- it
 abbrev pub answers_standing : Call → List ℕ → List ℕ → Database → Step
-answers_standing call.Info name body db = reads db (says_info name db)
+answers_standing call.Info name body db = reads db (says_info name (contents_of db))
 answers_standing call.BulkDocs name body db = stores db (batch_in body)
 answers_standing (call.Changes query) name body db = begins db (feed_asked query.items body)
-answers_standing call.RevsDiff name body db = reads db (says_diffs db (asked_by body))
+answers_standing call.RevsDiff name body db = reads db (says_diffs (contents_of db) (asked_by body))
 answers_standing call.FullCommit name body db = reads db says_commit
 answers_standing (call.GetDocument id query) name body db =
-    reads db (gets_doc db (string_bytes id) (doc_asked query.items))
+    reads db (gets_doc (contents_of db) (string_bytes id) (doc_asked query.items))
 answers_standing (call.PutDocument id query) name body db =
     puts_doc db (put_in (string_bytes id) (doc_asked query.items).rev (doc_asked query.items).new_edits body)
 answers_standing (call.DeleteDocument id query) name body db =

@@ -1,19 +1,19 @@
 //! A database by its name, and its answers to calls.
 
-ghost use Rattle.std.specs.Prelude.{◌≡◌, false, option_map, IfSome};
+ghost use Rattle.std.specs.Prelude.{◌≡◌, option_map, IfSome};
 ghost use Rattle.hub_database.specs.Hosting.{hosted_of, with_hosted};
 ghost use Rattle.hub_feed.specs.Host.{finished};
-ghost use Rattle.changes_hub.specs.Calls.{calls, answers_standing, says_info, says_commit};
+ghost use Rattle.changes_hub.specs.Calls.{calls, says_info, says_commit};
 ghost use Rattle.changes_hub.specs.Came.{Reads, CameOut, Hands, with_status};
 ghost use Rattle.changes_hub.specs.Feeds.{is_end};
-ghost use Rattle.changes_hub.specs.Hub.{MayLeave, MayLeaveStanding, has_name};
+ghost use Rattle.changes_hub.specs.Hub.{MayLeaveStanding, has_name};
 
 use crate::feeds::Handed;
 use crate::refusal::refusal_of;
 use crate::response::Response;
 use crate::{bulk, diff, documents, feeds, locals};
 use http::StatusCode;
-use hub_database::DbState;
+use hub_database::{Contents, DbState};
 use hub_feed::FeedId;
 use hub_http::Refusal;
 use hub_replies::{commit_body, info_body};
@@ -38,12 +38,10 @@ impl Model for Database {
 }
 
 // What a database says of itself.
-fn info(alloc: Global, name: &str, state: &DbState) -> Result<Vec<u8>, Refusal>
-    requires stands { state.now.deleted ≡ false }
-    ensures { Reads 200 (says_info name.now state.now) result }
+fn info(alloc: Global, name: &str, contents: &Contents) -> Result<Vec<u8>, Refusal>
+    ensures { Reads 200 (says_info name.now contents.now) result }
 {
-    let info = state.info().map_err(refusal_of)?;
-    Ok(info_body(alloc, name, &info)?)
+    Ok(info_body(alloc, name, &contents.info())?)
 }
 
 // The answer to a commit, which has nothing to do: every edit that was answered is stored.
@@ -63,26 +61,28 @@ fn with_status(status: StatusCode, body: Result<Vec<u8>, Refusal>) -> Result<Res
     }
 }
 
-// What a database that was not deleted answers to a call with this body.
-fn answer_standing(
+// What a database answers to a call with this body: once it is deleted, that alone. A call that
+// reads looks at the contents that stand; one that changes the database looks again when it does.
+fn answer(
     alloc: Global,
     name: &str,
     state: &mut DbState,
     call: Call,
     body: &[u8],
 ) -> Result<Response, Refusal>
-    requires stands { state.old.deleted ≡ false }
-    ensures { CameOut (answers_standing call name.now body.now state.old) (MayLeave call name.now body.now state.old) result state.new }
+    ensures { CameOut (calls call name.now body.now state.old)
+        (MayLeaveStanding call name.now body.now state.old) result state.new }
 {
+    let contents = state.standing().map_err(refusal_of)?;
     match call {
-        Call::Info => with_status(StatusCode::OK, info(alloc, name, state)),
+        Call::Info => with_status(StatusCode::OK, info(alloc, name, contents)),
         Call::BulkDocs => with_status(StatusCode::CREATED, bulk::store(alloc, state, body)),
         Call::Changes { query } => feeds::begin(alloc, state, query.as_slice(), body),
-        Call::RevsDiff => with_status(StatusCode::OK, diff::revs_diff(alloc, state, body)),
+        Call::RevsDiff => with_status(StatusCode::OK, diff::revs_diff(alloc, contents, body)),
         Call::FullCommit => with_status(StatusCode::CREATED, commit(alloc)),
         Call::GetDocument { id, query } => with_status(
             StatusCode::OK,
-            documents::get(alloc, state, id.as_str(), query.as_slice()),
+            documents::get(alloc, contents, id.as_str(), query.as_slice()),
         ),
         Call::PutDocument { id, query } => with_status(
             StatusCode::CREATED,
@@ -94,29 +94,13 @@ fn answer_standing(
         ),
         Call::GetLocal { id } => with_status(
             StatusCode::OK,
-            locals::get(alloc, state, id.as_str()),
+            locals::get(alloc, contents, id.as_str()),
         ),
         Call::PutLocal { id } => with_status(
             StatusCode::CREATED,
             locals::put(alloc, state, id.as_str(), body),
         ),
     }
-}
-
-// What a database answers to a call with this body: once it is deleted, that alone.
-fn answer(
-    alloc: Global,
-    name: &str,
-    state: &mut DbState,
-    call: Call,
-    body: &[u8],
-) -> Result<Response, Refusal>
-    ensures { CameOut (calls call name.now body.now state.old) (MayLeaveStanding call name.now body.now state.old) result state.new }
-{
-    if state.is_deleted() {
-        return Err(Refusal::Deleted);
-    }
-    answer_standing(alloc, name, state, call, body)
 }
 
 impl Database {
@@ -134,7 +118,8 @@ impl Database {
         call: Call,
         body: &[u8],
     ) -> Result<Response, Refusal>
-        ensures came { CameOut (calls call self.old.name body.now self.old.state) (MayLeaveStanding call self.old.name body.now self.old.state) result self.new.state }
+        ensures came { CameOut (calls call self.old.name body.now self.old.state)
+            (MayLeaveStanding call self.old.name body.now self.old.state) result self.new.state }
         ensures name { self.new.name ≡ self.old.name }
     {
         answer(alloc, self.name.as_str(), &mut self.state, call, body)

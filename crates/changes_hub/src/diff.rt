@@ -2,10 +2,9 @@
 
 ghost use Rattle.changes_hub.specs.Calls.{asked_by, says_diffs};
 ghost use Rattle.changes_hub.specs.Came.{Reads};
-ghost use Rattle.std.specs.Prelude.{◌≡◌, ◌⊎◌, false, IfOk, IfErr, Ok, Err};
+ghost use Rattle.std.specs.Prelude.{◌≡◌, ◌⊎◌, IfOk, IfErr, Ok, Err};
 
-use crate::refusal::refusal_of;
-use hub_database::DbState;
+use hub_database::Contents;
 use hub_document::{Asked, DocFault, read_value};
 use hub_http::Refusal;
 use hub_replies::diffs_body;
@@ -21,14 +20,13 @@ fn read_asked(alloc: Global, body: &[u8]) -> Result<Vec<Asked>, DocFault>
 }
 
 /// Which of the revisions that a body asks for are missing. It costs the body's length, and what
-/// `DbState::revs_diff` does.
-pub(crate) fn revs_diff(alloc: Global, state: &DbState, body: &[u8]) -> Result<Vec<u8>, Refusal>
-    requires stands { state.now.deleted ≡ false }
-    ensures { Reads 200 (says_diffs state.now (asked_by body.now)) result }
+/// `Contents::revs_diff` does.
+pub(crate) fn revs_diff(alloc: Global, contents: &Contents, body: &[u8]) -> Result<Vec<u8>, Refusal>
+    ensures { Reads 200 (says_diffs contents.now (asked_by body.now)) result }
 {
     match read_asked(alloc, body) {
         Ok(asked) => {
-            let diffs = state.revs_diff(asked).map_err(refusal_of)?;
+            let diffs = contents.revs_diff(asked)?;
             Ok(diffs_body(alloc, diffs.as_slice())?)
         }
         Err(fault) => Err(Refusal::from(fault)),

@@ -1,6 +1,6 @@
 //! Documents by their ids (CouchDB API reference, `/{db}/{docid}`).
 
-ghost use Rattle.std.specs.Prelude.{◌≡◌, false};
+ghost use Rattle.std.specs.Prelude.{◌≡◌};
 ghost use Rattle.hub_document.specs.Ids.{short_id};
 ghost use Rattle.hub_document.specs.Put.{put_in};
 ghost use Rattle.hub_params.specs.DocParams.{doc_asked};
@@ -8,7 +8,7 @@ ghost use Rattle.changes_hub.specs.Calls.{says_found, says_revs, gets_revs, gets
 ghost use Rattle.changes_hub.specs.Came.{Reads, Writes};
 
 use crate::refusal::refusal_of;
-use hub_database::{DbState, Lookup, OpenRev};
+use hub_database::{Contents, DbState, Lookup, OpenRev};
 use hub_document::{Body, Doc, DocId, OpenRevs, RevId};
 use hub_http::Refusal;
 use hub_params::DocParams;
@@ -40,31 +40,29 @@ fn say_revs(alloc: Global, which: &OpenRevs, revs: &[OpenRev]) -> Result<Vec<u8>
 // The revisions of a document that a value of `open_revs` asks for.
 fn get_revs(
     alloc: Global,
-    state: &DbState,
+    contents: &Contents,
     id: &str,
     revs: bool,
     asked: Option<OpenRevs>,
 ) -> Result<Vec<u8>, Refusal>
-    requires stands { state.now.deleted ≡ false }
-    ensures { Reads 200 (gets_revs state.now id.now revs asked) result }
+    ensures { Reads 200 (gets_revs contents.now id.now revs asked) result }
 {
     let Some(which) = asked else {
         return Err(Refusal::BadRev);
     };
-    let found = state.open_revs(id, &which, revs).map_err(refusal_of)?;
+    let found = contents.open_revs(id, &which, revs)?;
     say_revs(alloc, &which, found.as_slice())
 }
 
-/// A document, or those of its revisions that `open_revs` asks for. It costs what `DbState::get` or
-/// `DbState::open_revs` does, and the length of the answer.
+/// A document, or those of its revisions that `open_revs` asks for. It costs what `Contents::get` or
+/// `Contents::open_revs` does, and the length of the answer.
 pub(crate) fn get(
     alloc: Global,
-    state: &DbState,
+    contents: &Contents,
     id: &str,
     query: &[u8],
 ) -> Result<Vec<u8>, Refusal>
-    requires stands { state.now.deleted ≡ false }
-    ensures { Reads 200 (gets_doc state.now id.now (doc_asked query.now)) result }
+    ensures { Reads 200 (gets_doc contents.now id.now (doc_asked query.now)) result }
 {
     let DocParams {
         rev,
@@ -74,12 +72,12 @@ pub(crate) fn get(
     } = DocParams::read(alloc, query)?;
     if let Some(text) = open_revs {
         let asked = OpenRevs::read(alloc, text.as_str())?;
-        return get_revs(alloc, state, id, revs, asked);
+        return get_revs(alloc, contents, id, revs, asked);
     }
     if rev.is_some() {
         return Err(Refusal::BadRev);
     }
-    let found = state.get(id, revs).map_err(refusal_of)?;
+    let found = contents.get(id, revs)?;
     say_found(alloc, &found)
 }
 

@@ -1,6 +1,6 @@
 //! One database, and its calls but those of its feeds.
 
-ghost use Rattle.std.specs.Prelude.{◌≡◌, ◌⊎◌, ◌<◌, ◌≤◌, ◌^◌, [], false, true, length, map, take, option_map, replicate, Err, IfOk, IfErr, IsSome, OnErr, OnOk, IsTrue};
+ghost use Rattle.std.specs.Prelude.{◌≡◌, ◌⊎◌, ◌<◌, ◌≤◌, ◌^◌, [], false, true, length, take, option_map, replicate, Err, IfOk, IfErr, IsSome, OnErr, OnOk, IsTrue};
 ghost use Rattle.hub_model.specs.Descending.{descending};
 ghost use Rattle.hub_model.specs.Draft.{HasNextRevision};
 ghost use Rattle.hub_model.specs.Journal.{IsLegal};
