@@ -18,7 +18,8 @@ use std::test::Fail;
 /// A database was made, as it is written.
 const MADE_WRITTEN: Answer = Written(concat!(
     "HTTP/1.1 201 Created\r\nContent-Type: application/json\r\nContent-Length: 12\r\n\r\n",
-    "{\"ok\":true}\n"
+    r#"{"ok":true}"#,
+    "\n"
 ));
 
 /// Each document of a batch was stored, as it is written.
@@ -32,7 +33,13 @@ const EMPTY_DATABASE: &[Exchange] = &[
         Bytes("GET /d/_changes HTTP/1.1\r\n\r\n"),
         Written(concat!(
             "HTTP/1.1 200 OK\r\nContent-Type: application/json\r\nTransfer-Encoding: chunked\r\n\r\n",
-            "d\r\n{\"results\":[\n\r\n1e\r\n\n],\n\"last_seq\":0,\"pending\":0}\n\r\n0\r\n\r\n"
+            "d\r\n",
+            r#"{"results":["#,
+            "\n\r\n",
+            "1e\r\n\n],\n",
+            r#""last_seq":0,"pending":0}"#,
+            "\n\r\n",
+            "0\r\n\r\n"
         )),
     ),
 ];
@@ -57,10 +64,19 @@ const EDIT_AGAIN: &[Exchange] = &[
         Line("GET /d/_changes"),
         Written(concat!(
             "HTTP/1.1 200 OK\r\nContent-Type: application/json\r\nTransfer-Encoding: chunked\r\n\r\n",
-            "d\r\n{\"results\":[\n\r\n",
-            "2c\r\n{\"seq\":2,\"id\":\"b\",\"changes\":[{\"rev\":\"1-b\"}]}\r\n",
-            "2e\r\n,\n{\"seq\":3,\"id\":\"a\",\"changes\":[{\"rev\":\"2-c\"}]}\r\n",
-            "1e\r\n\n],\n\"last_seq\":3,\"pending\":0}\n\r\n0\r\n\r\n"
+            "d\r\n",
+            r#"{"results":["#,
+            "\n\r\n",
+            "2c\r\n",
+            r#"{"seq":2,"id":"b","changes":[{"rev":"1-b"}]}"#,
+            "\r\n",
+            "2e\r\n,\n",
+            r#"{"seq":3,"id":"a","changes":[{"rev":"2-c"}]}"#,
+            "\r\n",
+            "1e\r\n\n],\n",
+            r#""last_seq":3,"pending":0}"#,
+            "\n\r\n",
+            "0\r\n\r\n"
         )),
     ),
 ];
@@ -223,7 +239,9 @@ const CLOSING: &[Exchange] = &[
         Bytes("PUT /d HTTP/1.1\r\nConnection: keep-alive, Close\r\n\r\n"),
         Written(concat!(
             "HTTP/1.1 201 Created\r\nContent-Type: application/json\r\nContent-Length: 12\r\n",
-            "Connection: close\r\n\r\n{\"ok\":true}\n"
+            "Connection: close\r\n\r\n",
+            r#"{"ok":true}"#,
+            "\n"
         )),
     ),
     (Line("PUT /e"), Nothing),

@@ -11,12 +11,12 @@ use Rattle.hub_document.specs.RevisionText.{is_hash, with_hash}
 use Rattle.hub_document.specs.Histories.{falling, starting, history_in}
 
 -- the generations are n, n - 1, .., 1
-abbrev FallsFrom : ℕ → List Revision → Type 0
+abbrev pub FallsFrom : ℕ → List Revision → Type 0
 FallsFrom n [] = n ≡ 0
 FallsFrom n (r ∷ rest) = (r.generation ≡ n) × (0 < n) × FallsFrom (n - 1) rest
 
 -- what a mapped option was made of
-map_some : {A B P : Type 0} (f : A → B) (o : Option A) (y : B) → option_map f o ≡ Some y → ((x : A) → o ≡ Some x → f x ≡ y → P) → P
+pub map_some : {A B P : Type 0} (f : A → B) (o : Option A) (y : B) → option_map f o ≡ Some y → ((x : A) → o ≡ Some x → f x ≡ y → P) → P
 map_some f None y h next = absurd (cc)
 map_some f (Some x) y h next = next x refl (cc)
 

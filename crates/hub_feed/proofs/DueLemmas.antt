@@ -1,12 +1,11 @@
 -- What follows where a row or an end is due.
-use Rattle.std.proofs.Common.{◌≡◌, ℕ, ◌<◌, ◌≤◌, List, true, ◌&&◌, nat_lt, refl, sym, ◌∙◌, subst, Option, Some, None, IfSome, find, option_map, Contains}
-use Rattle.std.proofs.lemmas.Bool.{and_parts, ltb-true, leb-true}
+use Rattle.std.proofs.Common.{◌≡◌, ℕ, ◌<◌, ◌≤◌, List, true, refl, sym, ◌∙◌, subst, Option, Some, None, IfSome, find, option_map, Contains}
 use Rattle.std.proofs.lemmas.Option.{same_Some, none-some}
 use Rattle.hub_model.specs.Current.{Current, pending}
-use Rattle.hub_model.specs.Feed.{Feed, Status, Open, Ending, Ended, Finished, Due, DueRow, DueEnd, DueNothing, DueGone, due, due_at, due_open, is_in_reach, is_within}
-use Rattle.hub_model.specs.Filter.{passes}
+use Rattle.hub_model.specs.Feed.{Feed, Open, Ending, Due, DueRow, DueEnd, DueNothing, DueGone, due, is_in_reach}
 use Rattle.hub_model.specs.Hand.{item_of}
 use Rattle.hub_model.specs.declared.feeds.Item.TheVariants.{Row, End}
+use Rattle.hub_model.proofs.Due.{due_row, reach_parts, within_bound}
 use Rattle.hub_model.proofs.Shown.{find_is}
 use Rattle.hub_feed.specs.Mark.{mark_of}
 use Rattle.hub_feed.specs.Next.{next_of}
@@ -35,28 +34,9 @@ mark_row show seq_of rows (DueEnd last_seq) seq e = absurd (cc)
 mark_row show seq_of rows DueNothing seq e = absurd (cc)
 mark_row show seq_of rows DueGone seq e = absurd (cc)
 
-due_open_row : (o : Option Current) (bound : Option ℕ) (c : Current) → due_open o bound ≡ DueRow c → o ≡ Some c
-due_open_row (Some d) bound c e = cc
-due_open_row None (Some bound) c e = absurd (cc)
-due_open_row None None c e = absurd (cc)
-
--- and the first in reach
-due_at_row : (status : Status) (rows : List Current) (f : Feed) (c : Current) → due_at status rows f ≡ DueRow c → find (is_in_reach f) rows ≡ Some c
-due_at_row Open rows f c e = due_open_row (find (is_in_reach f) rows) f.bound c e
-due_at_row Ending rows f c e = absurd (cc)
-due_at_row Ended rows f c e = absurd (cc)
-due_at_row Finished rows f c e = absurd (cc)
-
 -- a row in reach lies above the place and not above the bound
-within_bound : (bound : Option ℕ) (n : ℕ) → is_within bound n ≡ true → IfSome bound (λ b. n ≤ b)
-within_bound None n e = tt
-within_bound (Some b) n e = leb-true n b e
-
 reach_lies : (f : Feed) (c : Current) → is_in_reach f c ≡ true → (f.place < c.seq) × IfSome f.bound (λ b. c.seq ≤ b)
-reach_lies f c e =
-    let p = and_parts (nat_lt f.place c.seq) (is_within f.bound c.seq && passes f.params.filter c.id) e in
-    let q = and_parts (is_within f.bound c.seq) (passes f.params.filter c.id) p.1 in
-    (ltb-true f.place c.seq p.0, within_bound f.bound c.seq q.0)
+reach_lies f c e = let p = reach_parts f c e in (p.0, within_bound f.bound c.seq p.1)
 
 -- and so does the sequence that marks a row, where rows that are shown keep theirs
 pub marked_lies : {R : Type 0} (show : Current → R) (seq_of : R → ℕ) (rows : List Current) (len : ℕ) (f : Feed)
@@ -65,7 +45,7 @@ pub marked_lies : {R : Type 0} (show : Current → R) (seq_of : R → ℕ) (rows
     → (f.place < seq) × (seq ≤ len) × IfSome f.bound (λ b. seq ≤ b)
 marked_lies show seq_of rows len f seq keeps within e =
     let (c, is, marked) = mark_row show seq_of rows (due rows f) seq e in
-    let here = find_is (is_in_reach f) rows c (due_at_row f.status rows f c is) in
+    let here = find_is (is_in_reach f) rows c (due_row rows f c is).1 in
     let lies = reach_lies f c here.0 in
     subst (λ n. (f.place < n) × (n ≤ len) × IfSome f.bound (λ b. n ≤ b)) (sym (marked ∙ keeps c))
     (lies.0, within c here.1, lies.1)

@@ -23,7 +23,7 @@ use Rattle.hub_document.specs.SpecialMembers.{are_good_members, deleted_of}
 use Rattle.hub_document.specs.declared.doc.DocFault.{DocFault}
 use Rattle.hub_document.specs.declared.doc.DocFault.TheVariants.{NotJson, NotObject, BadNumber, BadId, BadRev, BadRevisions, BadMember, TooLong}
 use Rattle.hub_document.specs.declared.doc.Doc.{Doc}
-use Rattle.hub_document.proofs.PathLemmas.{history_is_path, one_is_history}
+use Rattle.hub_document.proofs.PathLemmas.{map_some, history_is_path, one_is_history}
 use Rattle.hub_round_trip.proofs.MemberLemmas.{rise_plain, own_plain}
 use Rattle.hub_round_trip.proofs.ReadLemmas.{json_of_is, member_writable}
 use Rattle.hub_document.proofs.TextLemmas.{IsRevision-revision_of}
@@ -37,10 +37,6 @@ or_fault_ok (Some a) e next b h go = go a refl h
 holds : (b : Bool) (u : ⊤) → if_holds b ≡ Some u → b ≡ true
 holds true u e = refl
 holds false u e = absurd (cc)
-
-map_some : {A B P : Type 0} (f : A → B) (o : Option A) (y : B) → option_map f o ≡ Some y → ((x : A) → o ≡ Some x → f x ≡ y → P) → P
-map_some f None y h next = absurd (cc)
-map_some f (Some x) y h next = next x refl (cc)
 
 -- ---- the id
 

@@ -1,17 +1,16 @@
 -- A history that is written reads as itself.
-use Rattle.std.proofs.Common.{◌≡◌, ℕ, ◌-◌, ◌<◌, ◌^◌, List, [], ◌∷◌, ◌++◌, true, false, Option, Some, None, codes, decimal, IsUtf8, refl, sym, subst, arith, ne_eqb, lt-ltb, eq-eqb}
+use Rattle.std.proofs.Common.{◌≡◌, ℕ, ◌-◌, ◌<◌, ◌^◌, List, [], ◌∷◌, ◌++◌, true, false, Option, Some, None, codes, decimal, IsUtf8, refl, sym, subst, arith, ne_eqb, lt-ltb}
 use Rattle.std.proofs.lemmas.Bool.{and_from, and_parts}
 use Rattle.std.proofs.lemmas.Bool.Decides.{nat_tests}
 use Rattle.std.proofs.lemmas.Fmt.{IsAscii-decimal}
 use Rattle.std.proofs.lemmas.List.Elements.{recursion_from_All}
 use Rattle.std.proofs.lemmas.List.Sums.{list_all-from_AllPass}
-use Rattle.std.proofs.lemmas.Slice.Eq.{bytes_eq-Decides}
 use Rattle.std.proofs.lemmas.Str.{IsUtf8-append, IsUtf8-from_ascii}
 use Rattle.std.specs.List.{AllByRecursion, list_all}
 use Rattle.std.specs.Prelude.{nat_lt, slice_get}
 use Rattle.hub_model.specs.Draft.{generation_of, parent_of}
 use Rattle.hub_model.specs.Path.{IsPath, IsHistory}
-use Rattle.hub_model.specs.Revision.{Revision, IsRevision, text_of, is_hash_byte, is_same}
+use Rattle.hub_model.specs.Revision.{Revision, IsRevision, text_of, is_hash_byte}
 use Rattle.json.proofs.Printed.Utf8.{are_ascii, IsUtf8-are_ascii}
 use Rattle.serde_json.specs.Data.{unsigned, Data, number, array, object, no_members, member, items_depth}
 use Rattle.serde_json.specs.Read.{of_json}
@@ -19,6 +18,8 @@ use Rattle.serde_json.specs.Written.{outline, items_have_float}
 use Rattle.serde_json.proofs.Numbers.{number_of-decimal}
 use Rattle.hub_document.specs.Histories.{falling, history_in, is_head}
 use Rattle.hub_document.specs.RevisionText.{is_hash, with_hash}
+use Rattle.hub_document.proofs.PathLemmas.{FallsFrom}
+use Rattle.hub_model.proofs.Tests.{same_self}
 use Rattle.hub_round_trip.specs.RoundTrip.{IsWritable, AreWritable, AreOrdered, IsPathOf}
 use Rattle.hub_round_trip.proofs.WrittenLemmas.{hashes, history_written}
 use Rattle.hub_round_trip.proofs.ValueLemmas.{of_items-items_outline}
@@ -81,11 +82,6 @@ module _ (rev : Option Revision) (path : List Revision) (h : IsPathOf rev path) 
 
 -- ---- it reads as the history
 
--- the generations are n, n - 1, .., 1
-abbrev FallsFrom : ℕ → List Revision → Type 0
-FallsFrom n [] = n ≡ 0
-FallsFrom n (r ∷ rest) = (r.generation ≡ n) × (0 < n) × FallsFrom (n - 1) rest
-
 falls_down : (older : List Revision) (first : Revision) → first.generation ≡ 1 → IsPath (older ++ first ∷ []) → FallsFrom (generation_of (parent_of (older ++ first ∷ []))) (older ++ first ∷ [])
 falls_down [] first one h = (refl, omega arith, omega arith)
 falls_down (x ∷ []) first one h =
@@ -120,11 +116,8 @@ module _ (rev : Option Revision) (path : List Revision) (h : IsPathOf rev path) 
   history_in-history_read =
       rw (lt-ltb _ _ (fits rev path h).0, lt-ltb _ _ (fits rev path h).1) (falling_back _ path (falls_from path h.history) (good rev path h))
 
-same_is_same : (r : Revision) → is_same r r ≡ true
-same_is_same r = and_from _ _ (eq-eqb r.generation r.generation refl) ((bytes_eq-Decides r.hash r.hash).1 refl)
-
 -- and the revision that is named is its first
 pub head_is_head : (rev : Option Revision) (path : List Revision) → slice_get path 0 ≡ rev → is_head rev path ≡ true
 head_is_head None path h = refl
 head_is_head (Some r) [] h = absurd (cc)
-head_is_head (Some r) (x ∷ path) h = let same : x ≡ r = cc in rw same (same_is_same r)
+head_is_head (Some r) (x ∷ path) h = let same : x ≡ r = cc in rw same (same_self r)

@@ -18,7 +18,7 @@ use Rattle.serde_json.specs.Written.{has_float, items_have_float, members_have_f
 use Rattle.hub_document.specs.Read.{json_of}
 use Rattle.hub_round_trip.specs.RoundTrip.{IsWhole, IsWritable, AreWritable, AreWritableMembers, DoKeysRise, IsOrdered, AreOrdered, AreOrderedMembers}
 use Rattle.hub_round_trip.proofs.MemberLemmas.{rise_put}
-use Rattle.hub_round_trip.proofs.Utf8Lemmas.{HaveUtf8, tokens_have_utf8, IsJsonUtf8, AreItemsUtf8, AreMembersUtf8, json_has}
+use Rattle.hub_round_trip.proofs.Utf8Lemmas.{either, HaveUtf8, tokens_have_utf8, IsJsonUtf8, AreItemsUtf8, AreMembersUtf8, json_has}
 
 -- ---- what holds before floats are refused
 
@@ -70,10 +70,6 @@ negated (suc n) some most = omega arith
 negative_is_read : (integer : Bool) (n : ℕ) (t : Bool) (other : Option Num) → (integer && nat_lt 0 n && nat_le n (2 ^ 63)) ≡ t → IfSome other IsRead → IfSome (cond t (Some (negative (neg_ℤ (pos n)))) other) IsRead
 negative_is_read integer n true other e h = negated n (grind (arith, nat_tests)) (grind (arith, nat_tests))
 negative_is_read integer n false other e h = h
-
-either : {A : Type 0} (P : A → Type 0) (b : Bool) (x y : A) → P x → P y → P (cond b x y)
-either P true x y h k = h
-either P false x y h k = k
 
 -- a number's text has a minus or not, is an integer that fits or not, and a finite float or not
 forms_are_read : (minus i f j g : Bool) (n m : ℕ) (x y : Float)

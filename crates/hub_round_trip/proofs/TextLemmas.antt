@@ -5,7 +5,7 @@ use Rattle.std.specs.Prelude.{not, is_some, nat_lt, slice_get, Ok, IfSome}
 use Rattle.std.specs.Str.{is_utf8}
 use Rattle.hub_model.specs.Revision.{Revision, IsRevision, text_of}
 use Rattle.json.proofs.Printed.Utf8.{IsUtf8-are_ascii}
-use Rattle.serde_json.specs.Data.{Data, boolean, string, object, Members, no_members, put, depth, members_depth}
+use Rattle.serde_json.specs.Data.{Data, boolean, string, object, Members, no_members, member, put, depth, members_depth}
 use Rattle.serde_json.specs.Find.{get, get_member}
 use Rattle.serde_json.specs.Read.{of_json, of_members, max_depth}
 use Rattle.serde_json.specs.Written.{compact_text, outline, members_outline}
@@ -19,26 +19,14 @@ use Rattle.hub_document.specs.SpecialMembers.{deleted_of}
 use Rattle.hub_document.specs.declared.doc.Doc.{Doc}
 use Rattle.hub_round_trip.proofs.HistoryLemmas.{utf8-text_of, hashes_flat, hashes_whole, history_read, history_writable, of_json-history, history_in-history_read, head_is_head}
 use Rattle.hub_round_trip.proofs.MemberLemmas.{rise_put, plain-puts, get_member-puts, AllFit, fit_put, fit-puts, good-fit, whole-fit}
-use Rattle.hub_round_trip.proofs.WrittenLemmas.{rev_before, deleted_before, history_before, written, doc_text-written}
+use Rattle.hub_round_trip.proofs.WrittenLemmas.{rev_by, deleted_by, history_by, history_written, written, doc_text-written}
 use Rattle.hub_round_trip.proofs.ValueLemmas.{puts, puts-no_members, read-compact_text, utf8-compact_text, of_members-members_outline}
 use Rattle.hub_document.proofs.TextLemmas.{revision_of-text_of}
 
 -- ---- the members that begin with `_`, in order
 
-abbrev rev_put : Option Revision → Members → Members
-rev_put None ms = ms
-rev_put (Some r) ms = put (codes "_rev") (string (text_of r)) ms
-
-abbrev deleted_put : Bool → Members → Members
-deleted_put false ms = ms
-deleted_put true ms = put (codes "_deleted") (boolean true) ms
-
-abbrev history_put : Option (List Revision) → Members → Members
-history_put None ms = ms
-history_put (Some path) ms = put (codes "_revisions") (history_read path) ms
-
 abbrev special : List ℕ → Option Revision → Bool → Option (List Revision) → Members
-special id rev deleted path = history_put path (deleted_put deleted (rev_put rev (put (codes "_id") (string id) no_members)))
+special id rev deleted path = history_by put history_read path (deleted_by put deleted (rev_by put rev (put (codes "_id") (string id) no_members)))
 
 -- what they hold
 record Holds (id : List ℕ) (rev : Option Revision) (deleted : Bool) (path : Option (List Revision)) (ms : Members) : Type 0 where
@@ -67,30 +55,30 @@ special_hidden id (Some r) false (Some path) = refl
 special_hidden id (Some r) true None = refl
 special_hidden id (Some r) true (Some path) = refl
 
-rev_rises : (rev : Option Revision) (ms : Members) → DoKeysRise ms → DoKeysRise (rev_put rev ms)
+rev_rises : (rev : Option Revision) (ms : Members) → DoKeysRise ms → DoKeysRise (rev_by put rev ms)
 rev_rises None ms h = h
 rev_rises (Some r) ms h = rise_put _ _ ms h
 
-deleted_rises : (deleted : Bool) (ms : Members) → DoKeysRise ms → DoKeysRise (deleted_put deleted ms)
+deleted_rises : (deleted : Bool) (ms : Members) → DoKeysRise ms → DoKeysRise (deleted_by put deleted ms)
 deleted_rises false ms h = h
 deleted_rises true ms h = rise_put _ _ ms h
 
-history_rises : (path : Option (List Revision)) (ms : Members) → DoKeysRise ms → DoKeysRise (history_put path ms)
+history_rises : (path : Option (List Revision)) (ms : Members) → DoKeysRise ms → DoKeysRise (history_by put history_read path ms)
 history_rises None ms h = h
 history_rises (Some path) ms h = rise_put _ _ ms h
 
 special_rises : (id : List ℕ) (rev : Option Revision) (deleted : Bool) (path : Option (List Revision)) → DoKeysRise (special id rev deleted path)
 special_rises id rev deleted path = history_rises path _ (deleted_rises deleted _ (rev_rises rev _ (tt, tt)))
 
-rev_fits : (rev : Option Revision) (ms : Members) → AllFit ms → AllFit (rev_put rev ms)
+rev_fits : (rev : Option Revision) (ms : Members) → AllFit ms → AllFit (rev_by put rev ms)
 rev_fits None ms h = h
 rev_fits (Some r) ms h = fit_put (codes "_rev") (string (text_of r)) ms refl refl h
 
-deleted_fits : (deleted : Bool) (ms : Members) → AllFit ms → AllFit (deleted_put deleted ms)
+deleted_fits : (deleted : Bool) (ms : Members) → AllFit ms → AllFit (deleted_by put deleted ms)
 deleted_fits false ms h = h
 deleted_fits true ms h = fit_put (codes "_deleted") (boolean true) ms refl refl h
 
-history_fits : (path : Option (List Revision)) (ms : Members) → AllFit ms → AllFit (history_put path ms)
+history_fits : (path : Option (List Revision)) (ms : Members) → AllFit ms → AllFit (history_by put history_read path ms)
 history_fits None ms h = h
 history_fits (Some path) ms h = fit_put (codes "_revisions") (history_read path) ms refl (rw (hashes_whole path) refl) h
 
@@ -99,41 +87,41 @@ special_fits id rev deleted path = history_fits path _ (deleted_fits deleted _ (
 
 -- ---- what is written can be read
 
-history_before_writable : (rev : Option Revision) (path : Option (List Revision)) (ms : Members) → IfSome path (IsPathOf rev) → AreWritableMembers ms → AreWritableMembers (history_before path ms)
+history_before_writable : (rev : Option Revision) (path : Option (List Revision)) (ms : Members) → IfSome path (IsPathOf rev) → AreWritableMembers ms → AreWritableMembers (history_by member history_written path ms)
 history_before_writable rev None ms h w = w
 history_before_writable rev (Some path) ms h w = (IsUtf8-are_ascii _ refl, history_writable rev path h, w)
 
-deleted_before_writable : (deleted : Bool) (ms : Members) → AreWritableMembers ms → AreWritableMembers (deleted_before deleted ms)
+deleted_before_writable : (deleted : Bool) (ms : Members) → AreWritableMembers ms → AreWritableMembers (deleted_by member deleted ms)
 deleted_before_writable false ms w = w
 deleted_before_writable true ms w = (IsUtf8-are_ascii _ refl, tt, w)
 
-rev_before_writable : (rev : Option Revision) (ms : Members) → IfSome rev IsRevision → AreWritableMembers ms → AreWritableMembers (rev_before rev ms)
+rev_before_writable : (rev : Option Revision) (ms : Members) → IfSome rev IsRevision → AreWritableMembers ms → AreWritableMembers (rev_by member rev ms)
 rev_before_writable None ms h w = w
 rev_before_writable (Some r) ms h w = (IsUtf8-are_ascii _ refl, utf8-text_of r h, w)
 
-history_before_depth : (path : Option (List Revision)) (ms : Members) → members_depth ms < max_depth → members_depth (history_before path ms) < max_depth
+history_before_depth : (path : Option (List Revision)) (ms : Members) → members_depth ms < max_depth → members_depth (history_by member history_written path ms) < max_depth
 history_before_depth None ms h = h
 history_before_depth (Some path) ms h = omega (arith, hashes_flat path)
 
-deleted_before_depth : (deleted : Bool) (ms : Members) → members_depth ms < max_depth → members_depth (deleted_before deleted ms) < max_depth
+deleted_before_depth : (deleted : Bool) (ms : Members) → members_depth ms < max_depth → members_depth (deleted_by member deleted ms) < max_depth
 deleted_before_depth false ms h = h
 deleted_before_depth true ms h = omega arith
 
-rev_before_depth : (rev : Option Revision) (ms : Members) → members_depth ms < max_depth → members_depth (rev_before rev ms) < max_depth
+rev_before_depth : (rev : Option Revision) (ms : Members) → members_depth ms < max_depth → members_depth (rev_by member rev ms) < max_depth
 rev_before_depth None ms h = h
 rev_before_depth (Some r) ms h = omega arith
 
 -- and gives those members, and the document's own after them
 history_outline : (rev : Option Revision) (path : Option (List Revision)) (ms found : Members) → IfSome path (IsPathOf rev) → AreWritableMembers ms → AreOrderedMembers ms
-    → of_members (members_outline (history_before path ms)) found ≡ Some (puts ms (history_put path found))
+    → of_members (members_outline (history_by member history_written path ms)) found ≡ Some (puts ms (history_by put history_read path found))
 history_outline rev None ms found h w o = of_members-members_outline ms found w o
 history_outline rev (Some path) ms found h w o = rw (of_json-history rev path h) (of_members-members_outline ms (put (codes "_revisions") (history_read path) found) w o)
 
-deleted_outline : (deleted : Bool) (ms found : Members) → of_members (members_outline (deleted_before deleted ms)) found ≡ of_members (members_outline ms) (deleted_put deleted found)
+deleted_outline : (deleted : Bool) (ms found : Members) → of_members (members_outline (deleted_by member deleted ms)) found ≡ of_members (members_outline ms) (deleted_by put deleted found)
 deleted_outline false ms found = refl
 deleted_outline true ms found = refl
 
-rev_outline : (rev : Option Revision) (ms found : Members) → of_members (members_outline (rev_before rev ms)) found ≡ of_members (members_outline ms) (rev_put rev found)
+rev_outline : (rev : Option Revision) (ms found : Members) → of_members (members_outline (rev_by member rev ms)) found ≡ of_members (members_outline ms) (rev_by put rev found)
 rev_outline None ms found = refl
 rev_outline (Some r) ms found = refl
 
@@ -181,8 +169,8 @@ module _ (d : Doc) (h : IsDoc d) where
   text_outline : of_json (outline text) ≡ Some (object all)
   text_outline =
       ap (option_map object)
-      (rev_outline d.rev _ (put (codes "_id") (string d.id) no_members) ∙ deleted_outline d.deleted _ (rev_put d.rev (put (codes "_id") (string d.id) no_members))
-      ∙ history_outline d.rev d.path h.body.members (deleted_put d.deleted (rev_put d.rev (put (codes "_id") (string d.id) no_members))) h.path h.body.writable h.body.ordered.1)
+      (rev_outline d.rev _ (put (codes "_id") (string d.id) no_members) ∙ deleted_outline d.deleted _ (rev_by put d.rev (put (codes "_id") (string d.id) no_members))
+      ∙ history_outline d.rev d.path h.body.members (deleted_by put d.deleted (rev_by put d.rev (put (codes "_id") (string d.id) no_members))) h.path h.body.writable h.body.ordered.1)
 
   text_read : json_of (doc_text d) ≡ Some (object all)
   text_read =

@@ -249,7 +249,8 @@ abbrev LexemesHaveUtf8 : List Lexeme → Type 0
 LexemesHaveUtf8 [] = ⊤
 LexemesHaveUtf8 (l ∷ ls) = LexemeHasUtf8 l × LexemesHaveUtf8 ls
 
-either : {A : Type 0} (P : A → Type 0) (b : Bool) (x y : A) → P x → P y → P (cond b x y)
+-- what holds of both holds of the one that is chosen
+pub either : {A : Type 0} (P : A → Type 0) (b : Bool) (x y : A) → P x → P y → P (cond b x y)
 either P true x y h k = h
 either P false x y h k = k
 

@@ -20,20 +20,24 @@ hashes (r ∷ path) = item (string r.hash) (hashes path)
 abbrev pub history_written : List Revision → Data
 history_written path = object (member (codes "start") (number (unsigned (generation_of (parent_of path)))) (member (codes "ids") (array (hashes path)) no_members))
 
-abbrev pub rev_before : Option Revision → Members → Members
-rev_before None ms = ms
-rev_before (Some r) ms = member (codes "_rev") (string (text_of r)) ms
+-- a way to add a member: before the others by `member`, in the order of the keys by `put`
+abbrev pub Adding : Type 0
+Adding = List ℕ → Data → Members → Members
 
-abbrev pub deleted_before : Bool → Members → Members
-deleted_before false ms = ms
-deleted_before true ms = member (codes "_deleted") (boolean true) ms
+abbrev pub rev_by : Adding → Option Revision → Members → Members
+rev_by add None ms = ms
+rev_by add (Some r) ms = add (codes "_rev") (string (text_of r)) ms
 
-abbrev pub history_before : Option (List Revision) → Members → Members
-history_before None ms = ms
-history_before (Some path) ms = member (codes "_revisions") (history_written path) ms
+abbrev pub deleted_by : Adding → Bool → Members → Members
+deleted_by add false ms = ms
+deleted_by add true ms = add (codes "_deleted") (boolean true) ms
+
+abbrev pub history_by : Adding → (List Revision → Data) → Option (List Revision) → Members → Members
+history_by add value None ms = ms
+history_by add value (Some path) ms = add (codes "_revisions") (value path) ms
 
 abbrev pub written : List ℕ → Option Revision → Bool → Option (List Revision) → Members → Members
-written id rev deleted path ms = member (codes "_id") (string id) (rev_before rev (deleted_before deleted (history_before path ms)))
+written id rev deleted path ms = member (codes "_id") (string id) (rev_by member rev (deleted_by member deleted (history_by member history_written path ms)))
 
 -- ---- texts in a row
 
@@ -109,15 +113,15 @@ compact-history path =
 abbrev front : Option Revision → Bool → Option (List Revision) → List (List ℕ)
 front rev deleted path = rev_member rev ++ (deleted_member deleted ++ history_member path)
 
-history_rows : (path : Option (List Revision)) (ms : Members) → rows (history_before path ms) ≡ history_member path ++ rows ms
+history_rows : (path : Option (List Revision)) (ms : Members) → rows (history_by member history_written path ms) ≡ history_member path ++ rows ms
 history_rows None ms = refl
 history_rows (Some path) ms = ap (λ s. member_text (codes "_revisions") s ∷ rows ms) (compact-history path)
 
-deleted_rows : (deleted : Bool) (ms : Members) → rows (deleted_before deleted ms) ≡ deleted_member deleted ++ rows ms
+deleted_rows : (deleted : Bool) (ms : Members) → rows (deleted_by member deleted ms) ≡ deleted_member deleted ++ rows ms
 deleted_rows false ms = refl
 deleted_rows true ms = refl
 
-rev_rows : (rev : Option Revision) (ms : Members) → rows (rev_before rev ms) ≡ rev_member rev ++ rows ms
+rev_rows : (rev : Option Revision) (ms : Members) → rows (rev_by member rev ms) ≡ rev_member rev ++ rows ms
 rev_rows None ms = refl
 rev_rows (Some r) ms = refl
 
@@ -128,8 +132,8 @@ rows-written : (id : List ℕ) (rev : Option Revision) (deleted : Bool) (path : 
     → rows (written id rev deleted path ms) ≡ member_text (codes "_id") (quoted id) ∷ (front rev deleted path ++ rows ms)
 rows-written id rev deleted path ms =
     ap (λ s. member_text (codes "_id") (quoted id) ∷ s)
-    (rev_rows rev (deleted_before deleted (history_before path ms))
-    ∙ ap (λ s. rev_member rev ++ s) (deleted_rows deleted (history_before path ms) ∙ ap (λ s. deleted_member deleted ++ s) (history_rows path ms))
+    (rev_rows rev (deleted_by member deleted (history_by member history_written path ms))
+    ∙ ap (λ s. rev_member rev ++ s) (deleted_rows deleted (history_by member history_written path ms) ∙ ap (λ s. deleted_member deleted ++ s) (history_rows path ms))
     ∙ regroup (rev_member rev) (deleted_member deleted) (history_member path) (rows ms))
 
 same_later : (x : List ℕ) (xs ys zs : List (List ℕ)) → later ys ≡ later zs → join_with_byte 44 (x ∷ (xs ++ ys)) ≡ join_with_byte 44 (x ∷ (xs ++ zs))

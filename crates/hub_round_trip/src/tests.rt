@@ -19,7 +19,7 @@ fn written_and_read_back(rt: HostRuntime) -> Result<(), Fail> {
         (
             true,
             r#"{"b":[1,{"d":-2,"c":"\u00e9\n"}],"_id":"x"}"#,
-            "{\"_id\":\"x\",\"b\":[1,{\"c\":\"é\\n\",\"d\":-2}]}",
+            r#"{"_id":"x","b":[1,{"c":"é\n","d":-2}]}"#,
         ),
         (
             true,
@@ -28,8 +28,14 @@ fn written_and_read_back(rt: HostRuntime) -> Result<(), Fail> {
         ),
         (
             false,
-            r#"{"A":null,"_id":"\"","_revisions":{"ids":["c","a"],"start":2},"a":18446744073709551615,"_deleted":false,"":-9223372036854775808}"#,
-            r#"{"_id":"\"","_rev":"2-c","_revisions":{"start":2,"ids":["c","a"]},"":-9223372036854775808,"A":null,"a":18446744073709551615}"#,
+            concat!(
+                r#"{"A":null,"_id":"\"","_revisions":{"ids":["c","a"],"start":2},"#,
+                r#""a":18446744073709551615,"_deleted":false,"":-9223372036854775808}"#
+            ),
+            concat!(
+                r#"{"_id":"\"","_rev":"2-c","_revisions":{"start":2,"ids":["c","a"]},"#,
+                r#""":-9223372036854775808,"A":null,"a":18446744073709551615}"#
+            ),
         ),
         (
             false,

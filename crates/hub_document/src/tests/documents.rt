@@ -3,8 +3,11 @@ use crate::{Doc, DocFault, Limits, RevId, Revisions};
 use std::alloc::Global;
 use std::test::Fail;
 
-const FULL: &str =
-    r#"{"b":[1,{"d":-2,"c":"\u00e9\n"}],"_id":"x","_rev":"2-c","_revisions":{"start":2,"ids":["c","a"]},"_deleted":true,"a":null,"_conflicts":[],"":true}"#;
+const FULL: &str = concat!(
+    r#"{"b":[1,{"d":-2,"c":"\u00e9\n"}],"_id":"x","_rev":"2-c","#,
+    r#""_revisions":{"start":2,"ids":["c","a"]},"_deleted":true,"#,
+    r#""a":null,"_conflicts":[],"":true}"#
+);
 
 // Whether a text is read as this document.
 fn is_read(alloc: Global, text: &str, new_edits: bool, expected: &str) -> Result<bool, DocFault> {

@@ -106,7 +106,7 @@ fn faults(rt: HostRuntime) -> Result<(), Fail> {
 // The fault of an id and a value of `_attachments`.
 fn with_id(alloc: Global, length: usize, attachments: &str) -> Result<&'static str, AllocError> {
     let id = "i".repeat(alloc, length)?;
-    let text = format!(in alloc; "{{\"_id\":\"{id}\",\"_attachments\":{attachments}}}")?;
+    let text = format!(in alloc; r#"{{"_id":"{id}","_attachments":{attachments}}}"#)?;
     Ok(fault(alloc, text.as_str(), true))
 }
 
@@ -114,16 +114,14 @@ fn with_id(alloc: Global, length: usize, attachments: &str) -> Result<&'static s
 fn with_depth(alloc: Global, depth: usize) -> Result<&'static str, AllocError> {
     let open = "[".repeat(alloc, depth)?;
     let close = "]".repeat(alloc, depth)?;
-    let text = format!(in alloc; "{{\"_id\":\"a\",\"m\":{open}{close}}}")?;
+    let text = format!(in alloc; r#"{{"_id":"a","m":{open}{close}}}"#)?;
     Ok(fault(alloc, text.as_str(), true))
 }
 
 // The fault of a history of one hash.
 fn with_hash(alloc: Global, length: usize) -> Result<&'static str, AllocError> {
     let hash = "h".repeat(alloc, length)?;
-    let text = format!(in alloc;
-        "{{\"_id\":\"a\",\"_revisions\":{{\"start\":1,\"ids\":[\"{hash}\"]}}}}"
-    )?;
+    let text = format!(in alloc; r#"{{"_id":"a","_revisions":{{"start":1,"ids":["{hash}"]}}}}"#)?;
     Ok(fault(alloc, text.as_str(), false))
 }
 

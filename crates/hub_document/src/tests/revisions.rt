@@ -35,8 +35,10 @@ fn texts_that_are_revisions(rt: HostRuntime) -> Result<(), Fail> {
 }
 
 // Lines; the first is empty.
-const NONE: &str =
-    "\n1\na\n-a\n1-\n0-a\n01-a\n+1-a\n 1-a\n1-a \n1-a-b\n1-é\n65536-a\n18446744073709551617-a\n2-01234567890123456789012345678901234567890123456789012345678901234";
+const NONE: &str = concat!(
+    "\n1\na\n-a\n1-\n0-a\n01-a\n+1-a\n 1-a\n1-a \n1-a-b\n1-é\n65536-a\n18446744073709551617-a\n",
+    "2-01234567890123456789012345678901234567890123456789012345678901234"
+);
 
 #[test]
 fn texts_that_are_none(rt: HostRuntime) -> Result<(), Fail> {

@@ -12,7 +12,11 @@ const READ: &str = r#"{"_id":"a","s":"\u00e9"} | {"s":"é"}
 {"_id":"a","v":18446744073709551615} | {"v":18446744073709551615}
 {"_id":"a", "b" : 1 , "B":2} | {"B":2,"b":1}"#;
 
-const CONTROL: &str = "{\"_id\":\"a\",\"s\":\"\\u007f\\u001f\"} | {\"s\":\"\u{7f}\\u001f\"}";
+const CONTROL: &str = concat!(
+    r#"{"_id":"a","s":"\u007f\u001f"} | {"s":""#,
+    "\u{7f}",
+    r#"\u001f"}"#
+);
 
 // The first case whose body is another one.
 fn other(alloc: Global, table: &'static str) -> Result<Option<&'static str>, DocFault> {
@@ -65,9 +69,9 @@ fn values_that_are_refused(rt: HostRuntime) -> Result<(), Fail> {
     let alloc = rt.alloc();
     assert_eq!(rt; wrong(alloc, REFUSED), None);
     let found = [
-        fault(alloc, "{\"_id\":\"a\",\"s\":\"\n\"}"),
-        fault(alloc, "{\"_id\":\"a\",\"s\":\"\u{1}\"}"),
-        fault(alloc, "{\"_id\":\"a\",\"s\":\"\t\"}"),
+        fault(alloc, concat!(r#"{"_id":"a","s":""#, "\n", r#""}"#)),
+        fault(alloc, concat!(r#"{"_id":"a","s":""#, "\u{1}", r#""}"#)),
+        fault(alloc, concat!(r#"{"_id":"a","s":""#, "\t", r#""}"#)),
     ];
     assert_eq!(rt; found, ["NotJson", "NotJson", "NotJson"]);
     Ok(())

@@ -11,10 +11,16 @@ const HERE: &str = r#"{"_id":"a"} | {"_id":"a"}
 {"_deleted":false,"_id":"a","_conflicts":[]} | {"_id":"a"}
 {"_id":"q\"\\\n\u0001\u00e9\/"} | {"_id":"q\"\\\n\u0001é/"}"#;
 
-const ELSEWHERE: &str =
-    r#"{"_id":"a","_rev":"2-c","_revisions":{"start":2,"ids":["c","a"]}} | {"_id":"a","_rev":"2-c","_revisions":{"start":2,"ids":["c","a"]}}
-{"_id":"a","_rev":"1-c","v":[]} | {"_id":"a","_rev":"1-c","_revisions":{"start":1,"ids":["c"]},"v":[]}
-{"_id":"a","_deleted":true,"v":1,"_revisions":{"ids":["c","b","a"],"start":3}} | {"_id":"a","_rev":"3-c","_deleted":true,"_revisions":{"start":3,"ids":["c","b","a"]},"v":1}"#;
+const ELSEWHERE: &str = concat!(
+    r#"{"_id":"a","_rev":"2-c","_revisions":{"start":2,"ids":["c","a"]}} | "#,
+    r#"{"_id":"a","_rev":"2-c","_revisions":{"start":2,"ids":["c","a"]}}"#,
+    "\n",
+    r#"{"_id":"a","_rev":"1-c","v":[]} | "#,
+    r#"{"_id":"a","_rev":"1-c","_revisions":{"start":1,"ids":["c"]},"v":[]}"#,
+    "\n",
+    r#"{"_id":"a","_deleted":true,"v":1,"_revisions":{"ids":["c","b","a"],"start":3}} | "#,
+    r#"{"_id":"a","_rev":"3-c","_deleted":true,"_revisions":{"start":3,"ids":["c","b","a"]},"v":1}"#
+);
 
 // Whether this is what is written of the document behind a blank, and of a copy.
 fn is_written(alloc: Global, doc: &Doc, expected: &str) -> Result<bool, AllocError> {
