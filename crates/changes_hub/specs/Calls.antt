@@ -209,7 +209,7 @@ answers_standing (call.GetLocal id) name body db =
     reads db (says_local (local_of db.locals (string_bytes id)))
 answers_standing (call.PutLocal id) name body db = puts_local db (local_in (string_bytes id) body)
 
--- what a database answers to a call, and what it is then: once it is deleted it refuses each call
+-- what a database answers to a call, and the database after it: once it is deleted it refuses each call
 abbrev pub calls : Call → List ℕ → List ℕ → Database → Step
 calls c name body db =
     if db.deleted then reads db (Refusing refusal.Deleted) else answers_standing c name body db
