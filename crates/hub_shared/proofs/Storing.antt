@@ -108,6 +108,12 @@ writes_added new_edits gone limit J K docs os is =
     subst (λ rs. AreAdded J K rs) (receipts_take (length J) docs os)
     (subst (λ (s : StoresAll). AreAdded J s.journal (receipts_from (length J) (ids_of (take (length os) docs)) s.outcomes)) is a)
 
+-- so are those that were made of copies of the ids
+pub receipts_added : (new_edits gone : Bool) (limit : ℕ) (J K : List Edit) (docs : List Doc) (os : List (Outcome Revision)) → writes new_edits gone limit J (take (length os) docs) ≡ record { outcomes = os; journal = K }
+    → (n : ℕ) (ids : List (List ℕ)) (replies : List (Outcome Revision)) (receipts : List Receipt) → n ≡ length J → ids ≡ ids_of docs → replies ≡ os → receipts ≡ receipts_from n ids replies → AreAdded J K receipts
+receipts_added new_edits gone limit J K docs os is n ids replies receipts e f g made =
+    subst (λ r. AreAdded J K r) (sym (made ∙ (λ k. receipts_from (e k) (f k) (g k)))) (writes_added new_edits gone limit J K docs os is)
+
 -- as many
 as_many : (n : ℕ) (es : List Edit) (rs : List Receipt) → AreReceipts n es rs → length es ≡ length rs
 as_many n [] [] a = refl

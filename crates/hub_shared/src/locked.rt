@@ -186,7 +186,7 @@ impl<S: FeedHost> Locked<S> {
     {
         match send(rt, &mut self.senders, feed.number, Item::Beat) {
             Ok(()) => Handed::Nothing,
-            Err(Full(_)) => Handed::Full,
+            Err(_) => Handed::Full,
         }
     }
 
