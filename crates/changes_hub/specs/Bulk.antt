@@ -36,7 +36,8 @@ abbrev pub batch_of : Data → Result Batch Refusal
 batch_of d =
     batch_with (option_and_then as_array (get (codes "docs") d)) (flag_of (get (codes "new_edits") d))
 
--- the same of a value that may be none
+-- the batch that a body's JSON value is, or why the whole is refused: a body that is no JSON, as `{`, has
+-- none, and is refused as NotJson
 abbrev pub batch_if : Option Data → Result Batch Refusal
 batch_if None = Err NotJson
 batch_if (Some d) = batch_of d

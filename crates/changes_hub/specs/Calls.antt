@@ -209,7 +209,8 @@ answers_standing (call.GetLocal id) name body db =
     reads db (says_local (local_of db.locals (string_bytes id)))
 answers_standing (call.PutLocal id) name body db = puts_local db (local_in (string_bytes id) body)
 
--- the same of any database: once it is deleted it refuses each call
+-- what any database of this name answers, and the database after it: one that was deleted refuses each call
+-- as Deleted (404, `Database does not exist.`), and stays as it is
 abbrev pub calls : Call → List ℕ → List ℕ → Database → Step
 calls c name body db =
     if db.deleted then reads db (Refusing refusal.Deleted) else answers_standing c name body db

@@ -77,7 +77,8 @@ Stores batch old (Err e) new =
     (((stores old batch).said ≡ Refusing e) × (new ≡ (stores old batch).state))
     ⊎ ((e ≡ NoMemory) × ((new ≡ old) ⊎ ((b : Batch) × (batch ≡ Ok b) × HasFront old b new)))
 
--- the same of a response, where what it may leave without memory is as given
+-- a response came out as its step says, and so did the database; or memory was missing, and the database is
+-- one that `may` admits, as the old one alone where a feed was to begin
 abbrev pub CameOut : Step → (Database → Type 0) → Result Response Refusal → Database → Type 0
 CameOut step may (Ok r) new = Responds r step.said × (new ≡ step.state)
 CameOut step may (Err e) new = ((step.said ≡ Refusing e) × (new ≡ step.state)) ⊎ ((e ≡ NoMemory) × may new)

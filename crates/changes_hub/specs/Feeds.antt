@@ -73,7 +73,7 @@ begins_asked db asked =
     if asked.descending then reads db (lists (descending db.journal (params_in asked)))
     else begins_by db (params_in asked) asked.mode
 
--- the same, or the refusal of the fault in what is asked
+-- beginning the feed that is asked for, or the refusal of the fault in what is asked: `limit=x` is BadLimit
 abbrev pub begins : Database → Result FeedAsked ParamFault → Step
 begins db (Err fault) = reads db (Refusing (of_param_fault fault))
 begins db (Ok asked) = begins_asked db asked
@@ -86,7 +86,8 @@ next_of_rows [] last_seq pending = (End last_seq pending, None)
 next_of_rows (row ∷ rows) last_seq pending =
     (Row row, Some (record { rows = rows; last_seq = last_seq; pending = pending }))
 
--- the same of what is left of an answer
+-- the next item of an answer, and what is left of it: of the rows 5 and 3 the row 5, and an answer with the
+-- row 3; of no rows its End, and nothing
 abbrev pub next_listed : Descending → Item ChangeRow × Option Descending
 next_listed answer = next_of_rows answer.rows answer.last_seq answer.pending
 

@@ -59,7 +59,8 @@ lookup_of J id revs (winner ∷ others) =
       body = winner.edit.body;
     }))
 
--- the same of the journal's document
+-- what is shown of the document of this id in a journal, with its revisions where `revs` says so: Unknown of
+-- an id that was never edited
 abbrev pub lookup : List Edit → List ℕ → Bool → Lookup
 lookup J id revs = lookup_of J id revs (leaves_of J id)
 

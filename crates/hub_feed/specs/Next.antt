@@ -6,7 +6,8 @@ use Rattle.hub_model.specs.declared.feeds.Item.TheVariants.{Row, End}
 use Rattle.hub_feed.specs.declared.next.Next.{Next}
 use Rattle.hub_feed.specs.declared.next.Next.TheVariants.{Give, Nothing, Gone}
 
--- of these current rows, each shown so
+-- what a feed answers: the row that `show` makes of the current row that is due; an End with how many current
+-- rows lie above it, as 1 for an End at 5 of the rows 3 and 7; that nothing is due; or that the feed is gone
 abbrev pub next_of : {R : Type 0} → (Current → R) → List Current → Due → Next R
 next_of show rows (DueRow c) = Give (Row (show c))
 next_of show rows (DueEnd last_seq) = Give (End last_seq (pending rows last_seq))

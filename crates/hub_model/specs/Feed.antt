@@ -80,7 +80,8 @@ due_open (Some c) bound = DueRow c
 due_open None (Some bound) = DueEnd bound
 due_open None None = DueNothing
 
--- the same of a feed in this status
+-- of a feed in this status: open, what `due_open` says of its first row in reach; ending, an End at its
+-- place; ended or finished, that it is gone
 abbrev pub due_at : Status → List Current → Feed → Due
 due_at Open rows f = due_open (find (is_in_reach f) rows) f.bound
 due_at Ending rows f = DueEnd f.place

@@ -7,7 +7,8 @@ use Rattle.hub_model.specs.Feed.{Feed, Due, DueRow, DueEnd, DueNothing, DueGone,
 use Rattle.hub_model.specs.declared.feeds.Item.{Item}
 use Rattle.hub_model.specs.declared.feeds.Item.TheVariants.{Row, End}
 
--- of these current rows, each shown so: a row, or an End with the count of the rows above it
+-- the item for what is due, if there is one: the row that `show` makes of the current row, or an End with how
+-- many current rows lie above it, as 1 for an End at 5 of the rows 3 and 7
 abbrev pub item_of : {R : Type 0} → (Current → R) → List Current → Due → Option (Item R)
 item_of show rows (DueRow c) = Some (Row (show c))
 item_of show rows (DueEnd last_seq) = Some (End last_seq (pending rows last_seq))

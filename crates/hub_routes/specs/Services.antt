@@ -45,7 +45,7 @@ asked_of kind.Local Get = Ok GetLocal
 asked_of kind.Local Put = Ok PutLocal
 asked_of other method = Err MethodNotAllowed
 
--- the same of a path, where the table has it
+-- what a method asks of a path: one that the table does not have, as `//`, is missing under each method
 abbrev pub asked_at : Option Kind → Method → Result Service RouteFault
 asked_at None method = Err Missing
 asked_at (Some kind) method = asked_of kind method
