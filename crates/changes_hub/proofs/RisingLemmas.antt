@@ -5,18 +5,10 @@ use Rattle.std.proofs.lemmas.Bool.{cases_Bool, and_parts, lt-ltb, le-ltb, le-leb
 use Rattle.hub_model.specs.Journal.{Edit}
 use Rattle.hub_model.specs.Current.{Current, current, current_from, is_edited}
 use Rattle.hub_model.specs.Filter.{Filter, passes}
-use Rattle.hub_model.proofs.Lists.{contains_here, contains_there}
+use Rattle.hub_model.proofs.Lists.{contains_here}
 use Rattle.hub_model.proofs.Rows.{current_within}
 use Rattle.hub_model.proofs.Tests.{filter_in}
-
--- tests that agree on a list
-pub filter_same : {X : Type 0} (p q : X → Bool) (xs : List X) → ((x : X) → Contains xs x → p x ≡ q x) → filter p xs ≡ filter q xs
-filter_same p q [] h = refl
-filter_same p q (x ∷ xs) h = from (q x) (h x (contains_here x xs)) refl (filter_same p q xs (λ y c. h y (contains_there x y xs c)))
-  where
-    from : (b : Bool) → p x ≡ q x → q x ≡ b → filter p xs ≡ filter q xs → filter p (x ∷ xs) ≡ filter q (x ∷ xs)
-    from true e f t = rw (e, f) (ap (λ ys. x ∷ ys) t)
-    from false e f t = rw (e, f) t
+use Rattle.hub_database.proofs.FallingLemmas.{filter_agree}
 
 -- what is found is the first of those that pass
 pub filter_found : {X : Type 0} (p : X → Bool) (xs rest : List X) (x : X) → filter p xs ≡ x ∷ rest → find p xs ≡ Some x
@@ -47,7 +39,7 @@ left_from f place n J = filter (is_left f place) (current_from n J)
 module _ (f : Filter) where
   -- above two places that are not above n the same of the later rows are left
   both_above : (place n seq : ℕ) (J : List Edit) → place ≤ n → seq ≤ n → left_from f place (n + 1) J ≡ left_from f seq (n + 1) J
-  both_above place n seq J p s = filter_same (is_left f place) (is_left f seq) (current_from (n + 1) J) same
+  both_above place n seq J p s = filter_agree (is_left f place) (is_left f seq) (current_from (n + 1) J) same
     where
       same : (x : Current) → Contains (current_from (n + 1) J) x → is_left f place x ≡ is_left f seq x
       same x c =
@@ -98,7 +90,7 @@ rest_above f J place c rest h = rest_from f place 1 J c rest h
 
 -- none of them lies above the length of the journal
 pub left_within : (f : Filter) (J : List Edit) (place : ℕ) → filter (λ (c : Current). nat_lt place c.seq && (nat_le c.seq (length J) && passes f c.id)) (current J) ≡ left_above f J place
-left_within f J place = filter_same _ (is_left f place) (current J) within
+left_within f J place = filter_agree _ (is_left f place) (current J) within
   where
     within : (c : Current) → Contains (current J) c → (nat_lt place c.seq && (nat_le c.seq (length J) && passes f c.id)) ≡ (nat_lt place c.seq && passes f c.id)
     within c i =

@@ -73,7 +73,7 @@ begins_asked db asked =
     if asked.descending then reads db (lists (descending db.journal (params_in asked)))
     else begins_by db (params_in asked) asked.mode
 
--- the same, or the refusal of the fault in what is asked
+-- beginning the feed that is asked for, or the refusal of the fault in what is asked: `limit=x` is BadLimit
 abbrev pub begins : Database → Result FeedAsked ParamFault → Step
 begins db (Err fault) = reads db (Refusing (of_param_fault fault))
 begins db (Ok asked) = begins_asked db asked

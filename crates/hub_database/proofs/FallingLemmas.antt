@@ -22,7 +22,7 @@ use Rattle.hub_database.specs.Falling.{lowest_row, most_of}
 use Rattle.hub_database.specs.Laid.{rows_below}
 use Rattle.hub_database.proofs.ListLemmas.{count_filter, contains_reverse}
 
-filter_agree : {A : Type 0} (p q : A → Bool) (xs : List A) → ((x : A) → Contains xs x → p x ≡ q x) → filter p xs ≡ filter q xs
+pub filter_agree : {A : Type 0} (p q : A → Bool) (xs : List A) → ((x : A) → Contains xs x → p x ≡ q x) → filter p xs ≡ filter q xs
 filter_agree p q [] h = refl
 filter_agree p q (x ∷ xs) h = ap (λ b. if b then (x ∷ filter p xs) else filter p xs) (h x (contains_here x xs)) ∙ ap (λ ys. if q x then (x ∷ ys) else ys) (filter_agree p q xs (λ y c. h y (contains_there x y xs c)))
 

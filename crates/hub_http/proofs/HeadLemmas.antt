@@ -18,9 +18,6 @@ pub head_has_bytes : (buf : List ℕ) (h : RequestHead) (rest : List ℕ) → Re
 unfolding print_request
 head_has_bytes buf h rest r = let n = ap length r.1 in grind (arith, common_steps)
 
-pub found_has_bytes : (buf : List ℕ) (headers : List HeaderSpan) (r : RequestSpans) → IsRequestOf buf headers r → 0 < length buf
-found_has_bytes buf headers r x = head_has_bytes buf x.0 (drop r.len buf) x.1.reads
-
 -- a head past the limit is the only one
 never_shorter : (buf : List ℕ) (headers : List HeaderSpan) (r : RequestSpans) → IsRequestOf buf headers r → 16384 < r.len → NeverHasHead buf
 never_shorter buf headers r x far more k q b =

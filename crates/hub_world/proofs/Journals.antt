@@ -1,5 +1,5 @@
 -- What a run does to the journal: it adds edits at the end, and leaves it legal.
-use Rattle.std.proofs.Common.{◌≡◌, ℕ, List, [], ◌∷◌, ◌++◌, sym, ◌∙◌, ap, subst, refl, append_assoc}
+use Rattle.std.proofs.Common.{◌≡◌, ℕ, List, [], ◌∷◌, sym, ◌∙◌, ap, subst, refl}
 use Rattle.std.specs.Prelude.{Option, Some, None}
 use Rattle.std.proofs.lemmas.List.{append-nil}
 use Rattle.hub_model.specs.Draft.{makes}
@@ -9,7 +9,7 @@ use Rattle.hub_world.specs.Laws.{StaysLegal}
 use Rattle.hub_world.specs.World.{World, Subscription, empty, subscription, merged, drafted, expired, took, finished}
 use Rattle.hub_world.specs.Event.{Event, Write, Interactive, Begin, Hand, Heartbeat, Expire, Take, Finish, Delete, Reply, Outcomes, Opened, TooManyFeeds, DatabaseDeleted, Pushed, Full, Nothing, Gone, Took, Left}
 use Rattle.hub_world.specs.Step.{Step, Run}
-use Rattle.hub_model.proofs.Adds.{Adds, merge_adds, make_adds, all_add}
+use Rattle.hub_model.proofs.Adds.{Adds, adds_both, merge_adds, make_adds, all_add}
 use Rattle.hub_model.proofs.Writes.{all_legal, merges_legal, makes_legal}
 
 -- the journal after an event
@@ -78,12 +78,9 @@ pub stays_legal : StaysLegal
 stays_legal limits events replies w r = run_journal IsLegal legal_after (empty limits) events replies w r tt
 
 -- one more event adds to what was added
-adds_more : (J K L : List Edit) → Adds J K → Adds K L → Adds J L
-adds_more J K L a b = (a.0 ++ b.0, b.1 ∙ (ap (λ (M : List Edit). M ++ b.0) a.1 ∙ append_assoc J a.0 b.0))
-
 adds_after : (J : List Edit) (w : World) (event : Event) → Adds J w.journal → Adds J (journal_after w event)
-adds_after J w (Write edits) a = adds_more J w.journal _ a (all_add (merges w.limits.journal) (merge_adds w.limits.journal) w.deleted w.journal edits)
-adds_after J w (Interactive drafts) a = adds_more J w.journal _ a (all_add (makes w.limits.journal) (make_adds w.limits.journal) w.deleted w.journal drafts)
+adds_after J w (Write edits) a = adds_both J w.journal _ a (all_add (merges w.limits.journal) (merge_adds w.limits.journal) w.deleted w.journal edits)
+adds_after J w (Interactive drafts) a = adds_both J w.journal _ a (all_add (makes w.limits.journal) (make_adds w.limits.journal) w.deleted w.journal drafts)
 adds_after J w _ a = a
 
 pub run_adds : (old : World) (events : List Event) (replies : List Reply) (new : World) → Run old events replies new → Adds old.journal new.journal
