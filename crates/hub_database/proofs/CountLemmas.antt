@@ -13,7 +13,8 @@ use Rattle.hub_model.specs.Row.{is_deleted}
 use Rattle.hub_model.proofs.Lists.{same_text}
 use Rattle.hub_model.proofs.Tests.{or_right}
 use Rattle.hub_database.specs.Store.{deleted_in, one_if}
-use Rattle.hub_database.proofs.ListLemmas.{and_true, text_same, text_apart, or_none}
+use Rattle.hub_database.proofs.ListLemmas.{text_same, text_apart, or_none}
+use Rattle.hub_revtree.proofs.EditLemmas.{and_false, and_true}
 
 -- whether there is an edit
 abbrev any_of : List Edit → Bool
@@ -88,10 +89,6 @@ push P n (f ∷ J) e = rw (step P n f (J ++ e ∷ []), step P n f J, list_any-ap
         ≡ rows_of P (current_from (n + 1) J) + one_if (not (is_edited f.id J) && P f.id) + one_if (P e.id)
     from (inl t) h = rw (← t, text_same e.id e.id refl, or_right (is_edited e.id J) true refl) (push_sums (rows_of P (current_from (n + 1) (J ++ e ∷ []))) (rows_of P (current_from (n + 1) J)) (is_edited e.id J) (P e.id) h)
     from (inr d) h = rw (text_apart e.id f.id d, text_apart f.id e.id (λ t. d (sym t)), or_none (is_edited f.id J)) (omega arith)
-
-and_false : (b : Bool) → (b && false) ≡ false
-and_false true = refl
-and_false false = refl
 
 all_of : (cs : List Current) → rows_of (λ i. true) cs ≡ length cs
 all_of [] = refl

@@ -82,18 +82,6 @@ rest_stays J e a b c d = rw (e, a, b, c, d) refl
 pub contents_stay : (J : List Edit) {l l' : List Local} {m m' : Limits} → l ≡ l' → m ≡ m' → ◌≡◌ {A = Contents} (record { journal = J; locals = l; limits = m }) (record { journal = J; locals = l'; limits = m' })
 contents_stay J a d = rw (a, d) refl
 
-bound_on : (len len' : ℕ) (bound : Option ℕ) → len ≤ len' → IfSome bound (λ b. b ≤ len) → IfSome bound (λ b. b ≤ len')
-bound_on len len' None h b = tt
-bound_on len len' (Some bound) h b = omega arith
-
--- so the feeds stay behind it
-pub feeds_on : (len len' next : ℕ) (feeds : List (ℕ × Feed)) → len ≤ len' → AreFeeds len next feeds → AreFeeds len' next feeds
-feeds_on len len' next feeds h x = record {
-  rising = x.rising;
-  given = x.given;
-  behind = λ k d l. let b = x.behind k d l in (omega (arith, h, b.0), bound_on len len' (get_or feeds k d).1.bound h b.1);
-}
-
 -- and those that are left stay so
 pub feeds_left : (len next id : ℕ) (feeds : List (ℕ × Feed)) → AreFeeds len next feeds → AreFeeds len next (without id feeds)
 feeds_left len next id feeds x = record {

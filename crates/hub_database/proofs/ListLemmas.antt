@@ -51,10 +51,6 @@ pub maps_agree : {A B : Type 0} (f g : A → B) (xs : List A) → ((i : ℕ) (x 
 maps_agree f g [] h = refl
 maps_agree f g (x ∷ xs) h = ap (λ y. y ∷ map f xs) (h zero x refl) ∙ ap (λ ys. g x ∷ ys) (maps_agree f g xs (λ i y e. h (suc i) y e))
 
-pub any_map : {A B : Type 0} (P : B → Bool) (f : A → B) (xs : List A) → list_any P (map f xs) ≡ list_any (λ x. P (f x)) xs
-any_map P f [] = refl
-any_map P f (x ∷ xs) = ap (λ b. P (f x) || b) (any_map P f xs)
-
 pub text_same : (a b : List ℕ) → a ≡ b → bytes_eq a b ≡ true
 text_same a b e = (bytes_eq-Decides a b).1 e
 
@@ -67,10 +63,6 @@ number_apart m n h = elim (cases_Bool (nat_eq m n)) [ inl t ↦ absurd (h (eqb-t
 pub or_none : (b : Bool) → (b || (false || false)) ≡ b
 or_none true = refl
 or_none false = refl
-
-pub and_true : (b : Bool) → (b && true) ≡ b
-and_true true = refl
-and_true false = refl
 
 module _ {A B : Type 0} (p : B → Bool) (f : A → B) where
   -- what is found among what is shown

@@ -11,7 +11,7 @@ use Rattle.hub_model.specs.Row.{is_deleted}
 use Rattle.hub_model.specs.Walk.{behind_in, line, line_of, is_head, shown_of, shown}
 use Rattle.hub_model.specs.Draft.{extended}
 use Rattle.hub_database.specs.Filed.{named}
-use Rattle.hub_database.proofs.ListLemmas.{any_map}
+use Rattle.hub_revtree.proofs.BranchLemmas.{any_map}
 
 -- a leaf, its edit with this id
 abbrev pub renamed : List ℕ → Leaf → Leaf

@@ -23,9 +23,10 @@ use Rattle.hub_database.specs.Filed.{Filed, named, edit_at, edit_in, journal_of,
 use Rattle.hub_database.specs.Indexed.{IsIndexed, id_in, row_in}
 use Rattle.hub_database.specs.Store.{filed, files}
 use Rattle.hub_database.proofs.IndexedLemmas.{row_document}
-use Rattle.hub_database.proofs.ListLemmas.{and_true, find_map, map_reverse, contains_reverse, count_map}
+use Rattle.hub_database.proofs.ListLemmas.{find_map, map_reverse, contains_reverse, count_map}
 use Rattle.hub_database.proofs.NamedLemmas.{renamed, leaves_named, revisions_named, deleted_named}
 use Rattle.hub_database.proofs.StoreLemmas.{get_at}
+use Rattle.hub_revtree.proofs.EditLemmas.{and_true}
 
 changes_named : (style : Style) (id : List ℕ) (ls : List Leaf) → changes_of style (map (renamed id) ls) ≡ changes_of style ls
 changes_named MainOnly id ls = ap (take 1) (revisions_named id ls)

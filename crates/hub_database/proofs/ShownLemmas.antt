@@ -11,7 +11,7 @@ use Rattle.hub_model.proofs.Lists.{contains_here}
 use Rattle.hub_model.proofs.Legal.{first_in, legal_sound}
 use Rattle.hub_model.proofs.Tests.{at_any, is_named, same_is, same_self, edits_in, in_edits}
 use Rattle.hub_model.proofs.Sorted.{leaf_edit}
-use Rattle.hub_model.proofs.Shown.{find_is, find_not}
+use Rattle.hub_model.proofs.Shown.{find_is, find_not, head_is, is_head_from}
 use Rattle.hub_document.specs.declared.doc.Doc.{Doc}
 use Rattle.hub_document.specs.declared.open_revs.OpenRevs.TheVariants.{All, Listed}
 use Rattle.hub_revtree.specs.declared.leaf.Winner.{Winner}
@@ -49,14 +49,6 @@ head_first : (p : List Revision) (r h : Revision) → is_first r p ≡ true → 
 head_first [] r h t e = absurd (cc)
 head_first (x ∷ p) r h t e = same_is r x t ∙ same_Some x h e
 
-first_is : (p : List Revision) (r : Revision) → is_first r p ≡ true → IsFirst p r
-first_is [] r t = absurd (cc)
-first_is (x ∷ p) r t = sym (same_is r x t)
-
-first_from : (p : List Revision) (r : Revision) → IsFirst p r → is_first r p ≡ true
-first_from [] r i = absurd i
-first_from (x ∷ p) r i = subst (λ z. is_first r (z ∷ p) ≡ true) (sym i) (same_self r)
-
 above_zero : (p : List Revision) (r : Revision) → IsPath p → IsFirst p r → 1 ≤ r.generation
 above_zero [] r h i = absurd i
 above_zero (x ∷ []) r h i = subst (λ (z : Revision). 1 ≤ z.generation) i h
@@ -73,14 +65,14 @@ module _ (d : Document) (r : Revision) (path : List Revision) (deleted : Bool) (
   is = find_is (is_head r) (edits_of d.tree.edits []) (nameless path deleted body) (sym found)
 
   known : is_known d.tree.edits [] r ≡ true
-  known = at_any (λ (e : Edit). names e.path r) (edits_of d.tree.edits []) (nameless path deleted body) is.1 (is_named path r (first_in path r (first_is path r is.0)))
+  known = at_any (λ (e : Edit). names e.path r) (edits_of d.tree.edits []) (nameless path deleted body) is.1 (is_named path r (first_in path r (head_is path r is.0)))
 
   whole : (revs : Bool) → history_of revs d.tree.edits r ≡ (if revs then Some (line_of d.tree.edits [] r) else None)
   whole true = ap (λ b. if b then Some (line_of d.tree.edits [] r) else None) known
   whole false = refl
 
   head : head_of (record { id = d.id; path = line_of d.tree.edits [] r; deleted = deleted; body = body }) ≡ Some h
-  head = line_first (edits_of d.tree.edits []) r.generation r (above_zero path r good.falls (first_is path r is.0)) ∙ ap Some (head_first path r h is.0 first)
+  head = line_first (edits_of d.tree.edits []) r.generation r (above_zero path r good.falls (head_is path r is.0)) ∙ ap Some (head_first path r h is.0 first)
 
   pub doc_found : (revs : Bool) (history : Option (List Revision)) → history ≡ history_of revs d.tree.edits r
       → Some (record { id = d.id; rev = Some h; path = history; deleted = deleted; body = body }) ≡ option_map (doc_shown revs) (shown_in d r)
@@ -95,11 +87,11 @@ module _ (J : List Edit) (id : List ℕ) (legal : IsLegal J) where
   leaf_headed l c = from (find (is_head l.rev) (edits_of J id)) refl
     where
       from : (o : Option Edit) → find (is_head l.rev) (edits_of J id) ≡ o → find (is_head l.rev) (edits_of J id) ≡ Some l.edit
-      from None q = let e = leaf_edit J id legal l c in absurd (find_not (is_head l.rev) (edits_of J id) q l.edit (in_edits J id l.edit e.0) (first_from l.edit.path l.rev e.1))
+      from None q = let e = leaf_edit J id legal l c in absurd (find_not (is_head l.rev) (edits_of J id) q l.edit (in_edits J id l.edit e.0) (is_head_from l.edit.path l.rev e.1))
       from (Some f) q =
           let e = leaf_edit J id legal l c in
           let i = find_is (is_head l.rev) (edits_of J id) f q in
-          q ∙ ap Some ((legal_sound J legal).once id l.rev f l.edit (edits_in J id f i.1) e.0 (first_is f.path l.rev i.0) e.1)
+          q ∙ ap Some ((legal_sound J legal).once id l.rev f l.edit (edits_in J id f i.1) e.0 (head_is f.path l.rev i.0) e.1)
 
   leaf_shown : (l : Leaf) → Contains (leaves_of J id) l → shown J id l.rev ≡ Some (record { id = id; path = line_of J id l.rev; deleted = l.edit.deleted; body = l.edit.body })
   leaf_shown l c = ap (shown_of J id l.rev) (leaf_headed l c)

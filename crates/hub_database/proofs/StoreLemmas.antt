@@ -272,11 +272,6 @@ get_at (x ∷ xs) (suc k) d h e = get_at xs k d (omega arith) e
 pub number_below : (limit : ℕ) (numbers : List ℕ → Option ℕ) (documents : List Document) (entries : List Entry) → IsFiled limit numbers (files documents) entries → (id : List ℕ) (k : ℕ) → numbers id ≡ Some k → k < length documents
 number_below limit numbers documents entries st id k there = let f = st.found id k there in omega (arith, slice_get_within (files documents) k f.0 f.1, length-map documents filed)
 
--- what holds in any case holds of an error
-pub on_err : {T E : Type 0} (result : Result T E) (P : Type 0) → P → OnErr result P
-on_err (Ok x) P p = tt
-on_err (Err e) P p = p
-
 -- what follows from what holds of an error
 pub err_then : {T E P Q : Type 0} (result : Result T E) → (P → Q) → OnErr result P → OnErr result Q
 err_then (Ok x) f p = tt

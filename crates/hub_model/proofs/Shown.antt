@@ -38,11 +38,11 @@ module _ {X : Type 0} (P : X → Bool) where
         ]
       ]
 
-head_is : (p : List Revision) (r : Revision) → is_first r p ≡ true → IsFirst p r
+pub head_is : (p : List Revision) (r : Revision) → is_first r p ≡ true → IsFirst p r
 head_is [] r e = absurd (cc)
 head_is (x ∷ p) r e = sym (same_is r x e)
 
-is_head_from : (p : List Revision) (r : Revision) → IsFirst p r → is_first r p ≡ true
+pub is_head_from : (p : List Revision) (r : Revision) → IsFirst p r → is_first r p ≡ true
 is_head_from [] r i = absurd i
 is_head_from (x ∷ p) r i = subst (λ z. is_first r (z ∷ p) ≡ true) (sym i) (same_self r)
 

@@ -3,7 +3,7 @@ use Rattle.hub_model.specs.Feed.{since_of}
 use Rattle.hub_params.specs.FeedModel.{params_of}
 use Rattle.hub_database.specs.Falling.{lowest_row}
 use Rattle.hub_database.proofs.FallingLemmas.{answer_is, answer_some, last_high}
-use Rattle.hub_database.proofs.StoreLemmas.{on_err}
+use Rattle.hub_revtree.proofs.BranchLemmas.{on_err}
 use Rattle.hub_database.proofs.contents.Contents.changes_descending.Goals as goal
 
 pub count_between-pending-requires : goal.count_between-pending-requires

@@ -1,7 +1,7 @@
 use Rattle.std.proofs.Common.{sym, ◌∙◌}
 use Rattle.hub_database.specs.Store.{edits_of_store}
-use Rattle.hub_database.proofs.StoreLemmas.{on_err}
 use Rattle.hub_database.proofs.MissingLemmas.{none_of, some_of, some_wanted, whole_found, diff_found, unknown_diff}
+use Rattle.hub_revtree.proofs.BranchLemmas.{on_err}
 use Rattle.hub_database.proofs.contents.Contents.diff.Goals as goal
 
 pub returns-in_default-clause-ok : goal.returns-in_default-clause-ok

@@ -1,7 +1,7 @@
 use Rattle.std.proofs.Common.{sym, ◌∙◌}
 use Rattle.hub_database.specs.Store.{edits_of_store}
 use Rattle.hub_database.proofs.ShownLemmas.{unknown_found, deleted_found, is_there, live_found, never_none}
-use Rattle.hub_database.proofs.StoreLemmas.{on_err}
+use Rattle.hub_revtree.proofs.BranchLemmas.{on_err}
 use Rattle.hub_database.proofs.contents.Contents.get.Goals as goal
 
 pub returns-in_default-best-clause-found : goal.returns-in_default-best-clause-found

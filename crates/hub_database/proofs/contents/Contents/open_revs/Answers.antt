@@ -3,7 +3,8 @@ use Rattle.std.specs.Prelude.{IfOk}
 use Rattle.hub_database.specs.Store.{edits_of_store}
 use Rattle.hub_database.proofs.ShortLemmas.{edits_open, leaves_open, listed_open}
 use Rattle.hub_database.proofs.ShownLemmas.{all_found, listed_found}
-use Rattle.hub_database.proofs.StoreLemmas.{err_then, on_err}
+use Rattle.hub_database.proofs.StoreLemmas.{err_then}
+use Rattle.hub_revtree.proofs.BranchLemmas.{on_err}
 use Rattle.hub_database.proofs.contents.Contents.open_revs.Goals as goal
 
 pub returns-in_err-leaves-in-Some-All-clause-memory :

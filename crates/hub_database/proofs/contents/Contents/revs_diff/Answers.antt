@@ -4,7 +4,7 @@ use Rattle.hub_model.specs.Missing.{diffs}
 use Rattle.hub_database.specs.Found.{wanted_diff}
 use Rattle.hub_database.proofs.MissingLemmas.{diffs_none}
 use Rattle.hub_database.proofs.ShortLemmas.{diffs_some}
-use Rattle.hub_database.proofs.StoreLemmas.{on_err}
+use Rattle.hub_revtree.proofs.BranchLemmas.{on_err}
 use Rattle.hub_database.proofs.contents.Contents.revs_diff.Goals as goal
 
 pub loop-asked-preserved : goal.loop-asked-preserved

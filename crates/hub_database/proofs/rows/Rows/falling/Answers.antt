@@ -4,8 +4,8 @@ use Rattle.hub_model.specs.Row.{ChangeRow}
 use Rattle.hub_params.specs.FeedModel.{params_of}
 use Rattle.hub_database.specs.Falling.{most_of}
 use Rattle.hub_database.proofs.FallingLemmas.{all_shown, begins, goes_down, is_current, left, none_left, passed_by, past_since, row_due, rows_all, rows_enough, rows_more, show, shown_all, taken_up}
-use Rattle.hub_database.proofs.StoreLemmas.{on_err}
 use Rattle.hub_database.proofs.rows.Rows.falling.Goals as goal
+use Rattle.hub_revtree.proofs.BranchLemmas.{on_err}
 
 pub loop-seq-init : goal.loop-seq-init
 loop-seq-init c =

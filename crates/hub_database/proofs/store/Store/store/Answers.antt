@@ -3,8 +3,9 @@ use Rattle.std.proofs.Common.{Some, slice_get}
 use Rattle.std.specs.BTreeMap.{get_by_text}
 use Rattle.hub_database.specs.Store.{deleted_in, filed, files}
 use Rattle.hub_database.proofs.IndexedLemmas.{rows_within}
-use Rattle.hub_database.proofs.StoreLemmas.{filed_at, no_row, number_below, get_at, few_edits, mark_counted, unchanged, extended, inserted_all, on_err, err_then, needs_at, needs_first}
+use Rattle.hub_database.proofs.StoreLemmas.{filed_at, no_row, number_below, get_at, few_edits, mark_counted, unchanged, extended, inserted_all, err_then, needs_at, needs_first}
 use Rattle.hub_database.proofs.store.Store.store.Goals as goal
+use Rattle.hub_revtree.proofs.BranchLemmas.{on_err}
 
 pub extend-requires-clause-few : goal.extend-requires-clause-few
 extend-requires-clause-few c =
