@@ -82,7 +82,7 @@ rest_stays J e a b c d = rw (e, a, b, c, d) refl
 pub contents_stay : (J : List Edit) {l l' : List Local} {m m' : Limits} → l ≡ l' → m ≡ m' → ◌≡◌ {A = Contents} (record { journal = J; locals = l; limits = m }) (record { journal = J; locals = l'; limits = m' })
 contents_stay J a d = rw (a, d) refl
 
--- and those that are left stay so
+-- feeds that stay behind a journal do so where one of them goes
 pub feeds_left : (len next id : ℕ) (feeds : List (ℕ × Feed)) → AreFeeds len next feeds → AreFeeds len next (without id feeds)
 feeds_left len next id feeds x = record {
   rising = rising_without id feeds x.rising;
