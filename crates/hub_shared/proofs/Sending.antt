@@ -6,7 +6,7 @@ use Rattle.std.proofs.lemmas.Bool.{cases_Bool}
 use Rattle.std.proofs.Common.{inl, inr}
 use Rattle.hub_model.specs.Current.{Current}
 use Rattle.hub_model.specs.Entries.{entry_in, changed, without}
-use Rattle.hub_model.specs.Feed.{Feed, Params, Due, DueRow, DueEnd, DueNothing, DueGone, begin, due, after_due, after_nothing, beat_due, expire, is_open, waits, since_of}
+use Rattle.hub_model.specs.Feed.{Feed, Params, Due, DueRow, DueEnd, DueNothing, DueGone, begin, due, after_due, after_nothing, beat_due, expire, is_open, waits}
 use Rattle.hub_model.specs.declared.feeds.Item.{Item}
 use Rattle.hub_model.specs.declared.feeds.Item.TheVariants.{Beat}
 use Rattle.hub_model.proofs.Entries.{own_changed, other_changed, own_without, other_without, own_added, other_added}
@@ -14,9 +14,8 @@ use Rattle.hub_params.specs.FeedModel.{params_in, params_of}
 use Rattle.hub_params.specs.declared.feed_params.FeedParams.{FeedParams}
 use Rattle.hub_feed.specs.Host.{Hosted, with_feeds, answer_of, answered, item_for, item_due, behind_due, behind_answer, handed, expired, finished, opened, is_beat_due}
 use Rattle.hub_feed.specs.Next.{next_of}
-use Rattle.hub_feed.specs.declared.next.Next.{Next}
-use Rattle.hub_feed.specs.declared.next.Next.TheVariants.{Give, Nothing, Gone}
-use Rattle.hub_lane.specs.Ends.{SenderState, behind_push, new_sender}
+use Rattle.hub_feed.specs.declared.next.Next.TheVariants.{Nothing}
+use Rattle.hub_lane.specs.Ends.{behind_push, new_sender}
 use Rattle.hub_shared.specs.Label.{Label, label_of}
 use Rattle.hub_shared.specs.Locked.{FeedSender, IsSenderOf, IsServed, AreSendersOf}
 use Rattle.hub_shared.specs.Senders.{sends, MaySend}

@@ -1,9 +1,9 @@
 -- What a step of the host does to the senders.
-use Rattle.std.proofs.Common.{◌≡◌, ◌≢◌, ℕ, ◌+◌, ◌<◌, List, [], ◌∷◌, ◌++◌, ap, refl, sym, subst, ◌⊎◌, inl, inr, Option, Some, None, option_map}
+use Rattle.std.proofs.Common.{◌≡◌, ◌≢◌, ℕ, ◌+◌, ◌<◌, List, [], ◌∷◌, ◌++◌, refl, sym, subst, ◌⊎◌, inl, inr, Option, Some, None, option_map}
 use Rattle.std.specs.Prelude.{All}
 use Rattle.std.proofs.lemmas.Bool.{cases_eq}
 use Rattle.std.proofs.lemmas.Option.{none-some, same_Some}
-use Rattle.hub_model.specs.Entries.{entry_in, changed, without}
+use Rattle.hub_model.specs.Entries.{entry_in, without}
 use Rattle.hub_model.specs.Feed.{Feed}
 use Rattle.hub_model.specs.declared.feeds.Item.{Item}
 use Rattle.hub_model.proofs.Entries.{own_changed, other_changed, own_without, other_without, own_added, other_added, rising_changed, rising_without, rising_added, below_changed, below_without, below_added, none_above}

@@ -23,7 +23,7 @@ use Rattle.hub_database.specs.Edits.{stores_doc, draft_of, edit_of, writes}
 use Rattle.hub_database.specs.Feeds.{ended, deleted}
 use Rattle.hub_database.specs.Handing.{IsFitting}
 use Rattle.hub_database.specs.Hosting.{hosted_of}
-use Rattle.hub_shared.specs.Locked.{FeedSender, IsSenderOf, IsServed, AreSendersOf}
+use Rattle.hub_shared.specs.Locked.{FeedSender, IsServed, AreSendersOf}
 use Rattle.hub_shared.specs.Receipts.{receipt_if, behind_reply, receipts_from, AreReceipts, AreAdded, ids_of}
 use Rattle.hub_shared.specs.declared.receipt.Receipt.{Receipt}
 use Rattle.hub_shared.proofs.Serving.{stays_served}

@@ -1,5 +1,5 @@
-use Rattle.std.proofs.Common.{◌≡◌, ◌∙◌, sym, ap, Some, None}
-use Rattle.std.specs.Prelude.{position, get_or}
+use Rattle.std.proofs.Common.{◌≡◌, ◌∙◌, sym, Some, None}
+use Rattle.std.specs.Prelude.{position}
 use Rattle.hub_model.specs.Entries.{is_of}
 use Rattle.hub_model.proofs.Entries.{entry_here, no_entry, without_absent, without_here}
 use Rattle.hub_shared.proofs.senders.remove.Goals as goal

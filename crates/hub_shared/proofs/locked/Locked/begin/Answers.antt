@@ -1,8 +1,6 @@
 use Rattle.std.proofs.Common.{◌≡◌, ◌∙◌, sym, subst, ◌∷◌, [], ◌++◌, None}
-use Rattle.hub_feed.specs.Host.{opened}
 use Rattle.hub_model.specs.Entries.{entry_in}
 use Rattle.hub_model.specs.Feed.{Params, begin}
-use Rattle.hub_params.specs.FeedModel.{params_of}
 use Rattle.hub_lane.specs.Ends.{new_receiver, new_sender}
 use Rattle.hub_shared.specs.Label.{label_of}
 use Rattle.hub_shared.specs.Locked.{AreSendersOf}

@@ -1,4 +1,4 @@
-use Rattle.std.proofs.Common.{sym, subst, Some}
+use Rattle.std.proofs.Common.{sym, subst}
 use Rattle.hub_model.specs.Entries.{without}
 use Rattle.hub_shared.specs.Locked.{AreSendersOf}
 use Rattle.hub_shared.proofs.Sending.{finishes}

@@ -1,4 +1,4 @@
-use Rattle.std.proofs.Common.{◌≡◌, ◌+◌, sym, subst, ap, ◌∙◌, length}
+use Rattle.std.proofs.Common.{◌≡◌, ◌+◌, subst, ap, ◌∙◌, length}
 use Rattle.hub_database.specs.Database.{Database}
 use Rattle.hub_shared.specs.Receipts.{AreAdded, ids_of}
 use Rattle.hub_shared.proofs.Storing.{senders_stay, receipts_added, writes_added, added_longer}
