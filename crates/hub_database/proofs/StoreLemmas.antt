@@ -36,6 +36,7 @@ use Rattle.hub_database.proofs.NamedLemmas.{leaves_named, deleted_named}
 use Rattle.hub_database.proofs.MergeLemmas.{acceptable_in, needs_in, stores_by}
 use Rattle.hub_database.proofs.FiledLemmas.{Was, kept_of, journal_is, filed_more}
 use Rattle.hub_database.proofs.IndexedLemmas.{indexed_more}
+pub use Rattle.hub_revtree.proofs.BranchLemmas.{on_err}
 
 -- what storing an edit leaves: the documents and the rows in order, and the journal with the edit if it is stored
 abbrev pub Leaves : ℕ → List Filed → List Entry → List ℕ → Looked → (List ℕ → Option ℕ) → List Filed → List Entry → List (ℕ × ℕ) → Type 0
