@@ -61,7 +61,8 @@ impl<S: FeedHost> Model for Locked<S> {
 
     ghost view = { λ a. record { state = a.state; senders = a.senders.items; lane = a.lane } };
 
-    ghost invariant = { λ a. (0 < a.lane) × AreSendersOf (S.fits a.state) (S.hosted a.state) a.senders.items };
+    ghost invariant = { λ a. (0 < a.lane)
+        × AreSendersOf (S.fits a.state) (S.hosted a.state) a.senders.items };
 }
 
 // What a hand answers that sent this item.
@@ -100,8 +101,10 @@ impl<S: FeedHost> Locked<S> {
 
     // The ends of a lane for a feed of these parameters that begins now.
     fn ends_for(&self, params: &FeedParams) -> Result<Ends<S>, AllocError>
-        ensures sender { IfOk result (λ ends. ends.0 ≡ new_sender (label_of params.now (S.hosted self.now.state).length) self.now.lane) }
-        ensures receiver { IfOk result (λ ends. ends.1 ≡ new_receiver (label_of params.now (S.hosted self.now.state).length)) }
+        ensures sender { IfOk result (λ ends. ends.0
+            ≡ new_sender (label_of params.now (S.hosted self.now.state).length) self.now.lane) }
+        ensures receiver { IfOk result (λ ends. ends.1
+            ≡ new_receiver (label_of params.now (S.hosted self.now.state).length)) }
         ensures begins { (p : Params) → S.fits self.now.state (begin p (S.hosted self.now.state).length) [] }
     {
         let since = params.since.within(self.state.length());
@@ -117,8 +120,10 @@ impl<S: FeedHost> Locked<S> {
         &mut self,
         params: FeedParams,
     ) -> Result<(FeedId, Receiver<FeedLabel<S>, Item<S::Row>>), OpenFault>
-        ensures ok { IfOk result (λ opened. Begins S.hosted S.with_hosted params self.old opened.0.number opened.1 self.new) }
-        ensures err { IfErr result (λ e. (self.new ≡ self.old) × (e ≡ opening_fault (S.hosted self.old.state))) }
+        ensures ok { IfOk result (λ opened.
+            Begins S.hosted S.with_hosted params self.old opened.0.number opened.1 self.new) }
+        ensures err { IfErr result (λ e. (self.new ≡ self.old)
+            × (e ≡ opening_fault (S.hosted self.old.state))) }
     {
         if let Some(fault) = self.state.refusal() {
             return Err(fault);
@@ -146,7 +151,8 @@ impl<S: FeedHost> Locked<S> {
         item: Item<S::Row>,
     ) -> Handed
         requires due { item_due (S.hosted self.old.state) feed.number ≡ Some item }
-        ensures { Hands S.hosted S.with_hosted (R.refuses rt.now) (Give item) self.old feed.number result self.new }
+        ensures { Hands S.hosted S.with_hosted (R.refuses rt.now) (Give item)
+            self.old feed.number result self.new }
     {
         let handed = handed_as(&item);
         let mark = S::mark(&item);
@@ -169,8 +175,10 @@ impl<S: FeedHost> Locked<S> {
         rt: &R,
         feed: FeedId,
     ) -> Result<Handed, AllocError>
-        ensures ok { IfOk result (λ handed. Hands S.hosted S.with_hosted (R.refuses rt.now) (answered (S.hosted self.old.state) feed.number) self.old feed.number handed self.new) }
-        ensures err { OnErr result ((self.new ≡ self.old) × IsRowDue (due_to (S.hosted self.old.state) feed.number)) }
+        ensures ok { IfOk result (λ handed. Hands S.hosted S.with_hosted (R.refuses rt.now)
+            (answered (S.hosted self.old.state) feed.number) self.old feed.number handed self.new) }
+        ensures err { OnErr result ((self.new ≡ self.old)
+            × IsRowDue (due_to (S.hosted self.old.state) feed.number)) }
     {
         match self.state.next_item(feed)? {
             Next::Give(item) => Ok(self.give(rt, feed, item)),
@@ -194,7 +202,9 @@ impl<S: FeedHost> Locked<S> {
     /// was sent, or `Full`, only where the lane was full at a moment of the call. It takes no memory,
     /// and costs what `beat_due` does, a search among the senders, and a push.
     pub fn beat<R: Asks<FeedLabel<S>, Item<S::Row>>>(&mut self, rt: &R, feed: FeedId) -> Handed
-        ensures { Beats (R.refuses rt.now) (is_beat_due (entry_in feed.number (S.hosted self.old.state).feeds)) self.old feed.number result self.new }
+        ensures { Beats (R.refuses rt.now)
+            (is_beat_due (entry_in feed.number (S.hosted self.old.state).feeds))
+            self.old feed.number result self.new }
     {
         if !self.state.beat_due(feed) {
             return Handed::Nothing;
@@ -215,8 +225,13 @@ impl<S: FeedHost> Locked<S> {
     /// what the host's `finish` does, a search among the senders, and a move of those behind it.
     pub fn finish(&mut self, feed: FeedId) -> Option<Sender<FeedLabel<S>, Item<S::Row>>>
         ensures sender { result ≡ entry_in feed.number self.old.senders }
-        ensures fits { IfSome result (λ s. (f : Feed) × (entry_in feed.number (S.hosted self.old.state).feeds ≡ Some f) × IsSenderOf (S.fits self.old.state) f s) }
-        ensures step { self.new ≡ record (stepped S.hosted S.with_hosted self.old (λ h. finished h feed.number)) { senders = without feed.number self.old.senders } }
+        ensures fits { IfSome result (λ s. (f : Feed)
+            × (entry_in feed.number (S.hosted self.old.state).feeds ≡ Some f)
+            × IsSenderOf (S.fits self.old.state) f s) }
+        ensures step { self.new
+            ≡ record (stepped S.hosted S.with_hosted self.old (λ h. finished h feed.number)) {
+              senders = without feed.number self.old.senders;
+            } }
     {
         self.state.finish(feed);
         remove(&mut self.senders, feed.number)

@@ -35,9 +35,14 @@ impl Locked<DbState> {
     /// since.
     pub fn feeds_are_right(&self)
         ensures legal { IsLegal self.now.state.journal }
-        ensures asks { (number : ℕ) (f : Feed) (s : FeedSender ChangeRow) → entry_in number self.now.state.feeds ≡ Some f → entry_in number self.now.senders ≡ Some s → (params_in s.label.asked ≡ f.params) × (s.label.since ≡ f.since) }
-        ensures right { (number : ℕ) (f : Feed) (s : FeedSender ChangeRow) → entry_in number self.now.state.feeds ≡ Some f → entry_in number self.now.senders ≡ Some s → RightlyHanded self.now.state.journal f s.sent }
-        ensures served { (number : ℕ) (f : Feed) → entry_in number self.now.state.feeds ≡ Some f → (s : FeedSender ChangeRow) × (entry_in number self.now.senders ≡ Some s) }
+        ensures asks { (number : ℕ) (f : Feed) (s : FeedSender ChangeRow)
+            → entry_in number self.now.state.feeds ≡ Some f → entry_in number self.now.senders ≡ Some s
+            → (params_in s.label.asked ≡ f.params) × (s.label.since ≡ f.since) }
+        ensures right { (number : ℕ) (f : Feed) (s : FeedSender ChangeRow)
+            → entry_in number self.now.state.feeds ≡ Some f → entry_in number self.now.senders ≡ Some s
+            → RightlyHanded self.now.state.journal f s.sent }
+        ensures served { (number : ℕ) (f : Feed) → entry_in number self.now.state.feeds ≡ Some f
+            → (s : FeedSender ChangeRow) × (entry_in number self.now.senders ≡ Some s) }
     {
         let _legal = self.state.update_seq();
     }
@@ -47,14 +52,23 @@ impl Locked<DbState> {
     /// where it, or the list of replies, finds none, and then nothing changes. It costs what
     /// `write_edits` does, and copies of the documents' ids.
     pub fn write(&mut self, docs: Vec<Doc>, new_edits: bool) -> Result<Accepted, DbFault>
-        ensures ok { IfOk result (λ a. writes new_edits self.old.state.deleted self.old.state.limits.journal self.old.state.journal (take (length a.replies) docs.items) ≡ record { outcomes = a.replies; journal = self.new.state.journal }) }
+        ensures ok { IfOk result (λ a.
+            writes new_edits self.old.state.deleted self.old.state.limits.journal self.old.state.journal
+            (take (length a.replies) docs.items)
+            ≡ record { outcomes = a.replies; journal = self.new.state.journal }) }
         ensures whole { IfOk result (λ a. a.stopped ≡ false → length a.replies ≡ length docs.items) }
         ensures stopped { IfOk result (λ a. IsTrue a.stopped → length a.replies < length docs.items) }
-        ensures stops { IfOk result (λ a. IsTrue a.stopped → StopsAt new_edits self.old.state.deleted self.new.state.journal (length a.replies) docs.items) }
-        ensures receipts { IfOk result (λ a. a.receipts.items ≡ receipts_from (length self.old.state.journal) (ids_of docs.items) a.replies) }
-        ensures longer { IfOk result (λ a. length self.new.state.journal ≡ length self.old.state.journal + length a.receipts.items) }
-        ensures added { IfOk result (λ a. AreAdded self.old.state.journal self.new.state.journal a.receipts.items) }
-        ensures rest { self.new ≡ record self.old { state = record self.old.state { journal = self.new.state.journal } } }
+        ensures stops { IfOk result (λ a. IsTrue a.stopped
+            → StopsAt new_edits self.old.state.deleted self.new.state.journal (length a.replies) docs.items) }
+        ensures receipts { IfOk result (λ a. a.receipts.items
+            ≡ receipts_from (length self.old.state.journal) (ids_of docs.items) a.replies) }
+        ensures longer { IfOk result (λ a. length self.new.state.journal
+            ≡ length self.old.state.journal + length a.receipts.items) }
+        ensures added { IfOk result (λ a.
+            AreAdded self.old.state.journal self.new.state.journal a.receipts.items) }
+        ensures rest { self.new ≡ record self.old {
+          state = record self.old.state { journal = self.new.state.journal };
+        } }
         ensures err { IfErr result (λ e. (e ≡ DbFault.NoMemory) × (self.new ≡ self.old)) }
         ensures memory { OnErr result (0 < length docs.items) }
     {
@@ -75,8 +89,10 @@ impl Locked<DbState> {
     /// Deletes the database, and ends its open feeds: what is left of each is its end. It takes no
     /// memory, and costs a step for each feed.
     pub fn delete(&mut self) -> Result<(), DbFault>
-        ensures ok { OnOk result ((self.old.state.deleted ≡ false) × (self.new ≡ record self.old { state = deleted self.old.state })) }
-        ensures err { IfErr result (λ e. (self.old.state.deleted ≡ true) × (e ≡ DbFault.Refused Deleted) × (self.new ≡ self.old)) }
+        ensures ok { OnOk result ((self.old.state.deleted ≡ false)
+            × (self.new ≡ record self.old { state = deleted self.old.state })) }
+        ensures err { IfErr result (λ e. (self.old.state.deleted ≡ true)
+            × (e ≡ DbFault.Refused Deleted) × (self.new ≡ self.old)) }
     {
         let _legal = self.state.update_seq();
         self.state.delete()
