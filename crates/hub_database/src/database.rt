@@ -42,6 +42,9 @@ pub struct DbState {
     pub(crate) feeds: Vec<(u64, FeedState)>,
     /// The number of the next feed.
     pub(crate) next_feed: u64,
+    /// Where the feed that was asked last for its next item stood among the feeds. A feed is looked
+    /// for there first.
+    pub(crate) near: usize,
 }
 
 impl Model for DbState {
@@ -92,6 +95,7 @@ impl DbState {
             deleted: false,
             feeds: Vec::new(alloc),
             next_feed: 0,
+            near: 0,
         }
     }
 

@@ -14,7 +14,7 @@ use crate::database::DbState;
 use crate::rows::Rows;
 use hub_document::ChangeRow;
 use hub_feed::{FeedId, FeedState, Mark, Next, OpenFault};
-use hub_model::{Item, place_of};
+use hub_model::{Item, place_near, place_of};
 use hub_params::FeedParams;
 use std::alloc::AllocError;
 
@@ -65,24 +65,26 @@ impl DbState {
     }
 
     /// What a feed has to hand now. An item is made and nothing changes: `accept_item` goes on. A
-    /// feed that has nothing to hand goes to the journal's length. It costs a binary search
-    /// among the feeds and what `FeedState::next_item` does.
+    /// feed that has nothing to hand goes to the journal's length. It costs what
+    /// `FeedState::next_item` does, and a binary search among the feeds unless the last call was for
+    /// the same feed.
     pub fn next_item(&mut self, feed: FeedId) -> Result<Next<ChangeRow>, AllocError>
         ensures ok { IfOk result (λ next. (next ≡ answered (hosted_of self.old) feed.number)
             × (self.new ≡ with_hosted self.old (behind_answer (hosted_of self.old) feed.number next))) }
         ensures err { OnErr result ((self.new ≡ self.old)
             × IsRowDue (due_to (hosted_of self.old) feed.number)) }
     {
-        let Some(at) = place_of(self.feeds.as_slice(), feed.number) else {
+        let Some(at) = place_near(self.feeds.as_slice(), self.near, feed.number) else {
             return Ok(Next::Gone);
         };
+        self.near = at;
         let rows = self.contents.rows();
         let feed = &mut self.feeds[at];
         feed.1.next_item(&rows)
     }
 
-    /// Goes on behind the item that `next_item` gives now. It takes no memory, and costs a binary
-    /// search among the feeds.
+    /// Goes on behind the item that `next_item` gives now. It takes no memory, and constant time where
+    /// the last item was made for this feed.
     pub fn accept_item(&mut self, feed: FeedId, item: &Item<ChangeRow>)
         requires due { item_due (hosted_of self.old) feed.number ≡ Some item.now }
         ensures { self.new ≡ with_hosted self.old (handed (hosted_of self.old) feed.number) }
@@ -91,13 +93,13 @@ impl DbState {
     }
 
     /// Goes on behind the item that `next_item` gives now, of which this is the mark. It takes no
-    /// memory, and costs a binary search among the feeds.
+    /// memory, and constant time where the last item was made for this feed.
     pub fn accept_marked(&mut self, feed: FeedId, mark: Mark)
         requires due { option_map (mark_of (λ (r : Shown). r.seq)) (item_due (hosted_of self.old) feed.number)
             ≡ Some mark }
         ensures { self.new ≡ with_hosted self.old (handed (hosted_of self.old) feed.number) }
     {
-        let Some(at) = place_of(self.feeds.as_slice(), feed.number) else {
+        let Some(at) = place_near(self.feeds.as_slice(), self.near, feed.number) else {
             return;
         };
         let rows = self.contents.rows();

@@ -94,9 +94,15 @@ impl FeedHost for DbState {
         }
     }
 
-    /// It costs a binary search among the feeds and what `FeedState::next_item` does.
+    /// It costs what `FeedState::next_item` does, and a binary search among the feeds unless the last
+    /// call was for the same feed.
     fn next_item(&mut self, feed: FeedId) -> Result<Next<ChangeRow>, AllocError> {
         DbState::next_item(self, feed)
+    }
+
+    /// Constant time.
+    fn near(&self) -> usize {
+        self.near
     }
 
     /// Constant time.
@@ -104,7 +110,7 @@ impl FeedHost for DbState {
         Mark::of::<Rows>(item)
     }
 
-    /// It costs a binary search among the feeds.
+    /// Constant time, where the last item was made for this feed.
     fn accept_marked(&mut self, feed: FeedId, mark: Mark) {
         DbState::accept_marked(self, feed, mark);
     }

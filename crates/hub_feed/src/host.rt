@@ -85,6 +85,11 @@ pub trait FeedHost {
         ensures new { IfOk result (λ next. self.new ≡ with_hosted self.old (behind_answer (hosted self.old) feed.number next)) }
         ensures err { OnErr result ((self.new ≡ self.old) × IsRowDue (due_to (hosted self.old) feed.number)) };
 
+    /// Where the feed that `next_item` was asked for last stands among the feeds, as far as is known:
+    /// feeds by their numbers stand so in other lists, too, and are found there sooner. Nothing else
+    /// rests on it. It takes no memory.
+    fn near(&self) -> usize;
+
     /// The mark of an item. It takes no memory.
     fn mark(item: &Item<Self::Row>) -> Mark
         ensures { result ≡ mark_of seq_of item.now };

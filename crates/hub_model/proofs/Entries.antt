@@ -63,12 +63,16 @@ module _ {A : Type 0} (number : ℕ) where
       ordered : (i j : ℕ) → i ≤ j → j < length (q ∷ entries) → (i ≡ j) ⊎ ((get_or (q ∷ entries) i q).0 < (get_or (q ∷ entries) j q).0)
       ordered i j le low = elim (cases_lt i j) [ inl l ↦ inr (rising i j q l low) | inr g ↦ inl (omega arith) ]
 
+  -- the place where the number stands
+  pub placed_at : (entries : List (ℕ × A)) (at : ℕ) (d : ℕ × A) → AreRising entries → at < length entries → (get_or entries at d).0 ≡ number → Some at ≡ position (is_of number) entries
+  placed_at entries at d rising within here =
+      position_is (is_of number) entries at (position_or_len_is (is_of number) entries at d (omega (arith, within)) (λ k low. let below = rising k at d low within in ne_eqb (get_or entries k d).0 number (λ e. omega (arith, below, here, e))) (λ low. eq-eqb (get_or entries at d).0 number here)) within
+
   pub searched : (entries : List (ℕ × A)) (r : Result ℕ ℕ) → AreRising entries → IsSearchInRange r (length entries) → IsBinarySearchResult (λ (p : ℕ × A). nat_cmp p.0 number) entries r → result_ok r ≡ position (is_of number) entries
   searched [] (Ok at) rising within found = absurd (omega (arith, within))
   searched [] (Err at) rising within found = refl
   searched (q ∷ entries) (Ok at) rising within found =
-      let here : (get_or (q ∷ entries) at q).0 ≡ number = ranked _ number _ (sym (found q)) in
-      position_is (is_of number) (q ∷ entries) at (position_or_len_is (is_of number) (q ∷ entries) at q (omega (arith, within)) (λ k low. let below = rising k at q low within in ne_eqb (get_or (q ∷ entries) k q).0 number (λ e. omega (arith, below, here, e))) (λ low. eq-eqb (get_or (q ∷ entries) at q).0 number here)) within
+      placed_at (q ∷ entries) at q rising within (ranked _ number _ (sym (found q)))
   searched (q ∷ entries) (Err at) rising within found =
       let parts = found (compares_rise (q ∷ entries) rising) in
       no_position (is_of number) (q ∷ entries) (position_or_len_is (is_of number) (q ∷ entries) (length (q ∷ entries)) q (omega arith) (others parts) (λ low. absurd (omega (arith, low))))

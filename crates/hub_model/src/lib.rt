@@ -14,7 +14,7 @@ mod places;
 
 pub use feeds::{Item, Mode, Since, Style};
 pub use outcomes::{Fault, Outcome};
-pub use places::place_of;
+pub use places::{place_near, place_of};
 
 /// The tests of what is known, of histories and of what may be stored are right.
 pub fn tests_decide()

@@ -11,3 +11,15 @@ pub fn place_of<T>(entries: &[(u64, T)], number: u64) -> Option<usize>
 {
     entries.binary_search_by_key(&number, |entry| entry.0).ok()
 }
+
+/// The same, where the entry most likely stands at `near`: then it costs constant time, and as much
+/// as `place_of` otherwise.
+pub fn place_near<T>(entries: &[(u64, T)], near: usize, number: u64) -> Option<usize>
+    requires rising { AreRising entries.now }
+    ensures { result ≡ position (is_of number) entries.now }
+{
+    if near < entries.len() && entries[near].0 == number {
+        return Some(near);
+    }
+    place_of(entries, number)
+}

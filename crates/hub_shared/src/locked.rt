@@ -156,7 +156,8 @@ impl<S: FeedHost> Locked<S> {
     {
         let handed = handed_as(&item);
         let mark = S::mark(&item);
-        match send(rt, &mut self.senders, feed.number, item) {
+        let near = self.state.near();
+        match send(rt, &mut self.senders, near, feed.number, item) {
             Ok(()) => {
                 self.state.accept_marked(feed, mark);
                 handed
@@ -169,7 +170,7 @@ impl<S: FeedHost> Locked<S> {
     /// `Full` is answered only where the lane was full at a moment of the call; then nothing
     /// changes, and the next hand makes the item again. A feed that has nothing to hand goes to the
     /// length of what it follows. Only a row takes memory, and without it nothing changes. It costs
-    /// what `next_item` and `accept_marked` do, a search among the senders, and a push.
+    /// what `next_item` and `accept_marked` do, and a push: one search for the feed's number in all.
     pub fn hand<R: Asks<FeedLabel<S>, Item<S::Row>>>(
         &mut self,
         rt: &R,
@@ -192,7 +193,8 @@ impl<S: FeedHost> Locked<S> {
         requires due { is_beat_due (entry_in feed.number (S.hosted self.old.state).feeds) ≡ true }
         ensures { Beats (R.refuses rt.now) true self.old feed.number result self.new }
     {
-        match send(rt, &mut self.senders, feed.number, Item::Beat) {
+        let near = self.state.near();
+        match send(rt, &mut self.senders, near, feed.number, Item::Beat) {
             Ok(()) => Handed::Nothing,
             Err(_) => Handed::Full,
         }

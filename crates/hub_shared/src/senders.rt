@@ -5,13 +5,15 @@ ghost use Rattle.hub_model.specs.Entries.{entry_in, without, AreRising};
 ghost use Rattle.hub_shared.specs.Senders.{sends, MaySend, IsRefused};
 
 use hub_lane::{Asks, Full, Kept, Sender};
-use hub_model::place_of;
+use hub_model::{place_near, place_of};
 
-/// Sends an item for the feed of this number. It comes back where the lane was full at a moment of
-/// the call. It costs a binary search, and a push.
+/// Sends an item for the feed of this number, whose sender most likely stands at `near`. It comes
+/// back where the lane was full at a moment of the call. It costs a push, and a binary search where
+/// the sender stands elsewhere.
 pub(crate) fn send<L: Kept<I>, I, R: Asks<L, I>>(
     rt: &R,
     senders: &mut Vec<(u64, Sender<L, I>)>,
+    near: usize,
     feed: u64,
     item: I,
 ) -> Result<(), Full<I>>
@@ -21,7 +23,7 @@ pub(crate) fn send<L: Kept<I>, I, R: Asks<L, I>>(
     ensures same { IfErr result (λ full. (full.0 ≡ item) × (senders.new.items ≡ senders.old.items)) }
     ensures full { OnErr result (IsRefused (R.refuses rt.now) senders.old.items feed item) }
 {
-    let Some(at) = place_of(senders.as_slice(), feed) else {
+    let Some(at) = place_near(senders.as_slice(), near, feed) else {
         unreachable!()
     };
     let entry = &mut senders[at];

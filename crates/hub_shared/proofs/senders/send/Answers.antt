@@ -9,7 +9,7 @@ use Rattle.hub_shared.proofs.senders.send.Goals as goal
 pub unreachable-requires : goal.unreachable-requires
 unreachable-requires g c =
     let senders = c.args.senders.now.items in
-    let none : position (is_of c.args.feed) senders ≡ None = rw c.as_slice.ensures.value at (sym c.place_of.ensures ∙ c.in_default.is) in
+    let none : position (is_of c.args.feed) senders ≡ None = rw c.as_slice.ensures.value at (sym c.place_near.ensures ∙ c.in_default.is) in
     none-some c.requires.may.0 (sym (no_entry c.args.feed senders none) ∙ c.requires.may.1)
 
 pub push-requires : goal.push-requires

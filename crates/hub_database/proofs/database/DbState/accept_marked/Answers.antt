@@ -15,7 +15,7 @@ use Rattle.hub_database.proofs.database.DbState.accept_marked.Goals as goal
 
 pub returns-in_default : goal.returns-in_default
 returns-in_default c =
-    let none : position (λ (p : ℕ × Feed). nat_eq p.0 c.args.feed.number) c.self.inside.feeds.items ≡ None = rw c.as_slice.ensures.value at (sym c.place_of.ensures ∙ c.in_default.is) in
+    let none : position (λ (p : ℕ × Feed). nat_eq p.0 c.args.feed.number) c.self.inside.feeds.items ≡ None = rw c.as_slice.ensures.value at (sym c.place_near.ensures ∙ c.in_default.is) in
     subst (λ (z : Database). z ≡ with_hosted z (handed (hosted_of z) c.args.feed.number)) c.self.view_is (rest_stays c.self.inside.contents.journal refl refl (sym (changed_absent c.args.feed.number _ c.self.inside.feeds.items (no_entry c.args.feed.number c.self.inside.feeds.items none))) refl refl)
 
 pub accept_marked-requires : goal.accept_marked-requires

@@ -15,7 +15,7 @@ use Rattle.hub_database.proofs.database.DbState.next_item.Goals as goal
 
 pub returns-in_default-clause-ok : goal.returns-in_default-clause-ok
 returns-in_default-clause-ok c =
-    let none : position (λ (p : ℕ × Feed). nat_eq p.0 c.args.feed.number) c.self.inside.feeds.items ≡ None = rw c.as_slice.ensures.value at (sym c.place_of.ensures ∙ c.in_default.is) in (
+    let none : position (λ (p : ℕ × Feed). nat_eq p.0 c.args.feed.number) c.self.inside.feeds.items ≡ None = rw c.as_slice.ensures.value at (sym c.place_near.ensures ∙ c.in_default.is) in (
       subst (λ (z : Database). Gone ≡ answered (hosted_of z) c.args.feed.number) c.self.view_is (rw (no_entry c.args.feed.number c.self.inside.feeds.items none) refl),
       refl,
     )
