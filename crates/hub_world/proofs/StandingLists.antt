@@ -7,7 +7,7 @@ use Rattle.std.proofs.lemmas.List.Kept.{AllPairs-cons}
 use Rattle.std.proofs.lemmas.List.Sums.{sum_by-cons}
 use Rattle.hub_model.specs.Feed.{Status, Open, Ending, Ended, Finished, is_open}
 use Rattle.hub_world.specs.Core.{standing_from}
-use Rattle.hub_model.specs.Entries.{is_of, entry_in, changed, without}
+use Rattle.hub_model.specs.Entries.{entry_in, changed, without}
 use Rattle.hub_model.proofs.Entries.{changed_absent, without_absent}
 use Rattle.hub_world.specs.World.{Subscription, is_finished, ended}
 

@@ -1,9 +1,10 @@
 //! The lanes of feeds.
 
-ghost use Rattle.std.specs.Prelude.{◌≡◌, [], true, nat_eq, position, IfOk, OnErr};
+ghost use Rattle.std.specs.Prelude.{◌≡◌, [], true, false, nat_eq, position, IfOk, IfSome, IfNone, OnErr};
 ghost use Rattle.hub_model.specs.Entries.{without};
 ghost use Rattle.hub_world.specs.Lane.{IsRising, has_room, pushed_into, front, without_front, held};
 
+use crate::shared_item::SharedItem;
 use hub_document::ChangeRow;
 use hub_model::Item;
 use std::alloc::{AllocError, Global};
@@ -15,7 +16,7 @@ use std::marker::Model;
 pub(crate) struct Lane {
     /// The number of its feed.
     pub(crate) feed: u64,
-    pub(crate) items: VecDeque<Item<ChangeRow>>,
+    pub(crate) items: VecDeque<SharedItem>,
 }
 
 impl Model for Lane {
@@ -46,47 +47,36 @@ fn place_of(lanes: &[Lane], feed: u64) -> Option<usize>
     lanes.iter().position(|lane| lane.feed == feed)
 }
 
-// A copy of an item. It costs what `ChangeRow::copy` does.
-fn copied(alloc: Global, item: &Item<ChangeRow>) -> Result<Item<ChangeRow>, AllocError>
-    ensures { IfOk result (λ copy. copy ≡ item.now) }
-{
-    match item {
-        Item::Row(row) => Ok(Item::Row(row.copy(alloc)?)),
-        Item::Beat => Ok(Item::Beat),
-        Item::End { last_seq, pending } => Ok(Item::End {
-            last_seq: *last_seq,
-            pending: *pending,
-        }),
-    }
-}
-
-/// Puts a copy of the item into the lane of this number, where it holds fewer than `limit`, and says
-/// whether it did.
+/// Puts the item into the lane of this number, where it holds fewer than `limit`, and gives it as the
+/// lane holds it then.
 pub(crate) fn push(
     alloc: Global,
     lanes: &mut Vec<Lane>,
     limit: u64,
     feed: u64,
-    item: &Item<ChangeRow>,
-) -> Result<bool, AllocError>
+    item: Item<ChangeRow>,
+) -> Result<Option<SharedItem>, AllocError>
     requires rising { IsRising lanes.old.items }
-    ensures ok { IfOk result (λ done. (done ≡ has_room limit feed lanes.old.items) × (lanes.new.items ≡ pushed_into limit feed item.now lanes.old.items)) }
+    ensures pushed { IfOk result (λ pushed. IfSome pushed (λ shared. (shared ≡ item)
+        × (has_room limit feed lanes.old.items ≡ true))) }
+    ensures full { IfOk result (λ pushed. IfNone pushed (has_room limit feed lanes.old.items ≡ false)) }
+    ensures lanes { IfOk result (λ _. lanes.new.items ≡ pushed_into limit feed item lanes.old.items) }
     ensures err { OnErr result ((lanes.new.items ≡ lanes.old.items) × (has_room limit feed lanes.old.items ≡ true)) }
 {
     let Some(at) = place_of(lanes.as_slice(), feed) else {
-        return Ok(false);
+        return Ok(None);
     };
     let lane = &mut lanes[at];
     if lane.items.len() as u64 >= limit {
-        return Ok(false);
+        return Ok(None);
     }
-    let copy = copied(alloc, item)?;
-    lane.items.push_back(copy)?;
-    Ok(true)
+    let shared = SharedItem::new(alloc, item)?;
+    lane.items.push_back(shared.again()?)?;
+    Ok(Some(shared))
 }
 
 /// Takes the front of the lane of this number, if there is one.
-pub(crate) fn take(lanes: &mut Vec<Lane>, feed: u64) -> Option<Item<ChangeRow>>
+pub(crate) fn take(lanes: &mut Vec<Lane>, feed: u64) -> Option<SharedItem>
     requires rising { IsRising lanes.old.items }
     ensures item { result ≡ front feed lanes.old.items }
     ensures lanes { lanes.new.items ≡ without_front feed lanes.old.items }
@@ -97,7 +87,7 @@ pub(crate) fn take(lanes: &mut Vec<Lane>, feed: u64) -> Option<Item<ChangeRow>>
 }
 
 /// Takes the lane of this number out, and what it holds.
-pub(crate) fn remove(alloc: Global, lanes: &mut Vec<Lane>, feed: u64) -> VecDeque<Item<ChangeRow>>
+pub(crate) fn remove(alloc: Global, lanes: &mut Vec<Lane>, feed: u64) -> VecDeque<SharedItem>
     requires rising { IsRising lanes.old.items }
     ensures items { result.items ≡ held feed lanes.old.items }
     ensures lanes { lanes.new.items ≡ without feed lanes.old.items }

@@ -7,6 +7,7 @@ mod laws;
 #[cfg(test)]
 mod random_tests;
 mod reply;
+mod shared_item;
 #[cfg(test)]
 mod tests;
 mod world;
@@ -14,4 +15,5 @@ mod world;
 pub use event::Event;
 pub use laws::{answers, hands_and_takes, headline, keeps_fitting, stays_legal, worked_runs};
 pub use reply::Reply;
+pub use shared_item::SharedItem;
 pub use world::World;

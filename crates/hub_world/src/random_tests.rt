@@ -308,7 +308,7 @@ impl Counts {
             Reply::Opened(_) => more(&mut self.opened),
             Reply::TooManyFeeds => more(&mut self.too_many),
             Reply::DatabaseDeleted => more(&mut self.database_deleted),
-            Reply::Pushed(item) => self.count_item(item),
+            Reply::Pushed(item) => self.count_item(item.item()),
             Reply::Full => more(&mut self.full),
             Reply::Nothing => more(&mut self.nothing),
             Reply::Gone => more(&mut self.gone),
@@ -458,13 +458,16 @@ impl Run {
 
     // The next row of the feed, none at its end: its sequence, and which document it is of.
     fn next_row(&mut self, feed: FeedId) -> Result<Option<(u64, usize)>, Fail> {
-        match self.world.apply(Event::Hand(feed))? {
-            Reply::Pushed(Item::Row(row)) => {
+        let Reply::Pushed(pushed) = self.world.apply(Event::Hand(feed))? else {
+            return Err(Fail::new("nothing was handed"));
+        };
+        match pushed.item() {
+            Item::Row(row) => {
                 self.world.apply(Event::Take(feed))?;
                 Ok(Some((row.seq, place_of(row.id.as_str()))))
             }
-            Reply::Pushed(Item::End { .. }) => Ok(None),
-            _ => Err(Fail::new("no item")),
+            Item::End { .. } => Ok(None),
+            Item::Beat => Err(Fail::new("no item")),
         }
     }
 

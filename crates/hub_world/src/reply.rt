@@ -3,10 +3,9 @@
 ghost use Rattle.std.specs.Prelude.{◌≡◌};
 ghost use Rattle.hub_world.specs.Meant.{is_stopped};
 
+use crate::shared_item::SharedItem;
 use hub_database::Batch;
-use hub_document::ChangeRow;
 use hub_feed::FeedId;
-use hub_model::Item;
 use std::collections::VecDeque;
 
 /// A reply to an event.
@@ -21,7 +20,7 @@ pub enum Reply {
     /// The database was deleted before.
     DatabaseDeleted,
     /// This item is now the last of the lane.
-    Pushed(Item<ChangeRow>),
+    Pushed(SharedItem),
     /// The lane has no room for what is due.
     Full,
     /// There was nothing to do, or nothing to tell.
@@ -29,9 +28,9 @@ pub enum Reply {
     /// The feed will hand nothing more.
     Gone,
     /// This item was the front of the lane; none where it was empty.
-    Took(Option<Item<ChangeRow>>),
+    Took(Option<SharedItem>),
     /// What was handed and never taken, the front first.
-    Left(VecDeque<Item<ChangeRow>>),
+    Left(VecDeque<SharedItem>),
 }
 
 impl Reply {

@@ -166,13 +166,13 @@ fn reply_text(alloc: Global, reply: &Reply) -> Result<String, AllocError> {
         Reply::Opened(feed) => format!(in alloc; "opened {}", feed.number),
         Reply::TooManyFeeds => String::from_str(alloc, "too many feeds"),
         Reply::DatabaseDeleted => String::from_str(alloc, "database deleted"),
-        Reply::Pushed(item) => item_text(alloc, item),
+        Reply::Pushed(item) => item_text(alloc, item.item()),
         Reply::Full => String::from_str(alloc, "full"),
         Reply::Nothing => String::from_str(alloc, "nothing"),
         Reply::Gone => String::from_str(alloc, "gone"),
         Reply::Took(None) => String::from_str(alloc, "took none"),
         Reply::Took(Some(item)) => {
-            let text = item_text(alloc, item)?;
+            let text = item_text(alloc, item.item())?;
             format!(in alloc; "took {}", text.as_str())
         }
         Reply::Left(items) => format!(in alloc; "left {}", items.len()),

@@ -15,7 +15,7 @@ use crate::lane::{self, Lane};
 use crate::reply::Reply;
 use hub_database::DbState;
 use hub_document::{ChangeRow, Doc, Limits};
-use hub_feed::{FeedId, Next};
+use hub_feed::{FeedHost, FeedId, Next};
 use hub_model::Item;
 use hub_params::FeedParams;
 use std::alloc::{AllocError, Global};
@@ -107,10 +107,12 @@ impl World {
         ensures ok { IfOk result (λ reply. Applies self.old (Event.Hand feed) reply self.new) }
         ensures err { OnErr result ((self.new ≡ self.old) × MayFail self.old (Event.Hand feed)) }
     {
-        if !lane::push(self.alloc, &mut self.lanes, self.lane, feed.number, &item)? {
+        let mark = DbState::mark(&item);
+        let Some(item) = lane::push(self.alloc, &mut self.lanes, self.lane, feed.number, item)?
+        else {
             return Ok(Reply::Full);
-        }
-        self.db.accept_item(feed, &item);
+        };
+        self.db.accept_marked(feed, mark);
         Ok(Reply::Pushed(item))
     }
 
@@ -134,16 +136,12 @@ impl World {
         if !self.db.beat_due(feed) {
             return Ok(Reply::Nothing);
         }
-        if !lane::push(
-            self.alloc,
-            &mut self.lanes,
-            self.lane,
-            feed.number,
-            &Item::Beat,
-        )? {
+        let beat = Item::Beat;
+        let Some(item) = lane::push(self.alloc, &mut self.lanes, self.lane, feed.number, beat)?
+        else {
             return Ok(Reply::Full);
-        }
-        Ok(Reply::Pushed(Item::Beat))
+        };
+        Ok(Reply::Pushed(item))
     }
 
     // A feed's time is over.
@@ -181,7 +179,7 @@ impl World {
 
     /// Makes one event take place. Where a growth is refused all stays as it was, but for a batch: the
     /// documents before the one that found no memory stay stored, and the reply says that it stopped.
-    /// It costs what the call of `DbState` does, a search among the lanes, and for a row a copy.
+    /// It costs what the call of `DbState` does, and a search among the lanes. No row is copied.
     pub fn apply(&mut self, event: Event) -> Result<Reply, AllocError>
         ensures step { IfOk result (λ reply. Applies self.old event reply self.new) }
         ensures batch { IfOk result (λ reply. Answers self.old event reply self.new) }
