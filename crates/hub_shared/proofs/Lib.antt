@@ -1,3 +1,4 @@
 pub mod Serving
 pub mod Sending
 pub mod Storing
+pub mod Auditing

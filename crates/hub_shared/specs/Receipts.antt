@@ -1,11 +1,15 @@
 -- Receipts of accepted edits (own).
-use Rattle.std.specs.Prelude.{◌≡◌, ℕ, ◌+◌, List, [], ◌∷◌, ◌++◌, length, map, Some, ⊤}
+use Rattle.std.specs.Prelude.{◌≡◌, ℕ, ◌+◌, ◌<◌, ◌&&◌, List, [], ◌∷◌, ◌++◌, All, length, map, take, slice_get, Bool, false}
+use Rattle.std.specs.Prelude.{Option, Some, None, Result, Ok, Err, IfSome, ⊤}
+use Rattle.std.specs.Str.{bytes_eq}
 use Rattle.hub_model.specs.Journal.{Edit, head_of}
-use Rattle.hub_model.specs.Revision.{Revision}
+use Rattle.hub_model.specs.Revision.{Revision, is_same}
 use Rattle.hub_model.specs.declared.outcomes.Outcome.{Outcome}
 use Rattle.hub_model.specs.declared.outcomes.Outcome.TheVariants.{Stored, Known, Refused}
 use Rattle.hub_document.specs.declared.doc.Doc.{Doc}
+use Rattle.hub_database.specs.Reads.{entry_of}
 use Rattle.hub_shared.specs.declared.receipt.Receipt.{Receipt}
+use Rattle.hub_shared.specs.declared.receipt.WrongReceipt.{WrongReceipt}
 
 -- the ids of documents
 abbrev pub ids_of : List Doc → List (List ℕ)
@@ -42,3 +46,29 @@ AreReceipts n (e ∷ edits) (r ∷ receipts) =
 -- just the edits of these receipts were added to the journal
 abbrev pub AreAdded : List Edit → List Edit → List Receipt → Type 0
 AreAdded J K receipts = (edits : List Edit) × (K ≡ J ++ edits) × AreReceipts (length J) edits receipts
+
+-- their sequences rise, the first above this number: above 5 such as 6, 7 and 9
+abbrev pub AreRising : ℕ → List Receipt → Type 0
+AreRising n [] = ⊤
+AreRising n (r ∷ receipts) = (n < r.seq) × AreRising r.seq receipts
+
+-- whether an entry is the one that the receipt tells of
+abbrev pub is_entry_of : Option (List ℕ × Revision) → Receipt → Bool
+is_entry_of None r = false
+is_entry_of (Some entry) r = bytes_eq entry.0 r.id && is_same entry.1 r.rev
+
+-- whether the journal has it, at its number
+abbrev pub has_edit : List Edit → Receipt → Bool
+has_edit J r = is_entry_of (entry_of J r.seq) r
+
+-- the journal has the receipt's edit, at its number
+abbrev pub HasEdit : List Edit → Receipt → Type 0
+HasEdit J r = entry_of J r.seq ≡ Some (r.id, r.rev)
+
+-- What an audit says: the journal has the edit of each receipt; or of the one here it has not, and of those
+-- before it has. Of three receipts whose second has another revision than the journal, 1 is told.
+abbrev pub IsAudit : List Edit → List Receipt → Result (Unit {0}) WrongReceipt → Type 0
+IsAudit J receipts (Ok all) = All (λ r. HasEdit J r) receipts
+IsAudit J receipts (Err wrong) =
+    All (λ r. HasEdit J r) (take wrong.at receipts)
+    × IfSome (slice_get receipts wrong.at) (λ r. ¬ HasEdit J r) × (wrong.at < length receipts)

@@ -12,5 +12,5 @@ mod write;
 
 pub use label::FeedLabel;
 pub use locked::{Handed, Locked};
-pub use receipt::Receipt;
+pub use receipt::{Receipt, ReceiptRoom, WrongReceipt, audit_of};
 pub use write::Accepted;

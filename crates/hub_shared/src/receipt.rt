@@ -1,11 +1,13 @@
 //! Receipts of accepted edits.
 
 ghost use Rattle.std.specs.Prelude.{◌≡◌, ◌<◌, ◌≤◌, ◌+◌, ◌++◌, ◌^◌, [], length, vec_capacity, vec_len, IfOk, OnErr};
-ghost use Rattle.hub_shared.specs.Receipts.{behind_reply, ids_of, receipt_if, receipts_from};
+ghost use Rattle.hub_shared.specs.Receipts.{IsAudit, behind_reply, has_edit, ids_of, receipt_if, receipts_from};
 
+use hub_database::DbState;
 use hub_document::{Doc, DocId, RevId};
 use hub_model::Outcome;
 use std::alloc::{AllocError, Global};
+use std::marker::Model;
 
 /// What tells of an accepted edit: its sequence, its document, and its revision.
 #[derive(Debug, Drop)]
@@ -18,8 +20,49 @@ pub struct Receipt {
     pub rev: RevId,
 }
 
-/// Copies of the documents' ids. It costs their length.
-pub(crate) fn ids_of(alloc: Global, docs: &[Doc]) -> Result<Vec<DocId>, AllocError>
+/// The room for the receipts of a write, with the ids of its documents. Contracts see the ids.
+#[derive(Debug, Drop)]
+pub struct ReceiptRoom {
+    ids: Vec<DocId>,
+    /// Empty, with room for as many receipts as there are ids.
+    receipts: Vec<Receipt>,
+}
+
+impl Model for ReceiptRoom {
+    ghost use Rattle.std.specs.Prelude.{◌≡◌, ◌≤◌, [], ℕ, List, vec_capacity, vec_len};
+
+    ghost Value = { List (List ℕ) };
+
+    ghost view = { λ a. a.ids.items };
+
+    ghost invariant = { λ a. (a.receipts.items ≡ []) × (vec_len a.ids ≤ vec_capacity a.receipts) };
+}
+
+impl ReceiptRoom {
+    /// The room for the receipts of these documents. It costs copies of their ids.
+    pub fn of(alloc: Global, docs: &[Doc]) -> Result<ReceiptRoom, AllocError>
+        ensures ok { IfOk result (λ room. room ≡ ids_of docs.now) }
+        ensures memory { OnErr result (0 < length docs.now) }
+    {
+        let ids = ids_of(alloc, docs)?;
+        let mut receipts = Vec::new(alloc);
+        receipts.try_reserve(ids.len())?;
+        Ok(ReceiptRoom { ids, receipts })
+    }
+
+    /// The receipts of the documents, which were answered so behind so many edits. It takes no memory,
+    /// and costs a step for each document.
+    pub(crate) fn fill(self, before: u64, replies: &[Outcome<RevId>]) -> Vec<Receipt>
+        requires fits { before < 2 ^ 32 }
+        ensures { result.items ≡ receipts_from before self replies.now }
+    {
+        let ReceiptRoom { ids, receipts } = self;
+        receipts_of(receipts, before, ids, replies)
+    }
+}
+
+// Copies of the documents' ids.
+fn ids_of(alloc: Global, docs: &[Doc]) -> Result<Vec<DocId>, AllocError>
     ensures ok { IfOk result (λ ids. ids.items ≡ ids_of docs.now) }
     ensures memory { OnErr result (0 < length docs.now) }
 {
@@ -50,9 +93,8 @@ fn add(receipts: &mut Vec<Receipt>, before: u64, id: DocId, reply: Outcome<RevId
     }
 }
 
-/// The receipts of documents that were answered so, behind so many edits, in room that was made. It
-/// takes no memory, and costs a step for each document.
-pub(crate) fn receipts_of(
+// The receipts of documents that were answered so, behind so many edits, in room that was made.
+fn receipts_of(
     mut receipts: Vec<Receipt>,
     before: u64,
     ids: Vec<DocId>,
@@ -73,4 +115,35 @@ pub(crate) fn receipts_of(
         at += 1;
     }
     receipts
+}
+
+/// The first receipt whose edit is not in the journal at its number.
+#[derive(Clone, Copy, Debug, PartialEq, Eq)]
+pub struct WrongReceipt {
+    /// Its place among the receipts, from 0 on.
+    pub at: usize,
+}
+
+// Whether the journal has the receipt's edit at its number.
+fn has_edit(state: &DbState, receipt: &Receipt) -> bool
+    ensures { result ≡ has_edit state.now.journal receipt.now }
+{
+    match state.entry(receipt.seq) {
+        Some((id, rev)) => id == receipt.id.as_str() && rev.is_same(&receipt.rev),
+        None => false,
+    }
+}
+
+/// Compares receipts with the journal of a database: the edit of each is there at its number, with its
+/// document and its revision; or the first of which it is not is told. It takes no memory, and costs a
+/// look in the journal for each.
+pub fn audit_of(state: &DbState, receipts: &[Receipt]) -> Result<(), WrongReceipt>
+    ensures { IsAudit state.now.journal receipts.now result }
+{
+    for at in 0..receipts.len() {
+        if !has_edit(state, &receipts[at]) {
+            return Err(WrongReceipt { at });
+        }
+    }
+    Ok(())
 }

@@ -1,8 +1,8 @@
 //! Feeds of a database that lies under a lock, and what each call answers with ample memory.
 
-use crate::{FeedLabel, Handed, Locked, Receipt};
+use crate::{FeedLabel, Handed, Locked, Receipt, ReceiptRoom, WrongReceipt, audit_of};
 use hub_database::{DbFault, DbState};
-use hub_document::{ChangeRow, Doc, Limits};
+use hub_document::{ChangeRow, Doc, DocId, Limits, LocalDoc, RevId};
 use hub_feed::{FeedId, OpenFault};
 use hub_lane::Receiver;
 use hub_model::{Fault, Item};
@@ -201,6 +201,121 @@ fn receipts_are_of_what_was_stored(alloc: Global, database: &mut Database) -> Re
 #[test]
 fn receipts_go_on_from_the_journal(rt: HostRuntime) -> Result<(), Fail> {
     assert!(rt; holds(rt.alloc(), receipts_are_of_what_was_stored)?);
+    Ok(())
+}
+
+// The receipts that `write` gives, in room that was made before.
+fn write_into(
+    alloc: Global,
+    database: &mut Database,
+    texts: &[&str],
+) -> Result<Vec<Receipt>, Fail> {
+    let docs = docs(alloc, texts)?;
+    let room = ReceiptRoom::of(alloc, docs.as_slice())?;
+    let accepted = database.write_into(room, docs, false)?;
+    if accepted.stopped || accepted.replies.as_slice().len() != texts.len() {
+        return Err(Fail::new("not each document has its reply"));
+    }
+    Ok(accepted.receipts)
+}
+
+fn room_takes_the_same_receipts(alloc: Global, database: &mut Database) -> Result<bool, Fail> {
+    let one = write_into(alloc, database, &THREE[..1])?;
+    let rest = write_into(alloc, database, &THREE)?;
+    let none = write_into(alloc, database, &THREE)?;
+    Ok(one.len() == 1 && are_the_rest(rest.as_slice()) && none.is_empty())
+}
+
+#[test]
+fn a_write_into_room_gives_the_same_receipts(rt: HostRuntime) -> Result<(), Fail> {
+    assert!(rt; holds(rt.alloc(), room_takes_the_same_receipts)?);
+    Ok(())
+}
+
+// Whether the receipts of writes pass an audit, and so does none.
+fn own_receipts_pass(alloc: Global, database: &mut Database) -> Result<bool, Fail> {
+    let one = write(alloc, database, &THREE[..1])?;
+    let rest = write(alloc, database, &THREE)?;
+    let none = audit_of(database.state(), &[]).is_ok();
+    let first = audit_of(database.state(), one.as_slice()).is_ok();
+    Ok(none && first && audit_of(database.state(), rest.as_slice()).is_ok())
+}
+
+#[test]
+fn receipts_of_writes_pass_an_audit(rt: HostRuntime) -> Result<(), Fail> {
+    assert!(rt; holds(rt.alloc(), own_receipts_pass)?);
+    Ok(())
+}
+
+fn receipt(alloc: Global, seq: u64, id: &str, rev: &str) -> Result<Receipt, Fail> {
+    match (DocId::read(alloc, id)?, RevId::read(rev)) {
+        (Some(id), Some(rev)) => Ok(Receipt { seq, id, rev }),
+        _ => Err(Fail::new("no receipt")),
+    }
+}
+
+// The receipts of the three documents, of which the second is this one.
+fn receipts(alloc: Global, second: Receipt) -> Result<Vec<Receipt>, Fail> {
+    let mut receipts = Vec::new(alloc);
+    receipts.push(receipt(alloc, 1, "a", "1-a")?)?;
+    receipts.push(second)?;
+    receipts.push(receipt(alloc, 3, "c", "1-c")?)?;
+    Ok(receipts)
+}
+
+// What is not the second receipt, by each of its parts: the number before, none, and above all; another
+// document; another generation, and another hash.
+const WRONG: [(u64, &str, &str); 6] = [
+    (1, "b", "1-b"),
+    (0, "b", "1-b"),
+    (4, "b", "1-b"),
+    (2, "c", "1-b"),
+    (2, "b", "2-b"),
+    (2, "b", "1-c"),
+];
+
+// Whether an audit tells the place of each wrong receipt, and passes the right one.
+fn wrong_receipts_are_told(alloc: Global, database: &mut Database) -> Result<bool, Fail> {
+    let _receipts = write(alloc, database, &THREE)?;
+    for (seq, id, rev) in WRONG {
+        let list = receipts(alloc, receipt(alloc, seq, id, rev)?)?;
+        if audit_of(database.state(), list.as_slice()) != Err(WrongReceipt { at: 1 }) {
+            return Ok(false);
+        }
+    }
+    let list = receipts(alloc, receipt(alloc, 2, "b", "1-b")?)?;
+    Ok(audit_of(database.state(), list.as_slice()).is_ok())
+}
+
+#[test]
+fn an_audit_tells_the_first_wrong_receipt(rt: HostRuntime) -> Result<(), Fail> {
+    assert!(rt; holds(rt.alloc(), wrong_receipts_are_told)?);
+    Ok(())
+}
+
+// Whether storing a local document has this answer.
+fn puts(alloc: Global, database: &mut Database, answer: Result<u64, DbFault>) -> bool {
+    match LocalDoc::read(alloc, "_local/p", b"{}") {
+        Ok(doc) => database.local_put(doc) == answer,
+        Err(_) => false,
+    }
+}
+
+fn local_documents_are_counted(alloc: Global, database: &mut Database) -> Result<bool, Fail> {
+    let twice = puts(alloc, database, Ok(1)) && puts(alloc, database, Ok(2));
+    let kept = match database.state().local_get("_local/p") {
+        Ok(Some(local)) => local.count == 2,
+        _ => false,
+    };
+    let none = database.state().update_seq() == 0;
+    database.delete()?;
+    let deleted = puts(alloc, database, Err(DbFault::Refused(Fault::Deleted)));
+    Ok(twice && kept && none && deleted)
+}
+
+#[test]
+fn local_documents_go_under_a_lock(rt: HostRuntime) -> Result<(), Fail> {
+    assert!(rt; holds(rt.alloc(), local_documents_are_counted)?);
     Ok(())
 }
 
