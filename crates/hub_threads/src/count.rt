@@ -1,0 +1,176 @@
+//! What counts the edits that a database accepts.
+
+ghost use Rattle.std.specs.Prelude.{◌≡◌, ℕ, ◌+◌, ◌<◌, ◌≤◌, true, false};
+
+use std::marker::PhantomData;
+use std::sync::ledger::{Blank, Book, Ledger, Share};
+
+/// How the accepted edits of a database are counted: by a book under its lock, and a share in each
+/// handle. A share has some of the parts of the right to know the total; one with all parts knows it.
+pub trait Count: Drop {
+    /// What lies under the lock.
+    type Book: Drop + Send;
+
+    /// What a handle has.
+    type Share: Drop + Send;
+
+    ghost use Rattle.std.specs.Prelude.{ℕ, Bool};
+
+    /// Whether it counts at all.
+    ghost counts: { Bool };
+
+    /// How many parts there are.
+    ghost all_parts: { ℕ };
+
+    /// What all shares have counted.
+    ghost total: { Self.Book → ℕ };
+
+    /// What a share has counted.
+    ghost amount: { Self.Share → ℕ };
+
+    /// How many parts a share has.
+    ghost parts: { Self.Share → ℕ };
+
+    /// The book, and the share that has every part. It takes no memory.
+    fn open(self) -> (Self::Book, Self::Share)
+        ensures total { total result.0 ≡ 0 }
+        ensures amount { amount result.1 ≡ 0 }
+        ensures parts { counts ≡ true → (parts result.1 ≡ all_parts) × (0 < all_parts) };
+
+    /// Counts accepted edits, and says by how much the share's amount rose. It takes no memory.
+    fn add(book: &mut Self::Book, share: &mut Self::Share, edits: u64) -> u64
+        requires { counts ≡ true → 0 < parts share.old }
+        ensures counted { counts ≡ true → result ≡ edits }
+        ensures most { result ≤ edits }
+        ensures total { total book.new ≡ total book.old + result }
+        ensures amount { amount share.new ≡ amount share.old + result }
+        ensures parts { parts share.new ≡ parts share.old };
+
+    /// Changes nothing, and shows how the share stands to the book. It takes no memory.
+    fn audit(book: &mut Self::Book, share: &mut Self::Share)
+        ensures total { total book.new ≡ total book.old }
+        ensures amount { amount share.new ≡ amount share.old }
+        ensures parts { parts share.new ≡ parts share.old }
+        ensures bound { amount share.old ≤ total book.old }
+        ensures whole { counts ≡ true → parts share.old ≡ all_parts → amount share.old ≡ total book.old };
+
+    /// A share that has counted nothing, with as many parts of this one. It takes no memory.
+    fn split(share: &mut Self::Share, given: u64) -> Self::Share
+        requires { counts ≡ true → (0 < given) × (given < parts share.old) }
+        ensures given { counts ≡ true → parts result ≡ given }
+        ensures parts { parts share.new + parts result ≡ parts share.old }
+        ensures amount { (amount share.new ≡ amount share.old) × (amount result ≡ 0) };
+
+    /// Adds another share to this one. It takes no memory.
+    fn merge(share: &mut Self::Share, other: Self::Share)
+        ensures parts { parts share.new ≡ parts share.old + parts other }
+        ensures amount { amount share.new ≡ amount share.old + amount other };
+}
+
+/// Counts, by a ledger of std with a fixed number of parts.
+#[derive(Drop)]
+pub struct Counted<L: Ledger> {
+    blank: Blank,
+    of: PhantomData<L>,
+    ghost name: { blank.name ≡ L.name },
+    ghost cut: { blank.parts ≡ L.parts },
+    ghost some: { 0 < L.parts },
+}
+
+impl<L: Ledger> Counted<L> {
+    /// A count on the ledger `L`. It takes no memory.
+    pub fn new(blank: Blank) -> Counted<L>
+        requires name { blank.name ≡ L.name }
+        requires parts { blank.parts ≡ L.parts }
+        requires some { 0 < L.parts }
+    {
+        Counted {
+            blank,
+            of: PhantomData,
+        }
+    }
+}
+
+impl<L: Ledger> Count for Counted<L> {
+    type Book = Book<L>;
+
+    type Share = Share<L>;
+
+    ghost use Rattle.std.specs.Prelude.{true};
+
+    ghost counts = { true };
+
+    ghost all_parts = { L.parts };
+
+    ghost total = { λ b. b.total };
+
+    ghost amount = { λ s. s.amount };
+
+    ghost parts = { λ s. s.parts };
+
+    fn open(self) -> (Book<L>, Share<L>) {
+        let Counted { blank, of: _ } = self;
+        blank.open::<L>()
+    }
+
+    fn add(book: &mut Book<L>, share: &mut Share<L>, edits: u64) -> u64 {
+        book.add(share, edits);
+        edits
+    }
+
+    fn audit(book: &mut Book<L>, share: &mut Share<L>) {
+        book.audit(share);
+    }
+
+    fn split(share: &mut Share<L>, given: u64) -> Share<L> {
+        share.split_off(given, 0)
+    }
+
+    fn merge(share: &mut Share<L>, other: Share<L>) {
+        share.merge(other);
+    }
+}
+
+/// Counts nothing: for databases whose handles need no count.
+#[derive(Drop)]
+pub struct Plain;
+
+/// The book and the share of what counts nothing.
+#[derive(Drop)]
+pub struct NoCount;
+
+impl Count for Plain {
+    type Book = NoCount;
+
+    type Share = NoCount;
+
+    ghost use Rattle.std.specs.Prelude.{false};
+
+    ghost counts = { false };
+
+    ghost all_parts = { 0 };
+
+    ghost total = { λ b. 0 };
+
+    ghost amount = { λ s. 0 };
+
+    ghost parts = { λ s. 0 };
+
+    fn open(self) -> (NoCount, NoCount) {
+        (NoCount, NoCount)
+    }
+
+    fn add(_book: &mut NoCount, _share: &mut NoCount, _edits: u64) -> u64 {
+        0
+    }
+
+    fn audit(_book: &mut NoCount, _share: &mut NoCount) {}
+
+    fn split(_share: &mut NoCount, _given: u64) -> NoCount {
+        NoCount
+    }
+
+    fn merge(_share: &mut NoCount, other: NoCount) {
+        drop(other);
+    }
+}

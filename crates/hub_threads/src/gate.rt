@@ -1,0 +1,22 @@
+//! What a pump passes and reads: gates, by which a test holds it, and a clock.
+
+/// Where a gate is passed.
+#[derive(Clone, Copy, Debug, PartialEq, Eq)]
+pub enum Point {
+    /// By a pump, before each holding of the lock.
+    PumpFree,
+    /// By a pump, once inside each holding of the lock.
+    PumpHolding,
+}
+
+/// What threads pass at their points, so that a test can hold one there.
+pub trait Gate {
+    /// Comes back once the thread may go on.
+    fn pass(&self, point: Point);
+}
+
+/// A clock.
+pub trait Clock {
+    /// Milliseconds from some moment on. A reading below an earlier one shows that no time passed.
+    fn now_ms(&self) -> u64;
+}

@@ -1,0 +1,95 @@
+//! What one holding of the lock hands.
+
+use crate::tests::Told::{End, Row};
+use crate::tests::{Counting, FIVE, as_told, database, open, take, write};
+use crate::{Db, Feed, Plain, Turn, hold};
+use hub_shared::Handed;
+use std::sync::Wait;
+use std::test::Fail;
+
+// What a holding answers that hands what is due.
+fn hands<R: Wait>(rt: &R, db: &Db<Plain>, feed: &Feed<Plain>) -> Result<Handed, Fail> {
+    Ok(hold(rt, db, feed.id(), Turn::Hand, &Counting::new())?)
+}
+
+#[test]
+fn a_holding_hands_as_many_items_as_it_may(rt: HostRuntime) -> Result<(), Fail> {
+    let (db, mut handle) = database(rt.alloc(), 64, 2)?;
+    let _accepted = write(&rt, rt.alloc(), &mut handle, &FIVE[..3])?;
+    let mut feed = open(&rt, rt.alloc(), &mut handle, "")?;
+    assert_eq!(rt; hands(&rt, &db, &feed)?, Handed::Row);
+    for item in [Some(Row(1)), Some(Row(2)), None] {
+        assert_eq!(rt; take(&rt, &mut feed), item);
+    }
+    assert_eq!(rt; hands(&rt, &db, &feed)?, Handed::End);
+    for item in [Some(Row(3)), Some(End(3)), None] {
+        assert_eq!(rt; take(&rt, &mut feed), item);
+    }
+    Ok(())
+}
+
+#[test]
+fn a_feed_that_handed_its_end_is_gone(rt: HostRuntime) -> Result<(), Fail> {
+    let (db, mut handle) = database(rt.alloc(), 64, 2)?;
+    let feed = open(&rt, rt.alloc(), &mut handle, "")?;
+    assert_eq!(rt; hands(&rt, &db, &feed)?, Handed::End);
+    assert_eq!(rt; hands(&rt, &db, &feed)?, Handed::Gone);
+    Ok(())
+}
+
+#[test]
+fn a_full_lane_keeps_its_rows(rt: HostRuntime) -> Result<(), Fail> {
+    let (db, mut handle) = database(rt.alloc(), 2, 64)?;
+    let _accepted = write(&rt, rt.alloc(), &mut handle, &FIVE)?;
+    let feed = open(&rt, rt.alloc(), &mut handle, "")?;
+    let id = feed.id();
+    for _ in 0..2 {
+        assert_eq!(rt; hands(&rt, &db, &feed)?, Handed::Full);
+    }
+    let mut receiver = feed.finish(&rt);
+    for item in [Some(Row(1)), Some(Row(2)), None] {
+        assert_eq!(rt; receiver.take(&rt).map(|item| as_told(&item)), item);
+    }
+    let gone = hold(&rt, &db, id, Turn::Hand, &Counting::new())?;
+    assert_eq!(rt; gone, Handed::Gone);
+    Ok(())
+}
+
+// Room for one item more is handed one item more.
+#[test]
+fn a_lane_with_room_is_handed_on(rt: HostRuntime) -> Result<(), Fail> {
+    let (db, mut handle) = database(rt.alloc(), 2, 64)?;
+    let _accepted = write(&rt, rt.alloc(), &mut handle, &FIVE[..3])?;
+    let mut feed = open(&rt, rt.alloc(), &mut handle, "")?;
+    for seq in 1..3 {
+        assert_eq!(rt; hands(&rt, &db, &feed)?, Handed::Full);
+        assert_eq!(rt; take(&rt, &mut feed), Some(Row(seq)));
+    }
+    assert_eq!(rt; hands(&rt, &db, &feed)?, Handed::End);
+    for item in [Some(Row(3)), Some(End(3)), None] {
+        assert_eq!(rt; take(&rt, &mut feed), item);
+    }
+    Ok(())
+}
+
+#[test]
+fn one_turn_is_one_step(rt: HostRuntime) -> Result<(), Fail> {
+    let (db, mut handle) = database(rt.alloc(), 1, 64)?;
+    let feed = open(
+        &rt,
+        rt.alloc(),
+        &mut handle,
+        "feed=continuous&heartbeat=1000",
+    )?;
+    for (turn, answer) in [
+        (Turn::Hand, Handed::Nothing),
+        (Turn::Beat, Handed::Nothing),
+        (Turn::Beat, Handed::Full),
+        (Turn::Expire, Handed::Nothing),
+        (Turn::Hand, Handed::Full),
+    ] {
+        let found = hold(&rt, &db, feed.id(), turn, &Counting::new())?;
+        assert_eq!(rt; found, answer, "at {turn:?}");
+    }
+    Ok(())
+}
