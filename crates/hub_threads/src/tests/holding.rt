@@ -3,7 +3,10 @@
 use crate::tests::Told::{End, Row};
 use crate::tests::{Counting, FIVE, as_told, database, open, take, write};
 use crate::{Db, Feed, Plain, Turn, hold};
+use hub_document::Doc;
+use hub_model::Item;
 use hub_shared::Handed;
+use std::alloc::Global;
 use std::sync::Wait;
 use std::test::Fail;
 
@@ -91,5 +94,32 @@ fn one_turn_is_one_step(rt: HostRuntime) -> Result<(), Fail> {
         let found = hold(&rt, &db, feed.id(), turn, &Counting::new())?;
         assert_eq!(rt; found, answer, "at {turn:?}");
     }
+    Ok(())
+}
+
+// The text of the document that the first row of a feed shows.
+fn first_document<R: Wait>(rt: &R, alloc: Global, feed: &mut Feed<Plain>) -> Result<Vec<u8>, Fail> {
+    let mut text = Vec::new(alloc);
+    let Some(Item::Row(row)) = feed.take(rt) else {
+        return Err(Fail::new("no row"));
+    };
+    let Some(body) = &row.doc else {
+        return Err(Fail::new("no document"));
+    };
+    row.write_doc(&mut text, body)?;
+    Ok(text)
+}
+
+#[test]
+fn a_row_shows_its_document_as_it_was_written(rt: HostRuntime) -> Result<(), Fail> {
+    let alloc = rt.alloc();
+    let (db, mut handle) = database(alloc, 64, 64)?;
+    let doc = Doc::read(alloc, br#"{"_id":"a","v":7}"#, true)?;
+    let _accepted = handle.write(&rt, vec![in alloc; doc]?, true)?;
+    let mut feed = open(&rt, alloc, &mut handle, "include_docs=true")?;
+    assert_eq!(rt; hands(&rt, &db, &feed)?, Handed::End);
+    let wanted = r#"{"_id":"a","_rev":"1-91e3da135d1d0593e6703385cf55957a","v":7}"#;
+    let text = first_document(&rt, alloc, &mut feed)?;
+    assert!(rt; text.as_slice() == wanted.as_bytes());
     Ok(())
 }
