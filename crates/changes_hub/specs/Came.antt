@@ -23,7 +23,7 @@ use Rattle.changes_hub.specs.Calls.{calls}
 use Rattle.changes_hub.specs.Hub as hub
 use Rattle.changes_hub.specs.Hub.{Hub, Named, StandsAt, IsStep, MayLeaveStanding, has_name, calls_at}
 use Rattle.changes_hub.specs.Hub.{calls_on}
-use Rattle.changes_hub.specs.Names.{is_name}
+use Rattle.hub_databases.specs.Names.{is_name}
 use Rattle.changes_hub.specs.declared.response.Response.{Response}
 use Rattle.changes_hub.specs.declared.response.Response.TheVariants as response
 

@@ -33,7 +33,7 @@ use Rattle.changes_hub.specs.Said.{Said, Body, Refusing, Feeding}
 use Rattle.changes_hub.specs.declared.databases.Sent.{Sent}
 use Rattle.changes_hub.specs.declared.response.Feed.{Feed}
 use Rattle.changes_hub.specs.declared.response.Feed.TheVariants.{Listed, Followed}
-use Rattle.changes_hub.specs.Names.{is_name}
+use Rattle.hub_databases.specs.Names.{is_name}
 
 -- a database with its name
 pub record Named : Type 0 where

@@ -4,5 +4,4 @@ pub mod Came
 pub mod Feeds
 pub mod Hub
 pub mod Laws
-pub mod Names
 pub mod Said

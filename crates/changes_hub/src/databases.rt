@@ -15,10 +15,10 @@ ghost use Rattle.changes_hub.specs.Laws.{CompleteFeedIsWhole, CompleteListIsWhol
 
 use crate::database::Database;
 use crate::feeds::Handed;
-use crate::name::is_name;
 use crate::response::{Feed, Listed, Response};
 use http::StatusCode;
 use hub_database::DbState;
+use hub_databases::is_name;
 use hub_document::{ChangeRow, Item, Limits, Mode};
 use hub_feed::FeedId;
 use hub_http::{Refusal, Reply, Request};

@@ -16,7 +16,6 @@ mod documents;
 mod feed_tests;
 mod feeds;
 mod locals;
-mod name;
 mod refusal;
 mod response;
 #[cfg(test)]

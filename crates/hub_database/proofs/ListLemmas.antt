@@ -1,7 +1,6 @@
 -- Places of lists, and what a list with one more at its end, or one changed, has at them.
-use Rattle.std.proofs.Common.{◌≡◌, ◌≢◌, ℕ, zero, suc, ◌<◌, ◌≤◌, List, [], ◌∷◌, ◌++◌, length, Bool, true, false, ap, refl, ◌∙◌, arith, inl, inr, ◌||◌, ◌&&◌, ◌+◌, ◌-◌, find, sym, Contains}
+use Rattle.std.proofs.Common.{◌≡◌, ◌≢◌, ℕ, zero, suc, ◌<◌, ◌≤◌, List, [], ◌∷◌, ◌++◌, length, Bool, true, false, ap, refl, ◌∙◌, arith, inl, inr, ◌||◌, ◌+◌, ◌-◌, find, sym, Contains}
 use Rattle.std.specs.Prelude.{Some, slice_get, slice_set, map, option_map, filter, reverse, count_by, nat_eq, if◌then◌else◌}
-use Rattle.std.specs.List.{list_any}
 use Rattle.std.specs.Str.{bytes_eq}
 use Rattle.std.proofs.lemmas.Bool.{cases_Bool, eqb-true}
 use Rattle.std.proofs.lemmas.Option.{same_Some}

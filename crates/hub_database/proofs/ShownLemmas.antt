@@ -9,7 +9,7 @@ use Rattle.hub_model.specs.Leaves.{Leaf, leaves_among, best_first, leaves_of, re
 use Rattle.hub_model.specs.Walk.{line, line_of, is_head, shown, shown_of}
 use Rattle.hub_model.proofs.Lists.{contains_here}
 use Rattle.hub_model.proofs.Legal.{first_in, legal_sound}
-use Rattle.hub_model.proofs.Tests.{at_any, is_named, same_is, same_self, edits_in, in_edits}
+use Rattle.hub_model.proofs.Tests.{at_any, is_named, same_is, edits_in, in_edits}
 use Rattle.hub_model.proofs.Sorted.{leaf_edit}
 use Rattle.hub_model.proofs.Shown.{find_is, find_not, head_is, is_head_from}
 use Rattle.hub_document.specs.declared.doc.Doc.{Doc}

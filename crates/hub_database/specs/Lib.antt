@@ -3,7 +3,6 @@ pub mod Edits
 pub mod Falling
 pub mod Feeds
 pub mod Filed
-pub mod Followed
 pub mod Found
 pub mod Handing
 pub mod Hosting

@@ -22,10 +22,9 @@ use crate::answers::{Diff, Info, Lookup, OpenRev};
 use crate::batch::{Batch, DbFault, Replies};
 use crate::contents::Contents;
 use crate::descending::Descending;
-use crate::feeds::end_all;
 use crate::local::Local;
 use hub_document::{Asked, Doc, Limits, LocalDoc, OpenRevs, RevId};
-use hub_feed::FeedState;
+use hub_feed::Feeds;
 use hub_model::{Fault, Outcome};
 use hub_params::FeedParams;
 use hub_revtree::Winner;
@@ -38,13 +37,8 @@ pub struct DbState {
     pub(crate) contents: Contents,
     /// Whether it was deleted: then it takes and shows nothing, and its feeds come to their ends.
     pub(crate) deleted: bool,
-    /// The feeds that are not finished, by their numbers, which rise.
-    pub(crate) feeds: Vec<(u64, FeedState)>,
-    /// The number of the next feed.
-    pub(crate) next_feed: u64,
-    /// Where the feed that was asked last for its next item stood among the feeds. A feed is looked
-    /// for there first.
-    pub(crate) near: usize,
+    /// The feeds that are not finished.
+    pub(crate) feeds: Feeds,
 }
 
 impl Model for DbState {
@@ -53,18 +47,18 @@ impl Model for DbState {
     ghost Value = { Database };
 
     ghost use Rattle.std.specs.Prelude.{length};
-    ghost use Rattle.hub_database.specs.Followed.{AreFeeds};
+    ghost use Rattle.hub_feed.specs.Feeds.{AreBehind};
 
     ghost view = { λ a. record {
       journal = a.contents.journal;
       deleted = a.deleted;
       locals = a.contents.locals;
-      feeds = a.feeds.items;
-      next_feed = a.next_feed;
+      feeds = a.feeds.feeds;
+      next_feed = a.feeds.next;
       limits = a.contents.limits;
     } };
 
-    ghost invariant = { λ a. AreFeeds (length a.contents.journal) a.next_feed a.feeds.items };
+    ghost invariant = { λ a. AreBehind (length a.contents.journal) a.feeds.feeds };
 }
 
 // Refuses as many documents of a deleted database.
@@ -93,9 +87,7 @@ impl DbState {
         DbState {
             contents: Contents::new(alloc, limits),
             deleted: false,
-            feeds: Vec::new(alloc),
-            next_feed: 0,
-            near: 0,
+            feeds: Feeds::new(alloc),
         }
     }
 
@@ -307,7 +299,7 @@ impl DbState {
     {
         self.standing()?;
         self.deleted = true;
-        end_all(&mut self.feeds);
+        self.feeds.end_all();
         Ok(())
     }
 }

@@ -1,31 +1,21 @@
 //! The feeds of a database.
 
-ghost use Rattle.std.specs.Prelude.{◌≡◌, ◌⊎◌, Some, None, Err, map, option_map, IfOk, IfErr, OnErr};
+ghost use Rattle.std.specs.Prelude.{◌≡◌, ◌⊎◌, Some, None, Err, option_map, IfOk, IfErr, OnErr};
 ghost use Rattle.hub_model.specs.Entries.{entry_in};
 ghost use Rattle.hub_model.specs.Row.{ChangeRow as Shown};
 ghost use Rattle.hub_feed.specs.Host.{is_full, refuses, opened, is_beat_due, expired, item_due, answered, behind_answer, handed, finished, due_to};
 ghost use Rattle.hub_feed.specs.Mark.{mark_of};
 ghost use Rattle.hub_feed.specs.Next.{IsRowDue};
 ghost use Rattle.hub_params.specs.FeedModel.{params_of};
-ghost use Rattle.hub_database.specs.Feeds.{ended};
 ghost use Rattle.hub_database.specs.Hosting.{hosted_of, with_hosted};
 
 use crate::database::DbState;
 use crate::rows::Rows;
 use hub_document::ChangeRow;
-use hub_feed::{FeedId, FeedState, Mark, Next, OpenFault};
-use hub_model::{Item, place_near, place_of};
+use hub_feed::{FeedId, Mark, Next, OpenFault};
+use hub_model::Item;
 use hub_params::FeedParams;
 use std::alloc::AllocError;
-
-// Ends each feed that is open.
-pub(crate) fn end_all(feeds: &mut Vec<(u64, FeedState)>)
-    ensures { feeds.new.items ≡ map ended feeds.old.items }
-{
-    for feed in feeds.iter_mut() {
-        feed.1.end();
-    }
-}
 
 impl DbState {
     /// Whether there are as many feeds as there may be, or no number is left for one more. Constant
@@ -33,7 +23,7 @@ impl DbState {
     pub fn feeds_are_full(&self) -> bool
         ensures { result ≡ is_full (hosted_of self.now) }
     {
-        self.feeds.len() as u64 >= self.contents.limits().feeds || self.next_feed == u64::MAX
+        self.feeds.is_full(self.contents.limits().feeds)
     }
 
     /// Opens a feed, which stays until it is finished. `descending` is not looked at. It costs
@@ -54,14 +44,10 @@ impl DbState {
             return Err(OpenFault::TooManyFeeds);
         }
         let length = self.contents.update_seq();
-        let number = self.next_feed;
-        if let Err(AllocError) = self.feeds.try_reserve(1) {
-            return Err(OpenFault::NoMemory);
+        match self.feeds.open(params, length) {
+            Ok(feed) => Ok(feed),
+            Err(AllocError) => Err(OpenFault::NoMemory),
         }
-        let state = FeedState::begin(params, length);
-        self.feeds.push_reserved((number, state));
-        self.next_feed += 1;
-        Ok(FeedId { number })
     }
 
     /// What a feed has to hand now. An item is made and nothing changes: `accept_item` goes on. A
@@ -74,13 +60,8 @@ impl DbState {
         ensures err { OnErr result ((self.new ≡ self.old)
             × IsRowDue (due_to (hosted_of self.old) feed.number)) }
     {
-        let Some(at) = place_near(self.feeds.as_slice(), self.near, feed.number) else {
-            return Ok(Next::Gone);
-        };
-        self.near = at;
         let rows = self.contents.rows();
-        let feed = &mut self.feeds[at];
-        feed.1.next_item(&rows)
+        self.feeds.next_item(&rows, feed)
     }
 
     /// Goes on behind the item that `next_item` gives now. It takes no memory, and constant time where
@@ -99,12 +80,8 @@ impl DbState {
             ≡ Some mark }
         ensures { self.new ≡ with_hosted self.old (handed (hosted_of self.old) feed.number) }
     {
-        let Some(at) = place_near(self.feeds.as_slice(), self.near, feed.number) else {
-            return;
-        };
         let rows = self.contents.rows();
-        let feed = &mut self.feeds[at];
-        feed.1.accept_marked(&rows, mark);
+        self.feeds.accept_marked(&rows, feed, mark);
     }
 
     /// Whether a heartbeat may be handed to a feed now: one was asked for, and the feed is open and
@@ -112,11 +89,7 @@ impl DbState {
     pub fn beat_due(&self, feed: FeedId) -> bool
         ensures { result ≡ is_beat_due (entry_in feed.number self.now.feeds) }
     {
-        let Some(at) = place_of(self.feeds.as_slice(), feed.number) else {
-            return false;
-        };
-        let feed = &self.feeds[at];
-        feed.1.beat_due()
+        self.feeds.beat_due(feed)
     }
 
     /// A feed's time without an item is over: an open feed that waits is ending. It takes no memory,
@@ -124,11 +97,7 @@ impl DbState {
     pub fn expire(&mut self, feed: FeedId)
         ensures { self.new ≡ with_hosted self.old (expired (hosted_of self.old) feed.number) }
     {
-        let Some(at) = place_of(self.feeds.as_slice(), feed.number) else {
-            return;
-        };
-        let feed = &mut self.feeds[at];
-        feed.1.expire();
+        self.feeds.expire(feed);
     }
 
     /// Forgets a feed, if there is one of this number. It takes no memory, and costs a look at each
@@ -136,7 +105,6 @@ impl DbState {
     pub fn finish(&mut self, feed: FeedId)
         ensures { self.new ≡ with_hosted self.old (finished (hosted_of self.old) feed.number) }
     {
-        let number = feed.number;
-        self.feeds.retain(|kept| kept.0 != number);
+        self.feeds.finish(feed);
     }
 }

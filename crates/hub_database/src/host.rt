@@ -12,7 +12,9 @@ impl FeedHost for DbState {
     ghost use Rattle.hub_database.specs.Handing.{IsFitting, IsRightFor};
     ghost use Rattle.hub_database.specs.Hosting.{hosted_of, with_hosted};
     ghost use Rattle.hub_database.specs.Laid.{rows_below};
-    ghost use Rattle.hub_model.proofs.Fitting.{fits_beat, fits_expire, fits_handed, fits_nothing};
+    ghost use Rattle.hub_feed.proofs.Handing.{fitting_beat, fitting_expired, fitting_handed, fitting_nothing, fitting_right};
+    ghost use Rattle.hub_model.specs.Journal.{IsLegal};
+    ghost use Rattle.hub_model.specs.RowKind.{change_rows};
     ghost use Rattle.hub_model.proofs.Laws.{rows_rise};
     ghost use Rattle.hub_model.specs.Row.{ChangeRow as Shown};
     ghost use Rattle.std.proofs.Common.{refl};
@@ -39,36 +41,21 @@ impl FeedHost for DbState {
 
     ghost hosts = { λ db feeds next. refl };
 
-    ghost rightly = { λ db f items fitting. record {
-      journal = db.journal;
-      legal = fitting.legal;
-      feed = f;
-      asks = refl;
-      begins = refl;
-      right = fitting.fits.right;
-    } };
+    ghost rightly = { λ db f items fitting. fitting_right change_rows IsLegal db.journal f items fitting };
 
     ghost stays = { λ db h f items fitting. fitting };
 
-    ghost handed_fits = { λ db f items item due fitting. record {
-      legal = fitting.legal;
-      fits = fits_handed db.journal f items item due fitting.fits;
-    } };
+    ghost handed_fits = { λ db f items item due fitting.
+        fitting_handed change_rows IsLegal db.journal f items fitting item due };
 
-    ghost waiting_fits = { λ db f items due fitting. record {
-      legal = fitting.legal;
-      fits = fits_nothing db.journal f items due fitting.fits;
-    } };
+    ghost waiting_fits = { λ db f items due fitting.
+        fitting_nothing change_rows IsLegal db.journal f items fitting due };
 
-    ghost beat_fits = { λ db f items due fitting. record {
-      legal = fitting.legal;
-      fits = fits_beat db.journal f items due fitting.fits;
-    } };
+    ghost beat_fits = { λ db f items due fitting.
+        fitting_beat change_rows IsLegal db.journal f items fitting due };
 
-    ghost expired_fits = { λ db f items fitting. record {
-      legal = fitting.legal;
-      fits = fits_expire db.journal f items fitting.fits;
-    } };
+    ghost expired_fits = { λ db f items fitting.
+        fitting_expired change_rows IsLegal db.journal f items fitting };
 
     /// Constant time.
     fn length(&self) -> u64 {
@@ -102,7 +89,7 @@ impl FeedHost for DbState {
 
     /// Constant time.
     fn near(&self) -> usize {
-        self.near
+        self.feeds.near()
     }
 
     /// Constant time.

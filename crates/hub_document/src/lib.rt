@@ -23,6 +23,7 @@ mod revisions;
 #[cfg(test)]
 mod tests;
 mod text;
+mod update_row;
 mod write;
 
 pub use asked::Asked;
@@ -40,3 +41,4 @@ pub use read::read_value;
 pub use revision::{RevId, revision_texts};
 pub use revisions::Revisions;
 pub use text::put_quoted;
+pub use update_row::UpdateRow;

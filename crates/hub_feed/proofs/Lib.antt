@@ -1,3 +1,5 @@
 pub mod DueLemmas
 pub mod EditsLemmas
+pub mod FeedsLemmas
+pub mod Handing
 pub mod ReachLemmas

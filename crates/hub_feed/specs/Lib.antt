@@ -1,5 +1,7 @@
 pub mod Edits
 pub mod EditsLaws
+pub mod Feeds
+pub mod Handing
 pub mod Host
 pub mod Mark
 pub mod Next

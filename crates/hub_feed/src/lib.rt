@@ -3,6 +3,7 @@
 #![tactic(auto)]
 
 mod feed;
+mod feeds;
 mod host;
 mod mark;
 mod next;
@@ -11,9 +12,10 @@ mod source;
 mod tests;
 
 pub use feed::FeedState;
+pub use feeds::Feeds;
 pub use host::{FeedHost, FeedId, OpenFault};
-pub use hub_document::ChangeRow;
-pub use hub_model::Item;
+pub use hub_document::{ChangeRow, UpdateRow};
+pub use hub_model::{Item, UpdateKind};
 pub use mark::Mark;
 pub use next::Next;
 pub use source::Source;

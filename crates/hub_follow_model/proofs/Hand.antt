@@ -11,6 +11,7 @@ use Rattle.hub_model.specs.Leaves.{IsLeaf}
 use Rattle.hub_model.specs.Missing.{missing, wanted, diffs, diff_of, is_wanted, with_missing, Asked, Diff}
 use Rattle.hub_model.specs.Revision.{Revision}
 use Rattle.hub_model.specs.RightlyHanded.{rows_of, IsRowOf}
+use Rattle.hub_model.specs.RowKind.{change_rows}
 use Rattle.hub_model.specs.declared.feeds.Style.TheVariants.{AllDocs}
 use Rattle.hub_model.specs.Row.{IsRow, ChangeRow}
 use Rattle.hub_model.specs.Walk.{shown, IsShown}
@@ -53,7 +54,7 @@ module _ (J J' : List Edit) (since last : ℕ) (rows : List ChangeRow) (p : HasC
   contains_seq {n = n} c = map_contains (λ (r : ChangeRow). r.seq) rows n c
 
   pub shown_row : (row : ChangeRow) → Contains rows row → IsRow (take row.seen J) AllDocs false row
-  shown_row row c = (All-contains (IsRowOf J (ended_feed since last (length rows))) rows row (subst (λ (z : List ChangeRow). All (IsRowOf J (ended_feed since last (length rows))) z) rows_are p.1.rows) c).shown
+  shown_row row c = let of = All-contains (IsRowOf change_rows J (ended_feed since last (length rows))) rows row (subst (λ (z : List ChangeRow). All (IsRowOf change_rows J (ended_feed since last (length rows))) z) rows_are p.1.rows) c in (of.shown.0, of.shown.1, of.shown.2)
 
   -- the leaves now are those at the row's moment
   pub leaf_then : (n : ℕ) (e : Edit) (id : List ℕ) (h : Revision) (S D : List Edit) (e2 : Edit) → J ≡ S ++ D → IsCurrent S n e2 → IsCurrent J n e → e.id ≡ id → IsLeaf J id h → (e2.id ≡ id) × IsLeaf S id h

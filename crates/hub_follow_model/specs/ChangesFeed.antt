@@ -10,6 +10,7 @@ use Rattle.hub_model.specs.Feed.{Params, Feed, Ended}
 use Rattle.hub_model.specs.Filter.{Everything}
 use Rattle.hub_model.specs.Journal.{Edit}
 use Rattle.hub_model.specs.RightlyHanded.{ChangeItem, is_end, RightlyHanded}
+use Rattle.hub_model.specs.RowKind.{change_rows}
 use Rattle.hub_model.specs.Row.{ChangeRow}
 
 -- what a follower asks for: every leaf of the documents above a sequence, 100 rows at most (the number is
@@ -48,17 +49,17 @@ items_of rows last pending = map (λ row. Row row) rows ++ End last pending ∷ 
 abbrev pub IsChangesAnswer : List Edit → ℕ → List ChangeItem → List ChangeRow → ℕ → Type 0
 IsChangesAnswer J since items rows last =
     (pending : ℕ) × (items ≡ items_of rows last pending)
-    × RightlyHanded J (ended_feed since last (length rows)) items
+    × RightlyHanded change_rows J (ended_feed since last (length rows)) items
 
 -- some items are an answer of these rows
 abbrev pub HasChangesAnswer : List Edit → ℕ → List ChangeRow → ℕ → Type 0
 HasChangesAnswer J since rows last =
-    (pending : ℕ) × RightlyHanded J (ended_feed since last (length rows)) (items_of rows last pending)
+    (pending : ℕ) × RightlyHanded change_rows J (ended_feed since last (length rows)) (items_of rows last pending)
 
 -- the law: whatever a feed that a follower asked for has handed once it ended is an answer
 abbrev pub EndedFeedIsAnswer : Type 0
 EndedFeedIsAnswer =
     (J : List Edit) (f : Feed) (since : ℕ) (items : List ChangeItem) → f.params ≡ params_after since
-    → RightlyHanded J f items → list_any is_end items ≡ true
+    → RightlyHanded change_rows J f items → list_any is_end items ≡ true
     → (rows : List ChangeRow) × (pending : ℕ) × (items ≡ items_of rows f.place pending)
     × HasChangesAnswer J f.since rows f.place

@@ -1,9 +1,10 @@
 pub mod BlockLemmas
+pub mod ChangeLemmas
 pub mod ExclusionLemmas
 pub mod FrontLemmas
 pub mod HeadLemmas
-pub mod ItemLemmas
 pub mod LengthLemmas
 pub mod RequestLemmas
 pub mod SendLemmas
 pub mod UniqueLemmas
+pub mod UpdateLemmas

@@ -7,4 +7,6 @@ pub mod Words
 pub mod Refusals
 pub mod Texts
 pub mod Chunks
+pub mod ChangeTexts
+pub mod UpdateTexts
 pub mod Items

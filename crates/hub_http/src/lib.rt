@@ -2,6 +2,7 @@
 #![tactic(auto)]
 
 mod block;
+mod change_text;
 mod chunk;
 mod connection;
 mod fault;
@@ -20,11 +21,15 @@ mod request;
 #[cfg(test)]
 mod request_tests;
 mod requests;
+mod row_text;
 mod tally;
 #[cfg(test)]
 mod tally_tests;
 #[cfg(test)]
 mod text_tests;
+#[cfg(test)]
+mod update_tests;
+mod update_text;
 
 pub use chunk::{ChunkFault, ChunkWriter};
 pub use fault::HttpFault;
@@ -36,4 +41,5 @@ pub use refusal::Refusal;
 pub use reply::{Reply, reply_bytes};
 pub use request::Request;
 pub use requests::{Requests, one_reading, one_verdict};
+pub use row_text::RowText;
 pub use tally::Tally;

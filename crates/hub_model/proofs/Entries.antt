@@ -1,6 +1,6 @@
 -- Entries by number: where one stands, and the entries without it, with it changed, or with one more.
-use Rattle.std.proofs.Common.{◌≡◌, ◌≢◌, ℕ, zero, suc, ◌+◌, ◌<◌, ◌≤◌, List, [], ◌∷◌, ◌++◌, length, Bool, true, false, ap, refl, sym, ◌∙◌, subst, arith, ◌⊎◌, inl, inr, get_or, AllPairs, find, not, nat_eq, nat_lt, Result, Ok, Err}
-use Rattle.std.specs.Prelude.{Option, Some, None, slice_get, slice_set, option_map, position, All, if◌then◌else◌}
+use Rattle.std.proofs.Common.{◌≡◌, ◌≢◌, ℕ, zero, suc, ◌+◌, ◌<◌, ◌≤◌, List, [], ◌∷◌, ◌++◌, length, Bool, true, false, ap, refl, sym, ◌∙◌, subst, arith, ◌⊎◌, inl, inr, get_or, find, not, nat_eq, nat_lt, Result, Ok, Err}
+use Rattle.std.specs.Prelude.{Some, None, slice_get, slice_set, option_map, position, All, if◌then◌else◌}
 use Rattle.std.specs.List.{remove, position_or_len}
 use Rattle.std.specs.List.Sorted.{IsSearchInRange, IsBinarySearchResult, IsNonDecreasingBy, IsPartitionPoint}
 use Rattle.std.specs.Result.{result_ok}

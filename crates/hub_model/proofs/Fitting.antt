@@ -12,198 +12,200 @@ use Rattle.hub_model.specs.declared.feeds.Mode.{Mode}
 use Rattle.hub_model.specs.declared.feeds.Mode.TheVariants.{Normal, Longpoll, Continuous}
 use Rattle.hub_model.specs.declared.feeds.Since.{Since}
 use Rattle.hub_model.specs.declared.feeds.Since.TheVariants.{From, Now}
+use Rattle.hub_model.specs.declared.feeds.Item.{Item}
 use Rattle.hub_model.specs.declared.feeds.Item.TheVariants.{Row, Beat, End}
 use Rattle.hub_model.specs.Feed.{Status, Open, Ending, Ended, Finished, Feed, Due, DueRow, DueEnd, DueNothing, DueGone, since_of, bound_of, due, is_in_reach, bound_after, after_due, after_row, after_end, after_nothing, is_open, is_over, waits}
 use Rattle.hub_model.specs.Filter.{passes}
 use Rattle.hub_model.specs.FeedLaws.{OpenedFits, GrownFits, HandedFits, WaitingFits, BeatFits, ExpiredFits, EndedFits, FinishedFits}
 use Rattle.hub_model.specs.Hand.{due_in, item_of}
 use Rattle.hub_model.specs.Journal.{Edit}
-use Rattle.hub_model.specs.RightlyHanded.{ChangeItem, is_end, EndsAt, IsAsked, RightlyHanded, Fits, rows_of}
-use Rattle.hub_model.specs.Row.{row_of}
+use Rattle.hub_model.specs.RightlyHanded.{is_end, EndsAt, IsAsked, RightlyHanded, Fits, rows_of}
+use Rattle.hub_model.specs.RowKind.{RowKind}
 use Rattle.hub_model.proofs.Due.{due_row, due_end, due_nothing, reach_parts, reach_from, within_bound, within_below, bound_after_row, open_after_row}
 use Rattle.hub_model.proofs.Items.{rows_of-row, rows_of-beat, rows_of-end, ends_more}
 use Rattle.hub_model.proofs.Right.{some_weaker, right_grows, right_moves, right_row}
 use Rattle.hub_model.proofs.Rows.{current_within, find_first, find_none}
 
-pub fits_grows : GrownFits
-fits_grows J es f items h = record {
-  right = right_grows J es f items h.right;
-  counted = h.counted;
-  fewer = h.fewer;
-  over = h.over;
-  bounded = some_weaker f.bound _ _ h.bounded (λ n p. (p.0, omega (arith, p.1, length-append J es)));
-}
+module _ {R : Type 0} (kind : RowKind R) where
+  pub fits_grows : GrownFits kind
+  fits_grows J es f items h = record {
+    right = right_grows kind J es f items h.right;
+    counted = h.counted;
+    fewer = h.fewer;
+    over = h.over;
+    bounded = some_weaker f.bound _ _ h.bounded (λ n p. (p.0, omega (arith, p.1, length-append J es)));
+  }
 
-since_within : (s : Since) (len : ℕ) → since_of s len ≤ len
-since_within (From seq) len = omega arith
-since_within Now len = omega arith
+  since_within : (s : Since) (len : ℕ) → since_of s len ≤ len
+  since_within (From seq) len = omega arith
+  since_within Now len = omega arith
 
-bound_within : (m : Mode) (s len : ℕ) → s ≤ len → IfSome (bound_of m len) (λ b. (s ≤ b) × (b ≤ len))
-bound_within Normal s len h = (h, omega arith)
-bound_within Longpoll s len h = tt
-bound_within Continuous s len h = tt
+  bound_within : (m : Mode) (s len : ℕ) → s ≤ len → IfSome (bound_of m len) (λ b. (s ≤ b) × (b ≤ len))
+  bound_within Normal s len h = (h, omega arith)
+  bound_within Longpoll s len h = tt
+  bound_within Continuous s len h = tt
 
-none_handed : (limit : Option ℕ) → IfSome limit (λ n. 0 < max 1 n)
-none_handed None = tt
-none_handed (Some n) = omega arith
+  none_handed : (limit : Option ℕ) → IfSome limit (λ n. 0 < max 1 n)
+  none_handed None = tt
+  none_handed (Some n) = omega arith
 
-pub fits_begin : OpenedFits
-fits_begin J params = record {
-  right = record {
-    rising = λ i j d a b. absurd (omega (arith, b));
-    rows = All-nil _;
-    from_since = omega arith;
-    to_length = since_within params.since (length J);
-    ends = tt;
-    whole = λ c h q a b. absurd (omega arith);
-    limited = some_weaker params.limit _ _ (none_handed params.limit) (λ n h. omega arith);
-    beats = All-nil (IsAsked params.heartbeat);
-  };
-  counted = refl;
-  fewer = λ e. none_handed params.limit;
-  over = λ e. absurd (cc);
-  bounded = bound_within params.mode _ (length J) (since_within params.since (length J));
-}
+  pub fits_begin : OpenedFits kind
+  fits_begin J params = record {
+    right = record {
+      rising = λ i j d a b. absurd (omega (arith, b));
+      rows = All-nil _;
+      from_since = omega arith;
+      to_length = since_within params.since (length J);
+      ends = tt;
+      whole = λ c h q a b. absurd (omega arith);
+      limited = some_weaker params.limit _ _ (none_handed params.limit) (λ n h. omega arith);
+      beats = All-nil (IsAsked params.heartbeat);
+    };
+    counted = refl;
+    fewer = λ e. none_handed params.limit;
+    over = λ e. absurd (cc);
+    bounded = bound_within params.mode _ (length J) (since_within params.since (length J));
+  }
 
--- an End was handed only by a feed that is over
-no_end : (J : List Edit) (f : Feed) (items : List ChangeItem) → Fits J f items → is_over f.status ≡ false → list_any is_end items ≡ false
-no_end J f items h e =
-    elim (cases_Bool (list_any is_end items)) [
-      | inl t ↦ absurd (both_ways _ e (h.over t))
-      | inr t ↦ t
-    ]
+  -- an End was handed only by a feed that is over
+  no_end : (J : List Edit) (f : Feed) (items : List (Item R)) → Fits kind J f items → is_over f.status ≡ false → list_any is_end items ≡ false
+  no_end J f items h e =
+      elim (cases_Bool (list_any is_end items)) [
+        | inl t ↦ absurd (both_ways _ e (h.over t))
+        | inr t ↦ t
+      ]
 
-some_at : (o : Option ℕ) (n : ℕ) (P : ℕ → Type 0) → o ≡ Some n → IfSome o P → P n
-some_at None n P e h = absurd (cc)
-some_at (Some m) n P e h = subst P (cc) h
+  some_at : (o : Option ℕ) (n : ℕ) (P : ℕ → Type 0) → o ≡ Some n → IfSome o P → P n
+  some_at None n P e h = absurd (cc)
+  some_at (Some m) n P e h = subst P (cc) h
 
-end_more : (items : List ChangeItem) (item : ChangeItem) → is_end item ≡ false → list_any is_end (items ++ item ∷ []) ≡ true → list_any is_end items ≡ true
-end_more items item e h =
-    elim (or_cases _ _ (sym (list_any-append is_end items (item ∷ [])) ∙ h)) [
-      | inl t ↦ t
-      | inr t ↦ absurd (let t' = rw e at t in cc)
-    ]
+  end_more : (items : List (Item R)) (item : Item R) → is_end item ≡ false → list_any is_end (items ++ item ∷ []) ≡ true → list_any is_end items ≡ true
+  end_more items item e h =
+      elim (or_cases _ _ (sym (list_any-append is_end items (item ∷ [])) ∙ h)) [
+        | inl t ↦ t
+        | inr t ↦ absurd (let t' = rw e at t in cc)
+      ]
 
--- a row that is due
-fits_row : (J : List Edit) (f : Feed) (items : List ChangeItem) (c : Current) → Fits J f items → due (current J) f ≡ DueRow c → Fits J (after_row f c.seq (length J)) (items ++ Row (row_of J f.params.style f.params.include_docs c) ∷ [])
-fits_row J f items c h e =
-    let row = row_of J f.params.style f.params.include_docs c in
-    let d = due_row (current J) f c e in
-    let first = find_first (is_in_reach f) 1 J c d.1 in
-    let parts = reach_parts f c first.0 in
-    let within : (1 ≤ c.seq) × (c.seq < 1 + length J) = current_within 1 J c first.1 in
-    let to_length : c.seq ≤ length J = omega arith in
-    let bounds = bound_after_row f.params.mode f.bound (length J) c.seq to_length (within_bound f.bound c.seq parts.1) (some_weaker f.bound _ _ h.bounded (λ n k. k.1)) in
-    let open_before = no_end J f items h (ap is_over d.0) in
-    record {
-      right = right_row J f items row _ _ _ h.right (c, first.1, refl) parts.2 parts.0 to_length
-          (some_weaker (bound_after f.params.mode f.bound (length J)) (λ m. (c.seq ≤ m) × (m ≤ length J)) (λ m. c.seq ≤ m) bounds (λ n k. k.0)) open_before
-          (λ x in_rows q a b. let least : c.seq ≤ x.seq = first.2 x in_rows (reach_from f x a (within_below f.bound x.seq c.seq parts.1 b) q) in omega arith)
-          (some_weaker f.params.limit _ _ (h.fewer d.0) (λ n k. omega (arith, h.counted)));
-      counted = ap length (rows_of-row items row) ∙ (length-append (rows_of items) (row ∷ []) ∙ ap (λ n. n + 1) h.counted);
-      fewer = λ t. open_after_row f.params.limit (f.rows + 1) t;
-      over = λ t. absurd (both_ways _ open_before (end_more items (Row row) refl t));
-      bounded = bounds;
-    }
+  -- a row that is due
+  fits_row : (J : List Edit) (f : Feed) (items : List (Item R)) (c : Current) → Fits kind J f items → due (current J) f ≡ DueRow c → Fits kind J (after_row f c.seq (length J)) (items ++ Row (kind.shown J f.params.style f.params.include_docs c) ∷ [])
+  fits_row J f items c h e =
+      let row = kind.shown J f.params.style f.params.include_docs c in
+      let d = due_row (current J) f c e in
+      let first = find_first (is_in_reach f) 1 J c d.1 in
+      let parts = reach_parts f c first.0 in
+      let within : (1 ≤ c.seq) × (c.seq < 1 + length J) = current_within 1 J c first.1 in
+      let to_length : c.seq ≤ length J = omega arith in
+      let bounds = bound_after_row f.params.mode f.bound (length J) c.seq to_length (within_bound f.bound c.seq parts.1) (some_weaker f.bound _ _ h.bounded (λ n k. k.1)) in
+      let open_before = no_end J f items h (ap is_over d.0) in
+      record {
+        right = right_row kind J f items row c.seq (kind.keeps J f.params.style f.params.include_docs c).0 _ _ _ h.right (c, first.1, refl, parts.2) parts.0 to_length
+            (some_weaker (bound_after f.params.mode f.bound (length J)) (λ m. (c.seq ≤ m) × (m ≤ length J)) (λ m. c.seq ≤ m) bounds (λ n k. k.0)) open_before
+            (λ x in_rows q a b. let least : c.seq ≤ x.seq = first.2 x in_rows (reach_from f x a (within_below f.bound x.seq c.seq parts.1 b) q) in omega arith)
+            (some_weaker f.params.limit _ _ (h.fewer d.0) (λ n k. omega (arith, h.counted)));
+        counted = ap length (rows_of-row items row) ∙ (length-append (rows_of items) (row ∷ []) ∙ ap (λ n. n + 1) h.counted);
+        fewer = λ t. open_after_row f.params.limit (f.rows + 1) t;
+        over = λ t. absurd (both_ways _ open_before (end_more items (Row row) refl t));
+        bounded = bounds;
+      }
 
--- an End, at a place that no passing row lies before
-fits_end_at : (J : List Edit) (f : Feed) (items : List ChangeItem) (last n : ℕ) → Fits J f items → is_over f.status ≡ false → f.place ≤ last → last ≤ length J → IfSome f.bound (λ b. last ≤ b) →
-    ((c : Current) → Contains (current J) c → IsTrue (passes f.params.filter c.id) → f.place < c.seq → c.seq ≤ last → ⊥) →
-    Fits J (after_end f last) (items ++ End last n ∷ [])
-fits_end_at J f items last n h over p l b gap = record {
-  right = right_moves J f items (End last n ∷ []) f.bound last f.rows Ended h.right refl p l (some_weaker f.bound _ _ h.bounded (λ m k. k.0)) (ends_more last items (End last n ∷ []) (no_end J f items h over) (refl, refl)) gap (All-push (IsAsked f.params.heartbeat) [] (End last n) (All-nil (IsAsked f.params.heartbeat)) tt);
-  counted = ap length (rows_of-end items last n) ∙ h.counted;
-  fewer = λ e. absurd (cc);
-  over = λ e. refl;
-  bounded = both f.bound b h.bounded;
-}
-  where
-    both : (o : Option ℕ) → IfSome o (λ m. last ≤ m) → IfSome o (λ m. (f.place ≤ m) × (m ≤ length J)) → IfSome o (λ m. (last ≤ m) × (m ≤ length J))
-    both None x y = tt
-    both (Some m) x y = (x, y.1)
+  -- an End, at a place that no passing row lies before
+  fits_end_at : (J : List Edit) (f : Feed) (items : List (Item R)) (last n : ℕ) → Fits kind J f items → is_over f.status ≡ false → f.place ≤ last → last ≤ length J → IfSome f.bound (λ b. last ≤ b) →
+      ((c : Current) → Contains (current J) c → IsTrue (passes f.params.filter c.id) → f.place < c.seq → c.seq ≤ last → ⊥) →
+      Fits kind J (after_end f last) (items ++ End last n ∷ [])
+  fits_end_at J f items last n h over p l b gap = record {
+    right = right_moves kind J f items (End last n ∷ []) f.bound last f.rows Ended h.right refl p l (some_weaker f.bound _ _ h.bounded (λ m k. k.0)) (ends_more last items (End last n ∷ []) (no_end J f items h over) (refl, refl)) gap (All-push (IsAsked f.params.heartbeat) [] (End last n) (All-nil (IsAsked f.params.heartbeat)) tt);
+    counted = ap length (rows_of-end items last n) ∙ h.counted;
+    fewer = λ e. absurd (cc);
+    over = λ e. refl;
+    bounded = both f.bound b h.bounded;
+  }
+    where
+      both : (o : Option ℕ) → IfSome o (λ m. last ≤ m) → IfSome o (λ m. (f.place ≤ m) × (m ≤ length J)) → IfSome o (λ m. (last ≤ m) × (m ≤ length J))
+      both None x y = tt
+      both (Some m) x y = (x, y.1)
 
--- an End that is due
-fits_end : (J : List Edit) (f : Feed) (items : List ChangeItem) (last n : ℕ) → Fits J f items → due (current J) f ≡ DueEnd last → Fits J (after_end f last) (items ++ End last n ∷ [])
-fits_end J f items last n h e =
-    elim (due_end (current J) f last e) [
-      | inl a ↦ fits_end_at J f items last n h (ap is_over a.0) (omega (arith, a.1)) (omega (arith, a.1, h.right.to_length)) (some_weaker f.bound _ _ h.bounded (λ m k. omega (arith, a.1, k.0))) (λ c x q y z. absurd (omega (arith, a.1)))
-      | inr a ↦ let at = some_at f.bound last _ a.1 h.bounded in
-          fits_end_at J f items last n h (ap is_over a.0) at.0 at.1 (rw a.1 (omega arith)) (λ c x q y z. find_none _ (current J) a.2 c x (reach_from f c y (rw a.1 (le-leb c.seq last z)) q))
-    ]
+  -- an End that is due
+  fits_end : (J : List Edit) (f : Feed) (items : List (Item R)) (last n : ℕ) → Fits kind J f items → due (current J) f ≡ DueEnd last → Fits kind J (after_end f last) (items ++ End last n ∷ [])
+  fits_end J f items last n h e =
+      elim (due_end (current J) f last e) [
+        | inl a ↦ fits_end_at J f items last n h (ap is_over a.0) (omega (arith, a.1)) (omega (arith, a.1, h.right.to_length)) (some_weaker f.bound _ _ h.bounded (λ m k. omega (arith, a.1, k.0))) (λ c x q y z. absurd (omega (arith, a.1)))
+        | inr a ↦ let at = some_at f.bound last _ a.1 h.bounded in
+            fits_end_at J f items last n h (ap is_over a.0) at.0 at.1 (rw a.1 (omega arith)) (λ c x q y z. find_none _ (current J) a.2 c x (reach_from f c y (rw a.1 (le-leb c.seq last z)) q))
+      ]
 
--- what is due so is handed
-handed_as : (J : List Edit) (f : Feed) (items : List ChangeItem) (item : ChangeItem) (d : Due) → due_in J f ≡ d → item_of (row_of J f.params.style f.params.include_docs) (current J) d ≡ Some item → Fits J f items → Fits J (after_due f d (length J)) (items ++ item ∷ [])
-handed_as J f items item (DueRow c) q e h = subst (λ (i : ChangeItem). Fits J (after_row f c.seq (length J)) (items ++ i ∷ [])) (same_Some _ item e) (fits_row J f items c h q)
-handed_as J f items item (DueEnd last) q e h = subst (λ (i : ChangeItem). Fits J (after_end f last) (items ++ i ∷ [])) (same_Some _ item e) (fits_end J f items last (pending (current J) last) h q)
-handed_as J f items item DueNothing q e h = absurd (none-some item e)
-handed_as J f items item DueGone q e h = absurd (none-some item e)
+  -- what is due so is handed
+  handed_as : (J : List Edit) (f : Feed) (items : List (Item R)) (item : Item R) (d : Due) → due_in J f ≡ d → item_of (kind.shown J f.params.style f.params.include_docs) (current J) d ≡ Some item → Fits kind J f items → Fits kind J (after_due f d (length J)) (items ++ item ∷ [])
+  handed_as J f items item (DueRow c) q e h = subst (λ (i : Item R). Fits kind J (after_row f c.seq (length J)) (items ++ i ∷ [])) (same_Some _ item e) (fits_row J f items c h q)
+  handed_as J f items item (DueEnd last) q e h = subst (λ (i : Item R). Fits kind J (after_end f last) (items ++ i ∷ [])) (same_Some _ item e) (fits_end J f items last (pending (current J) last) h q)
+  handed_as J f items item DueNothing q e h = absurd (none-some item e)
+  handed_as J f items item DueGone q e h = absurd (none-some item e)
 
-pub fits_handed : HandedFits
-fits_handed J f items item e h = handed_as J f items item (due_in J f) refl e h
+  pub fits_handed : HandedFits kind
+  fits_handed J f items item e h = handed_as J f items item (due_in J f) refl e h
 
-open_when : (st : Status) → is_open st ≡ true → st ≡ Open
-open_when Open e = refl
-open_when Ending e = absurd (cc)
-open_when Ended e = absurd (cc)
-open_when Finished e = absurd (cc)
+  open_when : (st : Status) → is_open st ≡ true → st ≡ Open
+  open_when Open e = refl
+  open_when Ending e = absurd (cc)
+  open_when Ended e = absurd (cc)
+  open_when Finished e = absurd (cc)
 
--- a Heartbeat that pushes
-pub fits_beat : BeatFits
-fits_beat J f items e h =
-    let p = and_parts (is_open f.status) (waits f.params.mode && f.params.heartbeat) e in
-    let q = and_parts (waits f.params.mode) f.params.heartbeat p.1 in
-    let open_before = no_end J f items h (ap is_over (open_when f.status p.0)) in
-    record {
-      right = right_moves J f items (Beat ∷ []) f.bound f.place f.rows f.status h.right refl (omega arith) h.right.to_length (some_weaker f.bound _ _ h.bounded (λ m k. k.0)) (ends_more f.place items (Beat ∷ []) open_before tt) (λ c x a y z. absurd (omega arith)) (All-push (IsAsked f.params.heartbeat) [] Beat (All-nil (IsAsked f.params.heartbeat)) q.1);
-      counted = ap length (rows_of-beat items) ∙ h.counted;
-      fewer = h.fewer;
-      over = λ t. absurd (both_ways _ open_before (end_more items Beat refl t));
-      bounded = h.bounded;
-    }
+  -- a Heartbeat that pushes
+  pub fits_beat : BeatFits kind
+  fits_beat J f items e h =
+      let p = and_parts (is_open f.status) (waits f.params.mode && f.params.heartbeat) e in
+      let q = and_parts (waits f.params.mode) f.params.heartbeat p.1 in
+      let open_before = no_end J f items h (ap is_over (open_when f.status p.0)) in
+      record {
+        right = right_moves kind J f items (Beat ∷ []) f.bound f.place f.rows f.status h.right refl (omega arith) h.right.to_length (some_weaker f.bound _ _ h.bounded (λ m k. k.0)) (ends_more f.place items (Beat ∷ []) open_before tt) (λ c x a y z. absurd (omega arith)) (All-push (IsAsked f.params.heartbeat) [] Beat (All-nil (IsAsked f.params.heartbeat)) q.1);
+        counted = ap length (rows_of-beat items) ∙ h.counted;
+        fewer = h.fewer;
+        over = λ t. absurd (both_ways _ open_before (end_more items Beat refl t));
+        bounded = h.bounded;
+      }
 
--- a Hand with nothing to hand
-pub fits_nothing : WaitingFits
-fits_nothing J f items e h =
-    let d = due_nothing (current J) f e in
-    record {
-      right = subst (RightlyHanded J (after_nothing f (length J))) (append-nil items)
-          (right_moves J f items [] f.bound (length J) f.rows f.status h.right refl h.right.to_length (omega arith) (some_weaker f.bound _ _ h.bounded (λ m k. k.0))
-          (ends_more (length J) items [] (no_end J f items h (ap is_over d.0)) tt)
-          (λ c x q y z. find_none _ (current J) d.2 c x (reach_from f c y (rw d.1 refl) q))
-          (All-nil (IsAsked f.params.heartbeat)));
-      counted = h.counted;
-      fewer = h.fewer;
-      over = h.over;
-      bounded = rw d.1 tt;
-    }
+  -- a Hand with nothing to hand
+  pub fits_nothing : WaitingFits kind
+  fits_nothing J f items e h =
+      let d = due_nothing (current J) f e in
+      record {
+        right = subst (RightlyHanded kind J (after_nothing f (length J))) (append-nil items)
+            (right_moves kind J f items [] f.bound (length J) f.rows f.status h.right refl h.right.to_length (omega arith) (some_weaker f.bound _ _ h.bounded (λ m k. k.0))
+            (ends_more (length J) items [] (no_end J f items h (ap is_over d.0)) tt)
+            (λ c x q y z. find_none _ (current J) d.2 c x (reach_from f c y (rw d.1 refl) q))
+            (All-nil (IsAsked f.params.heartbeat)));
+        counted = h.counted;
+        fewer = h.fewer;
+        over = h.over;
+        bounded = rw d.1 tt;
+      }
 
--- the feed is no longer open
-pub fits_status : (J : List Edit) (f : Feed) (items : List ChangeItem) (status : Status) → (status ≡ Open → ⊥) → (list_any is_end items ≡ true → is_over status ≡ true) → Fits J f items → Fits J (record f { status = status }) items
-fits_status J f items status closed over h = record {
-  right = subst (RightlyHanded J (record f { status = status })) (append-nil items)
-      (right_moves J f items [] f.bound f.place f.rows status h.right refl (omega arith) h.right.to_length (some_weaker f.bound _ _ h.bounded (λ m k. k.0)) (subst (EndsAt f.place) (sym (append-nil items)) h.right.ends) (λ c x q y z. absurd (omega arith)) (All-nil (IsAsked f.params.heartbeat)));
-  counted = h.counted;
-  fewer = λ e. absurd (closed e);
-  over = over;
-  bounded = h.bounded;
-}
+  -- the feed is no longer open
+  pub fits_status : (J : List Edit) (f : Feed) (items : List (Item R)) (status : Status) → (status ≡ Open → ⊥) → (list_any is_end items ≡ true → is_over status ≡ true) → Fits kind J f items → Fits kind J (record f { status = status }) items
+  fits_status J f items status closed over h = record {
+    right = subst (RightlyHanded kind J (record f { status = status })) (append-nil items)
+        (right_moves kind J f items [] f.bound f.place f.rows status h.right refl (omega arith) h.right.to_length (some_weaker f.bound _ _ h.bounded (λ m k. k.0)) (subst (EndsAt f.place) (sym (append-nil items)) h.right.ends) (λ c x q y z. absurd (omega arith)) (All-nil (IsAsked f.params.heartbeat)));
+    counted = h.counted;
+    fewer = λ e. absurd (closed e);
+    over = over;
+    bounded = h.bounded;
+  }
 
-fits_ending : (J : List Edit) (f : Feed) (items : List ChangeItem) → is_open f.status ≡ true → Fits J f items → Fits J (record f { status = Ending }) items
-fits_ending J f items e h = fits_status J f items Ending (λ t. cc) (λ t. absurd (both_ways _ (no_end J f items h (ap is_over (open_when f.status e))) t)) h
+  fits_ending : (J : List Edit) (f : Feed) (items : List (Item R)) → is_open f.status ≡ true → Fits kind J f items → Fits kind J (record f { status = Ending }) items
+  fits_ending J f items e h = fits_status J f items Ending (λ t. cc) (λ t. absurd (both_ways _ (no_end J f items h (ap is_over (open_when f.status e))) t)) h
 
-pub fits_expire : ExpiredFits
-fits_expire J f items h =
-    elim (cases_Bool (is_open f.status && waits f.params.mode)) [
-      | inl t ↦ rw t (fits_ending J f items (and_parts _ _ t).0 h)
-      | inr t ↦ rw t h
-    ]
+  pub fits_expire : ExpiredFits kind
+  fits_expire J f items h =
+      elim (cases_Bool (is_open f.status && waits f.params.mode)) [
+        | inl t ↦ rw t (fits_ending J f items (and_parts _ _ t).0 h)
+        | inr t ↦ rw t h
+      ]
 
-pub fits_close : EndedFits
-fits_close J f items h =
-    elim (cases_Bool (is_open f.status)) [
-      | inl t ↦ rw t (fits_ending J f items t h)
-      | inr t ↦ rw t h
-    ]
+  pub fits_close : EndedFits kind
+  fits_close J f items h =
+      elim (cases_Bool (is_open f.status)) [
+        | inl t ↦ rw t (fits_ending J f items t h)
+        | inr t ↦ rw t h
+      ]
 
-pub fits_finish : FinishedFits
-fits_finish J f items h = fits_status J f items Finished (λ t. cc) (λ t. refl) h
+  pub fits_finish : FinishedFits kind
+  fits_finish J f items h = fits_status J f items Finished (λ t. cc) (λ t. refl) h

@@ -2,7 +2,8 @@
 use Rattle.std.specs.Prelude.{List, Option, Some, None}
 use Rattle.hub_model.specs.Journal.{Edit}
 use Rattle.hub_model.specs.Current.{Current, current, pending}
-use Rattle.hub_model.specs.Row.{ChangeRow, row_of}
+use Rattle.hub_model.specs.Row.{ChangeRow}
+use Rattle.hub_model.specs.RowKind.{RowKind, change_rows}
 use Rattle.hub_model.specs.Feed.{Feed, Due, DueRow, DueEnd, DueNothing, DueGone, due}
 use Rattle.hub_model.specs.declared.feeds.Item.{Item}
 use Rattle.hub_model.specs.declared.feeds.Item.TheVariants.{Row, End}
@@ -19,6 +20,10 @@ item_of show rows DueGone = None
 abbrev pub due_in : List Edit → Feed → Due
 due_in J f = due (current J) f
 
--- the item that a feed of a journal has to hand, if there is one
+-- the item that a feed of these edits has to hand, if there is one
+abbrev pub due_item : {R : Type 0} → RowKind R → List Edit → Feed → Option (Item R)
+due_item kind J f = item_of (kind.shown J f.params.style f.params.include_docs) (current J) (due_in J f)
+
+-- of a database's changes
 abbrev pub change_due : List Edit → Feed → Option (Item ChangeRow)
-change_due J f = item_of (row_of J f.params.style f.params.include_docs) (current J) (due_in J f)
+change_due J f = due_item change_rows J f

@@ -5,6 +5,8 @@ pub mod Leaves
 pub mod Walk
 pub mod Current
 pub mod Row
+pub mod Updates
+pub mod RowKind
 pub mod Filter
 pub mod Feed
 pub mod Hand

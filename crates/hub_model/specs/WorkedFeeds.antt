@@ -1,11 +1,15 @@
--- Worked answers of descending feeds, over one small journal (own).
-use Rattle.std.specs.Prelude.{◌≡◌, ℕ, List, [], ◌∷◌, false, Option, Some, None, codes}
+-- Worked answers of descending feeds, over one small journal, and the rows of a small log of updates (own).
+use Rattle.std.specs.Prelude.{◌≡◌, ℕ, List, [], ◌∷◌, false, map, Option, Some, None, codes}
 use Rattle.hub_model.specs.Revision.{Revision}
 use Rattle.hub_model.specs.Journal.{Edit}
 use Rattle.hub_model.specs.declared.feeds.Mode.TheVariants.{Normal}
 use Rattle.hub_model.specs.declared.feeds.Since.TheVariants.{From}
 use Rattle.hub_model.specs.declared.feeds.Style.TheVariants.{MainOnly}
 use Rattle.hub_model.specs.Row.{ChangeRow}
+use Rattle.hub_model.specs.Current.{current}
+use Rattle.hub_model.specs.Updates.{Note, UpdateRow, edits_of_log, update_row_of}
+use Rattle.hub_model.specs.declared.updates.UpdateKind.{UpdateKind}
+use Rattle.hub_model.specs.declared.updates.UpdateKind.TheVariants.{Created, Updated, Deleted}
 use Rattle.hub_model.specs.Filter.{Everything}
 use Rattle.hub_model.specs.Feed.{Params}
 use Rattle.hub_model.specs.Descending.{descending}
@@ -64,3 +68,18 @@ abbrev pub FallsOnce : Type 0
 FallsOnce =
     descending five_edits (asked 0 (Some 0))
     ≡ record { rows = shown 5 (codes "a") (rev 3 (codes "a")) ∷ []; last_seq = 5; pending = 2 }
+
+-- that this happened to the database d
+abbrev pub of_d : UpdateKind → Note
+of_d kind = record { kind = kind; name = codes "d" }
+
+-- and how it is shown at a sequence, of four notes
+abbrev pub update : ℕ → UpdateKind → UpdateRow
+update seq kind = record { db_name = codes "d"; kind = kind; seq = seq; seen = 4 }
+
+-- d was created, written, deleted and created again: the first creation has no row any more
+abbrev pub UpdatesAgain : Type 0
+UpdatesAgain =
+    let edits = edits_of_log (of_d Created ∷ of_d Updated ∷ of_d Deleted ∷ of_d Created ∷ []) in
+    map (update_row_of edits MainOnly false) (current edits)
+    ≡ update 2 Updated ∷ update 3 Deleted ∷ update 4 Created ∷ []

@@ -5,16 +5,20 @@
 
 ghost use Rattle.hub_model.specs.Laws.{KnownIsTested, HistoryIsTested, AcceptableIsTested, LeavesAreListed, LeavesHaveEdits, WinnerIsFirst, LineIsWalk, ShownIsRight, NoneIsShown, RowsAreCurrent, RowsRise, MergesTake, MergesTakeAll, MergesStayLegal, DraftsStayLegal, DraftsExtend, DraftsTake, KnownHasLeaf, MissingIsUnknown};
 ghost use Rattle.hub_model.specs.FeedLaws.{OpenedFits, GrownFits, HandedFits, WaitingFits, BeatFits, ExpiredFits, EndedFits, FinishedFits};
-ghost use Rattle.hub_model.specs.WorkedFeeds.{FallsAfterTwo, FallsAfterAll, FallsOnce};
+ghost use Rattle.hub_model.specs.RowKind.{change_rows, update_rows};
+ghost use Rattle.hub_model.specs.Updates.{NotesReadBack};
+ghost use Rattle.hub_model.specs.WorkedFeeds.{FallsAfterTwo, FallsAfterAll, FallsOnce, UpdatesAgain};
 
 mod arms;
 mod feeds;
 mod outcomes;
 mod places;
+mod updates;
 
 pub use feeds::{Item, Mode, Since, Style};
 pub use outcomes::{Fault, Outcome};
 pub use places::{place_near, place_of};
+pub use updates::UpdateKind;
 
 /// The tests of what is known, of histories and of what may be stored are right.
 pub fn tests_decide()
@@ -56,22 +60,28 @@ pub fn storing()
     ensures drafts { DraftsTake }
 {}
 
-/// What a feed has handed fits it, from its opening on, whatever happens to it and to its journal.
-/// So the list of its items is rightly handed at any moment.
+/// What a feed of changes or of updates has handed fits it, from its opening on, whatever happens to it and
+/// to the edits that it follows. So the list of its items is rightly handed at any moment.
 pub fn feeds_fit()
-    ensures opened { OpenedFits }
-    ensures grown { GrownFits }
-    ensures handed { HandedFits }
-    ensures waiting { WaitingFits }
-    ensures beat { BeatFits }
-    ensures expired { ExpiredFits }
-    ensures ended { EndedFits }
-    ensures finished { FinishedFits }
+    ensures opened { OpenedFits change_rows × OpenedFits update_rows }
+    ensures grown { GrownFits change_rows × GrownFits update_rows }
+    ensures handed { HandedFits change_rows × HandedFits update_rows }
+    ensures waiting { WaitingFits change_rows × WaitingFits update_rows }
+    ensures beat { BeatFits change_rows × BeatFits update_rows }
+    ensures expired { ExpiredFits change_rows × ExpiredFits update_rows }
+    ensures ended { EndedFits change_rows × EndedFits update_rows }
+    ensures finished { FinishedFits change_rows × FinishedFits update_rows }
 {}
 
-/// What the definition of a descending feed says of a small journal.
+/// A note of the log of updates is read again from the id of the edit that it is taken for.
+pub fn notes_read_back()
+    ensures notes { NotesReadBack }
+{}
+
+/// What the definitions say of a small journal that is read downwards, and of a small log of updates.
 pub fn worked_feeds()
     ensures two { FallsAfterTwo }
     ensures all { FallsAfterAll }
     ensures once { FallsOnce }
+    ensures again { UpdatesAgain }
 {}

@@ -5,7 +5,6 @@ use Rattle.std.specs.List.{flat_map}
 use Rattle.std.specs.Io.KnownBytes.{Appends}
 use Rattle.std.proofs.KnownBytes.{Appends-nil, Appends-trans}
 use Rattle.hub_http.specs.Counts.{AppendsFront, Sends, last_count}
-use Rattle.hub_http.proofs.SendLemmas.{sends_after}
 use Rattle.hub_http.specs.declared.request.Request.{Request}
 use Rattle.hub_http.specs.declared.fault.HttpFault.{HttpFault}
 use Rattle.hub_http.specs.Stream.{asked_by, Spells, Leaves, Faults}

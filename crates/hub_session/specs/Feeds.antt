@@ -8,6 +8,7 @@ use Rattle.hub_model.specs.declared.feeds.Item.{Item}
 use Rattle.hub_model.specs.declared.feeds.Item.TheVariants.{Row, Beat, End}
 use Rattle.hub_http.specs.Counts.{last_count}
 use Rattle.hub_http.specs.Chunks.{text_chunks}
+use Rattle.hub_http.specs.ChangeTexts.{change_row_text, change_end_text}
 use Rattle.hub_http.specs.Items.{item_text, feed_head}
 use Rattle.hub_session.specs.declared.closing.StreamEnd.{StreamEnd}
 use Rattle.hub_session.specs.declared.closing.StreamEnd.TheVariants.{Complete, Stopped, NoMemory, Broken}
@@ -33,7 +34,8 @@ behind_item (End last_seq pending) = last_chunk
 
 -- what is sent for an item, before which so many rows came
 abbrev pub sent_text : Mode → ℕ → Item ChangeRow → List ℕ
-sent_text mode rows item = text_chunks (item_text mode rows item) ++ behind_item item
+sent_text mode rows item =
+    text_chunks (item_text change_row_text change_end_text mode rows item) ++ behind_item item
 
 -- how many rows came before the next item
 abbrev pub rows_after : ℕ → Item ChangeRow → ℕ

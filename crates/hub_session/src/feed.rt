@@ -3,6 +3,7 @@ ghost use Rattle.std.specs.Prelude.{◌≡◌, ◌<◌, ◌≤◌, ◌+◌, ◌^
 ghost use Rattle.hub_model.specs.Row.{ChangeRow as Row};
 ghost use Rattle.hub_model.specs.declared.feeds.Item.{Item as FeedItem};
 ghost use Rattle.hub_http.specs.Counts.{Rose, Sends};
+ghost use Rattle.hub_http.specs.ChangeTexts.{change_row_text, change_end_text};
 ghost use Rattle.hub_http.specs.Items.{item_text, feed_head};
 ghost use Rattle.hub_http.specs.Chunks.{Writes, text_chunks};
 ghost use Rattle.hub_session.specs.Feeds.{feed_text, items_text, sent_text, behind_item, rows_after, GivesBack, Streams, is_broken, last_chunk};
@@ -98,7 +99,7 @@ impl ItemWriter {
         rows: u64,
         item: &Item<ChangeRow>,
     ) -> Result<(), ChunkFault>
-        ensures bytes { Writes (text_chunks (item_text mode rows item.now)) result (W.written writer.old) (W.written writer.new) }
+        ensures bytes { Writes (text_chunks (item_text change_row_text change_end_text mode rows item.now)) result (W.written writer.old) (W.written writer.new) }
         ensures monotone { W.fault_count writer.old ≤ W.fault_count writer.new }
         ensures fault { IsErrOf result ChunkFault.IoFault → Rose (W.fault_count writer.old) (W.fault_count writer.new) }
     {

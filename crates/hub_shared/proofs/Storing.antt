@@ -14,13 +14,15 @@ use Rattle.hub_model.specs.Path.{is_history}
 use Rattle.hub_model.specs.Revision.{Revision}
 use Rattle.hub_model.specs.Row.{ChangeRow}
 use Rattle.hub_model.specs.RightlyHanded.{ChangeItem, Fits}
+use Rattle.hub_model.specs.RowKind.{change_rows}
 use Rattle.hub_model.specs.declared.outcomes.Outcome.{Outcome}
 use Rattle.hub_model.specs.declared.outcomes.Outcome.TheVariants.{Stored, Known, Refused}
 use Rattle.hub_model.proofs.Fitting.{fits_grows, fits_close}
 use Rattle.hub_document.specs.declared.doc.Doc.{Doc}
 use Rattle.hub_database.specs.Database.{Database}
 use Rattle.hub_database.specs.Edits.{stores_doc, draft_of, edit_of, writes}
-use Rattle.hub_database.specs.Feeds.{ended, deleted}
+use Rattle.hub_database.specs.Feeds.{deleted}
+use Rattle.hub_feed.specs.Feeds.{ended}
 use Rattle.hub_database.specs.Handing.{IsFitting}
 use Rattle.hub_database.specs.Hosting.{hosted_of}
 use Rattle.hub_shared.specs.Locked.{FeedSender, IsServed, AreSendersOf}
@@ -138,7 +140,7 @@ senders_stay old new senders legal more same next d = record {
 }
   where
     keeps : (f : Feed) (items : List ChangeItem) → FitsIn old f items → FitsIn new f items
-    keeps f items h = record { legal = legal; fits = subst (λ (J : List Edit). Fits J f items) (sym more.1) (fits_grows old.journal more.0 f items h.fits) }
+    keeps f items h = record { legal = legal; fits = subst (λ (J : List Edit). Fits change_rows J f items) (sym more.1) (fits_grows change_rows old.journal more.0 f items h.fits) }
 
 entry_ended : (n : ℕ) (feeds : List (ℕ × Feed)) → entry_in n (map ended feeds) ≡ option_map end (entry_in n feeds)
 entry_ended n [] = refl
@@ -162,5 +164,5 @@ senders_end old senders d = record {
     ends (Some f) (Some s) i = record {
       asks = i.asks ∙ sym (end_keeps f).0;
       begins = i.begins ∙ sym (end_keeps f).1;
-      list = record { legal = i.list.legal; fits = fits_close old.journal f s.sent i.list.fits };
+      list = record { legal = i.list.legal; fits = fits_close change_rows old.journal f s.sent i.list.fits };
     }

@@ -4,6 +4,7 @@
 
 mod label;
 mod locked;
+mod note;
 mod receipt;
 mod senders;
 #[cfg(test)]

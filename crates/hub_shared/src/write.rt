@@ -5,6 +5,7 @@ ghost use Rattle.hub_model.specs.Entries.{entry_in};
 ghost use Rattle.hub_model.specs.Feed.{Feed};
 ghost use Rattle.hub_model.specs.Journal.{IsLegal};
 ghost use Rattle.hub_model.specs.RightlyHanded.{RightlyHanded};
+ghost use Rattle.hub_model.specs.RowKind.{change_rows};
 ghost use Rattle.hub_model.specs.Row.{ChangeRow};
 ghost use Rattle.hub_model.specs.declared.outcomes.Fault.TheVariants.{Deleted, SequenceFull};
 ghost use Rattle.hub_params.specs.FeedModel.{params_in};
@@ -41,7 +42,7 @@ impl Locked<DbState> {
             → (params_in s.label.asked ≡ f.params) × (s.label.since ≡ f.since) }
         ensures right { (number : ℕ) (f : Feed) (s : FeedSender ChangeRow)
             → entry_in number self.now.state.feeds ≡ Some f → entry_in number self.now.senders ≡ Some s
-            → RightlyHanded self.now.state.journal f s.sent }
+            → RightlyHanded change_rows self.now.state.journal f s.sent }
         ensures served { (number : ℕ) (f : Feed) → entry_in number self.now.state.feeds ≡ Some f
             → (s : FeedSender ChangeRow) × (entry_in number self.now.senders ≡ Some s) }
     {

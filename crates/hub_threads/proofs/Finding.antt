@@ -2,7 +2,7 @@
 use Rattle.std.proofs.Common.{◌≡◌, ◌∙◌, sym, ℕ, ◌≤◌, length, Bool, true, arith}
 use Rattle.hub_model.specs.Journal.{IsLegal}
 use Rattle.hub_database.specs.Database.{Database}
-use Rattle.hub_threads.specs.Handles.{HandleState, IsFoundBy}
+use Rattle.hub_threads.specs.Handles.{IsFoundBy}
 
 -- the book's total is between
 pub found_by : (counts : Bool) (all_parts parts amount total : ℕ) (db : Database) → IsLegal db.journal

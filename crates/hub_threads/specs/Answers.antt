@@ -1,5 +1,5 @@
 -- What a database answers to a question (CouchDB API reference: documents, GET /{db}, _revs_diff, _changes).
-use Rattle.std.specs.Prelude.{◌≡◌, ℕ, List, [], Option, option_map, string_bytes, IsSome}
+use Rattle.std.specs.Prelude.{◌≡◌, ℕ, List, [], option_map, string_bytes, IsSome}
 use Rattle.hub_model.specs.Descending.{descending}
 use Rattle.hub_model.specs.Missing.{diffs}
 use Rattle.hub_params.specs.FeedModel.{params_of}

@@ -1,6 +1,6 @@
 -- What a handle on a database knows of it (own).
-use Rattle.std.specs.Prelude.{◌≡◌, ◌⊎◌, ℕ, ◌≤◌, ◌<◌, List, length, take, min, Bool, true, false, IsTrue}
-use Rattle.hub_model.specs.Journal.{Edit, IsLegal}
+use Rattle.std.specs.Prelude.{◌≡◌, ℕ, ◌≤◌, ◌<◌, List, length, take, min, Bool, true, false, IsTrue}
+use Rattle.hub_model.specs.Journal.{IsLegal}
 use Rattle.hub_model.specs.declared.feeds.Since.{Since}
 use Rattle.hub_model.specs.declared.feeds.Since.TheVariants.{From, Now}
 use Rattle.hub_document.specs.declared.doc.Doc.{Doc}

@@ -1,54 +1,67 @@
-//! Feeds of a database that threads share.
+//! Feeds of what threads share.
 
 ghost use Rattle.std.specs.Prelude.{◌≡◌, IfSome, IfNone};
-ghost use Rattle.hub_database.specs.Handing.{IsRightFor};
 ghost use Rattle.hub_lane.specs.Ends.{IsAllowedBeginning, behind_take};
 ghost use Rattle.hub_params.specs.FeedModel.{params_in};
 
-use crate::count::Count;
-use crate::db::Db;
-use crate::guarded::{ChangeItem, ChangeLabel};
+use crate::guarded::Guarded;
+use crate::host::{Host, Pumped};
 use crate::signals::Signals;
-use hub_feed::FeedId;
+use hub_database::DbState;
+use hub_document::ChangeRow;
+use hub_feed::{FeedHost, FeedId};
 use hub_lane::{Asks, Receiver};
+use hub_model::Item;
+use hub_shared::FeedLabel;
 use std::alloc::Global;
-use std::marker::Model;
+use std::marker::{Model, PhantomData};
 use std::sync::{Arc, Wait};
 
-/// A feed of a database, as the connection has it that shows it. It is finished by `finish`: one that
-/// is let go otherwise stays among the database's feeds.
+/// The label of a feed of changes.
+pub type ChangeLabel = FeedLabel<DbState>;
+
+/// What a feed of changes hands.
+pub type ChangeItem = Item<ChangeRow>;
+
+/// A feed of a database.
+pub type Feed<C> = HostFeed<DbState, Guarded<C>>;
+
+/// A feed of what threads share, as the connection has it that shows it. It is finished by `finish`: one
+/// that is let go otherwise stays among the feeds of its host.
 #[derive(Drop)]
-pub struct Feed<C: Count> {
-    db: Db<C>,
+pub struct HostFeed<S: FeedHost, G: Pumped<S>> {
+    host: Host<G>,
     id: FeedId,
-    receiver: Receiver<ChangeLabel, ChangeItem>,
+    receiver: Receiver<FeedLabel<S>, Item<S::Row>>,
     signals: Arc<Signals, Global>,
+    of: PhantomData<S>,
 }
 
-impl<C: Count> Model for Feed<C> {
-    ghost use Rattle.hub_model.specs.RightlyHanded.{ChangeItem as Handed};
+impl<S: FeedHost, G: Pumped<S>> Model for HostFeed<S, G> {
+    ghost use Rattle.hub_model.specs.declared.feeds.Item.{Item as Handed};
     ghost use Rattle.hub_lane.specs.Ends.{ReceiverState};
     ghost use Rattle.hub_shared.specs.Label.{Label};
 
-    ghost Value = { ReceiverState Label Handed };
+    ghost Value = { ReceiverState Label (Handed S.Row) };
 
     ghost view = { λ a. a.receiver };
 }
 
-impl<C: Count> Feed<C> {
+impl<S: FeedHost, G: Pumped<S>> HostFeed<S, G> {
     pub(crate) fn new(
-        db: Db<C>,
+        host: Host<G>,
         id: FeedId,
-        receiver: Receiver<ChangeLabel, ChangeItem>,
+        receiver: Receiver<FeedLabel<S>, Item<S::Row>>,
         signals: Arc<Signals, Global>,
-    ) -> Feed<C>
+    ) -> HostFeed<S, G>
         ensures { result ≡ receiver }
     {
-        Feed {
-            db,
+        HostFeed {
+            host,
             id,
             receiver,
             signals,
+            of: PhantomData,
         }
     }
 
@@ -61,12 +74,12 @@ impl<C: Count> Feed<C> {
     /// list that is rightly handed, with the parameters and the since of the label. There is none where the
     /// lane was empty at a moment of the call: then a pump that waits for room is woken. It waits for
     /// nobody, and takes no memory.
-    pub fn take<R: Asks<ChangeLabel, ChangeItem>>(&mut self, rt: &R) -> Option<ChangeItem>
+    pub fn take<R: Asks<FeedLabel<S>, Item<S::Row>>>(&mut self, rt: &R) -> Option<Item<S::Row>>
         ensures taken { IfSome result (λ item. self.new ≡ behind_take self.old item) }
         ensures same { IfNone result (self.new ≡ self.old) }
         ensures none { IfNone result (R.lacks rt.now self.old) }
         ensures allowed { IsAllowedBeginning
-            (λ l items. IsRightFor (params_in l.asked) l.since items) self.new }
+            (λ l items. S.right (params_in l.asked) l.since items) self.new }
     {
         let item = self.receiver.take(rt);
         if item.is_none() {
@@ -88,17 +101,18 @@ impl<C: Count> Feed<C> {
 
     /// Takes the feed out of the lock, drops its sender, and hands the receiver back, from which what
     /// is left can be taken until None. A pump of the feed ends. It takes no memory.
-    pub fn finish<R: Wait>(self, rt: &R) -> Receiver<ChangeLabel, ChangeItem>
+    pub fn finish<R: Wait>(self, rt: &R) -> Receiver<FeedLabel<S>, Item<S::Row>>
         ensures { result ≡ self }
     {
-        let Feed {
-            db,
+        let HostFeed {
+            host,
             id,
             receiver,
             signals,
+            of: _,
         } = self;
-        db.guarded().lock(rt).finish(id);
-        db.tell();
+        host.guarded().lock(rt).finish(id);
+        host.tell();
         signals.ring_room();
         receiver
     }

@@ -16,48 +16,27 @@ ghost use Rattle.hub_threads.specs.Answers.{TakesMemory};
 ghost use Rattle.hub_threads.specs.Handles.{IsBeginningFor, IsFoundBy, IsReadBy, IsWrittenBy};
 
 use crate::count::Count;
+use crate::feed::{ChangeItem, ChangeLabel};
+use crate::host::Pumped;
 use crate::question::{Answer, Question, answer_of};
+use crate::served::{OpenedFeed, Served};
 use crate::signals::Signals;
 use hub_database::{DbFault, DbState};
-use hub_document::{ChangeRow, Doc, Limits, LocalDoc};
-use hub_feed::{FeedHost, FeedId, OpenFault};
-use hub_lane::{Asks, Receiver};
-use hub_model::Item;
+use hub_document::{Doc, Limits, LocalDoc};
+use hub_feed::{FeedId, OpenFault};
+use hub_lane::Asks;
 use hub_params::FeedParams;
-use hub_shared::{
-    Accepted, FeedLabel, Handed, Locked, Receipt, ReceiptRoom, WrongReceipt, audit_of,
-};
+use hub_shared::{Accepted, Handed, Receipt, ReceiptRoom, WrongReceipt, audit_of};
 use std::alloc::{AllocError, Global};
 use std::marker::Model;
 use std::sync::Arc;
 
-/// The label of a feed of changes.
-pub type ChangeLabel = FeedLabel<DbState>;
-
-/// What a feed of changes hands.
-pub type ChangeItem = Item<ChangeRow>;
-
-/// A feed that was opened.
-#[derive(Drop)]
-pub(crate) struct OpenedFeed {
-    pub(crate) id: FeedId,
-    pub(crate) receiver: Receiver<ChangeLabel, ChangeItem>,
-    pub(crate) signals: Arc<Signals, Global>,
-}
-
 /// A database with the senders of its feeds, and the book of what was accepted: whenever it is got
 /// from the lock, the book's total is the length of the journal, where there is a count.
 #[derive(Drop)]
-pub(crate) struct Guarded<C: Count> {
-    locked: Locked<DbState>,
+pub struct Guarded<C: Count> {
+    served: Served<DbState>,
     book: C::Book,
-    alloc: Global,
-    /// The signals of the feeds that are not finished.
-    signals: Vec<(FeedId, Arc<Signals, Global>)>,
-    /// How many items a feed is handed in one holding at most.
-    hold: u64,
-    /// Another number after each write, deletion and end of a feed.
-    news: u64,
 }
 
 impl<C: Count> Model for Guarded<C> {
@@ -68,10 +47,10 @@ impl<C: Count> Model for Guarded<C> {
 
     ghost Value = { LockedState Database Row };
 
-    ghost view = { λ a. a.locked };
+    ghost view = { λ a. a.served };
 
-    ghost invariant = { λ a. (C.total a.book ≤ length a.locked.state.journal)
-        × (C.counts ≡ true → C.total a.book ≡ length a.locked.state.journal) };
+    ghost invariant = { λ a. (C.total a.book ≤ length a.served.state.journal)
+        × (C.counts ≡ true → C.total a.book ≡ length a.served.state.journal) };
 }
 
 impl<C: Count> Guarded<C> {
@@ -80,25 +59,14 @@ impl<C: Count> Guarded<C> {
         requires { C.total book ≡ 0 }
     {
         Guarded {
-            locked: Locked::new(alloc, DbState::new(alloc, limits), limits.lane as usize),
+            served: Served::new(
+                alloc,
+                DbState::new(alloc, limits),
+                limits.lane as usize,
+                limits.hold,
+            ),
             book,
-            alloc,
-            signals: Vec::new(alloc),
-            hold: limits.hold,
-            news: 0,
         }
-    }
-
-    /// Another number after each write, deletion and end of a feed.
-    pub(crate) fn news(&self) -> u64 {
-        self.news
-    }
-
-    // There is something that a pump may wait for.
-    fn tell(&mut self)
-        ensures { self.new ≡ self.old }
-    {
-        self.news = self.news.wrapping_add(1);
     }
 
     /// Writes into the room that was made for the receipts, and counts what was accepted. Beside what
@@ -122,11 +90,11 @@ impl<C: Count> Guarded<C> {
             × (C.amount share.new ≡ C.amount share.old) × (0 < length docs.items)) }
     {
         C::audit(&mut self.book, share);
-        let _legal = self.locked.state().update_seq();
-        let accepted = self.locked.write_into(room, docs, new_edits)?;
+        let _legal = self.served.locked.state().update_seq();
+        let accepted = self.served.locked.write_into(room, docs, new_edits)?;
         let rise = C::add(&mut self.book, share, accepted.receipts.len() as u64);
-        let _within = self.locked.state().update_seq();
-        self.tell();
+        let _within = self.served.locked.state().update_seq();
+        self.served.tell();
         Ok((accepted, rise))
     }
 
@@ -146,8 +114,8 @@ impl<C: Count> Guarded<C> {
             × (C.parts share.new ≡ C.parts share.old) }
     {
         C::audit(&mut self.book, share);
-        let _legal = self.locked.state().update_seq();
-        answer_of(self.alloc, self.locked.state(), question)
+        let _legal = self.served.locked.state().update_seq();
+        answer_of(self.served.alloc, self.served.locked.state(), question)
     }
 
     /// Stores a local document, as `DbState::local_put`.
@@ -155,7 +123,7 @@ impl<C: Count> Guarded<C> {
         ensures ok { IfOk result (λ count. (self.old.state.deleted ≡ false)
             × (count ≡ (written self.old.state.locals doc).count)) }
     {
-        self.locked.local_put(doc)
+        self.served.locked.local_put(doc)
     }
 
     /// Opens a feed, as `Locked::begin`, with signals of its own.
@@ -163,7 +131,7 @@ impl<C: Count> Guarded<C> {
         &mut self,
         share: &mut C::Share,
         params: FeedParams,
-    ) -> Result<OpenedFeed, OpenFault>
+    ) -> Result<OpenedFeed<DbState>, OpenFault>
         ensures asks { IfOk result (λ opened. opened.receiver.label.asked ≡ params_asked params) }
         ensures begins { IfOk result (λ opened.
             IsBeginningFor params.since (C.amount share.old) opened.receiver.label.since) }
@@ -172,32 +140,7 @@ impl<C: Count> Guarded<C> {
         ensures same { (C.amount share.new ≡ C.amount share.old) × (C.parts share.new ≡ C.parts share.old) }
     {
         C::audit(&mut self.book, share);
-        if let Some(fault) = self.locked.state().refusal() {
-            return Err(fault);
-        }
-        let (Ok((own, signals)), Ok(())) = (
-            Signals::shared(self.alloc, &params),
-            self.signals.try_reserve(1),
-        ) else {
-            return Err(OpenFault::NoMemory);
-        };
-        let (id, receiver) = self.locked.begin(params)?;
-        self.signals.push_reserved((id, own));
-        Ok(OpenedFeed {
-            id,
-            receiver,
-            signals,
-        })
-    }
-
-    /// The signals of a feed, if there is one of this number. A look at each feed.
-    pub(crate) fn signals(&self, feed: FeedId) -> Result<Option<Arc<Signals, Global>>, AllocError> {
-        for entry in &self.signals {
-            if entry.0 == feed {
-                return Ok(Some(Arc::try_clone(&entry.1)?));
-            }
-        }
-        Ok(None)
+        self.served.begin(params)
     }
 
     /// Compares receipts with the journal, by `audit_of`.
@@ -213,8 +156,8 @@ impl<C: Count> Guarded<C> {
             × (C.parts share.new ≡ C.parts share.old) }
     {
         C::audit(&mut self.book, share);
-        let _legal = self.locked.state().update_seq();
-        audit_of(self.locked.state(), receipts)
+        let _legal = self.served.locked.state().update_seq();
+        audit_of(self.served.locked.state(), receipts)
     }
 
     /// Shows that a share has counted no more than there may be edits. Nothing changes.
@@ -224,66 +167,7 @@ impl<C: Count> Guarded<C> {
             × (C.parts share.new ≡ C.parts share.old) }
     {
         C::audit(&mut self.book, share);
-        let _within = self.locked.state().update_seq();
-    }
-
-    // Hands the feed's next item, as `Locked::hand`.
-    fn hand<R: Asks<ChangeLabel, ChangeItem>>(
-        &mut self,
-        rt: &R,
-        feed: FeedId,
-    ) -> Result<Handed, AllocError>
-        ensures ok { IfOk result (λ handed. Hands hosted_of with_hosted (R.refuses rt.now)
-            (answered (hosted_of self.old.state) feed.number) self.old feed.number handed self.new) }
-        ensures err { OnErr result ((self.new ≡ self.old)
-            × IsRowDue (due_to (hosted_of self.old.state) feed.number)) }
-    {
-        self.locked.hand(rt, feed)
-    }
-
-    /// Hands until an answer is not a row, or as many items as may be were sent in one holding: the
-    /// last answer, and how many items were sent.
-    pub(crate) fn hand_on<R: Asks<ChangeLabel, ChangeItem>>(
-        &mut self,
-        rt: &R,
-        feed: FeedId,
-    ) -> Result<(Handed, u64), AllocError> {
-        for sent in 0..self.hold {
-            match self.hand(rt, feed)? {
-                Handed::Row => {}
-                Handed::End => return Ok((Handed::End, sent + 1)),
-                last => return Ok((last, sent)),
-            }
-        }
-        Ok((Handed::Row, self.hold))
-    }
-
-    /// Sends a heartbeat that is due, as `Locked::beat`.
-    pub(crate) fn beat<R: Asks<ChangeLabel, ChangeItem>>(&mut self, rt: &R, feed: FeedId) -> Handed
-        ensures { Beats (R.refuses rt.now) (is_beat_due (entry_in feed.number self.old.state.feeds))
-            self.old feed.number result self.new }
-    {
-        self.locked.beat(rt, feed)
-    }
-
-    /// A feed's time without an item is over.
-    pub(crate) fn expire(&mut self, feed: FeedId)
-        ensures { self.new ≡ stepped hosted_of with_hosted self.old (λ h. expired h feed.number) }
-    {
-        self.locked.expire(feed);
-    }
-
-    /// Forgets a feed, with its sender and its signals.
-    pub(crate) fn finish(&mut self, feed: FeedId)
-        ensures { self.new
-            ≡ record (stepped hosted_of with_hosted self.old (λ h. finished h feed.number)) {
-              senders = without feed.number self.old.senders;
-            } }
-    {
-        let sender = self.locked.finish(feed);
-        drop(sender);
-        self.signals.retain(|kept| kept.0.number != feed.number);
-        self.tell();
+        let _within = self.served.locked.state().update_seq();
     }
 
     /// Deletes the database.
@@ -293,7 +177,43 @@ impl<C: Count> Guarded<C> {
         ensures err { IfErr result (λ e. (self.old.state.deleted ≡ true)
             × (e ≡ DbFault.Refused Deleted) × (self.new ≡ self.old)) }
     {
-        self.tell();
-        self.locked.delete()
+        self.served.tell();
+        self.served.locked.delete()
+    }
+}
+
+impl<C: Count> Pumped<DbState> for Guarded<C> {
+    ghost locked = { λ a. a };
+
+    fn news(&self) -> u64 {
+        self.served.news()
+    }
+
+    fn signals(&self, feed: FeedId) -> Result<Option<Arc<Signals, Global>>, AllocError> {
+        self.served.signals(feed)
+    }
+
+    fn most(&self) -> u64 {
+        self.served.most()
+    }
+
+    fn hand<R: Asks<ChangeLabel, ChangeItem>>(
+        &mut self,
+        rt: &R,
+        feed: FeedId,
+    ) -> Result<Handed, AllocError> {
+        self.served.hand(rt, feed)
+    }
+
+    fn beat<R: Asks<ChangeLabel, ChangeItem>>(&mut self, rt: &R, feed: FeedId) -> Handed {
+        self.served.beat(rt, feed)
+    }
+
+    fn expire(&mut self, feed: FeedId) {
+        self.served.expire(feed);
+    }
+
+    fn finish(&mut self, feed: FeedId) {
+        self.served.finish(feed);
     }
 }

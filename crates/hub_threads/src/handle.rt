@@ -11,9 +11,9 @@ ghost use Rattle.hub_threads.specs.Handles.{IsBeginningFor, IsFoundBy, IsReadBy,
 
 use crate::count::Count;
 use crate::db::Db;
-use crate::feed::Feed;
-use crate::guarded::OpenedFeed;
+use crate::feed::{Feed, HostFeed};
 use crate::question::{Answer, Question};
+use crate::served::OpenedFeed;
 use hub_database::DbFault;
 use hub_document::{Doc, LocalDoc};
 use hub_feed::OpenFault;
@@ -141,7 +141,7 @@ impl<C: Count> Handle<C> {
             .guarded()
             .lock(rt)
             .open_feed(&mut self.share, params)?;
-        Ok(Feed::new(db, id, receiver, signals))
+        Ok(HostFeed::new(db, id, receiver, signals))
     }
 
     /// Deletes the database. Its feeds come to their ends. It takes no memory, and costs the wait for

@@ -1,5 +1,5 @@
-//! Databases that threads share: a database behind a lock, handles on it that count what was
-//! accepted through them, and feeds, each with the pump that fills its lane.
+//! What threads share: a database behind a lock, with handles on it that count what was accepted through
+//! them, the log of updates behind another, and the feeds of both, each with the pump that fills its lane.
 #![tactic(auto)]
 
 mod count;
@@ -8,19 +8,26 @@ mod feed;
 mod gate;
 mod guarded;
 mod handle;
+mod host;
 #[cfg(test)]
 mod ledger_tests;
 mod pumping;
 mod question;
+mod served;
 mod signals;
 #[cfg(test)]
 mod tests;
 mod times;
+mod updates;
 
 pub use count::{Count, Counted, NoCount, Plain};
 pub use db::Db;
-pub use feed::Feed;
+pub use feed::{ChangeItem, ChangeLabel, Feed, HostFeed};
 pub use gate::{Clock, Gate, Point};
+pub use guarded::Guarded;
 pub use handle::Handle;
+pub use host::{Host, Pumped};
 pub use pumping::{Turn, hold, pump};
 pub use question::{Answer, Question, answer_of};
+pub use served::Served;
+pub use updates::{Updates, UpdatesFeed};

@@ -1,15 +1,15 @@
 //! The pumps of feeds.
 
-use crate::count::Count;
-use crate::db::Db;
 use crate::gate::{Clock, Gate, Point};
-use crate::guarded::{ChangeItem, ChangeLabel};
+use crate::host::{Host, Pumped};
 use crate::signals::Signals;
 use crate::times::Due;
-use hub_feed::FeedId;
+use hub_feed::{FeedHost, FeedId};
 use hub_lane::Asks;
-use hub_shared::Handed;
+use hub_model::Item;
+use hub_shared::{FeedLabel, Handed};
 use std::alloc::{AllocError, Global};
+use std::marker::PhantomData;
 use std::sync::{Arc, Wait};
 use std::time;
 
@@ -35,19 +35,44 @@ struct Holding {
     news: u64,
 }
 
-impl<C: Count> Db<C> {
+// Hands until an answer is not a row, or as many items as may be were sent in one holding: the last
+// answer, and how many items were sent.
+fn hand_on<S, H, R>(guarded: &mut H, rt: &R, feed: FeedId) -> Result<(Handed, u64), AllocError>
+where
+    S: FeedHost,
+    H: Pumped<S>,
+    R: Asks<FeedLabel<S>, Item<S::Row>>,
+{
+    let most = guarded.most();
+    for sent in 0..most {
+        match guarded.hand(rt, feed)? {
+            Handed::Row => {}
+            Handed::End => return Ok((Handed::End, sent + 1)),
+            last => return Ok((last, sent)),
+        }
+    }
+    Ok((Handed::Row, most))
+}
+
+impl<H: Drop> Host<H> {
     // One holding of the lock.
-    fn hold_once<R: Asks<ChangeLabel, ChangeItem>, G: Gate>(
+    fn hold_once<S, R, G>(
         &self,
         rt: &R,
         feed: FeedId,
         turn: Turn,
         gate: &G,
-    ) -> Result<Holding, AllocError> {
+    ) -> Result<Holding, AllocError>
+    where
+        S: FeedHost,
+        H: Pumped<S>,
+        R: Asks<FeedLabel<S>, Item<S::Row>>,
+        G: Gate,
+    {
         let mut guarded = self.guarded().lock(rt);
         gate.pass(Point::PumpHolding);
         let (last, sent) = match turn {
-            Turn::Hand => guarded.hand_on(rt, feed)?,
+            Turn::Hand => hand_on(&mut *guarded, rt, feed)?,
             Turn::Beat => (guarded.beat(rt, feed), 0),
             Turn::Expire => {
                 guarded.expire(feed);
@@ -62,11 +87,16 @@ impl<C: Count> Db<C> {
     }
 
     // The signals of a feed, unless it is finished.
-    fn signals<R: Wait>(
+    fn signals<S, R>(
         &self,
         rt: &R,
         feed: FeedId,
-    ) -> Result<Option<Arc<Signals, Global>>, AllocError> {
+    ) -> Result<Option<Arc<Signals, Global>>, AllocError>
+    where
+        S: FeedHost,
+        H: Pumped<S>,
+        R: Wait,
+    {
         self.guarded().lock(rt).signals(feed)
     }
 }
@@ -75,29 +105,36 @@ impl<C: Count> Db<C> {
 /// as one holding may, and answers the last; without memory for a row what was handed before it
 /// stays handed. The other turns make one step: both answer `Nothing`, also where there is nothing to
 /// do, and `Turn::Beat` answers `Full` where the lane was full.
-pub fn hold<C: Count, R: Asks<ChangeLabel, ChangeItem>, G: Gate>(
+pub fn hold<S, H, R, G>(
     rt: &R,
-    db: &Db<C>,
+    host: &Host<H>,
     feed: FeedId,
     turn: Turn,
     gate: &G,
-) -> Result<Handed, AllocError> {
-    let holding = db.hold_once(rt, feed, turn, gate)?;
+) -> Result<Handed, AllocError>
+where
+    S: FeedHost,
+    H: Pumped<S>,
+    R: Asks<FeedLabel<S>, Item<S::Row>>,
+    G: Gate,
+{
+    let holding = host.hold_once(rt, feed, turn, gate)?;
     Ok(holding.last)
 }
 
 // What a pump knows between two holdings.
 #[derive(Drop)]
-struct PumpState<'a, C: Count, K: Clock> {
-    db: &'a Db<C>,
+struct PumpState<'a, S: FeedHost, H: Pumped<S>, K: Clock> {
+    host: &'a Host<H>,
     feed: FeedId,
     signals: &'a Signals,
     clock: &'a K,
     /// The clock's reading at the last item, or at the beginning.
     last_item: u64,
+    of: PhantomData<S>,
 }
 
-impl<'a, C: Count, K: Clock> PumpState<'a, C, K> {
+impl<'a, S: FeedHost, H: Pumped<S>, K: Clock> PumpState<'a, S, H, K> {
     // What comes after a turn that found nothing to do: behind a heartbeat or the end of its time the
     // feed is asked again; a feed that had nothing to hand gets one of these, or waits for news.
     fn after_nothing<R: Wait + time::Clock>(&mut self, rt: &R, turn: Turn, news: u64) -> Turn {
@@ -117,7 +154,7 @@ impl<'a, C: Count, K: Clock> PumpState<'a, C, K> {
             Due::Beat => Turn::Beat,
             Due::Expire => Turn::Expire,
             Due::Wait(most) => {
-                self.db.wait_for_news(rt, news, most);
+                self.host.wait_for_news(rt, news, most);
                 Turn::Hand
             }
         }
@@ -126,13 +163,13 @@ impl<'a, C: Count, K: Clock> PumpState<'a, C, K> {
     // Hands until the feed is gone.
     fn run<R, G>(&mut self, rt: &R, gate: &G) -> Result<(), AllocError>
     where
-        R: Asks<ChangeLabel, ChangeItem> + time::Clock,
+        R: Asks<FeedLabel<S>, Item<S::Row>> + time::Clock,
         G: Gate,
     {
         let mut turn = Turn::Hand;
         for _ in rt.forever() {
             gate.pass(Point::PumpFree);
-            let holding = self.db.hold_once(rt, self.feed, turn, gate)?;
+            let holding = self.host.hold_once(rt, self.feed, turn, gate)?;
             if holding.sent > 0 {
                 self.last_item = self.clock.now_ms();
                 self.signals.ring_items();
@@ -156,28 +193,30 @@ impl<'a, C: Count, K: Clock> PumpState<'a, C, K> {
 /// is. It takes the lock for at most as many items as one holding may hand. Where the lane is full it
 /// sleeps until `Feed::take` finds it empty; where there is nothing to hand it sleeps until a write, a
 /// deletion or the end of a feed, and at most until a heartbeat is due, or the feed's time is over.
-pub fn pump<C, R, G, K>(
+pub fn pump<S, H, R, G, K>(
     rt: &R,
-    db: &Db<C>,
+    host: &Host<H>,
     feed: FeedId,
     gate: &G,
     clock: &K,
 ) -> Result<(), AllocError>
 where
-    C: Count,
-    R: Asks<ChangeLabel, ChangeItem> + time::Clock,
+    S: FeedHost,
+    H: Pumped<S>,
+    R: Asks<FeedLabel<S>, Item<S::Row>> + time::Clock,
     G: Gate,
     K: Clock,
 {
-    let Some(signals) = db.signals(rt, feed)? else {
+    let Some(signals) = host.signals(rt, feed)? else {
         return Ok(());
     };
     let mut state = PumpState {
-        db,
+        host,
         feed,
         signals: &signals,
         clock,
         last_item: clock.now_ms(),
+        of: PhantomData,
     };
     let done = state.run(rt, gate);
     signals.end();

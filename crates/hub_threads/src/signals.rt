@@ -11,7 +11,7 @@ use std::thread::Parker;
 /// own, which keeps one ring: a ring that comes before the sleep ends the sleep at once, so none is
 /// lost. Who wakes looks again: a sleep may end for no reason.
 #[derive(Drop)]
-pub(crate) struct Signals {
+pub struct Signals {
     /// How long the feed may be without an item.
     pub(crate) times: Times,
     /// Rung by the pump once it sent items, and as it ends; the connection sleeps on it.

@@ -8,7 +8,7 @@ use hub_params::FeedParams;
 /// How long a feed may be without an item, in milliseconds (CouchDB API reference, `_changes`,
 /// `heartbeat` and `timeout`).
 #[derive(Clone, Copy, Debug, PartialEq, Eq)]
-pub(crate) struct Times {
+pub struct Times {
     /// After this a heartbeat is due; a feed with one has no timeout.
     pub(crate) heartbeat: Option<u64>,
     /// After this the feed's time is over.

@@ -1,16 +1,18 @@
 -- Each feed is faithful to its connection, over every list of events.
 use Rattle.std.proofs.Common.{◌≡◌, ℕ, ◌≤◌, List, [], ◌∷◌, ◌++◌, length, map, take, drop, Bool, true, false, inl, inr, sym, ◌∙◌, ap, subst, refl, append_assoc, arith}
-use Rattle.std.specs.Prelude.{All, Contains, Option, Some, slice_get, ◌==◌, if◌then◌else◌}
+use Rattle.std.specs.Prelude.{All, Contains, IsTrue, Option, Some, slice_get, ◌==◌, if◌then◌else◌}
 use Rattle.std.proofs.Math.Seq.{take-append_seam}
 use Rattle.std.proofs.lemmas.List.{take-append-drop}
 use Rattle.std.proofs.lemmas.List.Elements.{All-contains, All-weaker, Contains-append_left, Contains-append_right}
 use Rattle.std.proofs.lemmas.Option.{same_Some, none-some}
 use Rattle.hub_model.specs.Current.{Current, current}
 use Rattle.hub_model.specs.Feed.{Feed, Due, DueRow, DueEnd, DueNothing, DueGone}
+use Rattle.hub_model.specs.Filter.{passes}
 use Rattle.hub_model.specs.Hand.{due_in, item_of, change_due}
 use Rattle.hub_model.specs.Journal.{Edit}
 use Rattle.hub_model.specs.Row.{ChangeRow, IsRow, row_of}
 use Rattle.hub_model.specs.RightlyHanded.{ChangeItem, rows_of, EndsAt, IsRowOf, RightlyHanded}
+use Rattle.hub_model.specs.RowKind.{change_rows}
 use Rattle.hub_model.specs.declared.feeds.Item.TheVariants.{Row, Beat, End}
 use Rattle.hub_world.specs.World.{Limits, World, Subscription, empty}
 use Rattle.hub_world.specs.Event.{Event, Hand, Heartbeat, Reply, Pushed}
@@ -61,7 +63,7 @@ same_document J n c d p q s =
     let one = same_split y.1.0 x.1.0 (y.1.1 ++ drop n J) x.1.1 y.0 x.0 (omega (arith, x.1.3, y.1.3, s)) whole in
     sym y.2 ∙ (ap (λ (e : Edit). e.id) one.1 ∙ x.2)
 
-row_document : (J : List Edit) (f : Feed) (row : ChangeRow) (c : Current) → IsRowOf J f row → Contains (current J) c → row.seq ≡ c.seq → row.id ≡ c.id
+row_document : (J : List Edit) (f : Feed) (row : ChangeRow) (c : Current) → IsRowOf change_rows J f row → Contains (current J) c → row.seq ≡ c.seq → row.id ≡ c.id
 row_document J f row c r p s =
     let d = r.shown.0 in
     let seq : row.seq ≡ d.seq = ap (λ (x : ChangeRow). x.seq) r.shown.2 in
@@ -116,17 +118,17 @@ rows_in limits before later event f row c =
 
 -- each row is current at its step
 current_at : (limits : Limits) (before later : List Event) (event : Event) (f : ℕ) (feed : Feed) →
-    RightlyHanded (reached limits (before ++ event ∷ later)).journal feed (handed f (before ++ event ∷ later) (replies_to (empty limits) (before ++ event ∷ later))) →
+    RightlyHanded change_rows (reached limits (before ++ event ∷ later)).journal feed (handed f (before ++ event ∷ later) (replies_to (empty limits) (before ++ event ∷ later))) →
     All (IsRow (reached limits before).journal feed.params.style feed.params.include_docs) (rows_of (handed_by f event (answer (reached limits before) event).reply))
 current_at limits before later event f feed right = all_from _ _ (λ row c.
     let old = reached limits before in
     let new = reached limits (before ++ event ∷ later) in
-    let of : IsRowOf new.journal feed row = All-contains (IsRowOf new.journal feed) _ row right.rows (rows_in limits before later event f row c) in
+    let of : IsRowOf change_rows new.journal feed row = All-contains (IsRowOf change_rows new.journal feed) _ row right.rows (rows_in limits before later event f row c) in
     let more = run_adds old (event ∷ later) (replies_to old (event ∷ later)) (after old (event ∷ later)) (runs old (event ∷ later)) in
     let seen : row.seen ≡ length old.journal = step_seen old event _ _ f row (is_answered old event) c in
     let journal : new.journal ≡ old.journal ++ more.0 = ap (λ (w : World). w.journal) (after-append (empty limits) before (event ∷ later)) ∙ more.1 in
     let front : take row.seen new.journal ≡ old.journal = ap (λ (n : ℕ). take n new.journal) seen ∙ (ap (take (length old.journal)) journal ∙ take-append_seam old.journal more.0) in
-    subst (λ (J : List Edit). IsRow J feed.params.style feed.params.include_docs row) front of.shown)
+    subst (λ (J : List Edit). IsRow J feed.params.style feed.params.include_docs row) front (of.shown.0, of.shown.1, of.shown.2))
 
 -- the reply at the place of an event is its answer
 reply_at : (w : World) (before later : List Event) (event : Event) → slice_get (replies_to w (before ++ event ∷ later)) (length before) ≡ Some (answer (after w before) event).reply
@@ -139,19 +141,19 @@ faithful limits events f s e =
     let w = reached limits events in
     let replies = replies_to (empty limits) events in
     let items = handed f events replies in
-    let right : RightlyHanded w.journal s.feed items = subst (λ (o : Option Subscription). IsRight w.journal o items) e (hands_rightly limits events _ w f run) in
+    let right : RightlyHanded change_rows w.journal s.feed items = subst (λ (o : Option Subscription). IsRight w.journal o items) e (hands_rightly limits events _ w f run) in
     record {
       prefix = takes_in_order limits events _ w f run;
       rising = λ i k d a b. (right.rising i k d a b).rises;
       at_step = λ before later event reply same there.
-          let right_of = subst (λ (es : List Event). RightlyHanded (reached limits es).journal s.feed (handed f es (replies_to (empty limits) es))) same right in
+          let right_of = subst (λ (es : List Event). RightlyHanded change_rows (reached limits es).journal s.feed (handed f es (replies_to (empty limits) es))) same right in
           let answered : Some reply ≡ Some (answer (reached limits before) event).reply = sym there ∙ (ap (λ (es : List Event). slice_get (replies_to (empty limits) es) (length before)) same ∙ reply_at (empty limits) before later event) in
           subst (λ (r : Reply). All (IsRow (reached limits before).journal s.feed.params.style s.feed.params.include_docs) (rows_of (handed_by f event r))) (sym (same_Some _ _ answered)) (current_at limits before later event f s.feed right_of);
-      passing = All-weaker (IsRowOf w.journal s.feed) _ (λ row r. r.passes) (rows_of items) right.rows;
-      below = λ last n c. let at = ends_place s.feed.place items last n right.ends c in All-weaker (IsRowOf w.journal s.feed) (λ (row : ChangeRow). row.seq ≤ last) (λ row r. omega (arith, r.reached, at)) (rows_of items) right.rows;
+      passing = All-weaker (IsRowOf change_rows w.journal s.feed) _ (λ row r. subst (λ (x : ChangeRow). IsTrue (passes s.feed.params.filter x.id)) (sym r.shown.2) r.shown.3) (rows_of items) right.rows;
+      below = λ last n c. let at = ends_place s.feed.place items last n right.ends c in All-weaker (IsRowOf change_rows w.journal s.feed) (λ (row : ChangeRow). row.seq ≤ last) (λ row r. omega (arith, r.reached, at)) (rows_of items) right.rows;
       last = λ before later last n same. ends_last s.feed.place before later last n (subst (EndsAt s.feed.place) same right.ends);
       whole = λ c in_rows q a z.
           let found = row_at (rows_of items) c.seq (right.whole c in_rows q a z) in
-          (found.0, found.1, found.2, row_document w.journal s.feed found.0 c (All-contains (IsRowOf w.journal s.feed) _ found.0 right.rows found.1) in_rows found.2);
+          (found.0, found.1, found.2, row_document w.journal s.feed found.0 c (All-contains (IsRowOf change_rows w.journal s.feed) _ found.0 right.rows found.1) in_rows found.2);
       right = right;
     }

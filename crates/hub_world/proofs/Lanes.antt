@@ -9,6 +9,7 @@ use Rattle.hub_model.specs.Hand.{change_due}
 use Rattle.hub_model.specs.declared.feeds.Item.TheVariants.{Beat}
 use Rattle.hub_model.specs.Journal.{Edit}
 use Rattle.hub_model.specs.RightlyHanded.{ChangeItem, Fits}
+use Rattle.hub_model.specs.RowKind.{change_rows}
 use Rattle.hub_world.specs.Laws.{IsRight, FitsIn, TakesInOrder, HoldsTheRest, HandsRightly, KeepsFitting}
 use Rattle.hub_world.specs.World.{Limits, World, Subscription, subscription, empty, is_finished}
 use Rattle.hub_world.specs.Event.{Event, Reply}
@@ -20,19 +21,19 @@ use Rattle.hub_world.proofs.Kept.{IsKept, In, step_keeps, run_keeps}
 
 -- the fitting alone
 FitsAlone : List Edit → Subscription → List ChangeItem → List ChangeItem → Type 0
-FitsAlone J s h t = Fits J s.feed h
+FitsAlone J s h t = Fits change_rows J s.feed h
 
 fitting_kept : IsKept FitsAlone
 unfolding FitsAlone
 fitting_kept = record {
-  grows = λ J es s h t q. fits_grows J es s.feed h q;
-  begins = λ J params. fits_begin J params;
-  hands = λ J s h t item d q. fits_handed J s.feed h item d q;
-  beats = λ J s h t d q. fits_beat J s.feed h d q;
-  waits = λ J s h t d q. fits_nothing J s.feed h d q;
-  expires = λ J s h t q. fits_expire J s.feed h q;
-  ends = λ J s h t q. fits_close J s.feed h q;
-  finishes = λ J s h t q. fits_finish J s.feed h q;
+  grows = λ J es s h t q. fits_grows change_rows J es s.feed h q;
+  begins = λ J params. fits_begin change_rows J params;
+  hands = λ J s h t item d q. fits_handed change_rows J s.feed h item d q;
+  beats = λ J s h t d q. fits_beat change_rows J s.feed h d q;
+  waits = λ J s h t d q. fits_nothing change_rows J s.feed h d q;
+  expires = λ J s h t q. fits_expire change_rows J s.feed h q;
+  ends = λ J s h t q. fits_close change_rows J s.feed h q;
+  finishes = λ J s h t q. fits_finish change_rows J s.feed h q;
   takes = λ J s h t item items e q. q;
 }
 
@@ -52,7 +53,7 @@ keeps_fitting old new event reply f items m i =
 
 -- what was taken, then what the lane has, is what was handed, but for what a finished feed's lane had
 record Told (J : List Edit) (s : Subscription) (h t : List ChangeItem) : Type 0 where
-  pub fits : Fits J s.feed h
+  pub fits : Fits change_rows J s.feed h
   pub dropped : List ChangeItem
   pub in_order : t ++ (s.lane ++ dropped) ≡ h
   pub none : is_finished s.feed.status ≡ false → dropped ≡ []
@@ -89,24 +90,24 @@ goes_in t lane dropped h item d e =
 
 told_kept : IsKept Told
 told_kept = record {
-  grows = λ J es s h t q. record { fits = fits_grows J es s.feed h q.fits; dropped = q.dropped; in_order = q.in_order; none = q.none };
-  begins = λ J params. record { fits = fits_begin J params; dropped = []; in_order = refl; none = λ e. refl };
+  grows = λ J es s h t q. record { fits = fits_grows change_rows J es s.feed h q.fits; dropped = q.dropped; in_order = q.in_order; none = q.none };
+  begins = λ J params. record { fits = fits_begin change_rows J params; dropped = []; in_order = refl; none = λ e. refl };
   hands = λ J s h t item d q. record {
-    fits = fits_handed J s.feed h item d q.fits;
+    fits = fits_handed change_rows J s.feed h item d q.fits;
     dropped = [];
     in_order = goes_in t s.lane q.dropped h item (q.none (due_unfinished J s item d)) q.in_order;
     none = λ e. refl;
   };
   beats = λ J s h t d q. record {
-    fits = fits_beat J s.feed h d q.fits;
+    fits = fits_beat change_rows J s.feed h d q.fits;
     dropped = [];
     in_order = goes_in t s.lane q.dropped h Beat (q.none (open_stands s.feed.status (and_parts _ _ d).0)) q.in_order;
     none = λ e. refl;
   };
-  waits = λ J s h t d q. record { fits = fits_nothing J s.feed h d q.fits; dropped = q.dropped; in_order = q.in_order; none = q.none };
-  expires = λ J s h t q. record { fits = fits_expire J s.feed h q.fits; dropped = q.dropped; in_order = q.in_order; none = λ e. q.none (expire_unfinished s.feed e) };
-  ends = λ J s h t q. record { fits = fits_close J s.feed h q.fits; dropped = q.dropped; in_order = q.in_order; none = λ e. q.none (end_unfinished s.feed e) };
-  finishes = λ J s h t q. record { fits = fits_finish J s.feed h q.fits; dropped = s.lane ++ q.dropped; in_order = q.in_order; none = λ e. absurd (cc) };
+  waits = λ J s h t d q. record { fits = fits_nothing change_rows J s.feed h d q.fits; dropped = q.dropped; in_order = q.in_order; none = q.none };
+  expires = λ J s h t q. record { fits = fits_expire change_rows J s.feed h q.fits; dropped = q.dropped; in_order = q.in_order; none = λ e. q.none (expire_unfinished s.feed e) };
+  ends = λ J s h t q. record { fits = fits_close change_rows J s.feed h q.fits; dropped = q.dropped; in_order = q.in_order; none = λ e. q.none (end_unfinished s.feed e) };
+  finishes = λ J s h t q. record { fits = fits_finish change_rows J s.feed h q.fits; dropped = s.lane ++ q.dropped; in_order = q.in_order; none = λ e. absurd (cc) };
   takes = λ J s h t item items e q. record {
     fits = q.fits;
     dropped = q.dropped;

@@ -6,7 +6,8 @@ use Rattle.std.proofs.lemmas.List.{length-set, length_push, length-map}
 use Rattle.std.proofs.lemmas.List.Elements.{All-map, All-push, All-set}
 use Rattle.std.proofs.lemmas.Option.{none-some, same_Some, slice_get_within, get_or_from_slice_get}
 use Rattle.hub_database.proofs.ListLemmas.{set_back}
-use Rattle.hub_database.specs.Feeds.{deleted, ended as ended_entry}
+use Rattle.hub_database.specs.Feeds.{deleted}
+use Rattle.hub_feed.specs.Feeds.{ended as ended_entry}
 use Rattle.hub_database.specs.Hosting.{hosted_of, with_hosted}
 use Rattle.hub_feed.specs.Host.{opened, is_full}
 use Rattle.hub_model.specs.Feed.{Feed, Params, Status, Open, Ending, Ended, Finished, begin, is_open, waits, finish}

@@ -5,6 +5,7 @@ use Rattle.hub_model.specs.Current.{Current, current}
 use Rattle.hub_model.specs.Filter.{passes}
 use Rattle.hub_model.specs.Row.{ChangeRow, IsRow}
 use Rattle.hub_model.specs.RightlyHanded.{ChangeItem, RightlyHanded, rows_of}
+use Rattle.hub_model.specs.RowKind.{change_rows}
 use Rattle.hub_model.specs.declared.feeds.Item.TheVariants.{End}
 use Rattle.hub_world.specs.World.{Limits, World, Subscription, subscription, empty}
 use Rattle.hub_world.specs.Event.{Event, Reply}
@@ -55,7 +56,7 @@ pub record IsFaithful (limits : Limits) (events : List Event) (replies : List Re
       × (row.id ≡ c.id)
   -- beside the sentence: rows lie above since and not above the place or a bound, `seen` never falls, an End
   -- names the place, there are no more rows than the limit says, and heartbeats only where one was asked for
-  pub right : RightlyHanded (reached limits events).journal s.feed (handed f events replies)
+  pub right : RightlyHanded change_rows (reached limits events).journal s.feed (handed f events replies)
 
 -- over every list of events each feed is faithful
 abbrev pub Headline : Type 0

@@ -2,6 +2,7 @@
 use Rattle.std.specs.Prelude.{◌≡◌, ◌↔◌, ℕ, ◌≤◌, List, [], ◌++◌, length, false, Option, Some, None}
 use Rattle.hub_model.specs.Journal.{Edit, IsLegal}
 use Rattle.hub_model.specs.RightlyHanded.{ChangeItem, RightlyHanded, Fits}
+use Rattle.hub_model.specs.RowKind.{change_rows}
 use Rattle.hub_world.specs.World.{Limits, World, Subscription, subscription, empty, is_finished}
 use Rattle.hub_world.specs.Event.{Event, Reply}
 use Rattle.hub_world.specs.Step.{Step, Run}
@@ -33,12 +34,12 @@ StaysLegal =
 -- the list is rightly handed for the feed; nothing was handed where there is none
 abbrev pub IsRight : List Edit → Option Subscription → List ChangeItem → Type 0
 IsRight J None items = items ≡ []
-IsRight J (Some s) items = RightlyHanded J s.feed items
+IsRight J (Some s) items = RightlyHanded change_rows J s.feed items
 
 -- the list fits the feed; nothing was handed where there is none
 abbrev pub FitsIn : List Edit → Option Subscription → List ChangeItem → Type 0
 FitsIn J None items = items ≡ []
-FitsIn J (Some s) items = Fits J s.feed items
+FitsIn J (Some s) items = Fits change_rows J s.feed items
 
 -- a list that fits a feed fits it after each event, with the item that the event handed
 abbrev pub KeepsFitting : Type 0

@@ -1,4 +1,4 @@
-use Rattle.std.proofs.Common.{arith, true, false, [], ◌∷◌, refl}
+use Rattle.std.proofs.Common.{arith, true, false, [], ◌∷◌}
 use Rattle.std.proofs.KnownBytes.{Appends-nil, Appends-kept}
 use Rattle.hub_session.specs.declared.closing.StreamEnd.TheVariants.{Complete, Stopped, NoMemory, Broken, Exhausted}
 use Rattle.hub_session.proofs.FeedLemmas.{went_none, went_more, fed_by, stream_step, stream_end, stream_fails, one_sent}

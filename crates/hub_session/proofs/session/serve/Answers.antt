@@ -1,4 +1,4 @@
-use Rattle.std.proofs.Common.{◌≡◌, Some, arith, refl, sym, subst, ◌∙◌}
+use Rattle.std.proofs.Common.{arith, refl, sym, subst, ◌∙◌}
 use Rattle.hub_http.specs.Words.{HasEnded}
 use Rattle.hub_session.proofs.SessionLemmas.{served_none, serves_more, serves_so, serves_all}
 use Rattle.hub_session.proofs.session.serve.Goals as goal

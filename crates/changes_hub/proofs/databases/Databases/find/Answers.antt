@@ -1,7 +1,7 @@
 use Rattle.std.proofs.Common.{◌≡◌, Some, None, true, rules, refl}
 use Rattle.std.specs.List.{position_from}
 use Rattle.std.proofs.lemmas.Option.{slice_get_within}
-use Rattle.changes_hub.specs.Names.{is_name}
+use Rattle.hub_databases.specs.Names.{is_name}
 use Rattle.changes_hub.specs.Hub.{has_name}
 use Rattle.changes_hub.proofs.PlaceLemmas.{found_at, none_found}
 use Rattle.changes_hub.proofs.databases.Databases.find.Goals as goal

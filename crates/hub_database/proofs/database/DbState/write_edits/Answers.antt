@@ -1,6 +1,7 @@
 use Rattle.std.proofs.Common.{◌∙◌, ap, sym, arith}
 use Rattle.hub_database.specs.Database.{Database}
-use Rattle.hub_database.proofs.FeedLemmas.{both_ok, refused_batch}
+use Rattle.hub_database.proofs.FeedLemmas.{refused_batch}
+use Rattle.hub_feed.proofs.FeedsLemmas.{both_ok}
 use Rattle.hub_database.proofs.database.DbState.write_edits.Goals as goal
 
 pub returns-then-self-clause-ok : goal.returns-then-self-clause-ok

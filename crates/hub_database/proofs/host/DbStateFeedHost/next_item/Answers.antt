@@ -1,4 +1,4 @@
-use Rattle.hub_database.proofs.FeedLemmas.{both_ok}
+use Rattle.hub_feed.proofs.FeedsLemmas.{both_ok}
 use Rattle.hub_database.proofs.host.DbStateFeedHost.next_item.Goals as goal
 
 pub returns-clause-new : goal.returns-clause-new

@@ -1,0 +1,282 @@
+//! A hub of databases behind locks.
+
+ghost use Rattle.std.specs.Prelude.{◌≡◌, [], true, false, Err, map, string_bytes, IfErr, IfOk, IsSome};
+ghost use Rattle.std.specs.Arc.{arc_value};
+ghost use Rattle.hub_databases.specs.Asked.{updates_asked};
+ghost use Rattle.hub_databases.specs.Kept.{AreNames, most_databases};
+ghost use Rattle.hub_databases.specs.Names.{is_name as is_database_name};
+ghost use Rattle.hub_params.specs.FeedShown.{params_asked};
+ghost use Rattle.hub_threads.specs.Handles.{IsBeginningFor, IsWrittenBy};
+
+use crate::fault::HubFault;
+use crate::hub_db::{HubDb, Named};
+use crate::name::is_name;
+use crate::names::Names;
+use hub_database::DbFault;
+use hub_document::{Doc, Limits, UpdateRow};
+use hub_feed::{FeedId, OpenFault};
+use hub_filter::Filter;
+use hub_lane::Asks;
+use hub_model::{Item, Style, UpdateKind};
+use hub_params::FeedParams;
+use hub_shared::{Accepted, FeedLabel, Handed};
+use hub_threads::{Clock, Db, Gate, Handle, Plain, Turn, Updates, UpdatesFeed, hold, pump};
+use hub_updates::{NoteFault, Notice, UpdatesState};
+use std::alloc::{AllocError, Global};
+use std::sync::{Arc, RwLock, Wait};
+use std::time;
+
+/// What a write did.
+#[derive(Debug, Drop)]
+pub struct Written {
+    /// What became of the documents, with the receipts of those that were stored.
+    pub accepted: Accepted,
+    /// Why the log of updates has no note of it, though edits were stored. They stand.
+    pub lapsed: Option<NoteFault>,
+}
+
+/// The databases of a hub by their names, and the log of what happens to them. Threads share it, by
+/// reference or by an `Arc`.
+#[derive(Drop)]
+pub struct Hub {
+    alloc: Global,
+    limits: Limits,
+    // The order of the locks: the names, and then the log. A database's own lock is taken while
+    // neither is held, and nothing is taken under it: whoever holds a database holds only those that
+    // ask for that database. So a write may be noted behind the deletion that it came before.
+    /// The databases by their names.
+    names: RwLock<Names<Arc<Named, Global>>>,
+    /// What happened to them. Its lock is taken alone, or under that of the names.
+    updates: Updates,
+}
+
+impl Hub {
+    /// A hub without databases.
+    pub fn new(alloc: Global, limits: Limits) -> Result<Hub, AllocError> {
+        Ok(Hub {
+            alloc,
+            limits,
+            names: RwLock::new(Names::new(alloc, limits.databases)),
+            updates: Updates::of_updates(alloc, limits)?,
+        })
+    }
+
+    // Adds a notice at the end of the log, or lets it lapse and says why.
+    fn note<R: Wait>(&self, rt: &R, notice: Notice) -> Result<(), NoteFault> {
+        match self.updates.note(rt, notice) {
+            Ok(()) => Ok(()),
+            Err((notice, fault)) => {
+                notice.lapse();
+                Err(fault)
+            }
+        }
+    }
+
+    // An empty database of this name.
+    fn named(&self, name: &str) -> Result<Arc<Named, Global>, AllocError>
+        ensures { IfOk result (λ named. string_bytes (arc_value named).name ≡ name.now) }
+    {
+        let name = name.to_string(self.alloc)?;
+        let (db, _handle) = Db::new(self.alloc, self.limits, Plain)?;
+        Ok(Arc::new(self.alloc, Named { name, db })?)
+    }
+
+    // Puts a database under its name and notes that, or does neither. The names are held throughout.
+    fn put<R: Wait>(
+        &self,
+        rt: &R,
+        name: &str,
+        key: String,
+        named: Arc<Named, Global>,
+        notice: Notice,
+    ) -> Result<(), HubFault>
+        requires valid { is_database_name name.now ≡ true }
+        requires key { string_bytes key ≡ name.now }
+        requires own { string_bytes (arc_value named).name ≡ name.now }
+        ensures { IfErr result (λ e. ¬ (e ≡ HubFault.BadName)) }
+    {
+        let mut names = self.names.write(rt);
+        if let Err(fault) = names.put(key, named) {
+            notice.lapse();
+            return Err(fault);
+        }
+        if let Err(fault) = self.note(rt, notice) {
+            names.take(name);
+            return Err(HubFault::from(fault));
+        }
+        Ok(())
+    }
+
+    /// Makes an empty database of this name, and notes that it was created. What it takes memory for is
+    /// made before a lock is taken. It costs the wait for the names and for the log, a search among
+    /// the names, and a note.
+    pub fn create<R: Wait>(&self, rt: &R, name: &str) -> Result<(), HubFault>
+        ensures bad { is_database_name name.now ≡ false → result ≡ Err HubFault.BadName }
+        ensures only_bad { result ≡ Err HubFault.BadName → is_database_name name.now ≡ false }
+    {
+        if !is_name(name) {
+            return Err(HubFault::BadName);
+        }
+        let key = name.to_string(self.alloc)?;
+        let named = self.named(name)?;
+        let notice = Notice::new(self.alloc, UpdateKind::Created, name)?;
+        self.put(rt, name, key, named, notice)
+    }
+
+    /// The database of this name. It costs the wait for the names, which readers share, and a search
+    /// among them.
+    pub fn find<R: Wait>(&self, rt: &R, name: &str) -> Result<HubDb, HubFault>
+        ensures own { IfOk result (λ db. db ≡ name.now) }
+        ensures bad { is_database_name name.now ≡ false → result ≡ Err HubFault.BadName }
+        ensures only_bad { result ≡ Err HubFault.BadName → is_database_name name.now ≡ false }
+    {
+        if !is_name(name) {
+            return Err(HubFault::BadName);
+        }
+        let names = self.names.read(rt);
+        match names.find(name) {
+            Some(named) => Ok(HubDb::new(Arc::try_clone(named)?)),
+            None => Err(HubFault::Absent),
+        }
+    }
+
+    // Takes a database from under its name and notes that, or does neither. A handle on it is made
+    // first. The names are held throughout.
+    fn take<R: Wait>(&self, rt: &R, name: &str, notice: Notice) -> Result<Handle<Plain>, HubFault>
+        ensures { IfErr result (λ e. ¬ (e ≡ HubFault.BadName)) }
+    {
+        let mut names = self.names.write(rt);
+        let handle = match names.find(name) {
+            Some(named) => named.db.handle(),
+            None => {
+                notice.lapse();
+                return Err(HubFault::Absent);
+            }
+        };
+        let Ok(handle) = handle else {
+            notice.lapse();
+            return Err(HubFault::NoMemory);
+        };
+        self.note(rt, notice)?;
+        names.take(name);
+        Ok(handle)
+    }
+
+    /// Removes the database of this name, and notes that it was deleted. Once the names are free the
+    /// database is deleted under its own lock: its feeds come to their ends, and it is let go there
+    /// unless someone has it. It costs the wait for the names and for the log, a search among the
+    /// names, a note, and what `Handle::delete` does.
+    pub fn remove<R: Wait>(&self, rt: &R, name: &str) -> Result<(), HubFault>
+        ensures bad { is_database_name name.now ≡ false → result ≡ Err HubFault.BadName }
+        ensures only_bad { result ≡ Err HubFault.BadName → is_database_name name.now ≡ false }
+    {
+        if !is_name(name) {
+            return Err(HubFault::BadName);
+        }
+        let notice = Notice::new(self.alloc, UpdateKind::Deleted, name)?;
+        let mut handle = self.take(rt, name, notice)?;
+        // Who has the database may have deleted it before.
+        let _deleted = handle.delete(rt);
+        Ok(())
+    }
+
+    /// The names of the databases, in the order of their bytes. It costs the wait for the names, which
+    /// readers share, and copies of them.
+    pub fn list<R: Wait>(&self, rt: &R) -> Result<Vec<String>, AllocError>
+        ensures { IfOk result (λ names. AreNames most_databases (map string_bytes names.items)) }
+    {
+        self.names.read(rt).texts(self.alloc)
+    }
+
+    // Notes that a database was written to, where documents were stored, or lets the notice lapse.
+    fn note_written<R: Wait>(&self, rt: &R, notice: Notice, accepted: Accepted) -> Written
+        ensures accepted { result.accepted ≡ accepted }
+        ensures lapsed { IsSome result.lapsed → ¬ (accepted.receipts.items ≡ []) }
+    {
+        let lapsed = if accepted.receipts.is_empty() {
+            notice.lapse();
+            None
+        } else {
+            self.note(rt, notice).err()
+        };
+        Written { accepted, lapsed }
+    }
+
+    /// Stores documents, as `Handle::write`, and once the database is free again notes that it was
+    /// updated, where at least one of them was stored. Where the log is full, or finds no memory, the
+    /// edits stand without a note. A database that was removed refuses each document.
+    pub fn write<R: Wait>(
+        &self,
+        rt: &R,
+        db: &HubDb,
+        docs: Vec<Doc>,
+        new_edits: bool,
+    ) -> Result<Written, DbFault>
+        ensures accepted { IfOk result (λ w. IsWrittenBy false 0 (record { parts = 0; count = 0 })
+            new_edits docs.items w.accepted) }
+        ensures lapsed { IfOk result (λ w. IsSome w.lapsed → ¬ (w.accepted.receipts.items ≡ [])) }
+        ensures err { IfErr result (λ e. e ≡ DbFault.NoMemory) }
+    {
+        let mut handle = db.handle()?;
+        let notice = Notice::new(self.alloc, UpdateKind::Updated, db.name())?;
+        match handle.write(rt, docs, new_edits) {
+            Ok(accepted) => Ok(self.note_written(rt, notice, accepted)),
+            Err(fault) => {
+                notice.lapse();
+                Err(fault)
+            }
+        }
+    }
+
+    /// Opens a feed of the log of updates, which stays until it is finished: something is to call
+    /// `pump_updates` for it, and `HostFeed::take`. It shows every row of the log, upwards: `filter`,
+    /// `style`, `include_docs` and `descending` are not looked at. It costs the wait for the log, and
+    /// what `Updates::open_feed` does.
+    pub fn updates<R: Wait>(&self, rt: &R, params: FeedParams) -> Result<UpdatesFeed, OpenFault>
+        ensures asks { IfOk result (λ feed. feed.label.asked ≡ updates_asked (params_asked params)) }
+        ensures begins { IfOk result (λ feed. IsBeginningFor params.since 0 feed.label.since) }
+        ensures none { IfOk result (λ feed. feed.taken ≡ []) }
+    {
+        let params = FeedParams {
+            descending: false,
+            style: Style::MainOnly,
+            include_docs: false,
+            filter: Filter::All,
+            ..params
+        };
+        self.updates.open_feed(rt, params)
+    }
+
+    /// Takes the lock of the log once, as `hold`, for a feed of it. Writes wait for that lock: a gate
+    /// that holds the thread there holds every write of every database.
+    pub fn hold_updates<R, G>(
+        &self,
+        rt: &R,
+        feed: FeedId,
+        turn: Turn,
+        gate: &G,
+    ) -> Result<Handed, AllocError>
+    where
+        R: Asks<FeedLabel<UpdatesState>, Item<UpdateRow>>,
+        G: Gate,
+    {
+        hold(rt, &self.updates, feed, turn, gate)
+    }
+
+    /// Hands a feed of the log its items as they come, as `pump`, until it is finished or has handed its
+    /// end.
+    pub fn pump_updates<R, G, K>(
+        &self,
+        rt: &R,
+        feed: FeedId,
+        gate: &G,
+        clock: &K,
+    ) -> Result<(), AllocError>
+    where
+        R: Asks<FeedLabel<UpdatesState>, Item<UpdateRow>> + time::Clock,
+        G: Gate,
+        K: Clock,
+    {
+        pump(rt, &self.updates, feed, gate, clock)
+    }
+}

@@ -1,0 +1,15 @@
+//! The databases of a hub by their names, with the log of what happens to them.
+#![tactic(auto)]
+
+mod fault;
+mod hub;
+mod hub_db;
+mod name;
+mod names;
+#[cfg(test)]
+mod tests;
+
+pub use fault::HubFault;
+pub use hub::{Hub, Written};
+pub use hub_db::HubDb;
+pub use name::is_name;

@@ -1,0 +1,110 @@
+//! What stands under each name.
+
+ghost use Rattle.std.specs.Prelude.{◌≡◌, ◌⊎◌, ◌↔◌, ◌<◌, ◌≤◌, ℕ, List, [], true, length, map, string_bytes, Contains, IsSome, OnOk, IfErr, IfOk, IfSome};
+ghost use Rattle.hub_databases.specs.Kept.{AreNames, most_databases, with_name, without_name};
+ghost use Rattle.hub_databases.specs.Names.{is_name as is_database_name};
+
+use crate::fault::HubFault;
+use std::alloc::{AllocError, Global};
+use std::collections::BTreeMap;
+use std::marker::Model;
+
+/// What stands under a name, and has that name.
+pub(crate) trait HasName: Drop {
+    ghost use Rattle.std.specs.Prelude.{ℕ, List};
+
+    /// The bytes of its name.
+    ghost name_of: { Self → List ℕ };
+}
+
+/// What stands under each name: it has that name. It is seen as its names, in the order of their
+/// bytes, and how many there may be.
+#[derive(Drop)]
+pub(crate) struct Names<D: HasName> {
+    /// How many there may be.
+    limit: u64,
+    list: BTreeMap<String, D>,
+}
+
+impl<D: HasName> Model for Names<D> {
+    ghost use Rattle.hub_databases.specs.Kept.{AreKept, NamesState, names_of};
+
+    ghost Value = { NamesState };
+
+    ghost view = { λ a. record { names = names_of a.list.entries; limit = a.limit } };
+
+    ghost invariant = { λ a. AreKept D.name_of a.limit a.list.entries };
+}
+
+impl<D: HasName> Names<D> {
+    /// No names, of which there may be so many. It takes no memory.
+    pub(crate) fn new(alloc: Global, limit: u64) -> Names<D>
+        requires limit { limit ≤ most_databases }
+        ensures { result ≡ record { names = []; limit = limit } }
+    {
+        Names {
+            limit,
+            list: BTreeMap::new(alloc),
+        }
+    }
+
+    /// How many names there are. Constant time.
+    pub(crate) fn len(&self) -> usize
+        ensures { result ≡ length self.now.names }
+    {
+        self.list.len()
+    }
+
+    /// What stands under a name. It costs a search among the names.
+    pub(crate) fn find(&self, name: &str) -> Option<&D>
+        ensures some { IsSome result ↔ Contains self.now.names name.now }
+        ensures own { IfSome result (λ what. D.name_of what.now ≡ name.now) }
+    {
+        self.list.get(name)
+    }
+
+    /// Puts something under a name that has none. It costs a search among the names.
+    pub(crate) fn put(&mut self, name: String, what: D) -> Result<(), HubFault>
+        requires name { is_database_name (string_bytes name) ≡ true }
+        requires own { D.name_of what ≡ string_bytes name }
+        ensures new { OnOk result (¬ Contains self.old.names (string_bytes name)) }
+        ensures room { OnOk result (length self.old.names < self.old.limit) }
+        ensures ok { OnOk result (self.new ≡ with_name (string_bytes name) self.old) }
+        ensures err { IfErr result (λ e. (self.new ≡ self.old)
+            × (((e ≡ HubFault.Exists) × Contains self.old.names (string_bytes name))
+            ⊎ (¬ Contains self.old.names (string_bytes name)
+            × (((e ≡ HubFault.TooMany) × (self.old.limit ≤ length self.old.names))
+            ⊎ ((e ≡ HubFault.NoMemory) × (length self.old.names < self.old.limit)))))) }
+    {
+        if self.find(name.as_str()).is_some() {
+            return Err(HubFault::Exists);
+        }
+        if self.len() as u64 >= self.limit {
+            return Err(HubFault::TooMany);
+        }
+        match self.list.insert(name, what) {
+            Ok(_) => Ok(()),
+            Err(_) => Err(HubFault::NoMemory),
+        }
+    }
+
+    /// Takes out what stands under a name. It takes no memory, and costs a search among the names.
+    pub(crate) fn take(&mut self, name: &str) -> Option<D>
+        ensures some { IsSome result ↔ Contains self.old.names name.now }
+        ensures names { self.new ≡ without_name name.now self.old }
+    {
+        self.list.remove(name)
+    }
+
+    /// Copies of the names, in the order of their bytes.
+    pub(crate) fn texts(&self, alloc: Global) -> Result<Vec<String>, AllocError>
+        ensures { IfOk result (λ texts. (map string_bytes texts.items ≡ self.now.names)
+            × AreNames most_databases self.now.names) }
+    {
+        let mut texts = Vec::new(alloc);
+        for name in self.list.keys() {
+            texts.push(name.as_str().to_string(alloc)?)?;
+        }
+        Ok(texts)
+    }
+}

@@ -1,0 +1,49 @@
+-- The feeds that something keeps, by their numbers (own; feeds by CouchDB API reference, _changes and
+-- _db_updates).
+use Rattle.std.specs.Prelude.{ℕ, ◌<◌, ◌≤◌, List, map, Bool, false, IfSome}
+use Rattle.std.specs.List.{All}
+use Rattle.hub_model.specs.Current.{Current}
+use Rattle.hub_model.specs.Entries.{AreRising}
+use Rattle.hub_model.specs.Feed.{Feed, end}
+use Rattle.hub_model.specs.declared.feeds.Style.{Style}
+use Rattle.hub_feed.specs.Host.{Hosted}
+
+-- the feeds that are not finished, with their numbers, and the number of the next one
+pub record FeedList : Type 0 where
+  pub feeds : List (ℕ × Feed)
+  pub next : ℕ
+
+-- their numbers rise, and were given: the next one is new
+pub record AreNumbered (next : ℕ) (feeds : List (ℕ × Feed)) : Type 0 where
+  pub rising : AreRising feeds
+  pub given : All (λ (p : ℕ × Feed). p.0 < next) feeds
+
+-- a feed has come, and goes, no further than the last of so many edits
+abbrev pub IsBehind : ℕ → Feed → Type 0
+IsBehind length f = (f.place ≤ length) × IfSome f.bound (λ bound. bound ≤ length)
+
+-- each of them has
+abbrev pub AreBehind : ℕ → List (ℕ × Feed) → Type 0
+AreBehind length feeds = All (λ (p : ℕ × Feed). IsBehind length p.1) feeds
+
+-- a feed, with its number, once what it follows is deleted: where it is open, its end is all that is left to
+-- hand
+abbrev pub ended : ℕ × Feed → ℕ × Feed
+ended p = (p.0, end p.1)
+
+-- The feeds, kept over so many edits with these current rows, which are shown so: a step of a feed looks at no
+-- more than that.
+abbrev pub over : {R : Type 0} → ℕ → List Current → (Style → Bool → Current → R) → FeedList → Hosted R
+over length current shown list = record {
+  length = length;
+  current = current;
+  shown = shown;
+  feeds = list.feeds;
+  next_feed = list.next;
+  deleted = false;
+  limit = 0;
+}
+
+-- the feeds that are kept so
+abbrev pub feeds_of : {R : Type 0} → Hosted R → FeedList
+feeds_of h = record { feeds = h.feeds; next = h.next_feed }

@@ -1,0 +1,26 @@
+-- The texts of rows of changes.
+use Rattle.std.proofs.Common.{◌≡◌, ℕ, ◌≤◌, List, [], ◌∷◌, ◌++◌, length, map, take, take_all, sym, ap, ◌∙◌, arith, append_assoc, append-nil}
+use Rattle.std.specs.List.{flat_map, join_with_byte}
+use Rattle.hub_model.specs.Revision.{Revision}
+use Rattle.hub_http.specs.ChangeTexts.{revision_text, revisions_text}
+
+-- the later ones have a comma before each
+joined : (p : List ℕ) (rs : List Revision) → join_with_byte 44 (p ∷ map revision_text rs) ≡ p ++ flat_map (λ r. 44 ∷ revision_text r) rs
+joined p [] = sym (append-nil p)
+joined p (r ∷ rs) = ap (λ l. p ++ 44 ∷ l) (joined (revision_text r) rs)
+
+all_revisions : (r : Revision) (rs : List Revision) → revisions_text (r ∷ rs) ≡ revision_text r ++ flat_map (λ s. 44 ∷ revision_text s) rs
+unfolding revisions_text
+all_revisions r rs = joined (revision_text r) rs
+
+pub no_revisions : (held : List ℕ) (rs : List Revision) → length rs ≡ 0 → held ≡ held ++ revisions_text rs
+unfolding revisions_text
+no_revisions held [] e = sym (append-nil held)
+no_revisions held (r ∷ rs) e = absurd (omega (arith, e))
+
+-- the first one, and then all the others
+pub revisions_written : (held mid new : List ℕ) (r : Revision) (rs all : List Revision) (i : ℕ) → all ≡ r ∷ rs → mid ≡ held ++ revision_text r
+    → new ≡ mid ++ flat_map (λ s. 44 ∷ revision_text s) (take i rs) → length rs ≤ i → new ≡ held ++ revisions_text all
+revisions_written held mid new r rs all i e first later end =
+    later ∙ ap (λ l. mid ++ flat_map (λ s. 44 ∷ revision_text s) l) (take_all i rs end) ∙ ap (λ l. l ++ flat_map (λ s. 44 ∷ revision_text s) rs) first
+    ∙ append_assoc held (revision_text r) (flat_map (λ s. 44 ∷ revision_text s) rs) ∙ ap (λ l. held ++ l) (sym (ap revisions_text e ∙ all_revisions r rs))

@@ -1,0 +1,43 @@
+-- The texts of rows of changes, and what ends a feed of them (CouchDB API reference, _changes).
+use Rattle.std.specs.Prelude.{ℕ, List, [], ◌++◌, Bool, true, false, Option, Some, None, map, codes, decimal}
+use Rattle.std.specs.List.{join_with_byte}
+use Rattle.json.specs.Print.{quoted}
+use Rattle.hub_model.specs.Revision.{Revision, text_of}
+use Rattle.hub_model.specs.Row.{ChangeRow}
+use Rattle.hub_document.specs.DocText.{doc_text, row_doc}
+
+-- a revision that a row lists
+unfoldable pub revision_text : Revision → List ℕ
+revision_text r = codes "{\"rev\":" ++ (quoted (text_of r) ++ codes "}")
+
+-- the revisions that a row lists, with commas (44) between them
+unfoldable pub revisions_text : List Revision → List ℕ
+revisions_text rs = join_with_byte 44 (map revision_text rs)
+
+-- the member that marks a deleted document, behind the bracket that closes the revisions
+unfoldable pub row_mark : Bool → List ℕ
+row_mark false = codes "]"
+row_mark true = codes "],\"deleted\":true"
+
+-- the member of the document, where the row brings its members
+unfoldable pub doc_member : ChangeRow → Option (List ℕ) → List ℕ
+doc_member row None = []
+doc_member row (Some body) = codes ",\"doc\":" ++ doc_text (row_doc row body)
+
+-- the end of a row
+unfoldable pub row_end : ChangeRow → List ℕ
+row_end row = row_mark row.deleted ++ (doc_member row row.doc ++ codes "}")
+
+-- the members at the head of a row
+unfoldable pub row_head : ℕ → List ℕ → List ℕ
+row_head seq id = codes "{\"seq\":" ++ (decimal seq ++ (codes ",\"id\":" ++ quoted id))
+
+-- a row as a JSON object
+unfoldable pub change_row_text : ChangeRow → List ℕ
+change_row_text row =
+    row_head row.seq row.id ++ (codes ",\"changes\":[" ++ (revisions_text row.changes ++ row_end row))
+
+-- the members that end a feed, and the brace that closes it
+unfoldable pub change_end_text : ℕ → ℕ → List ℕ
+change_end_text last_seq pending =
+    codes "\"last_seq\":" ++ (decimal last_seq ++ (codes ",\"pending\":" ++ (decimal pending ++ codes "}\n")))

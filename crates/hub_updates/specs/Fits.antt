@@ -1,0 +1,32 @@
+-- How a list that fits a feed of a log goes on fitting it: laws of hub_feed's Handing, where there are as
+-- many edits as a log has notes (own).
+use Rattle.std.specs.Prelude.{◌≡◌, List, [], ◌∷◌, ◌++◌, length, Some}
+use Rattle.std.proofs.Common.{subst}
+use Rattle.std.proofs.lemmas.List.{length-map}
+use Rattle.hub_model.specs.Current.{current}
+use Rattle.hub_model.specs.Feed.{Feed, DueNothing, after_due, after_nothing, due}
+use Rattle.hub_model.specs.Hand.{due_item}
+use Rattle.hub_model.specs.Journal.{Edit}
+use Rattle.hub_model.specs.RowKind.{update_rows}
+use Rattle.hub_model.specs.Updates.{Note, UpdateRow, edit_of, edits_of_log}
+use Rattle.hub_model.specs.declared.feeds.Item.{Item}
+use Rattle.hub_feed.proofs.Handing.{fitting_handed, fitting_nothing}
+use Rattle.hub_updates.specs.Log.{AreOfLog, IsFitting}
+
+module _ (notes : List Note) (f : Feed) (items : List (Item UpdateRow))
+    (fitting : IsFitting notes f items) where
+  -- behind the item that is due
+  pub fits_given : (item : Item UpdateRow) → due_item update_rows (edits_of_log notes) f ≡ Some item
+      → let next : Feed = after_due f (due (current (edits_of_log notes)) f) (length notes) in
+      IsFitting notes next (items ++ item ∷ [])
+  fits_given item is =
+      let J : List Edit = edits_of_log notes in
+      subst (λ n. IsFitting notes (after_due f (due (current J) f) n) (items ++ item ∷ []))
+      (length-map notes edit_of) (fitting_handed update_rows AreOfLog J f items fitting item is)
+
+  -- behind nothing to hand
+  pub fits_waiting : due (current (edits_of_log notes)) f ≡ DueNothing
+      → IsFitting notes (after_nothing f (length notes)) items
+  fits_waiting is =
+      subst (λ n. IsFitting notes (after_nothing f n) items) (length-map notes edit_of)
+      (fitting_nothing update_rows AreOfLog (edits_of_log notes) f items fitting is)

@@ -1,0 +1,40 @@
+-- How a log keeps its notes (own).
+use Rattle.std.specs.Prelude.{◌≡◌, ℕ, ◌≤◌, List, length, map, slice_get, slice_set, string_bytes, Option}
+use Rattle.std.specs.Prelude.{Some}
+use Rattle.hub_index.specs.Indexed.{IsIndexed, id_in}
+use Rattle.hub_model.specs.Updates.{Note, edits_of_log, id_of, note_of}
+use Rattle.hub_updates.specs.declared.log.Pair.{Pair}
+
+-- a pair as its id and the sequence of its latest note
+abbrev pub pair_of : Pair → List ℕ × ℕ
+pair_of p = (string_bytes p.id, p.latest)
+
+-- the ids of the pairs, with the sequences of their latest notes
+abbrev pub ids_of : List Pair → List (List ℕ × ℕ)
+ids_of pairs = map pair_of pairs
+
+-- the same, where the latest note of the pair of this number is at this sequence
+abbrev pub raised : ℕ → ℕ → List (List ℕ × ℕ) → List (List ℕ × ℕ)
+raised number seq ids = slice_set ids number (id_in (slice_get ids number), seq)
+
+-- the note that the pair of this number stands for
+abbrev pub note_at : List (List ℕ × ℕ) → ℕ → Note
+note_at ids k = note_of (id_in (slice_get ids k))
+
+-- The notes, of which each is kept as the number of its pair. Where d was created, updated and updated again,
+-- the pairs are cd and ud, with the latest sequences 1 and 3, and the notes are kept as 0, 1 and 1.
+abbrev pub notes_of : List (List ℕ × ℕ) → List ℕ → List Note
+notes_of ids entries = map (note_at ids) entries
+
+-- What holds of the pairs, of their numbers by id, of the notes, and of the rows: an id has a number where it
+-- is the id of a pair, which is then of this number; each id is that of a note; each note is of a pair; and
+-- the rows are the current ones of the notes.
+pub record IsKept (numbers : List ℕ
+    → Option ℕ) (ids : List (List ℕ × ℕ)) (entries : List ℕ) (index : List (ℕ × ℕ)) : Type 0 where
+  pub found : (id : List ℕ) (k : ℕ) → numbers id ≡ Some k
+      → (p : List ℕ × ℕ) × (slice_get ids k ≡ Some p) × (p.0 ≡ id)
+  pub own : (k : ℕ) (p : List ℕ × ℕ) → slice_get ids k ≡ Some p → numbers p.0 ≡ Some k
+  pub read : (k : ℕ) (p : List ℕ × ℕ) → slice_get ids k ≡ Some p → id_of (note_of p.0) ≡ p.0
+  pub within : (i k : ℕ) → slice_get entries i ≡ Some k → (p : List ℕ × ℕ) × (slice_get ids k ≡ Some p)
+  pub fewer : length ids ≤ length entries
+  pub rows : IsIndexed (slice_get ids) (edits_of_log (notes_of ids entries)) index

@@ -1,0 +1,13 @@
+-- That a current row of a log lies at one of its notes (own).
+use Rattle.std.specs.Prelude.{◌≤◌, List, length, Contains}
+use Rattle.std.proofs.Common.{arith}
+use Rattle.std.proofs.lemmas.List.{length-map}
+use Rattle.hub_model.specs.Current.{Current, current}
+use Rattle.hub_model.specs.Updates.{Note, edit_of, edits_of_log}
+use Rattle.hub_model.proofs.Rows.{current_within}
+
+-- it is no later than the last
+pub rows_below : (notes : List Note) (c : Current) → Contains (current (edits_of_log notes)) c
+    → c.seq ≤ length notes
+rows_below notes c h =
+    let w = current_within 1 (edits_of_log notes) c h in omega (arith, w.1, length-map notes edit_of)

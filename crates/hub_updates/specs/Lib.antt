@@ -1,0 +1,4 @@
+pub mod Fits
+pub mod Kept
+pub mod Laid
+pub mod Log

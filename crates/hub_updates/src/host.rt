@@ -1,0 +1,116 @@
+//! The log of updates as what keeps feeds.
+
+use crate::log::Log;
+use crate::state::UpdatesState;
+use hub_document::UpdateRow;
+use hub_feed::{FeedHost, FeedId, Mark, Next, OpenFault};
+use hub_model::Item;
+use hub_params::FeedParams;
+use std::alloc::AllocError;
+
+impl FeedHost for UpdatesState {
+    ghost use Rattle.hub_feed.proofs.Handing.{fitting_beat, fitting_expired, fitting_right};
+    ghost use Rattle.hub_model.proofs.Laws.{rows_rise};
+    ghost use Rattle.hub_model.specs.RowKind.{update_rows};
+    ghost use Rattle.hub_model.specs.Updates.{UpdateRow as Shown, edits_of_log};
+    ghost use Rattle.hub_updates.specs.Fits.{fits_given, fits_waiting};
+    ghost use Rattle.hub_updates.specs.Laid.{rows_below};
+    ghost use Rattle.hub_updates.specs.Log.{AreOfLog, IsFitting, IsRightFor, hosted_of, with_hosted};
+    ghost use Rattle.std.proofs.Common.{refl};
+
+    type Row = UpdateRow;
+
+    ghost hosted = { hosted_of };
+
+    ghost with_hosted = { with_hosted };
+
+    ghost seq_of = { λ (r : Shown). r.seq };
+
+    ghost fits = { λ log f items. IsFitting log.notes f items };
+
+    ghost right = { IsRightFor };
+
+    ghost rise = { λ log. rows_rise (edits_of_log log.notes) };
+
+    ghost within = { λ log c. rows_below log.notes c };
+
+    ghost keeps = { λ log style include_docs c. refl };
+
+    ghost same = { λ log. refl };
+
+    ghost hosts = { λ log feeds next. refl };
+
+    ghost rightly = { λ log f items fitting.
+        fitting_right update_rows AreOfLog (edits_of_log log.notes) f items fitting };
+
+    ghost stays = { λ log h f items fitting. fitting };
+
+    ghost handed_fits = { λ log f items item due fitting. fits_given log.notes f items fitting item due };
+
+    ghost waiting_fits = { λ log f items due fitting. fits_waiting log.notes f items fitting due };
+
+    ghost beat_fits = { λ log f items due fitting.
+        fitting_beat update_rows AreOfLog (edits_of_log log.notes) f items fitting due };
+
+    ghost expired_fits = { λ log f items fitting.
+        fitting_expired update_rows AreOfLog (edits_of_log log.notes) f items fitting };
+
+    /// Constant time.
+    fn length(&self) -> u64 {
+        self.update_seq()
+    }
+
+    /// Constant time.
+    fn refusal(&self) -> Option<OpenFault> {
+        if self.feeds.is_full(self.limits.feeds) {
+            return Some(OpenFault::TooManyFeeds);
+        }
+        None
+    }
+
+    /// It costs what the list of feeds does that grows by one.
+    fn open_feed(&mut self, params: FeedParams) -> Result<FeedId, OpenFault> {
+        if self.feeds.is_full(self.limits.feeds) {
+            return Err(OpenFault::TooManyFeeds);
+        }
+        match self.feeds.open(params, self.log.len()) {
+            Ok(feed) => Ok(feed),
+            Err(AllocError) => Err(OpenFault::NoMemory),
+        }
+    }
+
+    /// It costs what `Feeds::next_item` does.
+    fn next_item(&mut self, feed: FeedId) -> Result<Next<UpdateRow>, AllocError> {
+        self.feeds.next_item(&self.log, feed)
+    }
+
+    /// Constant time.
+    fn near(&self) -> usize {
+        self.feeds.near()
+    }
+
+    /// Constant time.
+    fn mark(item: &Item<UpdateRow>) -> Mark {
+        Mark::of::<Log>(item)
+    }
+
+    /// Constant time, where the last item was made for this feed.
+    fn accept_marked(&mut self, feed: FeedId, mark: Mark) {
+        self.feeds.accept_marked(&self.log, feed, mark);
+    }
+
+    /// It costs a binary search among the feeds.
+    fn beat_due(&self, feed: FeedId) -> bool {
+        self.feeds.beat_due(feed)
+    }
+
+    /// It costs a binary search among the feeds.
+    fn expire(&mut self, feed: FeedId) {
+        self.feeds.expire(feed);
+    }
+
+    /// It costs a look at each feed.
+    fn finish(&mut self, feed: FeedId) {
+        self.feeds.finish(feed);
+    }
+}

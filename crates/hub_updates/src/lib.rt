@@ -1,0 +1,14 @@
+//! The log of what happens to databases: notices of it, and the feeds that show it (CouchDB API
+//! reference, `_db_updates`).
+#![tactic(auto)]
+
+mod host;
+mod log;
+mod notice;
+mod rows;
+mod state;
+#[cfg(test)]
+mod tests;
+
+pub use notice::Notice;
+pub use state::{NoteFault, UpdatesState};

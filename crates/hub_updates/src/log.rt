@@ -1,0 +1,216 @@
+//! What was noted, and the row of each pair of a kind and a name.
+
+ghost use Rattle.std.specs.Prelude.{ℕ, List, ◌≡◌, ◌+◌, ◌-◌, ◌^◌, ◌<◌, ◌++◌, ◌∷◌, [], Some, None, length, option_map, slice_get, string_bytes, IfOk, OnOk, OnErr};
+ghost use Rattle.std.specs.BTreeMap.{get_by_text};
+ghost use Rattle.std.specs.List.{All};
+ghost use Rattle.std.specs.Map.{update};
+ghost use Rattle.std.specs.Str.{bytes_eq};
+ghost use Rattle.hub_index.specs.Rows.{seq_of, moved};
+ghost use Rattle.hub_model.specs.Updates.{id_of, letter_of};
+ghost use Rattle.hub_updates.specs.Kept.{ids_of, raised};
+
+use crate::notice::Notice;
+use hub_index::{SeqIndex, TreeIndex};
+use hub_model::UpdateKind;
+use std::alloc::{AllocError, Global};
+use std::collections::BTreeMap;
+use std::marker::Model;
+
+/// A pair of a kind and a name that was noted.
+#[derive(Debug, Drop)]
+pub(crate) struct Pair {
+    /// The letter of the kind, and then the name.
+    pub(crate) id: String,
+    /// The sequence of its latest note.
+    pub(crate) latest: u64,
+}
+
+/// The notes, and the rows of the log.
+#[derive(Debug, Drop)]
+pub(crate) struct Log {
+    /// Of each note, first to last, the number of its pair.
+    pub(crate) notes: Vec<u32>,
+    /// The pairs, in the order of their first notes.
+    pub(crate) pairs: Vec<Pair>,
+    /// The pairs' numbers by their ids.
+    pub(crate) numbers: BTreeMap<String, u32>,
+    /// The pairs' numbers by the sequences of their latest notes.
+    pub(crate) index: TreeIndex,
+    pub(crate) alloc: Global,
+}
+
+impl Model for Log {
+    ghost use Rattle.std.specs.Prelude.{List};
+    ghost use Rattle.std.specs.BTreeMap.{get_by_text};
+    ghost use Rattle.hub_model.specs.Updates.{Note};
+    ghost use Rattle.hub_updates.specs.Kept.{IsKept, ids_of, notes_of};
+
+    ghost Value = { List Note };
+
+    ghost view = { λ a. notes_of (ids_of a.pairs.items) a.notes.items };
+
+    ghost invariant = { λ a. IsKept (get_by_text a.numbers) (ids_of a.pairs.items) a.notes.items a.index };
+}
+
+// The letter of a kind.
+fn letter_of(kind: UpdateKind) -> char
+    ensures { result ≡ letter_of kind }
+{
+    match kind {
+        UpdateKind::Created => 'c',
+        UpdateKind::Updated => 'u',
+        UpdateKind::Deleted => 'd',
+    }
+}
+
+// The id of the pair that a notice is of. It copies the name.
+fn id_of(alloc: Global, notice: &Notice) -> Result<String, AllocError>
+    ensures { IfOk result (λ id. string_bytes id ≡ id_of notice.now) }
+{
+    let mut id = String::new(alloc);
+    id.push(letter_of(notice.kind()))?;
+    id.push_str(notice.name())?;
+    Ok(id)
+}
+
+// The number of the pair of this id. One look in the map.
+fn number_of(numbers: &BTreeMap<String, u32>, id: &str) -> Option<u32>
+    ensures { result ≡ get_by_text numbers.now id.now }
+{
+    numbers.get(id).copied()
+}
+
+// Moves the row of a pair that is there to a new sequence. An error leaves all as it was.
+fn raise(
+    pairs: &mut Vec<Pair>,
+    index: &mut TreeIndex,
+    number: u32,
+    seq: u64,
+) -> Result<(), AllocError>
+    requires there { number < length pairs.old.items }
+    requires own { seq_of number index.old ≡ option_map (λ p. p.1) (slice_get (ids_of pairs.old.items) number) }
+    requires positive { 0 < seq }
+    requires above { All (λ r. r.0 < seq) index.old }
+    ensures pairs { OnOk result (ids_of pairs.new.items ≡ raised number seq (ids_of pairs.old.items)) }
+    ensures index { OnOk result (index.new ≡ moved index.old number seq) }
+    ensures err { OnErr result ((ids_of pairs.new.items ≡ ids_of pairs.old.items)
+        × (index.new ≡ index.old)) }
+{
+    let pair = &mut pairs[number as usize];
+    index.move_to(number, Some(pair.latest), seq)?;
+    pair.latest = seq;
+    Ok(())
+}
+
+// Takes in the id of a new pair, and its row. An error leaves both as they were.
+fn enter(
+    numbers: &mut BTreeMap<String, u32>,
+    index: &mut TreeIndex,
+    id: &str,
+    key: String,
+    number: u32,
+    seq: u64,
+) -> Result<(), AllocError>
+    requires key { string_bytes key ≡ id.now }
+    requires new { get_by_text numbers.old id.now ≡ None }
+    requires own { seq_of number index.old ≡ None }
+    requires positive { 0 < seq }
+    requires above { All (λ r. r.0 < seq) index.old }
+    ensures numbers { OnOk result ((q : List ℕ)
+        → get_by_text numbers.new q ≡ update bytes_eq (get_by_text numbers.old) id.now (Some number) q) }
+    ensures index { OnOk result (index.new ≡ moved index.old number seq) }
+    ensures err { OnErr result (((q : List ℕ) → get_by_text numbers.new q ≡ get_by_text numbers.old q)
+        × (index.new ≡ index.old)) }
+{
+    numbers.insert(key, number)?;
+    if let Err(AllocError) = index.move_to(number, None, seq) {
+        numbers.remove(id);
+        return Err(AllocError);
+    }
+    Ok(())
+}
+
+// Takes in a new pair, and answers its number. What grows last is the map, and then the index. An
+// error leaves all as it was.
+fn add(
+    pairs: &mut Vec<Pair>,
+    numbers: &mut BTreeMap<String, u32>,
+    index: &mut TreeIndex,
+    alloc: Global,
+    id: String,
+    seq: u64,
+) -> Result<u32, AllocError>
+    requires room { length pairs.old.items < 2 ^ 32 }
+    requires new { get_by_text numbers.old (string_bytes id) ≡ None }
+    requires own { seq_of (length pairs.old.items) index.old ≡ None }
+    requires positive { 0 < seq }
+    requires above { All (λ r. r.0 < seq) index.old }
+    ensures number { IfOk result (λ number. number ≡ length pairs.old.items) }
+    ensures pairs { OnOk result (ids_of pairs.new.items ≡ ids_of pairs.old.items ++ (string_bytes id, seq) ∷ []) }
+    ensures numbers { IfOk result (λ number. (q : List ℕ) → get_by_text numbers.new q
+        ≡ update bytes_eq (get_by_text numbers.old) (string_bytes id) (Some number) q) }
+    ensures index { IfOk result (λ number. index.new ≡ moved index.old number seq) }
+    ensures err { OnErr result ((ids_of pairs.new.items ≡ ids_of pairs.old.items)
+        × ((q : List ℕ) → get_by_text numbers.new q ≡ get_by_text numbers.old q)
+        × (index.new ≡ index.old)) }
+{
+    pairs.try_reserve(1)?;
+    let key = String::from_str(alloc, id.as_str())?;
+    let number = pairs.len() as u32;
+    enter(numbers, index, id.as_str(), key, number, seq)?;
+    pairs.push_reserved(Pair { id, latest: seq });
+    Ok(number)
+}
+
+impl Log {
+    /// A log of nothing. It takes no memory yet; `note` takes it from this allocator.
+    pub(crate) fn new(alloc: Global) -> Log
+        ensures { result ≡ [] }
+    {
+        Log {
+            notes: Vec::new(alloc),
+            pairs: Vec::new(alloc),
+            numbers: BTreeMap::new(alloc),
+            index: TreeIndex::new(alloc),
+            alloc,
+        }
+    }
+
+    /// How many notes there are. Constant time.
+    pub(crate) fn len(&self) -> u64
+        ensures { result ≡ length self.now }
+    {
+        self.notes.len() as u64
+    }
+
+    /// Adds a note at the end. It costs a copy of the name, one more for the first note of a pair, a
+    /// look in the map of ids, and a move in the index of rows. An error leaves all as it was.
+    pub(crate) fn note(&mut self, notice: &Notice) -> Result<(), AllocError>
+        requires room { length self.old < 2 ^ 32 - 1 }
+        ensures ok { OnOk result (self.new ≡ self.old ++ notice.now ∷ []) }
+        ensures err { OnErr result (self.new ≡ self.old) }
+    {
+        let id = id_of(self.alloc, notice)?;
+        self.notes.try_reserve(1)?;
+        let seq = self.notes.len() as u64 + 1;
+        match number_of(&self.numbers, id.as_str()) {
+            Some(number) => {
+                raise(&mut self.pairs, &mut self.index, number, seq)?;
+                self.notes.push_reserved(number);
+                Ok(())
+            }
+            None => {
+                let number = add(
+                    &mut self.pairs,
+                    &mut self.numbers,
+                    &mut self.index,
+                    self.alloc,
+                    id,
+                    seq,
+                )?;
+                self.notes.push_reserved(number);
+                Ok(())
+            }
+        }
+    }
+}

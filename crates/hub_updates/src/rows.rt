@@ -1,0 +1,94 @@
+//! The rows of the log as feeds read them.
+
+ghost use Rattle.std.specs.Prelude.{◌≡◌};
+ghost use Rattle.hub_model.specs.Updates.{id_of, note_of};
+
+use crate::log::Log;
+use hub_document::UpdateRow;
+use hub_feed::Source;
+use hub_index::SeqIndex;
+use hub_model::{Style, UpdateKind};
+use std::alloc::AllocError;
+
+// What happened, and to the database of which name, by the id of a pair.
+fn read_id(id: &str) -> (UpdateKind, &str)
+    requires { id_of (note_of id.now) ≡ id.now }
+    ensures kind { result.0 ≡ (note_of id.now).kind }
+    ensures name { result.1.now ≡ (note_of id.now).name }
+{
+    if let Some(name) = id.strip_prefix('c') {
+        return (UpdateKind::Created, name);
+    }
+    if let Some(name) = id.strip_prefix('u') {
+        return (UpdateKind::Updated, name);
+    }
+    match id.strip_prefix('d') {
+        Some(name) => (UpdateKind::Deleted, name),
+        None => unreachable!(),
+    }
+}
+
+impl Source for Log {
+    ghost use Rattle.std.specs.Prelude.{length};
+    ghost use Rattle.hub_model.specs.Current.{current};
+    ghost use Rattle.hub_model.specs.Updates.{UpdateRow as Shown, edits_of_log, update_row_of};
+    ghost use Rattle.hub_model.proofs.Laws.{rows_rise};
+    ghost use Rattle.hub_updates.specs.Laid.{rows_below};
+    ghost use Rattle.std.proofs.Common.{refl};
+
+    type Row = UpdateRow;
+
+    ghost length = { λ notes. length notes };
+
+    ghost current = { λ notes. current (edits_of_log notes) };
+
+    ghost shown = { λ notes style include_docs c. update_row_of (edits_of_log notes) style include_docs c };
+
+    ghost seq_of = { λ (r : Shown). r.seq };
+
+    ghost rise = { λ notes. rows_rise (edits_of_log notes) };
+
+    ghost within = { λ notes c. rows_below notes c };
+
+    ghost keeps = { λ notes style include_docs c. refl };
+
+    /// Constant time.
+    fn length(&self) -> u64 {
+        self.len()
+    }
+
+    /// It costs what `SeqIndex::next_after` does.
+    fn next_after(&self, place: u64, bound: Option<u64>) -> Option<(u64, &str)> {
+        let Some((seq, number)) = self.index.next_after(place, bound) else {
+            return None;
+        };
+        let pair = &self.pairs[number as usize];
+        Some((seq, pair.id.as_str()))
+    }
+
+    /// It costs what `SeqIndex::count_after` does.
+    fn count_after(&self, place: u64) -> u64 {
+        self.index.count_after(place)
+    }
+
+    /// The pair is found in constant time, and the name is copied. The style and the documents are
+    /// not looked at: a note has none.
+    fn row(&self, seq: u64, _style: Style, _include_docs: bool) -> Result<UpdateRow, AllocError> {
+        let number = self.notes[seq as usize - 1];
+        let pair = &self.pairs[number as usize];
+        let (kind, name) = read_id(pair.id.as_str());
+        let db_name = name.to_string(self.alloc)?;
+        Ok(UpdateRow {
+            db_name,
+            kind,
+            seq,
+            seen: self.notes.len() as u64,
+        })
+    }
+
+    fn seq(row: &UpdateRow) -> u64
+        ensures { result ≡ row.now.seq }
+    {
+        row.seq
+    }
+}

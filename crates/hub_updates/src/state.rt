@@ -1,0 +1,87 @@
+//! The log of updates with its feeds.
+
+ghost use Rattle.std.specs.Prelude.{◌≡◌, ◌⊎◌, ◌≤◌, ◌<◌, ◌++◌, ◌∷◌, [], length, OnOk, IfErr};
+ghost use Rattle.hub_model.specs.Updates.{edits_of_log};
+
+use crate::log::Log;
+use crate::notice::Notice;
+use hub_document::Limits;
+use hub_feed::Feeds;
+use std::alloc::Global;
+use std::marker::Model;
+
+/// Why a notice is handed back.
+#[derive(Clone, Copy, Debug, PartialEq, Eq)]
+pub enum NoteFault {
+    /// A growth was refused.
+    NoMemory,
+    /// The log has as many notes as it may have.
+    SequenceFull,
+}
+
+/// The log of updates, and the feeds that show it.
+#[derive(Debug, Drop)]
+pub struct UpdatesState {
+    pub(crate) log: Log,
+    pub(crate) feeds: Feeds,
+    pub(crate) limits: Limits,
+}
+
+impl Model for UpdatesState {
+    ghost use Rattle.std.specs.Prelude.{length};
+    ghost use Rattle.hub_feed.specs.Feeds.{AreBehind};
+    ghost use Rattle.hub_updates.specs.Log.{Updates};
+
+    ghost Value = { Updates };
+
+    ghost view = { λ a. record {
+      notes = a.log;
+      feeds = a.feeds.feeds;
+      next_feed = a.feeds.next;
+      limits = a.limits;
+    } };
+
+    ghost invariant = { λ a. AreBehind (length a.log) a.feeds.feeds };
+}
+
+impl UpdatesState {
+    /// A log of nothing. It takes no memory yet; later calls take it from this allocator.
+    pub fn new(alloc: Global, limits: Limits) -> UpdatesState
+        ensures { result ≡ record { notes = []; feeds = []; next_feed = 0; limits = limits } }
+    {
+        UpdatesState {
+            log: Log::new(alloc),
+            feeds: Feeds::new(alloc),
+            limits,
+        }
+    }
+
+    /// How many notes there are. Constant time.
+    pub fn update_seq(&self) -> u64
+        ensures { result ≡ length self.now.notes }
+    {
+        self.log.len()
+    }
+
+    /// Adds a notice at the end, under the next sequence, or hands it back: then nothing changed. The
+    /// limit is looked at before memory is. It costs a look in the map of ids, and a move in the index
+    /// of rows.
+    pub fn note(&mut self, notice: Notice) -> Result<(), (Notice, NoteFault)>
+        ensures room { OnOk result (length self.old.notes < self.old.limits.journal) }
+        ensures ok { OnOk result (self.new ≡ record self.old { notes = self.old.notes ++ notice ∷ [] }) }
+        ensures err { IfErr result (λ e. (e.0 ≡ notice) × (self.new ≡ self.old)
+            × (((e.1 ≡ NoteFault.NoMemory) × (length self.old.notes < self.old.limits.journal))
+            ⊎ ((e.1 ≡ NoteFault.SequenceFull) × (self.old.limits.journal ≤ length self.old.notes)))) }
+    {
+        if self.log.len() >= self.limits.journal {
+            return Err((notice, NoteFault::SequenceFull));
+        }
+        match self.log.note(&notice) {
+            Ok(()) => {
+                notice.lapse();
+                Ok(())
+            }
+            Err(_) => Err((notice, NoteFault::NoMemory)),
+        }
+    }
+}

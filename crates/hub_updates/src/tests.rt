@@ -1,0 +1,270 @@
+//! Logs of updates as tables: what is noted, and what the feeds of a log hand.
+
+use crate::tests::Handed::{Beat, End, Gone, Nothing, Row};
+use crate::tests::Step::{Beats, Expire, Finish, Hands, Length, Note, Open};
+use crate::{NoteFault, Notice, UpdatesState};
+use hub_document::{Limits, UpdateRow};
+use hub_feed::{FeedHost, FeedId, Next, OpenFault};
+use hub_model::Item;
+use hub_model::UpdateKind::{self, Created, Deleted, Updated};
+use hub_params::FeedParams;
+use std::alloc::Global;
+use std::process::Abort;
+
+/// A step on a log, and its answer.
+enum Step {
+    /// Something happened to the database of this name.
+    Note(UpdateKind, &'static str, Result<(), NoteFault>),
+    /// How many notes there are.
+    Length(u64),
+    /// The feed that this query asks for is opened.
+    Open(&'static str, Result<FeedId, OpenFault>),
+    /// What a feed hands, one after the other.
+    Hands(FeedId, &'static [Handed]),
+    /// Whether a beat is due to a feed.
+    Beats(FeedId, bool),
+    /// The time of a feed is over.
+    Expire(FeedId),
+    /// A feed is finished.
+    Finish(FeedId),
+}
+
+/// What a feed hands.
+enum Handed {
+    /// A row: what happened, to the database of which name, its sequence, and how many notes there
+    /// were.
+    Row(UpdateKind, &'static str, u64, u64),
+    /// A beat.
+    Beat,
+    /// Its end: the last sequence and how many rows are pending.
+    End(u64, u64),
+    /// Nothing now.
+    Nothing,
+    /// Nothing any more.
+    Gone,
+}
+
+// Feeds, by the order in which they are opened.
+
+const FIRST: FeedId = FeedId { number: 0 };
+
+const SECOND: FeedId = FeedId { number: 1 };
+
+// Whether a notice of this has this answer. One that is handed back is the same, and lapses.
+fn notes(
+    alloc: Global,
+    state: &mut UpdatesState,
+    kind: UpdateKind,
+    name: &str,
+    answer: Result<(), NoteFault>,
+) -> bool {
+    let Ok(notice) = Notice::new(alloc, kind, name) else {
+        return false;
+    };
+    match state.note(notice) {
+        Ok(()) => answer == Ok(()),
+        Err((notice, fault)) => {
+            let same = notice.kind() == kind && notice.name() == name;
+            notice.lapse();
+            same && answer == Err(fault)
+        }
+    }
+}
+
+// Whether an item is this.
+fn is_item(item: &Item<UpdateRow>, handed: &Handed) -> bool {
+    match (item, handed) {
+        (Item::Row(row), Row(kind, name, seq, seen)) => {
+            row.kind == *kind
+                && row.db_name.as_str() == *name
+                && row.seq == *seq
+                && row.seen == *seen
+        }
+        (Item::End { last_seq, pending }, End(last, rest)) => last_seq == last && pending == rest,
+        (Item::Beat, Beat) => true,
+        _ => false,
+    }
+}
+
+// Whether what a feed has to hand is this.
+fn is_handed(next: &Next<UpdateRow>, handed: &Handed) -> bool {
+    match next {
+        Next::Give(item) => is_item(item, handed),
+        Next::Nothing => matches!(handed, Nothing),
+        Next::Gone => matches!(handed, Gone),
+    }
+}
+
+// Whether a feed of a host hands this next.
+fn hands<H: FeedHost<Row = UpdateRow>>(host: &mut H, feed: FeedId, handed: &Handed) -> bool {
+    let Ok(next) = host.next_item(feed) else {
+        return false;
+    };
+    if let Next::Give(item) = &next {
+        host.accept_item(feed, item);
+    }
+    is_handed(&next, handed)
+}
+
+// Whether a feed of a host hands these, one after the other.
+fn hands_all<H: FeedHost<Row = UpdateRow>>(host: &mut H, feed: FeedId, all: &[Handed]) -> bool {
+    for handed in all {
+        if !hands(host, feed, handed) {
+            return false;
+        }
+    }
+    true
+}
+
+// Whether opening a feed of a host has this answer.
+fn opens<H: FeedHost>(
+    alloc: Global,
+    host: &mut H,
+    query: &str,
+    answer: Result<FeedId, OpenFault>,
+) -> bool {
+    match FeedParams::read(alloc, query.as_bytes(), b"") {
+        Ok(params) => host.open_feed(params) == answer,
+        Err(_) => false,
+    }
+}
+
+// Whether a step has its answer. Want of memory is another answer.
+fn holds(alloc: Global, state: &mut UpdatesState, step: &Step) -> bool {
+    match step {
+        Note(kind, name, answer) => notes(alloc, state, *kind, name, *answer),
+        Length(length) => state.update_seq() == *length && state.length() == *length,
+        Open(query, answer) => opens(alloc, state, query, *answer),
+        Hands(feed, handed) => hands_all(state, *feed, handed),
+        Beats(feed, answer) => state.beat_due(*feed) == *answer,
+        Expire(feed) => {
+            state.expire(*feed);
+            true
+        }
+        Finish(feed) => {
+            state.finish(*feed);
+            true
+        }
+    }
+}
+
+// How many steps have their answers in a new log within these limits, before the first that has
+// another.
+fn count_within(alloc: Global, limits: Limits, steps: &[Step]) -> usize {
+    let mut state = UpdatesState::new(alloc, limits);
+    let mut count = 0usize;
+    for step in steps {
+        if !holds(alloc, &mut state, step) {
+            return count;
+        }
+        count = count.saturating_add(1);
+    }
+    count
+}
+
+// Asserts that these steps, one at least, have their answers in a new log within these limits. Where
+// one has another, the count that the assertion shows is its place.
+fn assert_within(rt: &impl Abort, alloc: Global, limits: Limits, steps: &[Step]) {
+    let count = count_within(alloc, limits, steps);
+    assert_eq!(rt; count, steps.len());
+    assert!(rt; count > 0);
+}
+
+const AGAIN: &[Step] = &[
+    Note(Created, "d", Ok(())),
+    Note(Updated, "d", Ok(())),
+    Note(Deleted, "d", Ok(())),
+    Note(Created, "d", Ok(())),
+    Length(4),
+    Open("", Ok(FIRST)),
+    Hands(
+        FIRST,
+        &[
+            Row(Updated, "d", 2, 4),
+            Row(Deleted, "d", 3, 4),
+            Row(Created, "d", 4, 4),
+            End(4, 0),
+            Gone,
+        ],
+    ),
+    Finish(FIRST),
+    Hands(FIRST, &[Gone]),
+];
+
+#[test]
+fn a_database_has_a_row_for_each_kind(rt: HostRuntime) {
+    assert_within(&rt, rt.alloc(), Limits::full(), AGAIN);
+}
+
+// A row in front of the feed's place gets a new sequence, above the feed's reach.
+const LEFT: &[Step] = &[
+    Note(Created, "cd", Ok(())),
+    Note(Created, "d", Ok(())),
+    Note(Updated, "", Ok(())),
+    Open("since=1", Ok(FIRST)),
+    Hands(FIRST, &[Row(Created, "d", 2, 3)]),
+    Note(Updated, "", Ok(())),
+    Hands(FIRST, &[End(3, 1), Gone]),
+];
+
+#[test]
+fn a_row_leaves_the_reach_of_a_normal_feed(rt: HostRuntime) {
+    assert_within(&rt, rt.alloc(), Limits::full(), LEFT);
+}
+
+const FOLLOWED: &[Step] = &[
+    Open("feed=continuous&heartbeat=1000", Ok(FIRST)),
+    Hands(FIRST, &[Nothing]),
+    Note(Created, "d", Ok(())),
+    Hands(FIRST, &[Row(Created, "d", 1, 1), Nothing]),
+    Note(Updated, "d", Ok(())),
+    Note(Updated, "e", Ok(())),
+    Note(Updated, "d", Ok(())),
+    Hands(
+        FIRST,
+        &[Row(Updated, "e", 3, 4), Row(Updated, "d", 4, 4), Nothing],
+    ),
+    Beats(FIRST, true),
+    Expire(FIRST),
+    Beats(FIRST, false),
+    Hands(FIRST, &[End(4, 0), Gone]),
+];
+
+#[test]
+fn a_continuous_feed_hands_rows_as_they_come(rt: HostRuntime) {
+    assert_within(&rt, rt.alloc(), Limits::full(), FOLLOWED);
+}
+
+// Limits within which a log has one note, and one feed.
+fn one_each() -> Limits {
+    let mut limits = Limits::full();
+    limits.journal = 1;
+    limits.feeds = 1;
+    limits
+}
+
+const FULL: &[Step] = &[
+    Note(Created, "d", Ok(())),
+    Note(Created, "d", Err(NoteFault::SequenceFull)),
+    Note(Deleted, "e", Err(NoteFault::SequenceFull)),
+    Length(1),
+    Open("", Ok(FIRST)),
+    Hands(FIRST, &[Row(Created, "d", 1, 1), End(1, 0)]),
+];
+
+#[test]
+fn a_full_log_hands_notices_back(rt: HostRuntime) {
+    assert_within(&rt, rt.alloc(), one_each(), FULL);
+}
+
+const LIMITED: &[Step] = &[
+    Open("", Ok(FIRST)),
+    Open("", Err(OpenFault::TooManyFeeds)),
+    Finish(FIRST),
+    Open("", Ok(SECOND)),
+];
+
+#[test]
+fn feeds_are_limited(rt: HostRuntime) {
+    assert_within(&rt, rt.alloc(), one_each(), LIMITED);
+}
