@@ -52,14 +52,12 @@ fn answers<R: Wait>(rt: &R, hub: &Hub, call: &Call) -> bool {
 
 // How many calls have their answers, before the first that has another.
 fn count<R: Wait>(rt: &R, hub: &Hub, calls: &[Call]) -> usize {
-    let mut count = 0;
-    for call in calls {
+    for (number, call) in calls.iter().enumerate() {
         if !answers(rt, hub, call) {
-            return count;
+            return number;
         }
-        count += 1;
     }
-    count
+    calls.len()
 }
 
 const TWO: &[Call] = &[
