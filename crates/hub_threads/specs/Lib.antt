@@ -1,3 +1,4 @@
 pub mod Times
 pub mod Answers
 pub mod Handles
+pub mod Locals

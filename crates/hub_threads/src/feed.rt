@@ -4,16 +4,18 @@ ghost use Rattle.std.specs.Prelude.{◌≡◌, IfSome, IfNone};
 ghost use Rattle.hub_lane.specs.Ends.{IsAllowedBeginning, behind_take};
 ghost use Rattle.hub_params.specs.FeedModel.{params_in};
 
+use crate::gate::Gate;
 use crate::guarded::Guarded;
 use crate::host::{Host, Pumped};
+use crate::pumping::{Turn, hold};
 use crate::signals::Signals;
 use hub_database::DbState;
 use hub_document::ChangeRow;
 use hub_feed::{FeedHost, FeedId};
 use hub_lane::{Asks, Receiver};
 use hub_model::Item;
-use hub_shared::FeedLabel;
-use std::alloc::Global;
+use hub_shared::{FeedLabel, Handed};
+use std::alloc::{AllocError, Global};
 use std::marker::{Model, PhantomData};
 use std::sync::{Arc, Wait};
 
@@ -38,11 +40,11 @@ pub struct HostFeed<S: FeedHost, G: Pumped<S>> {
 }
 
 impl<S: FeedHost, G: Pumped<S>> Model for HostFeed<S, G> {
-    ghost use Rattle.hub_model.specs.declared.feeds.Item.{Item as Handed};
+    ghost use Rattle.hub_model.specs.declared.feeds.Item.{Item as Given};
     ghost use Rattle.hub_lane.specs.Ends.{ReceiverState};
     ghost use Rattle.hub_shared.specs.Label.{Label};
 
-    ghost Value = { ReceiverState Label (Handed S.Row) };
+    ghost Value = { ReceiverState Label (Given S.Row) };
 
     ghost view = { λ a. a.receiver };
 }
@@ -97,6 +99,15 @@ impl<S: FeedHost, G: Pumped<S>> HostFeed<S, G> {
     /// Whether the feed's pump has ended: what can be taken then is all that will come. Constant time.
     pub fn is_over(&self) -> bool {
         self.signals.is_over()
+    }
+
+    /// Takes the lock once for this feed, as the free function `hold`.
+    pub fn hold<R, Gt>(&self, rt: &R, turn: Turn, gate: &Gt) -> Result<Handed, AllocError>
+    where
+        R: Asks<FeedLabel<S>, Item<S::Row>>,
+        Gt: Gate,
+    {
+        hold(rt, &self.host, self.id, turn, gate)
     }
 
     /// Takes the feed out of the lock, drops its sender, and hands the receiver back, from which what

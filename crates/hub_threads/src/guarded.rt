@@ -14,6 +14,7 @@ ghost use Rattle.hub_params.specs.FeedShown.{params_asked};
 ghost use Rattle.hub_shared.specs.Locked.{Beats, Hands, stepped};
 ghost use Rattle.hub_threads.specs.Answers.{TakesMemory};
 ghost use Rattle.hub_threads.specs.Handles.{IsBeginningFor, IsFoundBy, IsReadBy, IsWrittenBy};
+ghost use Rattle.hub_threads.specs.Locals.{IsLocalFault};
 
 use crate::count::Count;
 use crate::feed::{ChangeItem, ChangeLabel};
@@ -122,6 +123,7 @@ impl<C: Count> Guarded<C> {
     pub(crate) fn local_put(&mut self, doc: LocalDoc) -> Result<u64, DbFault>
         ensures ok { IfOk result (λ count. (self.old.state.deleted ≡ false)
             × (count ≡ (written self.old.state.locals doc).count)) }
+        ensures err { IfErr result (λ e. IsLocalFault self.old.state doc e) }
     {
         self.served.locked.local_put(doc)
     }

@@ -1,13 +1,16 @@
 //! Handles on a database.
 
-ghost use Rattle.std.specs.Prelude.{◌≡◌, ◌⊎◌, ℕ, List, [], ◌+◌, ◌≤◌, ◌<◌, true, length, IfOk, IfErr, OnErr, vec_len};
+ghost use Rattle.std.specs.Prelude.{◌≡◌, ◌⊎◌, ℕ, [], ◌+◌, ◌≤◌, ◌<◌, true, false, length, IfOk, IfErr, OnErr, vec_len};
 ghost use Rattle.hub_model.specs.declared.outcomes.Fault.TheVariants.{Deleted};
 ghost use Rattle.hub_params.specs.FeedShown.{params_asked};
-ghost use Rattle.hub_database.specs.Database.{Database, GivesUp, Local};
+ghost use Rattle.hub_database.specs.Database.{Database, GivesUp};
+ghost use Rattle.hub_database.specs.Hosting.{hosted_of};
 ghost use Rattle.hub_database.specs.Locals.{written};
+ghost use Rattle.hub_feed.specs.Host.{opening_fault};
 ghost use Rattle.hub_shared.specs.Receipts.{IsAudit};
 ghost use Rattle.hub_threads.specs.Answers.{TakesMemory};
 ghost use Rattle.hub_threads.specs.Handles.{IsBeginningFor, IsFoundBy, IsReadBy, IsWrittenBy};
+ghost use Rattle.hub_threads.specs.Locals.{IsLocalFault};
 
 use crate::count::Count;
 use crate::db::Db;
@@ -113,7 +116,9 @@ impl<C: Count> Handle<C> {
     /// Stores a local document in place of the one of its id, and says how often it was written. It
     /// costs the wait for the lock, and what `DbState::local_put` does.
     pub fn local_put<R: Wait>(&mut self, rt: &R, doc: LocalDoc) -> Result<u64, DbFault>
-        ensures ok { IfOk result (λ count. (locals : List Local) × (count ≡ (written locals doc).count)) }
+        ensures ok { IfOk result (λ count. (db : Database) × (db.deleted ≡ false)
+            × (count ≡ (written db.locals doc).count)) }
+        ensures err { IfErr result (λ e. (db : Database) × IsLocalFault db doc e) }
         ensures same { self.new ≡ self.old }
     {
         self.db.guarded().lock(rt).local_put(doc)
@@ -127,6 +132,8 @@ impl<C: Count> Handle<C> {
         ensures begins { IfOk result (λ feed.
             IsBeginningFor params.since self.old.count feed.label.since) }
         ensures none { IfOk result (λ feed. feed.taken ≡ []) }
+        ensures err { IfErr result (λ e. (e ≡ OpenFault.NoMemory)
+            ⊎ ((db : Database) × (e ≡ opening_fault (hosted_of db)))) }
         ensures same { self.new ≡ self.old }
     {
         let Ok(db) = self.db.again() else {

@@ -9,6 +9,7 @@ ghost use Rattle.hub_database.specs.declared.local.Local.{Local as Kept};
 use hub_database::{DbFault, DbState, Descending, Diff, Info, Local, Lookup, OpenRev};
 use hub_document::{Asked, OpenRevs};
 use hub_params::FeedParams;
+use hub_revtree::Winner;
 use std::alloc::{AllocError, Global};
 
 /// What may be asked of a database.
@@ -20,6 +21,10 @@ pub enum Question {
     Get {
         id: String,
         revs: bool,
+    },
+    /// The winner of a document, with its mark.
+    Winner {
+        id: String,
     },
     /// Revisions of a document.
     OpenRevs {
@@ -42,6 +47,8 @@ pub enum Question {
 pub enum Answer {
     Info(Info),
     Get(Lookup),
+    /// None where there is no such document.
+    Winner(Option<Winner>),
     OpenRevs(Vec<OpenRev>),
     RevsDiff(Vec<Diff>),
     Descending(Descending),
@@ -79,6 +86,7 @@ pub fn answer_of(alloc: Global, state: &DbState, question: Question) -> Result<A
     match question {
         Question::Info => Ok(Answer::Info(state.info()?)),
         Question::Get { id, revs } => Ok(Answer::Get(state.get(id.as_str(), revs)?)),
+        Question::Winner { id } => Ok(Answer::Winner(state.standing()?.winner(id.as_str()))),
         Question::OpenRevs { id, which, revs } => Ok(Answer::OpenRevs(state.open_revs(
             id.as_str(),
             &which,

@@ -1,6 +1,6 @@
 //! The log of updates that threads share.
 
-ghost use Rattle.std.specs.Prelude.{◌≡◌, [], IfOk, IfErr, OnOk};
+ghost use Rattle.std.specs.Prelude.{◌≡◌, ◌⊎◌, [], IfOk, IfErr, OnOk};
 ghost use Rattle.hub_params.specs.FeedShown.{params_asked};
 ghost use Rattle.hub_threads.specs.Handles.{IsBeginningFor};
 
@@ -58,6 +58,7 @@ impl Host<Served<UpdatesState>> {
         ensures asks { IfOk result (λ feed. feed.label.asked ≡ params_asked params) }
         ensures begins { IfOk result (λ feed. IsBeginningFor params.since 0 feed.label.since) }
         ensures none { IfOk result (λ feed. feed.taken ≡ []) }
+        ensures err { IfErr result (λ e. (e ≡ OpenFault.NoMemory) ⊎ (e ≡ OpenFault.TooManyFeeds)) }
     {
         let Ok(host) = self.again() else {
             return Err(OpenFault::NoMemory);

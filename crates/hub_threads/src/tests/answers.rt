@@ -6,6 +6,7 @@ use hub_database::{DbFault, Descending, Diff, Lookup, OpenRev};
 use hub_document::{Asked, LocalDoc, OpenRevs, RevId, Revisions, write_local};
 use hub_feed::OpenFault;
 use hub_model::{Fault, Outcome};
+use hub_revtree::Winner;
 use hub_shared::Receipt;
 use std::alloc::{AllocError, Global};
 use std::sync::Wait;
@@ -17,6 +18,7 @@ enum Asking {
     Info,
     // A document, with its history or without.
     Get(&'static str, bool),
+    Winner(&'static str),
     // The leaves of a document.
     Leaves(&'static str),
     // These revisions of a document, with their histories.
@@ -64,6 +66,9 @@ fn question(alloc: Global, asking: &Asking) -> Result<Question, Fail> {
             id: String::from_str(alloc, id)?,
             revs: *revs,
         },
+        Asking::Winner(id) => Question::Winner {
+            id: String::from_str(alloc, id)?,
+        },
         Asking::Leaves(id) => opened(alloc, id, None)?,
         Asking::Listed(id, texts) => opened(alloc, id, Some(*texts))?,
         Asking::Missing(id, texts) => Question::RevsDiff(asked(alloc, id, texts)?),
@@ -98,6 +103,17 @@ fn put_revs(out: &mut Vec<u8>, revs: &[RevId]) -> Result<(), AllocError> {
         put(out, " ")?;
     }
     Ok(())
+}
+
+// The winner of a document, if there is one.
+fn put_winner(out: &mut Vec<u8>, winner: &Option<Winner>) -> Result<(), AllocError> {
+    match winner {
+        Some(winner) => {
+            put_revs(out, &[winner.rev])?;
+            put(out, if winner.deleted { "deleted" } else { "stands" })
+        }
+        None => put(out, "none"),
+    }
 }
 
 fn put_opened(out: &mut Vec<u8>, opened: &[OpenRev]) -> Result<(), AllocError> {
@@ -142,6 +158,7 @@ fn put_answer(alloc: Global, out: &mut Vec<u8>, answer: &Answer) -> Result<(), A
             put_number(alloc, out, info.update_seq)
         }
         Answer::Get(lookup) => put_lookup(out, lookup),
+        Answer::Winner(winner) => put_winner(out, winner),
         Answer::OpenRevs(opened) => put_opened(out, opened.as_slice()),
         Answer::RevsDiff(diffs) => put_diffs(out, diffs.as_slice()),
         Answer::Descending(falling) => put_falling(alloc, out, falling),
@@ -184,7 +201,7 @@ fn conflicts<R: Wait>(rt: &R, alloc: Global) -> Result<(Db<Plain>, Handle<Plain>
     Ok((db, handle))
 }
 
-const DOCUMENTS: [(Asking, &str); 6] = [
+const DOCUMENTS: [(Asking, &str); 9] = [
     (Asking::Info, "1 1 5 "),
     (
         Asking::Get("a", false),
@@ -197,6 +214,9 @@ const DOCUMENTS: [(Asking, &str); 6] = [
     (Asking::Get("b", false), "deleted"),
     (Asking::Get("b", true), "deleted"),
     (Asking::Get("z", true), "unknown"),
+    (Asking::Winner("a"), "2-d stands"),
+    (Asking::Winner("b"), "1-b deleted"),
+    (Asking::Winner("z"), "none"),
 ];
 
 const REVISIONS: [(Asking, &str); 5] = [

@@ -2,7 +2,7 @@
 
 use crate::tests::Told::{End, Row};
 use crate::tests::{Counting, FIVE, as_told, database, open, take, write};
-use crate::{Db, Feed, Plain, Turn, hold};
+use crate::{Feed, Plain, Turn, hold};
 use hub_document::Doc;
 use hub_model::Item;
 use hub_shared::Handed;
@@ -11,20 +11,20 @@ use std::sync::Wait;
 use std::test::Fail;
 
 // What a holding answers that hands what is due.
-fn hands<R: Wait>(rt: &R, db: &Db<Plain>, feed: &Feed<Plain>) -> Result<Handed, Fail> {
-    Ok(hold(rt, db, feed.id(), Turn::Hand, &Counting::new())?)
+fn hands<R: Wait>(rt: &R, feed: &Feed<Plain>) -> Result<Handed, Fail> {
+    Ok(feed.hold(rt, Turn::Hand, &Counting::new())?)
 }
 
 #[test]
 fn a_holding_hands_as_many_items_as_it_may(rt: HostRuntime) -> Result<(), Fail> {
-    let (db, mut handle) = database(rt.alloc(), 64, 2)?;
+    let (_db, mut handle) = database(rt.alloc(), 64, 2)?;
     let _accepted = write(&rt, rt.alloc(), &mut handle, &FIVE[..3])?;
     let mut feed = open(&rt, rt.alloc(), &mut handle, "")?;
-    assert_eq!(rt; hands(&rt, &db, &feed)?, Handed::Row);
+    assert_eq!(rt; hands(&rt, &feed)?, Handed::Row);
     for item in [Some(Row(1)), Some(Row(2)), None] {
         assert_eq!(rt; take(&rt, &mut feed), item);
     }
-    assert_eq!(rt; hands(&rt, &db, &feed)?, Handed::End);
+    assert_eq!(rt; hands(&rt, &feed)?, Handed::End);
     for item in [Some(Row(3)), Some(End(3)), None] {
         assert_eq!(rt; take(&rt, &mut feed), item);
     }
@@ -33,10 +33,10 @@ fn a_holding_hands_as_many_items_as_it_may(rt: HostRuntime) -> Result<(), Fail> 
 
 #[test]
 fn a_feed_that_handed_its_end_is_gone(rt: HostRuntime) -> Result<(), Fail> {
-    let (db, mut handle) = database(rt.alloc(), 64, 2)?;
+    let (_db, mut handle) = database(rt.alloc(), 64, 2)?;
     let feed = open(&rt, rt.alloc(), &mut handle, "")?;
-    assert_eq!(rt; hands(&rt, &db, &feed)?, Handed::End);
-    assert_eq!(rt; hands(&rt, &db, &feed)?, Handed::Gone);
+    assert_eq!(rt; hands(&rt, &feed)?, Handed::End);
+    assert_eq!(rt; hands(&rt, &feed)?, Handed::Gone);
     Ok(())
 }
 
@@ -47,7 +47,7 @@ fn a_full_lane_keeps_its_rows(rt: HostRuntime) -> Result<(), Fail> {
     let feed = open(&rt, rt.alloc(), &mut handle, "")?;
     let id = feed.id();
     for _ in 0..2 {
-        assert_eq!(rt; hands(&rt, &db, &feed)?, Handed::Full);
+        assert_eq!(rt; hands(&rt, &feed)?, Handed::Full);
     }
     let mut receiver = feed.finish(&rt);
     for item in [Some(Row(1)), Some(Row(2)), None] {
@@ -61,14 +61,14 @@ fn a_full_lane_keeps_its_rows(rt: HostRuntime) -> Result<(), Fail> {
 // Room for one item more is handed one item more.
 #[test]
 fn a_lane_with_room_is_handed_on(rt: HostRuntime) -> Result<(), Fail> {
-    let (db, mut handle) = database(rt.alloc(), 2, 64)?;
+    let (_db, mut handle) = database(rt.alloc(), 2, 64)?;
     let _accepted = write(&rt, rt.alloc(), &mut handle, &FIVE[..3])?;
     let mut feed = open(&rt, rt.alloc(), &mut handle, "")?;
     for seq in 1..3 {
-        assert_eq!(rt; hands(&rt, &db, &feed)?, Handed::Full);
+        assert_eq!(rt; hands(&rt, &feed)?, Handed::Full);
         assert_eq!(rt; take(&rt, &mut feed), Some(Row(seq)));
     }
-    assert_eq!(rt; hands(&rt, &db, &feed)?, Handed::End);
+    assert_eq!(rt; hands(&rt, &feed)?, Handed::End);
     for item in [Some(Row(3)), Some(End(3)), None] {
         assert_eq!(rt; take(&rt, &mut feed), item);
     }
@@ -113,11 +113,11 @@ fn first_document<R: Wait>(rt: &R, alloc: Global, feed: &mut Feed<Plain>) -> Res
 #[test]
 fn a_row_shows_its_document_as_it_was_written(rt: HostRuntime) -> Result<(), Fail> {
     let alloc = rt.alloc();
-    let (db, mut handle) = database(alloc, 64, 64)?;
+    let (_db, mut handle) = database(alloc, 64, 64)?;
     let doc = Doc::read(alloc, br#"{"_id":"a","v":7}"#, true)?;
     let _accepted = handle.write(&rt, vec![in alloc; doc]?, true)?;
     let mut feed = open(&rt, alloc, &mut handle, "include_docs=true")?;
-    assert_eq!(rt; hands(&rt, &db, &feed)?, Handed::End);
+    assert_eq!(rt; hands(&rt, &feed)?, Handed::End);
     let wanted = r#"{"_id":"a","_rev":"1-91e3da135d1d0593e6703385cf55957a","v":7}"#;
     let text = first_document(&rt, alloc, &mut feed)?;
     assert!(rt; text.as_slice() == wanted.as_bytes());

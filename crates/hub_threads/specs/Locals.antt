@@ -1,0 +1,16 @@
+-- Why a local document is not stored (CouchDB API reference, local documents; how it is counted is own).
+use Rattle.std.specs.Prelude.{◌≡◌, ◌⊎◌, ◌<◌, ◌≤◌, ◌^◌, true, false}
+use Rattle.hub_model.specs.declared.outcomes.Fault.TheVariants as fault
+use Rattle.hub_document.specs.declared.local_doc.LocalDoc.{LocalDoc}
+use Rattle.hub_database.specs.Database.{Database}
+use Rattle.hub_database.specs.Locals.{written}
+use Rattle.hub_database.specs.declared.batch.DbFault.{DbFault}
+use Rattle.hub_database.specs.declared.batch.DbFault.TheVariants.{NoMemory, Refused}
+
+-- A deleted database is told before anything else. One that stands tells want of memory only where the
+-- document's count has one more below 2^64, and else a full sequence.
+abbrev pub IsLocalFault : Database → LocalDoc → DbFault → Type 0
+IsLocalFault db doc e =
+    ((db.deleted ≡ true) × (e ≡ Refused fault.Deleted))
+    ⊎ ((db.deleted ≡ false) × (((e ≡ NoMemory) × ((written db.locals doc).count < 2 ^ 64))
+    ⊎ ((e ≡ Refused fault.SequenceFull) × (2 ^ 64 ≤ (written db.locals doc).count))))
