@@ -1,6 +1,6 @@
 //! A hub of databases behind locks.
 
-ghost use Rattle.std.specs.Prelude.{◌≡◌, [], true, false, Err, map, string_bytes, IfErr, IfOk, IsSome};
+ghost use Rattle.std.specs.Prelude.{◌≡◌, ◌⊎◌, [], true, false, Err, map, string_bytes, IfErr, IfOk, IsSome};
 ghost use Rattle.std.specs.Arc.{arc_value};
 ghost use Rattle.hub_databases.specs.Asked.{updates_asked};
 ghost use Rattle.hub_databases.specs.Kept.{AreNames, most_databases};
@@ -93,7 +93,7 @@ impl Hub {
         requires valid { is_database_name name.now ≡ true }
         requires key { string_bytes key ≡ name.now }
         requires own { string_bytes (arc_value named).name ≡ name.now }
-        ensures { IfErr result (λ e. ¬ (e ≡ HubFault.BadName)) }
+        ensures { IfErr result (λ e. ¬ (e ≡ HubFault.BadName) × ¬ (e ≡ HubFault.Absent)) }
     {
         let mut names = self.names.write(rt);
         if let Err(fault) = names.put(key, named) {
@@ -113,6 +113,7 @@ impl Hub {
     pub fn create<R: Wait>(&self, rt: &R, name: &str) -> Result<(), HubFault>
         ensures bad { is_database_name name.now ≡ false → result ≡ Err HubFault.BadName }
         ensures only_bad { result ≡ Err HubFault.BadName → is_database_name name.now ≡ false }
+        ensures err { IfErr result (λ e. ¬ (e ≡ HubFault.Absent)) }
     {
         if !is_name(name) {
             return Err(HubFault::BadName);
@@ -129,6 +130,8 @@ impl Hub {
         ensures own { IfOk result (λ db. db ≡ name.now) }
         ensures bad { is_database_name name.now ≡ false → result ≡ Err HubFault.BadName }
         ensures only_bad { result ≡ Err HubFault.BadName → is_database_name name.now ≡ false }
+        ensures err { IfErr result (λ e.
+            (e ≡ HubFault.BadName) ⊎ (e ≡ HubFault.Absent) ⊎ (e ≡ HubFault.NoMemory)) }
     {
         if !is_name(name) {
             return Err(HubFault::BadName);
@@ -143,7 +146,8 @@ impl Hub {
     // Takes a database from under its name and notes that, or does neither. A handle on it is made
     // first. The names are held throughout.
     fn take<R: Wait>(&self, rt: &R, name: &str, notice: Notice) -> Result<Handle<Plain>, HubFault>
-        ensures { IfErr result (λ e. ¬ (e ≡ HubFault.BadName)) }
+        ensures { IfErr result (λ e. ¬ (e ≡ HubFault.BadName) × ¬ (e ≡ HubFault.Exists)
+            × ¬ (e ≡ HubFault.TooMany)) }
     {
         let mut names = self.names.write(rt);
         let handle = match names.find(name) {
@@ -169,6 +173,7 @@ impl Hub {
     pub fn remove<R: Wait>(&self, rt: &R, name: &str) -> Result<(), HubFault>
         ensures bad { is_database_name name.now ≡ false → result ≡ Err HubFault.BadName }
         ensures only_bad { result ≡ Err HubFault.BadName → is_database_name name.now ≡ false }
+        ensures err { IfErr result (λ e. ¬ (e ≡ HubFault.Exists) × ¬ (e ≡ HubFault.TooMany)) }
     {
         if !is_name(name) {
             return Err(HubFault::BadName);
@@ -236,6 +241,7 @@ impl Hub {
         ensures asks { IfOk result (λ feed. feed.label.asked ≡ updates_asked (params_asked params)) }
         ensures begins { IfOk result (λ feed. IsBeginningFor params.since 0 feed.label.since) }
         ensures none { IfOk result (λ feed. feed.taken ≡ []) }
+        ensures err { IfErr result (λ e. (e ≡ OpenFault.NoMemory) ⊎ (e ≡ OpenFault.TooManyFeeds)) }
     {
         let params = FeedParams {
             descending: false,
