@@ -58,6 +58,10 @@ local_doc_body id count body = local_text id count body ++ codes "\n"
 unfoldable pub list_text : List (List ℕ) → List ℕ
 list_text texts = codes "[" ++ (join_with_byte 44 texts ++ codes "]")
 
+-- the list of the names of databases, in this order
+unfoldable pub names_body : List (List ℕ) → List ℕ
+names_body names = list_text (map quoted names) ++ codes "\n"
+
 -- a revision that was asked for
 unfoldable pub open_rev_text : OpenRev → List ℕ
 open_rev_text (Found doc) = codes "{\"ok\":" ++ (doc_text doc ++ codes "}")

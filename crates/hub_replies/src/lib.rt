@@ -1,4 +1,4 @@
-//! The JSON bodies of a database's answers: each is compact, and a line feed ends it.
+//! The JSON bodies of the answers of the hub: each is compact, and a line feed ends it.
 #![tactic(auto)]
 
 mod batch;
@@ -7,6 +7,7 @@ mod docs;
 mod edits;
 mod fixed;
 mod info;
+mod names;
 #[cfg(test)]
 mod tests;
 mod texts;
@@ -17,3 +18,4 @@ pub use docs::{doc_body, local_doc_body, open_revs_body};
 pub use edits::{edit_body, local_edit_body};
 pub use fixed::{commit_body, ok_body, welcome_body};
 pub use info::info_body;
+pub use names::names_body;

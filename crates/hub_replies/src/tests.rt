@@ -2,7 +2,7 @@
 
 use crate::{
     BatchReply, batch_body, commit_body, diffs_body, doc_body, edit_body, info_body,
-    local_doc_body, local_edit_body, ok_body, open_revs_body, welcome_body,
+    local_doc_body, local_edit_body, names_body, ok_body, open_revs_body, welcome_body,
 };
 use hub_database::{Diff, Info, Local, OpenRev};
 use hub_document::{Doc, RevId, Revisions};
@@ -56,6 +56,25 @@ fn fixed_bodies(rt: HostRuntime) -> Result<(), Fail> {
         commit_body(),
         r#"{"instance_start_time":"0","ok":true}"#,
     );
+    Ok(())
+}
+
+#[test]
+fn names_are_listed(rt: HostRuntime) -> Result<(), Fail> {
+    let alloc = rt.alloc();
+    let mut names = Vec::new(alloc);
+    let body = names_body(alloc, names.as_slice())?;
+    is_line(&rt, body.as_slice(), "[]");
+    names.push(String::from_str(alloc, "b/c")?)?;
+    let body = names_body(alloc, names.as_slice())?;
+    is_line(&rt, body.as_slice(), r#"["b/c"]"#);
+    names.push(String::from_str(alloc, "a")?)?;
+    let body = names_body(alloc, names.as_slice())?;
+    is_line(&rt, body.as_slice(), r#"["b/c","a"]"#);
+    names.push(String::from_str(alloc, ODD)?)?;
+    let body = names_body(alloc, names.as_slice())?;
+    let expected = format!(in alloc; r#"["b/c","a",{ODD_TEXT}]"#)?;
+    is_line(&rt, body.as_slice(), expected.as_str());
     Ok(())
 }
 
