@@ -1,4 +1,4 @@
--- The JSON bodies of a database's answers (CouchDB API reference; own for the order of the members).
+-- The JSON bodies of the answers of the hub (CouchDB API reference; own for the order of the members).
 use Rattle.std.specs.Prelude.{ℕ, List, [], ◌∷◌, ◌++◌, map, codes, decimal}
 use Rattle.std.specs.List.{join_with_byte}
 use Rattle.json.specs.Print.{quoted}

@@ -10,8 +10,8 @@ pub fn welcome_body() -> &'static [u8]
     b"{\"couchdb\":\"Welcome\",\"version\":\"3.0.0\"}\n"
 }
 
-/// The answer to what was done and has nothing to say (CouchDB API reference, `PUT /{db}`). It costs
-/// nothing.
+/// The answer to what was done and has nothing to say (CouchDB API reference, `PUT /{db}`,
+/// `DELETE /{db}`). It costs nothing.
 pub fn ok_body() -> &'static [u8]
     ensures { result.now ≡ ok_body }
 {
