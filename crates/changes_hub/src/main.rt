@@ -3,33 +3,14 @@
 
 ghost use Rattle.std.specs.Prelude.{◌≡◌, ◌↔◌, ◌⊎◌, IsTrue};
 
-mod bulk;
-mod database;
-#[cfg(test)]
-mod database_tests;
-mod databases;
-mod diff;
-#[cfg(test)]
-mod document_tests;
-mod documents;
-#[cfg(test)]
-mod feed_tests;
-mod feeds;
-mod locals;
-mod refusal;
-mod response;
-#[cfg(test)]
-mod session_tests;
-mod stream;
-#[cfg(test)]
-mod tests;
-
-use crate::stream::answer_stream;
 use hub_document::Limits;
 use hub_http::{Output, Requests, Tally};
+use hub_service::answer_stream;
 use hub_session::Closing;
-use std::io::BufWriter;
+use std::alloc::Global;
+use std::io::{BufWriter, Read, Write};
 use std::process::ExitCode;
+use std::sync::Wait;
 use std::{env, io};
 
 /// The bytes that are written to standard output at once.
@@ -64,13 +45,16 @@ fn is_success(closing: Closing) -> bool
     closing == Closing::Finished || closing == Closing::Requested
 }
 
-/// Answers the requests on standard input.
-fn serve_stdin(rt: &HostRuntime) -> io::Result<ExitCode> {
-    let alloc = rt.alloc();
-    let mut requests = Requests::new(alloc, Tally::new(rt.stdin()));
-    let mut writer = Tally::new(BufWriter::with_capacity(alloc, OUTPUT, rt.stdout())?);
-    let closing = answer_stream(alloc, &mut requests, &mut writer, Limits::full())?;
-    // A stream that was cut short is not flushed by its session.
+/// Answers the requests of a reader on a writer, by a hub without databases.
+fn serve<N: Wait, R: Drop + Read, W: Drop + Write>(
+    rt: &N,
+    alloc: Global,
+    reader: R,
+    writer: W,
+) -> io::Result<ExitCode> {
+    let mut requests = Requests::new(alloc, Tally::new(reader));
+    let mut writer = Tally::new(writer);
+    let closing = answer_stream(rt, alloc, &mut requests, &mut writer, Limits::full())?;
     Output::flush(&mut writer)?;
     if is_success(closing) {
         Ok(ExitCode::SUCCESS)
@@ -81,7 +65,10 @@ fn serve_stdin(rt: &HostRuntime) -> io::Result<ExitCode> {
 
 fn main(rt: HostRuntime) -> io::Result<ExitCode> {
     match Command::read(&rt)? {
-        Some(Command::Stdin) => serve_stdin(&rt),
+        Some(Command::Stdin) => {
+            let writer = BufWriter::with_capacity(rt.alloc(), OUTPUT, rt.stdout())?;
+            serve(&rt, rt.alloc(), rt.stdin(), writer)
+        }
         None => {
             eprintln!(rt; "usage: changes_hub stdin")?;
             Ok(ExitCode::from(2))

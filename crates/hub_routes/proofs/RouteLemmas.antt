@@ -73,8 +73,8 @@ id_refuses a s e asked d (inr (m, bad)) = rw m (s, asked, d, bad)
 
 -- a name, an id or a query that has no room
 pub has_no_room : (a : Asked) (s : Service) (r : Result Route RouteFault) → r ≡ Err NoMemory
-    → service_of a ≡ Ok s → s ≢ service.Welcome → IsWhole a s → GoesTo a r
-has_no_room a s r none asked named whole = rw none (copies s asked named whole)
+    → service_of a ≡ Ok s → s ≢ service.Welcome → s ≢ service.AllDbs → IsWhole a s → GoesTo a r
+has_no_room a s r none asked named no_list whole = rw none (copies s asked named no_list whole)
 
 -- a request that nothing refuses
 pub goes_to : (a : Asked) (s : Service) (db id : String Global) (query : Vec ℕ Global)
@@ -83,7 +83,10 @@ pub goes_to : (a : Asked) (s : Service) (db id : String Global) (query : Vec ℕ
     → GoesTo a (Ok (route_to s db id query))
 unfolding route_to
 goes_to a service.Welcome db id query h w d i q = h
+goes_to a service.AllDbs db id query h w d i q = h
+goes_to a service.DbUpdates db id query h w d i q = (h, q)
 goes_to a service.PutDatabase db id query h w d i q = (h, d)
+goes_to a service.DeleteDatabase db id query h w d i q = (h, d)
 goes_to a service.Info db id query h w d i q = (d, h)
 goes_to a service.BulkDocs db id query h w d i q = (d, (h, w.length refl))
 goes_to a service.Changes db id query h w d i q = (d, (h, q))

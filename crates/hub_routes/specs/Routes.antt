@@ -11,7 +11,8 @@ use Rattle.hub_routes.specs.Services.{method_of, asked_at, has_document, takes, 
 use Rattle.hub_routes.specs.declared.service.Service.{Service}
 use Rattle.hub_routes.specs.declared.service.Service.TheVariants as service
 use Rattle.hub_routes.specs.declared.route.Route.{Route}
-use Rattle.hub_routes.specs.declared.route.Route.TheVariants.{Welcome, PutDatabase, Database}
+use Rattle.hub_routes.specs.declared.route.Route.TheVariants.{Welcome, AllDbs, DbUpdates, PutDatabase}
+use Rattle.hub_routes.specs.declared.route.Route.TheVariants.{DeleteDatabase, Database}
 use Rattle.hub_routes.specs.declared.route.Call.{Call}
 use Rattle.hub_routes.specs.declared.route.Call.TheVariants.{Info, BulkDocs, Changes, RevsDiff, FullCommit}
 use Rattle.hub_routes.specs.declared.route.Call.TheVariants.{GetDocument, PutDocument, DeleteDocument}
@@ -53,7 +54,10 @@ pub record AsksFor (a : Asked) (s : Service) (id : List ℕ) : Type 0 where
 -- the route of a service, with what it has of a name, an id and a query
 unfoldable pub route_to : Service → String Global → String Global → Vec ℕ Global → Route
 route_to service.Welcome db id query = Welcome
+route_to service.AllDbs db id query = AllDbs
+route_to service.DbUpdates db id query = DbUpdates query
 route_to service.PutDatabase db id query = PutDatabase db
+route_to service.DeleteDatabase db id query = DeleteDatabase db
 route_to service.Info db id query = Database db Info
 route_to service.BulkDocs db id query = Database db BulkDocs
 route_to service.Changes db id query = Database db (Changes query)
@@ -73,14 +77,15 @@ pub record IsWhole (a : Asked) (s : Service) : Type 0 where
   pub document : IsGoodId s (document_of a)
 
 -- What may fail for want of memory: finding the kind of the path; decoding a name, or the id of one document;
--- and copying the name and what else a route has, where nothing refuses the request. The greeting has no
--- name.
+-- and copying what a route has of the name, the id and the query, where nothing refuses the request. The
+-- routes of the greeting and of the list of databases have nothing of them.
 pub data NeedsRoom (a : Asked) : Type 0 where
   kind : NeedsRoomForKind (path_of a.target) → NeedsRoom a
   name : IsOk (service_of a) → HasPercent (name_part (path_of a.target)) → NeedsRoom a
   document : (s : Service) → service_of a ≡ Ok s → has_document s ≡ true → IsUtf8 (database_of a)
       → HasPercent (id_part (path_of a.target)) → NeedsRoom a
-  copies : (s : Service) → service_of a ≡ Ok s → s ≢ service.Welcome → IsWhole a s → NeedsRoom a
+  copies : (s : Service) → service_of a ≡ Ok s → s ≢ service.Welcome → s ≢ service.AllDbs → IsWhole a s
+      → NeedsRoom a
 
 -- what a request asks of a database
 abbrev pub CallsFor : Asked → Call → Type 0
@@ -101,7 +106,11 @@ CallsFor a (PutLocal id) = AsksFor a service.PutLocal (string_bytes id)
 -- where a request goes, or why nowhere
 abbrev pub GoesTo : Asked → Result Route RouteFault → Type 0
 GoesTo a (Ok Welcome) = service_of a ≡ Ok service.Welcome
+GoesTo a (Ok AllDbs) = service_of a ≡ Ok service.AllDbs
+GoesTo a (Ok (DbUpdates query)) = (service_of a ≡ Ok service.DbUpdates) × (query.items ≡ query_of a.target)
 GoesTo a (Ok (PutDatabase db)) = (service_of a ≡ Ok service.PutDatabase) × (string_bytes db ≡ database_of a)
+GoesTo a (Ok (DeleteDatabase db)) =
+    (service_of a ≡ Ok service.DeleteDatabase) × (string_bytes db ≡ database_of a)
 GoesTo a (Ok (Database db call)) = (string_bytes db ≡ database_of a) × CallsFor a call
 GoesTo a (Err NoMemory) = NeedsRoom a
 GoesTo a (Err Missing) = service_of a ≡ Err Missing

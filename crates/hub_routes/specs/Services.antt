@@ -7,8 +7,9 @@ use Rattle.hub_routes.specs.declared.kind.Kind.TheVariants as kind
 use Rattle.hub_routes.specs.declared.service.Method.{Method}
 use Rattle.hub_routes.specs.declared.service.Method.TheVariants.{Get, Head, Put, Post, Delete, Other}
 use Rattle.hub_routes.specs.declared.service.Service.{Service}
-use Rattle.hub_routes.specs.declared.service.Service.TheVariants.{Welcome, PutDatabase, Info, BulkDocs}
-use Rattle.hub_routes.specs.declared.service.Service.TheVariants.{Changes, RevsDiff, FullCommit, GetDocument}
+use Rattle.hub_routes.specs.declared.service.Service.TheVariants.{Welcome, AllDbs, DbUpdates, PutDatabase}
+use Rattle.hub_routes.specs.declared.service.Service.TheVariants.{DeleteDatabase, Info, BulkDocs, Changes}
+use Rattle.hub_routes.specs.declared.service.Service.TheVariants.{RevsDiff, FullCommit, GetDocument}
 use Rattle.hub_routes.specs.declared.service.Service.TheVariants.{PutDocument, DeleteDocument, GetLocal}
 use Rattle.hub_routes.specs.declared.service.Service.TheVariants.{PutLocal}
 use Rattle.hub_routes.specs.declared.route.RouteFault.{RouteFault}
@@ -26,13 +27,13 @@ method_of name =
 
 -- what a method asks of a path of this kind: a service, or why there is none
 unfoldable pub asked_of : Kind → Method → Result Service RouteFault
-asked_of kind.AllDbs method = Err Missing
-asked_of kind.DbUpdates method = Err Missing
 asked_of kind.Welcome Get = Ok Welcome
+asked_of kind.AllDbs Get = Ok AllDbs
+asked_of kind.DbUpdates Get = Ok DbUpdates
 asked_of kind.Database Get = Ok Info
 asked_of kind.Database Head = Ok Info
 asked_of kind.Database Put = Ok PutDatabase
-asked_of kind.Database Delete = Err Missing
+asked_of kind.Database Delete = Ok DeleteDatabase
 asked_of kind.BulkDocs Post = Ok BulkDocs
 asked_of kind.Changes Get = Ok Changes
 asked_of kind.Changes Post = Ok Changes
@@ -45,7 +46,7 @@ asked_of kind.Local Get = Ok GetLocal
 asked_of kind.Local Put = Ok PutLocal
 asked_of other method = Err MethodNotAllowed
 
--- what a method asks for of a path of this kind; a path that the table has not is missing, whatever the method
+-- what a method asks for of a path of this kind; a path that the table has not is missing by every method
 abbrev pub asked_at : Option Kind → Method → Result Service RouteFault
 asked_at None method = Err Missing
 asked_at (Some kind) method = asked_of kind method

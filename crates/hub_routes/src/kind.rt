@@ -43,8 +43,8 @@ fn add(router: &mut Router<Kind>, route: &str, kind: Kind) -> Result<(), AllocEr
     }
 }
 
-// The paths of databases are matched here too where they are not served, so that no part of one
-// is taken for a name.
+// The paths of the hub stand beside those of databases, so that none of them is taken for the name
+// of a database.
 pub fn table(alloc: Global) -> Result<Router<Kind>, AllocError>
     ensures { IfOk result (λ r. r ≡ table) }
 {

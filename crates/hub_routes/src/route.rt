@@ -12,8 +12,20 @@ use std::alloc::AllocError;
 pub enum Route {
     /// `GET /`
     Welcome,
+    /// `GET /_all_dbs`
+    AllDbs,
+    /// `GET /_db_updates`
+    DbUpdates {
+        /// The query.
+        query: Vec<u8>,
+    },
     /// `PUT /{db}`
     PutDatabase {
+        /// The name of the database.
+        db: String,
+    },
+    /// `DELETE /{db}`
+    DeleteDatabase {
         /// The name of the database.
         db: String,
     },

@@ -62,7 +62,10 @@ fn route_to(service: Service, db: String, id: String, query: Vec<u8>) -> Route
 {
     let call = match service {
         Service::Welcome => return Route::Welcome,
+        Service::AllDbs => return Route::AllDbs,
+        Service::DbUpdates => return Route::DbUpdates { query },
         Service::PutDatabase => return Route::PutDatabase { db },
+        Service::DeleteDatabase => return Route::DeleteDatabase { db },
         Service::Info => Call::Info,
         Service::BulkDocs => Call::BulkDocs,
         Service::Changes => Call::Changes { query },
@@ -131,7 +134,8 @@ impl Routes {
     /// Where a request goes. The first of these refuses it: no such path; a method that the path
     /// does not take; a name that is no text; an id that is no text or that no document may have;
     /// a length that is missing. It costs the target's length, and copies the name, the id and the
-    /// query. A refusal takes memory only where the path has escapes, or bytes outside ASCII.
+    /// query: the query alone for the feed of updates, and nothing for the greeting and the list of
+    /// databases. A refusal takes memory only where the path has escapes, or bytes outside ASCII.
     pub fn route(&self, alloc: Global, request: &Request) -> Result<Route, RouteFault>
         ensures { GoesTo (asked_by request.now) result }
     {
@@ -155,9 +159,15 @@ impl Routes {
         if service == Service::Welcome {
             return Ok(Route::Welcome);
         }
+        if service == Service::AllDbs {
+            return Ok(Route::AllDbs);
+        }
+        let query = Vec::from_slice(alloc, query)?;
+        if service == Service::DbUpdates {
+            return Ok(Route::DbUpdates { query });
+        }
         let db = name.into_owned(alloc)?;
         let id = id.into_owned(alloc)?;
-        let query = Vec::from_slice(alloc, query)?;
         Ok(route_to(service, db, id, query))
     }
 }

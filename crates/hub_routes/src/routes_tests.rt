@@ -9,18 +9,43 @@ const WITH_LENGTH: bool = true;
 
 const NO_LENGTH: bool = false;
 
-const SERVER: [(&str, &[u8], bool, &str); 16] = [
+const SERVER: [(&str, &[u8], bool, &str); 31] = [
     ("GET", b"/", NO_LENGTH, "welcome"),
     ("GET", b"/?x", NO_LENGTH, "welcome"),
     ("HEAD", b"/", NO_LENGTH, "method not allowed"),
     ("PUT", b"/", NO_LENGTH, "method not allowed"),
     ("POST", b"/", WITH_LENGTH, "method not allowed"),
     ("get", b"/", NO_LENGTH, "method not allowed"),
-    ("GET", b"/_all_dbs", NO_LENGTH, "missing"),
-    ("PUT", b"/_all_dbs", NO_LENGTH, "missing"),
-    ("BREW", b"/_all_dbs", NO_LENGTH, "missing"),
-    ("GET", b"/_db_updates", NO_LENGTH, "missing"),
-    ("PUT", b"/_db_updates", NO_LENGTH, "missing"),
+    ("GET", b"/_all_dbs", NO_LENGTH, "list"),
+    ("GET", b"/_all_dbs?x=%ff", WITH_LENGTH, "list"),
+    ("HEAD", b"/_all_dbs", NO_LENGTH, "method not allowed"),
+    ("PUT", b"/_all_dbs", NO_LENGTH, "method not allowed"),
+    ("POST", b"/_all_dbs", WITH_LENGTH, "method not allowed"),
+    ("DELETE", b"/_all_dbs", NO_LENGTH, "method not allowed"),
+    ("BREW", b"/_all_dbs", NO_LENGTH, "method not allowed"),
+    ("GET", b"/_all_dbs/", NO_LENGTH, "get _all_dbs"),
+    ("GET", b"/%5Fall_dbs", NO_LENGTH, "get _all_dbs"),
+    ("GET", b"/_db_updates", NO_LENGTH, "updates ?"),
+    (
+        "GET",
+        b"/_db_updates?since=1",
+        NO_LENGTH,
+        "updates ?since=1",
+    ),
+    (
+        "GET",
+        b"/_db_updates?since=%30&a=+?b",
+        WITH_LENGTH,
+        "updates ?since=%30&a=+?b",
+    ),
+    ("HEAD", b"/_db_updates", NO_LENGTH, "method not allowed"),
+    ("PUT", b"/_db_updates", NO_LENGTH, "method not allowed"),
+    ("POST", b"/_db_updates", WITH_LENGTH, "method not allowed"),
+    ("DELETE", b"/_db_updates", NO_LENGTH, "method not allowed"),
+    ("BREW", b"/_db_updates", NO_LENGTH, "method not allowed"),
+    ("DELETE", b"/", NO_LENGTH, "method not allowed"),
+    ("DELETE", b"//", NO_LENGTH, "missing"),
+    ("GET", b"/_db_updates/x/y", NO_LENGTH, "missing"),
     ("PUT", b"//", NO_LENGTH, "missing"),
     ("GET", b"//", NO_LENGTH, "missing"),
     ("GET", b"*", NO_LENGTH, "missing"),
@@ -28,7 +53,7 @@ const SERVER: [(&str, &[u8], bool, &str); 16] = [
     ("BREW", b"*", NO_LENGTH, "missing"),
 ];
 
-const DATABASES: [(&str, &[u8], bool, &str); 54] = [
+const DATABASES: [(&str, &[u8], bool, &str); 57] = [
     ("GET", b"/d", NO_LENGTH, "get d"),
     ("GET", b"/d/", NO_LENGTH, "get d"),
     ("HEAD", b"/d", NO_LENGTH, "get d"),
@@ -46,9 +71,12 @@ const DATABASES: [(&str, &[u8], bool, &str); 54] = [
     ("PUT", b"/%ff", NO_LENGTH, "bad name"),
     ("PUT", b"/\xff", NO_LENGTH, "bad name"),
     ("GET", b"/%ff/", NO_LENGTH, "bad name"),
-    ("DELETE", b"/d", NO_LENGTH, "missing"),
-    ("DELETE", b"/d/", NO_LENGTH, "missing"),
-    ("DELETE", b"/%ff", NO_LENGTH, "missing"),
+    ("DELETE", b"/d", NO_LENGTH, "delete d"),
+    ("DELETE", b"/d/", NO_LENGTH, "delete d"),
+    ("DELETE", b"/d?x=1", NO_LENGTH, "delete d"),
+    ("DELETE", b"/a%2Fb", NO_LENGTH, "delete a/b"),
+    ("DELETE", b"/%ff", NO_LENGTH, "bad name"),
+    ("delete", b"/d", NO_LENGTH, "method not allowed"),
     ("POST", b"/d", WITH_LENGTH, "method not allowed"),
     ("put", b"/d", NO_LENGTH, "method not allowed"),
     ("BREW", b"/d", NO_LENGTH, "method not allowed"),
@@ -252,7 +280,12 @@ fn called(alloc: Global, db: &str, call: Call) -> Result<String, AllocError> {
 fn shown(alloc: Global, answer: Result<Route, RouteFault>) -> Result<String, AllocError> {
     match answer {
         Ok(Route::Welcome) => format!(in alloc; "welcome"),
+        Ok(Route::AllDbs) => format!(in alloc; "list"),
+        Ok(Route::DbUpdates { query }) => {
+            format!(in alloc; "updates ?{}", text(query.as_slice()))
+        }
         Ok(Route::PutDatabase { db }) => format!(in alloc; "put {db}"),
+        Ok(Route::DeleteDatabase { db }) => format!(in alloc; "delete {db}"),
         Ok(Route::Database { db, call }) => called(alloc, db.as_str(), call),
         Err(fault) => format!(in alloc; "{}", Refusal::from(fault).reason()),
     }

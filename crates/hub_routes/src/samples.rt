@@ -12,6 +12,8 @@ use crate::kind::Kind;
 pub fn sample_paths()
     ensures welcome { kind_at (codes "/") ≡ Some Kind.Welcome }
     ensures all_dbs { kind_at (codes "/_all_dbs") ≡ Some Kind.AllDbs }
+    ensures all_dbs_slash { kind_at (codes "/_all_dbs/") ≡ Some Kind.Database }
+    ensures all_dbs_escaped { kind_at (codes "/%5Fall_dbs") ≡ Some Kind.Database }
     ensures db_updates { kind_at (codes "/_db_updates") ≡ Some Kind.DbUpdates }
     ensures database { kind_at (codes "/d") ≡ Some Kind.Database }
     ensures slash { kind_at (codes "/d/") ≡ Some Kind.Database }

@@ -30,8 +30,14 @@ pub enum Method {
 pub enum Service {
     /// The hub's greeting.
     Welcome,
+    /// The names of the databases.
+    AllDbs,
+    /// A feed of updates of databases.
+    DbUpdates,
     /// Making a database.
     PutDatabase,
+    /// Deleting a database.
+    DeleteDatabase,
     /// What a database is like.
     Info,
     /// Storing documents.
@@ -87,11 +93,12 @@ pub fn asked_of(kind: Kind, method: Method) -> Result<Service, RouteFault>
     ensures fault { IfErr result IsOfTable }
 {
     match (kind, method) {
-        (Kind::AllDbs | Kind::DbUpdates, _) => Err(RouteFault::Missing),
         (Kind::Welcome, Method::Get) => Ok(Service::Welcome),
+        (Kind::AllDbs, Method::Get) => Ok(Service::AllDbs),
+        (Kind::DbUpdates, Method::Get) => Ok(Service::DbUpdates),
         (Kind::Database, Method::Get | Method::Head) => Ok(Service::Info),
         (Kind::Database, Method::Put) => Ok(Service::PutDatabase),
-        (Kind::Database, Method::Delete) => Err(RouteFault::Missing),
+        (Kind::Database, Method::Delete) => Ok(Service::DeleteDatabase),
         (Kind::BulkDocs, Method::Post) => Ok(Service::BulkDocs),
         (Kind::Changes, Method::Get | Method::Post) => Ok(Service::Changes),
         (Kind::RevsDiff, Method::Post) => Ok(Service::RevsDiff),

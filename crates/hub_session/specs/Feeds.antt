@@ -1,22 +1,19 @@
--- RFC 9112, section 7.1 (chunks); own for the feed: what a stream sends for a feed's items, and how it goes.
+-- RFC 9112, section 7.1 (chunks); own for the feed: what a stream sends for its items, and how it goes.
 use Rattle.std.specs.Prelude.{◌≡◌, ◌≤◌, ⊤, ℕ, ◌+◌, List, [], ◌∷◌, ◌++◌, Bool, true, false, Option, Some, None}
-use Rattle.std.specs.Prelude.{codes}
-use Rattle.hub_model.specs.Row.{ChangeRow}
-pub use Rattle.hub_model.specs.RightlyHanded.{is_end}
+use Rattle.std.specs.Prelude.{MatchBool, if◌then◌else◌, codes}
 use Rattle.hub_model.specs.declared.feeds.Mode.{Mode}
-use Rattle.hub_model.specs.declared.feeds.Item.{Item}
-use Rattle.hub_model.specs.declared.feeds.Item.TheVariants.{Row, Beat, End}
 use Rattle.hub_http.specs.Counts.{last_count}
 use Rattle.hub_http.specs.Chunks.{text_chunks}
-use Rattle.hub_http.specs.ChangeTexts.{change_row_text, change_end_text}
-use Rattle.hub_http.specs.Items.{item_text, feed_head}
+use Rattle.hub_http.specs.Items.{feed_head}
+use Rattle.hub_session.specs.declared.item.StreamItem.{StreamItem}
 use Rattle.hub_session.specs.declared.closing.StreamEnd.{StreamEnd}
 use Rattle.hub_session.specs.declared.closing.StreamEnd.TheVariants.{Complete, Stopped, NoMemory, Broken}
 use Rattle.hub_session.specs.declared.closing.StreamEnd.TheVariants.{Exhausted}
+use Rattle.hub_session.specs.Items.{is_end, rows_after, stream_item_text}
 
 -- from a state a service may go on with this item, or stop, and leave that state
 abbrev pub Gives : Type 0 → Type 1
-Gives S = S → Option (Item ChangeRow) → S → Type 0
+Gives S = S → Option StreamItem → S → Type 0
 
 -- from a state a service may give back what its stream holds, and leave that state
 abbrev pub Drops : Type 0 → Type 1
@@ -27,37 +24,26 @@ abbrev pub last_chunk : List ℕ
 last_chunk = codes "0\r\n\r\n"
 
 -- what stands behind the chunk of an item: the last chunk behind an End
-abbrev pub behind_item : Item ChangeRow → List ℕ
-behind_item (Row row) = []
-behind_item Beat = []
-behind_item (End last_seq pending) = last_chunk
+abbrev pub behind_item : StreamItem → List ℕ
+behind_item item = if is_end item then last_chunk else []
 
 -- what is sent for an item, before which so many rows came
-abbrev pub sent_text : Mode → ℕ → Item ChangeRow → List ℕ
-sent_text mode rows item =
-    text_chunks (item_text change_row_text change_end_text mode rows item) ++ behind_item item
-
--- how many rows came before the next item
-abbrev pub rows_after : ℕ → Item ChangeRow → ℕ
-rows_after rows (Row row) = rows + 1
-rows_after rows Beat = rows
-rows_after rows (End last_seq pending) = rows
+abbrev pub sent_text : Mode → ℕ → StreamItem → List ℕ
+sent_text mode rows item = text_chunks (stream_item_text mode rows item) ++ behind_item item
 
 -- what is sent for these items, before which so many rows came
-abbrev pub items_text : Mode → ℕ → List (Item ChangeRow) → List ℕ
+abbrev pub items_text : Mode → ℕ → List StreamItem → List ℕ
 items_text mode rows [] = []
 items_text mode rows (item ∷ items) = sent_text mode rows item ++ items_text mode (rows_after rows item) items
 
 -- what is sent for a stream of these items, behind the head of its answer
-abbrev pub feed_text : Mode → List (Item ChangeRow) → List ℕ
+abbrev pub feed_text : Mode → List StreamItem → List ℕ
 feed_text mode items = text_chunks (feed_head mode) ++ items_text mode 0 items
 
 -- the stream is not sent on once the service, now at s, gave this item: behind a row or a beat the service
 -- gives back what the stream holds, and behind an End the stream holds nothing
-abbrev pub GivesBack : {S : Type 0} → Drops S → Item ChangeRow → S → S → Type 0
-GivesBack drops (Row row) s t = drops s t
-GivesBack drops Beat s t = drops s t
-GivesBack drops (End last_seq pending) s t = t ≡ s
+abbrev pub GivesBack : {S : Type 0} → Drops S → StreamItem → S → S → Type 0
+GivesBack drops item s t = MatchBool (is_end item) (t ≡ s) (drops s t)
 
 -- from s, a stream that sent so many items may end so before its End, and leave t: in each case the service
 -- gives back what the stream holds. For want of memory an item is lost that the service gave.
@@ -65,7 +51,7 @@ abbrev pub StopsSo : {S : Type 0} → Gives S → Drops S → ℕ → S → Stre
 StopsSo gives drops sent s Complete t = ⊥
 StopsSo gives drops sent s Stopped t = (mid : _) × gives s None mid × drops mid t
 StopsSo gives drops sent s NoMemory t =
-    (lost : Item ChangeRow) × (mid : _) × gives s (Some lost) mid × GivesBack drops lost mid t
+    (lost : StreamItem) × (mid : _) × gives s (Some lost) mid × GivesBack drops lost mid t
 StopsSo gives drops sent s Broken t = drops s t
 StopsSo gives drops sent s Exhausted t = drops s t × (last_count ≤ sent)
 
@@ -79,14 +65,12 @@ EndsSo Exhausted = ⊥
 
 -- from s, behind so many items, the service may give these, none behind an End, and leave t, and the stream
 -- then ends so
-abbrev pub Streams : {S : Type 0} → Gives S → Drops S → ℕ → S → List (Item ChangeRow) → StreamEnd → S → Type 0
+abbrev pub Streams : {S : Type 0} → Gives S → Drops S → ℕ → S → List StreamItem → StreamEnd → S → Type 0
 Streams gives drops sent s [] end t = StopsSo gives drops sent s end t
-Streams gives drops sent s (Row row ∷ items) end t =
-    (mid : _) × gives s (Some (Row row)) mid × Streams gives drops (sent + 1) mid items end t
-Streams gives drops sent s (Beat ∷ items) end t =
-    (mid : _) × gives s (Some Beat) mid × Streams gives drops (sent + 1) mid items end t
-Streams gives drops sent s (End last_seq pending ∷ items) end t =
-    gives s (Some (End last_seq pending)) t × (items ≡ []) × EndsSo end
+Streams gives drops sent s (item ∷ items) end t =
+    (mid : _) × gives s (Some item) mid × MatchBool (is_end item)
+    ((t ≡ mid) × (items ≡ []) × EndsSo end)
+    (Streams gives drops (sent + 1) mid items end t)
 
 -- writing to the other side failed
 abbrev pub is_broken : StreamEnd → Bool

@@ -2,13 +2,12 @@
 use Rattle.std.specs.Prelude.{◌≡◌, ◌≤◌, ◌⊎◌, ℕ, ◌+◌, List, [], ◌∷◌, ◌++◌, Bool, true, false, Option, Some}
 use Rattle.std.specs.Prelude.{None, if◌then◌else◌, codes, bytes_eq}
 use Rattle.std.specs.List.{flat_map}
-use Rattle.hub_model.specs.Row.{ChangeRow}
-use Rattle.hub_model.specs.declared.feeds.Item.{Item}
 use Rattle.std.specs.Io.KnownBytes.{Appends}
 use Rattle.hub_http.specs.Counts.{last_count, Sends}
 use Rattle.hub_http.specs.Texts.{head_text, chunked_line}
 use Rattle.hub_http.specs.declared.fault.HttpFault.{HttpFault}
 use Rattle.hub_http.specs.Stream.{Asked, Spells, Faults}
+use Rattle.hub_session.specs.declared.item.StreamItem.{StreamItem}
 use Rattle.hub_session.specs.declared.service.Answer.{Answer}
 use Rattle.hub_session.specs.declared.service.Answer.TheVariants.{Whole, Stream}
 use Rattle.hub_session.specs.declared.closing.StreamEnd.{StreamEnd}
@@ -30,14 +29,14 @@ pub record Exchange : Type 0 where
   -- the text of a whole answer found memory
   pub found : Bool
   -- those that were sent of a stream
-  pub items : List (Item ChangeRow)
+  pub items : List StreamItem
 
 -- the answer has a head alone
 abbrev pub is_head : Asked → Bool
 is_head asked = bytes_eq asked.method (codes "HEAD")
 
 -- the text of an answer
-abbrev pub answer_text : Answer → Bool → Bool → Bool → List (Item ChangeRow) → List ℕ
+abbrev pub answer_text : Answer → Bool → Bool → Bool → List StreamItem → List ℕ
 answer_text (Whole reply) found head_only close items = whole_text reply found head_only close
 answer_text (Stream mode) found head_only close items =
     head_text 200 chunked_line close ++ (if head_only then [] else feed_text mode items)
@@ -61,7 +60,7 @@ after_stream close stream.Exhausted = Some Exhausted
 -- behind the head of a stream the service may give these items and leave t, and the session goes on so. The
 -- answer to HEAD has no items: the service gives back what the stream holds.
 abbrev pub StreamGoes : {S : Type 0} → Gives S → Drops S
-    → Bool → Bool → S → List (Item ChangeRow) → Option Closing → S → Type 0
+    → Bool → Bool → S → List StreamItem → Option Closing → S → Type 0
 StreamGoes gives drops true close s items next t = drops s t × (items ≡ []) × (next ≡ after_answer close)
 StreamGoes gives drops false close s items next t =
     (end : StreamEnd) × Streams gives drops 0 s items end t × (next ≡ after_stream close end)
@@ -69,7 +68,7 @@ StreamGoes gives drops false close s items next t =
 -- while such an answer is sent the service may go from s to t, and the session goes on so: where the other
 -- side can't be written to, the session closes, and what a stream holds is given back
 abbrev pub Goes : {S : Type 0} → Gives S → Drops S
-    → Answer → Bool → Bool → S → List (Item ChangeRow) → Option Closing → S → Type 0
+    → Answer → Bool → Bool → S → List StreamItem → Option Closing → S → Type 0
 Goes gives drops (Whole reply) head_only close s items next t =
     (t ≡ s) × (items ≡ []) × ((next ≡ after_answer close) ⊎ (next ≡ Some Broken))
 Goes gives drops (Stream mode) head_only close s items next t =

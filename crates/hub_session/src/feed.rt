@@ -1,18 +1,18 @@
 //! Streams to a writer.
 ghost use Rattle.std.specs.Prelude.{◌≡◌, ◌<◌, ◌≤◌, ◌+◌, ◌^◌, List, is_err, OnErr, IsErrOf};
-ghost use Rattle.hub_model.specs.Row.{ChangeRow as Row};
-ghost use Rattle.hub_model.specs.declared.feeds.Item.{Item as FeedItem};
+ghost use Rattle.std.specs.Io.KnownBytes.{Keeps};
 ghost use Rattle.hub_http.specs.Counts.{Rose, Sends};
-ghost use Rattle.hub_http.specs.ChangeTexts.{change_row_text, change_end_text};
-ghost use Rattle.hub_http.specs.Items.{item_text, feed_head};
+ghost use Rattle.hub_http.specs.Items.{feed_head};
 ghost use Rattle.hub_http.specs.Chunks.{Writes, text_chunks};
-ghost use Rattle.hub_session.specs.Feeds.{feed_text, items_text, sent_text, behind_item, rows_after, GivesBack, Streams, is_broken, last_chunk};
+ghost use Rattle.hub_session.specs.declared.item.StreamItem.{StreamItem as Item};
+ghost use Rattle.hub_session.specs.Items.{rows_after, stream_item_text};
+ghost use Rattle.hub_session.specs.Feeds.{feed_text, items_text, sent_text, behind_item, GivesBack, Streams, is_broken, last_chunk};
 
 use crate::closing::StreamEnd;
+use crate::item::StreamItem;
 use crate::service::Service;
-use hub_document::ChangeRow;
-use hub_http::{ChunkFault, ChunkWriter, IoFault, Output, item_text, send, write_all};
-use hub_model::{Item, Mode};
+use hub_http::{ChunkFault, ChunkWriter, IoFault, Output, send, write_all};
+use hub_model::Mode;
 use std::alloc::Global;
 
 /// The chunk at the head of a stream. It needs no memory.
@@ -33,46 +33,46 @@ fn last_chunk() -> &'static str
 }
 
 /// How many rows came before the next item.
-fn rows_after(rows: u64, item: &Item<ChangeRow>) -> u64
+fn rows_after(rows: u64, item: &StreamItem) -> u64
     requires { rows + 1 < 2 ^ 64 }
     ensures rows { result ≡ rows_after rows item.now }
     ensures bound { result ≤ rows + 1 }
 {
-    match item {
-        Item::Row(_) => rows + 1,
-        Item::Beat | Item::End { .. } => rows,
-    }
+    if item.is_row() { rows + 1 } else { rows }
 }
 
-/// Writes the head of a stream, and flushes it where the subscriber waits.
-fn send_head<W: Output>(writer: &mut W, mode: Mode) -> Result<(), IoFault>
-    ensures sent { Sends (is_err result) (W.written writer.old) (W.written writer.new) (text_chunks (feed_head mode)) }
+/// Writes bytes that stand before an item, and flushes them where that item is not ready yet.
+fn send_ahead<W: Output, S: Service>(
+    writer: &mut W,
+    service: &S,
+    bytes: &[u8],
+) -> Result<(), IoFault>
+    ensures sent { Sends (is_err result) (W.written writer.old) (W.written writer.new) bytes.now }
     ensures monotone { W.fault_count writer.old ≤ W.fault_count writer.new }
     ensures fault { OnErr result (Rose (W.fault_count writer.old) (W.fault_count writer.new)) }
 {
-    if mode.waits() {
-        send(writer, head_chunk(mode).as_bytes())
+    if service.is_ready() {
+        write_all(writer, bytes)
     } else {
-        write_all(writer, head_chunk(mode).as_bytes())
+        send(writer, bytes)
     }
 }
 
-/// Behind an End writes the last chunk and flushes; behind another item flushes where the
-/// subscriber waits.
-fn finish_item<W: Output>(writer: &mut W, mode: Mode, item: &Item<ChangeRow>) -> Result<(), IoFault>
+/// Behind an End writes the last chunk and flushes; behind another item flushes where the next one
+/// is not ready.
+fn finish_item<W: Output, S: Service>(
+    writer: &mut W,
+    service: &S,
+    item: &StreamItem,
+) -> Result<(), IoFault>
     ensures sent { Sends (is_err result) (W.written writer.old) (W.written writer.new) (behind_item item.now) }
     ensures monotone { W.fault_count writer.old ≤ W.fault_count writer.new }
     ensures fault { OnErr result (Rose (W.fault_count writer.old) (W.fault_count writer.new)) }
 {
-    match item {
-        Item::End { .. } => send(writer, last_chunk().as_bytes()),
-        Item::Row(_) | Item::Beat => {
-            if mode.waits() {
-                send(writer, b"")
-            } else {
-                Ok(())
-            }
-        }
+    if item.is_end() {
+        send(writer, last_chunk().as_bytes())
+    } else {
+        send_ahead(writer, service, b"")
     }
 }
 
@@ -97,26 +97,27 @@ impl ItemWriter {
         writer: &mut W,
         mode: Mode,
         rows: u64,
-        item: &Item<ChangeRow>,
+        item: &StreamItem,
     ) -> Result<(), ChunkFault>
-        ensures bytes { Writes (text_chunks (item_text change_row_text change_end_text mode rows item.now)) result (W.written writer.old) (W.written writer.new) }
+        ensures bytes { Writes (text_chunks (stream_item_text mode rows item.now)) result (W.written writer.old) (W.written writer.new) }
         ensures monotone { W.fault_count writer.old ≤ W.fault_count writer.new }
         ensures fault { IsErrOf result ChunkFault.IoFault → Rose (W.fault_count writer.old) (W.fault_count writer.new) }
     {
         self.text.clear();
-        if item_text(&mut self.text, mode, rows, item).is_err() {
+        if item.put_text(&mut self.text, mode, rows).is_err() {
             return Err(ChunkFault::NoMemory);
         }
         self.chunks.write(writer, self.text.as_slice())
     }
 
-    /// Sends an item, and behind an End the last chunk.
-    fn send<W: Output>(
+    /// Sends an item of the service's stream, and behind an End the last chunk.
+    fn send<W: Output, S: Service>(
         &mut self,
         writer: &mut W,
+        service: &S,
         mode: Mode,
         rows: u64,
-        item: &Item<ChangeRow>,
+        item: &StreamItem,
     ) -> Result<(), ChunkFault>
         ensures bytes { Writes (sent_text mode rows item.now) result (W.written writer.old) (W.written writer.new) }
         ensures monotone { W.fault_count writer.old ≤ W.fault_count writer.new }
@@ -126,20 +127,28 @@ impl ItemWriter {
             Ok(()) => {}
             Err(e) => return Err(e),
         }
-        match finish_item(writer, mode, item) {
+        match finish_item(writer, service, item) {
             Ok(()) => Ok(()),
             Err(_) => Err(ChunkFault::IoFault),
         }
     }
 }
 
+/// Flushes what was written of a stream that is cut. A fault of that is not told: the stream is cut
+/// all the same.
+fn flush_cut<W: Output>(writer: &mut W)
+    ensures kept { Keeps (W.written writer.old) (W.written writer.new) }
+    ensures monotone { W.fault_count writer.old ≤ W.fault_count writer.new }
+{
+    let _ = send(writer, b"");
+}
+
 /// Gives back what a stream holds of which this item was not sent. Behind an End it holds nothing.
-fn give_back<S: Service>(service: &mut S, item: &Item<ChangeRow>)
+fn give_back<S: Service>(service: &mut S, item: &StreamItem)
     ensures { GivesBack S.drop_gives item.now service.old service.new }
 {
-    match item {
-        Item::Row(_) | Item::Beat => service.drop_stream(),
-        Item::End { .. } => {}
+    if !item.is_end() {
+        service.drop_stream();
     }
 }
 
@@ -150,7 +159,7 @@ fn send_items<W: Output, S: Service>(
     service: &mut S,
     mode: Mode,
 ) -> StreamEnd
-    ensures fed { (items : List (FeedItem Row)) × Streams S.item_gives S.drop_gives 0 service.old items result service.new
+    ensures fed { (items : List Item) × Streams S.item_gives S.drop_gives 0 service.old items result service.new
         × Sends (is_broken result) (W.written writer.old) (W.written writer.new) (items_text mode 0 items) }
     ensures monotone { W.fault_count writer.old ≤ W.fault_count writer.new }
     ensures fault { result ≡ StreamEnd.Broken → Rose (W.fault_count writer.old) (W.fault_count writer.new) }
@@ -159,12 +168,14 @@ fn send_items<W: Output, S: Service>(
     let mut rows = 0;
     for _ in 0..u64::MAX {
         let Some(item) = service.item() else {
+            flush_cut(writer);
             service.drop_stream();
             return StreamEnd::Stopped;
         };
-        match items.send(writer, mode, rows, &item) {
+        match items.send(writer, service, mode, rows, &item) {
             Ok(()) => {}
             Err(ChunkFault::NoMemory) => {
+                flush_cut(writer);
                 give_back(service, &item);
                 return StreamEnd::NoMemory;
             }
@@ -185,22 +196,23 @@ fn send_items<W: Output, S: Service>(
 /// Sends the stream that the service answered last, behind the head of its answer: a chunk for
 /// each nonempty text, and behind the End the last chunk (RFC 9112, section 7.1).
 ///
-/// The end of a stream is flushed. In a longpoll or continuous feed the head and each item are
-/// flushed too, since the subscriber waits for them. What a stream wrote that stopped without its
-/// End may not be flushed; what it holds is given back to the service. An item costs the length of
-/// its text, one write, and memory only where its text is longer than each one before.
+/// The end of a stream is flushed, and so is what was written before an item that is not ready,
+/// since the subscriber waits for that one. What a stream wrote that stopped without its End, or
+/// for want of memory, is flushed too, and what it holds is given back to the service. An item
+/// costs the length of its text, one write, and memory only where its text is longer than each one
+/// before.
 pub fn stream_feed<W: Output, S: Service>(
     alloc: Global,
     writer: &mut W,
     service: &mut S,
     mode: Mode,
 ) -> StreamEnd
-    ensures fed { (items : List (FeedItem Row)) × Streams S.item_gives S.drop_gives 0 service.old items result service.new
+    ensures fed { (items : List Item) × Streams S.item_gives S.drop_gives 0 service.old items result service.new
         × Sends (is_broken result) (W.written writer.old) (W.written writer.new) (feed_text mode items) }
     ensures monotone { W.fault_count writer.old ≤ W.fault_count writer.new }
     ensures fault { result ≡ StreamEnd.Broken → Rose (W.fault_count writer.old) (W.fault_count writer.new) }
 {
-    match send_head(writer, mode) {
+    match send_ahead(writer, service, head_chunk(mode).as_bytes()) {
         Ok(()) => send_items(alloc, writer, service, mode),
         Err(_) => {
             service.drop_stream();

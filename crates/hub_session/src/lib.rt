@@ -3,13 +3,17 @@
 
 mod closing;
 mod feed;
+mod item;
 mod reply;
 mod service;
 mod session;
 #[cfg(test)]
 mod tests;
+#[cfg(test)]
+mod update_tests;
 
 pub use closing::{Closing, StreamEnd};
 pub use feed::stream_feed;
+pub use item::StreamItem;
 pub use service::{Answer, Service};
 pub use session::{serve, serve_one};

@@ -1,4 +1,4 @@
-use crate::{Answer, Closing, Service, StreamEnd, serve, serve_one, stream_feed};
+use crate::{Answer, Closing, Service, StreamEnd, StreamItem, serve, serve_one, stream_feed};
 use http::StatusCode;
 use hub_document::{ChangeRow, Doc, RevId, Revisions};
 use hub_http::{HttpFault, Output, Refusal, Reply, Request, Requests, Tally};
@@ -17,6 +17,8 @@ struct Rows {
     alloc: Global,
     mode: Mode,
     next: u64,
+    /// The numbers of the items that are not ready.
+    late: &'static [u64],
     /// The stream stops in place of its End.
     stops: bool,
     /// How many streams were not sent on.
@@ -28,23 +30,24 @@ fn two_rows(alloc: Global) -> Rows {
         alloc,
         mode: Mode::Normal,
         next: 0,
+        late: &[],
         stops: false,
         dropped: 0,
     }
 }
 
-fn row(alloc: Global, seq: u64, doc: &str, rev: &str, deleted: bool) -> Option<Item<ChangeRow>> {
+fn row(alloc: Global, seq: u64, doc: &str, rev: &str, deleted: bool) -> Option<StreamItem> {
     let doc = Doc::read(alloc, doc.as_bytes(), true).ok()?;
     let mut revs = Vec::new(alloc);
     revs.push(RevId::read(rev)?).ok()?;
-    Some(Item::Row(ChangeRow {
+    Some(StreamItem::Change(Item::Row(ChangeRow {
         seq,
         id: doc.id,
         changes: Revisions::new(revs),
         deleted,
         doc: None,
         seen: 2,
-    }))
+    })))
 }
 
 impl Rows {
@@ -78,22 +81,26 @@ impl Service for Rows {
         }
     }
 
-    fn item(&mut self) -> Option<Item<ChangeRow>> {
+    fn is_ready(&self) -> bool {
+        !self.late.contains(&self.next)
+    }
+
+    fn item(&mut self) -> Option<StreamItem> {
         let number = self.next;
         self.next = number.saturating_add(1);
         match (number, self.mode) {
-            (0, Mode::Longpoll) => Some(Item::Beat),
+            (0, Mode::Longpoll) => Some(StreamItem::Change(Item::Beat)),
             (1, Mode::Longpoll) | (0, _) => row(self.alloc, 1, r#"{"_id":"a"}"#, "1-a", false),
             (1, _) => row(self.alloc, 2, r#"{"_id":"b"}"#, "2-b", true),
-            (2, Mode::Continuous) => Some(Item::Beat),
+            (2, Mode::Continuous) => Some(StreamItem::Change(Item::Beat)),
             _ => {
                 if self.stops {
                     return None;
                 }
-                Some(Item::End {
+                Some(StreamItem::Change(Item::End {
                     last_seq: 2,
                     pending: 0,
-                })
+                }))
             }
         }
     }
@@ -363,6 +370,22 @@ fn a_stopped_stream(rt: HostRuntime) -> Result<(), Fail> {
     Ok(())
 }
 
+/// What a stream wrote that stopped is flushed.
+#[test]
+fn a_stopped_stream_is_flushed(rt: HostRuntime) {
+    let alloc = rt.alloc();
+    let input: &[u8] = b"GET /normal HTTP/1.1\r\n\r\n";
+    let mut requests = Requests::new(alloc, Tally::new(input));
+    let mut writer = Tally::new(Taker::new(alloc, 1000));
+    let mut service = two_rows(alloc);
+    service.stops = true;
+    let closing = serve(alloc, &mut requests, &mut writer, &mut service);
+    assert_eq!(rt; closing, Closing::Cut);
+    let taker = writer.into_inner();
+    let flushed: &[usize] = &[214];
+    assert_eq!(rt; taker.flushed.as_slice(), flushed);
+}
+
 /// Requests, the faults that they close for, and what is answered.
 const FAULTS: [(&[u8], HttpFault, &str); 5] = [
     (
@@ -443,27 +466,38 @@ fn a_writer_that_breaks(rt: HostRuntime) -> Result<(), Fail> {
     Ok(())
 }
 
+/// A request, the numbers of the items that are not ready, and where the answer is flushed. The
+/// head has 79 bytes, and a chunk of n bytes has n, its digits and 4.
+const FLUSHES: [(&[u8], &[u64], &[usize]); 6] = [
+    (b"GET /normal HTTP/1.1\r\n\r\n", &[], &[255]),
+    (b"GET /normal HTTP/1.1\r\n\r\n", &[0, 2], &[97, 214, 255]),
+    (b"GET /longpoll HTTP/1.1\r\n\r\n", &[1], &[103, 194]),
+    (
+        b"GET /longpoll HTTP/1.1\r\n\r\n",
+        &[0, 1, 2, 3],
+        &[97, 103, 153, 194],
+    ),
+    (b"GET /continuous HTTP/1.1\r\n\r\n", &[3], &[202, 240]),
+    (
+        b"GET /continuous HTTP/1.1\r\n\r\n",
+        &[0, 1, 2, 3, 4],
+        &[79, 130, 196, 202, 240],
+    ),
+];
+
+/// What was written before an item that is not ready is flushed, and the end of a stream.
 #[test]
 fn flushes(rt: HostRuntime) {
     let alloc = rt.alloc();
-    // The head has 79 bytes, and a chunk of n bytes has n, its digits and 4.
-    let cases: [(&[u8], usize, &[usize]); 3] = [
-        (b"GET /normal HTTP/1.1\r\n\r\n", 6, &[255]),
-        (b"GET /longpoll HTTP/1.1\r\n\r\n", 6, &[97, 103, 153, 194]),
-        (
-            b"GET /continuous HTTP/1.1\r\n\r\n",
-            6,
-            &[79, 130, 196, 202, 240],
-        ),
-    ];
-    for (input, writes, flushed) in cases {
+    for (input, late, flushed) in FLUSHES {
         let mut requests = Requests::new(alloc, Tally::new(input));
         let mut writer = Tally::new(Taker::new(alloc, 1000));
         let mut service = two_rows(alloc);
+        service.late = late;
         let closing = serve(alloc, &mut requests, &mut writer, &mut service);
         assert_eq!(rt; closing, Closing::Finished);
         let taker = writer.into_inner();
-        assert_eq!(rt; (taker.writes, taker.flushed.as_slice()), (writes, flushed));
+        assert_eq!(rt; (taker.writes, taker.flushed.as_slice()), (6, flushed));
     }
 }
 

@@ -7,7 +7,7 @@ ghost use Rattle.hub_params.specs.FeedModel.{params_in};
 use crate::gate::Gate;
 use crate::guarded::Guarded;
 use crate::host::{Host, Pumped};
-use crate::pumping::{Turn, hold};
+use crate::pumping::{FeedPump, Turn, hold};
 use crate::signals::Signals;
 use hub_database::DbState;
 use hub_document::ChangeRow;
@@ -36,6 +36,8 @@ pub struct HostFeed<S: FeedHost, G: Pumped<S>> {
     id: FeedId,
     receiver: Receiver<FeedLabel<S>, Item<S::Row>>,
     signals: Arc<Signals, Global>,
+    /// How many items were taken, but for heartbeats.
+    taken: u64,
     of: PhantomData<S>,
 }
 
@@ -63,6 +65,7 @@ impl<S: FeedHost, G: Pumped<S>> HostFeed<S, G> {
             id,
             receiver,
             signals,
+            taken: 0,
             of: PhantomData,
         }
     }
@@ -84,10 +87,26 @@ impl<S: FeedHost, G: Pumped<S>> HostFeed<S, G> {
             (λ l items. S.right (params_in l.asked) l.since items) self.new }
     {
         let item = self.receiver.take(rt);
-        if item.is_none() {
-            self.signals.ring_room();
+        match &item {
+            None => self.signals.ring_room(),
+            Some(Item::Beat) => {}
+            Some(_) => self.taken = self.taken.wrapping_add(1),
         }
         item
+    }
+
+    /// Whether the feed's pump has told of items that were not taken yet. Where it has not, items may lie
+    /// there all the same. Constant time.
+    pub fn is_ready(&self) -> bool {
+        self.taken < self.signals.handed()
+    }
+
+    /// The feed's pump, for a thread of its own. It takes no memory; an error says that too many share
+    /// the database.
+    pub fn pump(&self) -> Result<FeedPump<S, G>, AllocError> {
+        let host = self.host.again()?;
+        let signals = Arc::try_clone(&self.signals)?;
+        Ok(FeedPump::new(host, self.id, signals))
     }
 
     /// Sleeps until the feed's pump handed items or ended, for a connection that found nothing to
@@ -120,6 +139,7 @@ impl<S: FeedHost, G: Pumped<S>> HostFeed<S, G> {
             id,
             receiver,
             signals,
+            taken: _,
             of: _,
         } = self;
         host.guarded().lock(rt).finish(id);

@@ -1,4 +1,4 @@
-//! What a pump passes and reads: gates, by which a test holds it, and a clock.
+//! What threads pass and read: gates, by which a test holds them, and a clock.
 
 /// Where a gate is passed.
 #[derive(Clone, Copy, Debug, PartialEq, Eq)]
@@ -7,6 +7,9 @@ pub enum Point {
     PumpFree,
     /// By a pump, once inside each holding of the lock.
     PumpHolding,
+    /// By a connection of this number, before each answer. Connections are numbered from 1 as they
+    /// are accepted.
+    Request(u64),
 }
 
 /// What threads pass at their points, so that a test can hold one there.

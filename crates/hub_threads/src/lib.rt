@@ -27,7 +27,7 @@ pub use gate::{Clock, Gate, Point};
 pub use guarded::Guarded;
 pub use handle::Handle;
 pub use host::{Host, Pumped};
-pub use pumping::{Turn, hold, pump};
+pub use pumping::{FeedPump, Turn, hold, pump};
 pub use question::{Answer, Question, answer_of};
 pub use served::Served;
 pub use updates::{Updates, UpdatesFeed};

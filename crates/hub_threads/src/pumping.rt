@@ -172,7 +172,7 @@ impl<'a, S: FeedHost, H: Pumped<S>, K: Clock> PumpState<'a, S, H, K> {
             let holding = self.host.hold_once(rt, self.feed, turn, gate)?;
             if holding.sent > 0 {
                 self.last_item = self.clock.now_ms();
-                self.signals.ring_items();
+                self.signals.count_handed(holding.sent);
             }
             turn = match holding.last {
                 Handed::Gone => return Ok(()),
@@ -210,10 +210,29 @@ where
     let Some(signals) = host.signals(rt, feed)? else {
         return Ok(());
     };
+    pump_with(rt, host, feed, &signals, gate, clock)
+}
+
+// Hands a feed's items with its signals.
+fn pump_with<S, H, R, G, K>(
+    rt: &R,
+    host: &Host<H>,
+    feed: FeedId,
+    signals: &Signals,
+    gate: &G,
+    clock: &K,
+) -> Result<(), AllocError>
+where
+    S: FeedHost,
+    H: Pumped<S>,
+    R: Asks<FeedLabel<S>, Item<S::Row>> + time::Clock,
+    G: Gate,
+    K: Clock,
+{
     let mut state = PumpState {
         host,
         feed,
-        signals: &signals,
+        signals,
         clock,
         last_item: clock.now_ms(),
         of: PhantomData,
@@ -221,4 +240,38 @@ where
     let done = state.run(rt, gate);
     signals.end();
     done
+}
+
+/// The pump of a feed, for the thread that is to run it: it keeps what the feed's database shares.
+#[derive(Drop)]
+pub struct FeedPump<S: FeedHost, H: Pumped<S>> {
+    host: Host<H>,
+    feed: FeedId,
+    signals: Arc<Signals, Global>,
+    of: PhantomData<S>,
+}
+
+impl<S: FeedHost, H: Pumped<S>> FeedPump<S, H> {
+    pub(crate) fn new(
+        host: Host<H>,
+        feed: FeedId,
+        signals: Arc<Signals, Global>,
+    ) -> FeedPump<S, H> {
+        FeedPump {
+            host,
+            feed,
+            signals,
+            of: PhantomData,
+        }
+    }
+
+    /// Hands the feed's items into its lane as they come, as the free function `pump`.
+    pub fn run<R, G, K>(&self, rt: &R, gate: &G, clock: &K) -> Result<(), AllocError>
+    where
+        R: Asks<FeedLabel<S>, Item<S::Row>> + time::Clock,
+        G: Gate,
+        K: Clock,
+    {
+        pump_with(rt, &self.host, self.feed, &self.signals, gate, clock)
+    }
 }

@@ -3,7 +3,7 @@
 use crate::times::Times;
 use hub_params::FeedParams;
 use std::alloc::{AllocError, Global};
-use std::sync::atomic::{AtomicBool, Ordering};
+use std::sync::atomic::{AtomicBool, AtomicU64, Ordering};
 use std::sync::{Arc, Wait};
 use std::thread::Parker;
 
@@ -19,6 +19,9 @@ pub struct Signals {
     /// Rung by the connection once the lane is empty, and as the feed is finished; the pump sleeps on
     /// it where the lane is full.
     room: Parker,
+    /// How many items the pump handed, but for heartbeats: counted once the lock is free, and before the
+    /// ring.
+    handed: AtomicU64,
     /// Whether the pump has ended: it will send nothing more.
     is_over: AtomicBool,
 }
@@ -35,6 +38,7 @@ impl Signals {
                 times: Times::of(params),
                 items: Parker::new(),
                 room: Parker::new(),
+                handed: AtomicU64::new(0),
                 is_over: AtomicBool::new(false),
             },
         )?;
@@ -44,6 +48,17 @@ impl Signals {
     /// There are items to take.
     pub(crate) fn ring_items(&self) {
         self.items.unpark();
+    }
+
+    /// So many items more were handed, and are there to take.
+    pub(crate) fn count_handed(&self, count: u64) {
+        self.handed.fetch_add(count, Ordering::SeqCst);
+        self.ring_items();
+    }
+
+    /// How many items were handed, but for heartbeats. It may tell less than were.
+    pub(crate) fn handed(&self) -> u64 {
+        self.handed.load(Ordering::SeqCst)
     }
 
     /// There is room in the lane.

@@ -7,6 +7,7 @@ mod audits;
 mod clocks;
 mod databases;
 mod holding;
+mod owned;
 mod readers;
 mod stress;
 

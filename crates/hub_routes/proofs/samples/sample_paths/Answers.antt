@@ -8,6 +8,8 @@ unfolding matchit_on_literals table with_route
 returns c = record {
   welcome = refl;
   all_dbs = refl;
+  all_dbs_slash = refl;
+  all_dbs_escaped = refl;
   db_updates = refl;
   database = refl;
   slash = refl;

@@ -9,12 +9,13 @@ loop-init g c = (went_none _ _ _ _ _, omega arith, omega arith)
 
 pub returns-in_default-clause-fed : goal.returns-in_default-clause-fed
 returns-in_default-clause-fed g c =
-    fed_by _ _ _ _ _ _ _ _ _ _ _ c.loop.invariant.0 [] Stopped (_, c.in_default.ensures, c.drop_stream.ensures) (Appends-nil _)
+    fed_by _ _ _ _ _ _ _ _ _ _ _ c.loop.invariant.0 [] Stopped (_, c.in_default.ensures, c.drop_stream.ensures) (Appends-kept _ _ _ [] (Appends-nil _) c.flush_cut.ensures.kept)
 
 pub returns-in-Err-NoMemory-clause-fed : goal.returns-in-Err-NoMemory-clause-fed
 returns-in-Err-NoMemory-clause-fed g c =
     let kept = rw c.in-Err-NoMemory.field-0-is at c.in-Err-NoMemory.ensures.bytes in
-    fed_by _ _ _ _ _ _ _ _ _ _ _ c.loop.invariant.0 [] NoMemory (c.in-Some.item, _, c.in-Some.ensures, c.give_back.ensures) (Appends-kept _ _ _ [] (Appends-nil _) kept)
+    fed_by _ _ _ _ _ _ _ _ _ _ _ c.loop.invariant.0 [] NoMemory (c.in-Some.item, _, c.in-Some.ensures, c.give_back.ensures)
+    (Appends-kept _ _ _ [] (Appends-kept _ _ _ [] (Appends-nil _) kept) c.flush_cut-in-Err-NoMemory.ensures.kept)
 
 pub returns-in-Err-IoFault-clause-fed : goal.returns-in-Err-IoFault-clause-fed
 returns-in-Err-IoFault-clause-fed g c =

@@ -1,5 +1,9 @@
+use Rattle.std.proofs.Common.{◌∙◌, subst}
+use Rattle.std.specs.Io.KnownBytes.{Appends}
 use Rattle.hub_session.proofs.FeedLemmas.{fed_behind}
 use Rattle.hub_session.proofs.feed.stream_feed.Goals as goal
 
 pub returns-in-Ok-clause-fed : goal.returns-in-Ok-clause-fed
-returns-in-Ok-clause-fed g c = fed_behind g.S.Service.item_gives g.S.Service.drop_gives c.args.mode _ _ _ _ _ _ c.in-Ok.ensures.sent c.send_items.ensures.fed
+returns-in-Ok-clause-fed g c =
+    fed_behind g.S.Service.item_gives g.S.Service.drop_gives c.args.mode _ _ _ _ _ _
+    (subst (Appends _ _) (c.as_bytes.ensures.value ∙ c.head_chunk.ensures) c.in-Ok.ensures.sent) c.send_items.ensures.fed

@@ -1,7 +1,7 @@
 use Rattle.hub_http.specs.Stream.{asked_by}
 use Rattle.std.proofs.Common.{◌≡◌, ◌≢◌, ◌∙◌, Err, true, rules}
 use Rattle.hub_routes.specs.declared.route.RouteFault.TheVariants.{NoMemory}
-use Rattle.hub_routes.specs.declared.service.Service.TheVariants.{Welcome}
+use Rattle.hub_routes.specs.declared.service.Service.TheVariants.{Welcome, AllDbs}
 use Rattle.hub_routes.specs.Services.{takes_body}
 use Rattle.hub_routes.proofs.RouteLemmas.{table_refuses, name_refuses, id_refuses, has_no_room, goes_to}
 use Rattle.hub_routes.proofs.routes.Routes.route.Goals as goal
@@ -24,13 +24,28 @@ returns-in-Err-document_id c =
     (rw (c.parts.ensures.name, c.target_of.ensures.path) at c.in-Ok-decoded.ensures.text)
     (rw (c.parts.ensures.id, c.target_of.ensures.path) at c.in-Err-document_id.ensures.none)
 
-pub returns-in_err-db : goal.returns-in_err-db
-returns-in_err-db c =
+pub returns-in_err-query : goal.returns-in_err-query
+returns-in_err-query c =
     let none : c.from_residual.result ≡ Err NoMemory = search rules in
     let named : c.in-Ok.service ≢ Welcome = search rules in
+    let no_list : c.in-Ok.service ≢ AllDbs = search rules in
     let long : takes_body c.in-Ok.service ≡ true → c.args.request.now.has_length ≡ true = search rules in
     has_no_room (asked_by c.args.request.now) c.in-Ok.service _ none
-    (rw (c.target_of.ensures.path, c.as_slice.ensures.value) at c.in-Ok.ensures.ok) named
+    (rw (c.target_of.ensures.path, c.as_slice.ensures.value) at c.in-Ok.ensures.ok) named no_list
+    (record {
+      name = rw (c.parts.ensures.name, c.target_of.ensures.path) at c.in-Ok-decoded.ensures.text;
+      length = long;
+      document = rw (c.parts.ensures.id, c.target_of.ensures.path) at c.in-Ok-document_id.ensures.good;
+    })
+
+pub returns-in_err-db : goal.returns-in_err-db
+returns-in_err-db c =
+    let none : c.from_residual-in_err-db.result ≡ Err NoMemory = search rules in
+    let named : c.in-Ok.service ≢ Welcome = search rules in
+    let no_list : c.in-Ok.service ≢ AllDbs = search rules in
+    let long : takes_body c.in-Ok.service ≡ true → c.args.request.now.has_length ≡ true = search rules in
+    has_no_room (asked_by c.args.request.now) c.in-Ok.service _ none
+    (rw (c.target_of.ensures.path, c.as_slice.ensures.value) at c.in-Ok.ensures.ok) named no_list
     (record {
       name = rw (c.parts.ensures.name, c.target_of.ensures.path) at c.in-Ok-decoded.ensures.text;
       length = long;
@@ -41,22 +56,10 @@ pub returns-in_err-id : goal.returns-in_err-id
 returns-in_err-id c =
     let none : c.from_residual-in_err-id.result ≡ Err NoMemory = search rules in
     let named : c.in-Ok.service ≢ Welcome = search rules in
+    let no_list : c.in-Ok.service ≢ AllDbs = search rules in
     let long : takes_body c.in-Ok.service ≡ true → c.args.request.now.has_length ≡ true = search rules in
     has_no_room (asked_by c.args.request.now) c.in-Ok.service _ none
-    (rw (c.target_of.ensures.path, c.as_slice.ensures.value) at c.in-Ok.ensures.ok) named
-    (record {
-      name = rw (c.parts.ensures.name, c.target_of.ensures.path) at c.in-Ok-decoded.ensures.text;
-      length = long;
-      document = rw (c.parts.ensures.id, c.target_of.ensures.path) at c.in-Ok-document_id.ensures.good;
-    })
-
-pub returns-in_err-query : goal.returns-in_err-query
-returns-in_err-query c =
-    let none : c.from_residual-in_err-query.result ≡ Err NoMemory = search rules in
-    let named : c.in-Ok.service ≢ Welcome = search rules in
-    let long : takes_body c.in-Ok.service ≡ true → c.args.request.now.has_length ≡ true = search rules in
-    has_no_room (asked_by c.args.request.now) c.in-Ok.service _ none
-    (rw (c.target_of.ensures.path, c.as_slice.ensures.value) at c.in-Ok.ensures.ok) named
+    (rw (c.target_of.ensures.path, c.as_slice.ensures.value) at c.in-Ok.ensures.ok) named no_list
     (record {
       name = rw (c.parts.ensures.name, c.target_of.ensures.path) at c.in-Ok-decoded.ensures.text;
       length = long;

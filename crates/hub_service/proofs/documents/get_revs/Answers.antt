@@ -1,0 +1,39 @@
+use Rattle.std.proofs.Common.{◌≡◌, ℕ, List, Bool, Err, string_bytes, rules, refl, inl, sym, subst, ap, ◌∙◌}
+use Rattle.std.specs.Prelude.{Vec}
+use Rattle.std.specs.declared.alloc.Global.{Global}
+use Rattle.hub_database.specs.Database.{Database}
+use Rattle.hub_database.specs.Reads.{open_revs}
+use Rattle.hub_database.specs.declared.answers.OpenRev.{OpenRev}
+use Rattle.hub_document.specs.declared.open_revs.OpenRevs.{OpenRevs}
+use Rattle.hub_http.specs.declared.refusal.Refusal.TheVariants.{BadRev}
+use Rattle.hub_service.specs.Calls.{gets_revs, is_all, says_revs}
+use Rattle.hub_service.specs.Moments.{IsRead}
+use Rattle.hub_service.specs.Said.{Refusing}
+use Rattle.hub_service.proofs.Looks.{found_read, read_anyway, unfound_read}
+use Rattle.hub_service.proofs.documents.get_revs.Goals as goal
+
+-- what a look for revisions of an id finds
+abbrev are_revs : List ℕ → OpenRevs → Bool → Database → Vec OpenRev Global → Type 0
+are_revs id which revs db found = found.items ≡ open_revs db.journal id which revs
+
+pub returns-in_default : goal.returns-in_default
+returns-in_default g c =
+    read_anyway (λ db. gets_revs db.journal (string_bytes c.args.id) c.args.revs c.args.asked) (Refusing BadRev) (Err BadRev) (inl refl)
+    (λ db. sym (ap (gets_revs db.journal (string_bytes c.args.id) c.args.revs) c.in_default.is))
+
+pub returns-in_err-found : goal.returns-in_err-found
+returns-in_err-found g c =
+    let same : c.from_residual.result ≡ Err c.in_err-found.field-0.0 = search rules in
+    subst (IsRead (λ db. gets_revs db.journal (string_bytes c.args.id) c.args.revs c.args.asked)) (sym same)
+    (unfound_read (are_revs (string_bytes c.args.id) c.in-Some.which c.args.revs) (λ db. gets_revs db.journal (string_bytes c.args.id) c.args.revs c.args.asked) c.in_err-found.field-0.0 c.in_err-found.ensures)
+
+pub returns : goal.returns
+returns g c =
+    let id = string_bytes c.args.id in
+    let which = c.in-Some.which in
+    let revs = c.as_slice.result.now in
+    found_read (are_revs id which c.args.revs) (λ db. gets_revs db.journal id c.args.revs c.args.asked) c.in_ok-found.found
+    (says_revs c.is_all-all.result revs) c.say_revs.result c.in_ok-found.ensures c.say_revs.ensures
+    (λ db is. ap (λ all. says_revs all revs) c.is_all-all.ensures
+    ∙ (ap (says_revs (is_all which)) (c.as_slice.ensures.value ∙ is)
+    ∙ sym (ap (gets_revs db.journal id c.args.revs) c.in-Some.is)))

@@ -1,0 +1,25 @@
+use Rattle.std.proofs.Common.{◌≡◌, ℕ, Err, ◌<◌, ◌^◌, rules, sym, subst, ◌∙◌, arith}
+use Rattle.std.specs.Prelude.{Vec}
+use Rattle.std.specs.declared.alloc.Global.{Global}
+use Rattle.hub_database.specs.Locals.{written}
+use Rattle.hub_replies.specs.Bodies.{local_edit_body}
+use Rattle.hub_service.specs.Calls.{keeps}
+use Rattle.hub_service.specs.Moments.{IsRead}
+use Rattle.hub_service.specs.Said.{Body, IsSaid}
+use Rattle.hub_service.proofs.Looks.{kept_read, kept_said, said_text, unkept_read}
+use Rattle.hub_service.proofs.locals.keep.Goals as goal
+
+pub returns-in_err-count : goal.returns-in_err-count
+returns-in_err-count g c =
+    let same : c.from_residual-in_err-count.result ≡ Err c.in_err-count.field-0.0 = search rules in
+    subst (IsRead (λ db. keeps (written db.locals c.args.doc))) (sym same)
+    (unkept_read c.args.doc c.in_err-count.field-0.0 c.in_err-count.ensures)
+
+pub returns : goal.returns
+returns g c =
+    let n = c.in_ok-count.count in
+    let few : n < 2 ^ 64 = omega arith in
+    let id : c.as_str-2.result.now ≡ c.args.doc.id = c.as_str-2.ensures.value ∙ (c.in_ok-id.ensures.ok ∙ c.as_str.ensures) in
+    let said = said_text (λ (b : Vec ℕ Global). b.items) 201 (local_edit_body c.as_str-2.result.now n) c.local_edit_body.result c.created.result c.local_edit_body.ensures c.created.ensures.said c.created.ensures.memory in
+    kept_read c.args.doc n c.created.result c.in_ok-count.ensures
+    (λ db is. kept_said db c.args.doc n c.created.result few (subst (λ id. IsSaid (Body 201 (local_edit_body id n)) c.created.result) id said) is)

@@ -1,0 +1,8 @@
+use Rattle.std.proofs.Common.{◌≡◌, false, subst}
+use Rattle.hub_threads.specs.Answers.{IsAnswer}
+use Rattle.hub_threads.specs.declared.question.Question.TheVariants as asks
+use Rattle.hub_service.specs.Moments.{HasDatabase}
+use Rattle.hub_service.proofs.target.Target.revisions.Goals as goal
+
+pub returns : goal.returns
+returns g c = subst (λ a. HasDatabase (λ db. (db.deleted ≡ false) × IsAnswer db (asks.OpenRevs c.args.id c.args.which c.args.revs) a)) c.in-OpenRevs.is c.in_ok-found.ensures

@@ -1,0 +1,139 @@
+-- What a database says to a call (CouchDB API reference: documents, local documents, _bulk_docs, _revs_diff; own
+-- for the order of refusals).
+use Rattle.std.specs.Prelude.{◌≡◌, ℕ, ◌^◌, List, [], ◌∷◌, Bool, true, false, if◌then◌else◌, nat_le}
+use Rattle.std.specs.Prelude.{codes, Option, Some, None, Result, Ok, Err}
+use Rattle.hub_model.specs.Journal.{Edit}
+use Rattle.hub_model.specs.Revision.{Revision}
+use Rattle.hub_model.specs.Leaves.{leaves_of}
+use Rattle.hub_model.specs.Missing.{Asked, diffs}
+use Rattle.hub_model.specs.declared.outcomes.Outcome.{Outcome}
+use Rattle.hub_model.specs.declared.outcomes.Outcome.TheVariants.{Stored, Known, Refused}
+use Rattle.hub_document.specs.Asking.{asked_in, open_revs_in}
+use Rattle.hub_document.specs.Read.{or_fault, json_of}
+use Rattle.hub_document.specs.declared.doc.Doc.{Doc}
+use Rattle.hub_document.specs.declared.doc.DocFault.{DocFault}
+use Rattle.hub_document.specs.declared.doc.DocFault.TheVariants as doc
+use Rattle.hub_document.specs.declared.local_doc.LocalDoc.{LocalDoc}
+use Rattle.hub_document.specs.declared.open_revs.OpenRevs.{OpenRevs}
+use Rattle.hub_document.specs.declared.open_revs.OpenRevs.TheVariants.{All, Listed}
+use Rattle.hub_database.specs.Database.{Database, Local}
+use Rattle.hub_database.specs.Edits.{makes_one, writes}
+use Rattle.hub_database.specs.Locals.{written}
+use Rattle.hub_database.specs.Reads.{info_of, lookup, open_revs}
+use Rattle.hub_database.specs.declared.answers.Lookup.{Lookup}
+use Rattle.hub_database.specs.declared.answers.Lookup.TheVariants.{Unknown, Deleted, Found}
+use Rattle.hub_database.specs.declared.answers.OpenRev.{OpenRev}
+use Rattle.hub_revtree.specs.Winner.{winner_of}
+use Rattle.hub_revtree.specs.declared.leaf.Winner.{Winner}
+use Rattle.hub_http.specs.Refusals.{of_doc_fault, of_fault}
+use Rattle.hub_http.specs.declared.refusal.Refusal.{Refusal}
+use Rattle.hub_http.specs.declared.refusal.Refusal.TheVariants.{BadRev, Conflict, SequenceFull, Missing}
+use Rattle.hub_http.specs.declared.refusal.Refusal.TheVariants.{DocDeleted}
+use Rattle.hub_params.specs.DocParams.{DocAsked}
+use Rattle.hub_replies.specs.Bodies.{info_body, edit_body, local_edit_body, doc_body, local_doc_body}
+use Rattle.hub_replies.specs.Bodies.{open_revs_body, diffs_body, commit_body}
+use Rattle.hub_replies.specs.Bulk.{batch_body}
+use Rattle.hub_service.specs.Bulk.{Batch, readings, read_docs, faults_of, replies_of}
+use Rattle.hub_service.specs.Said.{Said, Body, Refusing}
+
+-- what a database of this name says of itself
+abbrev pub says_info : List ℕ → List Edit → Said
+says_info name journal = Body 200 (info_body name (info_of journal))
+
+-- a commit has nothing to do
+abbrev pub says_commit : Said
+says_commit = Body 201 commit_body
+
+-- ---- reading documents
+
+-- a document that was asked for
+abbrev pub says_found : Lookup → Said
+says_found Unknown = Refusing Missing
+says_found Deleted = Refusing DocDeleted
+says_found (Found doc) = Body 200 (doc_body doc)
+
+-- all leaves are asked for
+abbrev pub is_all : OpenRevs → Bool
+is_all All = true
+is_all (Listed asked) = false
+
+-- revisions that were asked for; where all leaves were and there is none, the document is unknown
+abbrev pub says_revs : Bool → List OpenRev → Said
+says_revs true [] = Refusing Missing
+says_revs true (r ∷ revs) = Body 200 (open_revs_body (r ∷ revs))
+says_revs false revs = Body 200 (open_revs_body revs)
+
+-- the revisions that a value of `open_revs` asks for
+abbrev pub gets_revs : List Edit → List ℕ → Bool → Option OpenRevs → Said
+gets_revs journal id revs None = Refusing BadRev
+gets_revs journal id revs (Some which) = says_revs (is_all which) (open_revs journal id which revs)
+
+-- a document, or some of its revisions; a revision is not asked for by `rev`
+abbrev pub gets_by : List Edit → List ℕ → Bool → Option (List ℕ) → Option (List ℕ) → Said
+gets_by journal id revs rev (Some text) = gets_revs journal id revs (open_revs_in text)
+gets_by journal id revs (Some rev) None = Refusing BadRev
+gets_by journal id revs None None = says_found (lookup journal id revs)
+
+-- a document, or some of its revisions, by what a query asks
+abbrev pub gets_doc : List Edit → List ℕ → DocAsked → Said
+gets_doc journal id asked = gets_by journal id asked.revs asked.rev asked.open_revs
+
+-- ---- editing documents
+
+-- what came of storing an edit
+abbrev pub says_edit : ℕ → List ℕ → Outcome Revision → Said
+says_edit status id (Stored rev) = Body status (edit_body id rev)
+says_edit status id Known = Refusing Conflict
+says_edit status id (Refused fault) = Refusing (of_fault fault)
+
+-- storing an edit whose revision is made here
+abbrev pub edits : ℕ → Database → Doc → Said
+edits status db doc =
+    says_edit status doc.id (makes_one db.deleted db.limits.journal db.journal doc).outcome
+
+-- putting a document, or the refusal of its fault
+abbrev pub puts_doc : Database → Result Doc DocFault → Said
+puts_doc db (Err fault) = Refusing (of_doc_fault fault)
+puts_doc db (Ok doc) = edits 201 db doc
+
+-- an edit that deletes
+abbrev pub deletion : List ℕ → Revision → Doc
+deletion id rev = record { id = id; rev = Some rev; path = None; deleted = true; body = codes "{}" }
+
+-- the winner of a document, if there is one
+abbrev pub winner_in : Database → List ℕ → Option Winner
+winner_in db id = winner_of (leaves_of db.journal id)
+
+-- ---- local documents
+
+abbrev pub says_local : Option Local → Said
+says_local None = Refusing Missing
+says_local (Some l) = Body 200 (local_doc_body l.id l.count l.body)
+
+-- keeping a local document, unless it was written too often
+abbrev pub keeps : Local → Said
+keeps l = if nat_le (2 ^ 64) l.count then Refusing SequenceFull else Body 201 (local_edit_body l.id l.count)
+
+-- putting a local document, or the refusal of its fault
+abbrev pub puts_local : Database → Result LocalDoc DocFault → Said
+puts_local db (Err fault) = Refusing (of_doc_fault fault)
+puts_local db (Ok doc) = keeps (written db.locals doc)
+
+-- ---- replication
+
+-- which revisions are asked for by a body
+abbrev pub asked_by : List ℕ → Result (List Asked) DocFault
+asked_by body = or_fault (json_of body) doc.NotJson asked_in
+
+-- which of them are missing
+abbrev pub says_diffs : List Edit → Result (List Asked) DocFault → Said
+says_diffs journal (Err fault) = Refusing (of_doc_fault fault)
+says_diffs journal (Ok asked) = Body 200 (diffs_body (diffs journal asked))
+
+-- storing a batch, or the refusal of the whole
+abbrev pub stores : Database → Result Batch Refusal → Said
+stores db (Err refusal) = Refusing refusal
+stores db (Ok batch) =
+    let read = readings batch.new_edits batch.docs in
+    let stored = writes batch.new_edits db.deleted db.limits.journal db.journal (read_docs read) in
+    Body 201 (batch_body batch.docs (replies_of batch.new_edits (faults_of read) stored.outcomes))

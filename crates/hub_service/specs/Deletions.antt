@@ -1,0 +1,44 @@
+-- What deleting a document is answered (CouchDB API reference, DELETE /{db}/{docid}).
+use Rattle.std.specs.Prelude.{◌≡◌, ◌≢◌, ◌⊎◌, ℕ, List, Bool, true, false, Option, Some, None, Result, Ok, Err}
+use Rattle.std.specs.Prelude.{if◌then◌else◌}
+use Rattle.hub_document.specs.Ids.{short_id}
+use Rattle.hub_document.specs.RevisionText.{revision_of}
+use Rattle.hub_model.specs.Revision.{Revision}
+use Rattle.hub_revtree.specs.declared.leaf.Winner.{Winner}
+use Rattle.hub_http.specs.declared.refusal.Refusal.{Refusal}
+use Rattle.hub_http.specs.declared.refusal.Refusal.TheVariants.{BadRev, Conflict, Missing, Deleted, DocDeleted}
+use Rattle.hub_service.specs.Calls.{deletion, edits, winner_in}
+use Rattle.hub_service.specs.Moments.{HasDatabase, IsRead, IsWritten}
+use Rattle.hub_service.specs.Said.{Refusing, IsSaid, IsWant}
+use Rattle.hub_service.specs.declared.response.Response.{Response}
+
+-- deleting a document that has this winner, where no leaf is named
+abbrev pub refuses_unnamed : Option Winner → Refusal
+refuses_unnamed None = Missing
+refuses_unnamed (Some winner) = if winner.deleted then DocDeleted else Conflict
+
+-- a look found no such document, or a database that was deleted
+abbrev pub IsUnknown : List ℕ → Result Response Refusal → Type 0
+IsUnknown id r = ((r ≡ Err Missing) × HasDatabase (λ db. (db.deleted ≡ false) × (winner_in db id ≡ None)))
+    ⊎ ((r ≡ Err Deleted) × HasDatabase (λ db. db.deleted ≡ true))
+
+-- a look found such a document
+abbrev pub IsKnown : List ℕ → Type 0
+IsKnown id = HasDatabase (λ db. (db.deleted ≡ false) × (winner_in db id ≢ None))
+
+-- Deleting the leaf of a revision, of the document of an id, if there can be one of it: a look finds no such
+-- document; or it finds one, and an edit is written, to the database as it is then.
+abbrev pub DeletesLeaf : List ℕ → Option (List ℕ) → Revision → Result Response Refusal → Type 0
+DeletesLeaf id None rev r = IsSaid (Refusing Missing) r
+DeletesLeaf id (Some short) rev r =
+    IsUnknown id r ⊎ (IsWant r ⊎ (IsKnown id × IsWritten (λ db. edits 200 db (deletion short rev)) r))
+
+-- deleting the leaf that a text names
+abbrev pub DeletesNamed : List ℕ → Option Revision → Result Response Refusal → Type 0
+DeletesNamed id None r = IsSaid (Refusing BadRev) r
+DeletesNamed id (Some rev) r = DeletesLeaf id (short_id id) rev r
+
+-- deleting a document
+abbrev pub IsDeletion : List ℕ → Option (List ℕ) → Result Response Refusal → Type 0
+IsDeletion id None r = IsRead (λ db. Refusing (refuses_unnamed (winner_in db id))) r
+IsDeletion id (Some text) r = DeletesNamed id (revision_of text) r

@@ -1,0 +1,126 @@
+-- What a connection shows of a feed (CouchDB API reference, _changes and _db_updates).
+use Rattle.std.specs.Prelude.{◌≡◌, ◌⊎◌, ℕ, List, [], ◌∷◌, Bool, true, false, if◌then◌else◌, Option, Some, None}
+use Rattle.std.specs.Prelude.{Result, Ok, Err, option_map}
+use Rattle.hub_model.specs.Row.{ChangeRow}
+use Rattle.hub_model.specs.Updates.{UpdateRow}
+use Rattle.hub_model.specs.RightlyHanded.{is_end}
+use Rattle.hub_model.specs.Descending.{Descending, descending}
+use Rattle.hub_model.specs.declared.feeds.Mode.{Mode}
+use Rattle.hub_model.specs.declared.feeds.Mode.TheVariants.{Normal}
+use Rattle.hub_model.specs.declared.feeds.Item.{Item}
+use Rattle.hub_model.specs.declared.feeds.Item.TheVariants.{Row, End}
+use Rattle.hub_database.specs.Database.{Database}
+use Rattle.hub_database.specs.Handing as changes
+use Rattle.hub_database.specs.Hosting.{hosted_of}
+use Rattle.hub_databases.specs.Asked.{updates_asked}
+use Rattle.hub_updates.specs.Log as updates
+use Rattle.hub_feed.specs.Host.{opening_fault}
+use Rattle.hub_lane.specs.Ends.{IsAllowedBeginning, ReceiverState, behind_take}
+use Rattle.hub_params.specs.FeedParams.{FeedAsked}
+use Rattle.hub_params.specs.FeedModel.{params_in}
+use Rattle.hub_params.specs.declared.feed_fault.ParamFault.{ParamFault}
+use Rattle.hub_http.specs.declared.refusal.Refusal.{Refusal}
+use Rattle.hub_http.specs.declared.refusal.Refusal.TheVariants as refusal
+use Rattle.hub_session.specs.declared.item.StreamItem.{StreamItem}
+use Rattle.hub_session.specs.declared.item.StreamItem.TheVariants.{Change, Update}
+use Rattle.hub_shared.specs.Label.{Label}
+use Rattle.hub_threads.specs.Handles.{IsBeginningFor}
+use Rattle.hub_service.specs.Moments.{HasDatabase}
+use Rattle.hub_service.specs.Refusals.{of_open_fault, of_param_fault}
+use Rattle.hub_service.specs.declared.response.Response.{Response}
+use Rattle.hub_service.specs.declared.response.Response.TheVariants.{Body, Stream}
+use Rattle.hub_service.specs.declared.sent.Sent.{Sent}
+use Rattle.hub_service.specs.declared.sent.Sent.TheVariants.{Listed, Changes, Updates}
+
+-- a feed as its connection has it: what was asked, where it began, and what was taken of it
+abbrev pub FeedOf : Type 0 → Type 0
+FeedOf R = ReceiverState Label (Item R)
+
+-- ---- beginning one
+
+-- A feed that was opened with these parameters, of which nothing was taken. It shows what lies above a
+-- sequence that is not above the one asked for, and below it only where that many edits were not there yet.
+pub record IsNew {R : Type 0} (asked : FeedAsked) (feed : FeedOf R) : Type 0 where
+  pub asks : feed.label.asked ≡ asked
+  pub begins : IsBeginningFor asked.since 0 feed.label.since
+  pub none : feed.taken ≡ []
+
+-- what is asked of a database is begun, in this mode: downwards it is made at once
+abbrev pub IsBegun : FeedAsked → Mode → Sent → Type 0
+IsBegun asked mode (Listed answer) = (asked.descending ≡ true) × (mode ≡ Normal)
+    × HasDatabase (λ db. (db.deleted ≡ false) × (answer ≡ descending db.journal (params_in asked)))
+IsBegun asked mode (Changes feed) = (asked.descending ≡ false) × (mode ≡ asked.mode) × IsNew asked feed
+IsBegun asked mode (Updates feed) = ⊥
+
+-- why a database begins no feed: it was deleted, or it has as many as it may
+abbrev pub IsUnopened : FeedAsked → Refusal → Type 0
+IsUnopened asked e = (db : Database)
+    × (e ≡ if asked.descending then (if db.deleted then refusal.Deleted else refusal.NoMemory)
+    else of_open_fault (opening_fault (hosted_of db)))
+
+-- the feed of a database that is asked for is begun, or refused: `limit=x` is BadLimit
+abbrev pub Begins : Result FeedAsked ParamFault → Result Response Refusal → Type 0
+Begins asked (Ok (Body status body)) = ⊥
+Begins (Err fault) (Ok (Stream mode sent)) = ⊥
+Begins (Ok asked) (Ok (Stream mode sent)) = IsBegun asked mode sent
+Begins (Err fault) (Err e) = (e ≡ of_param_fault fault) ⊎ (e ≡ refusal.NoMemory)
+Begins (Ok asked) (Err e) = IsUnopened asked e ⊎ (e ≡ refusal.NoMemory)
+
+-- the feed of the log of updates that is asked for is begun, in this mode
+abbrev pub IsBegunOfUpdates : FeedAsked → Mode → Sent → Type 0
+IsBegunOfUpdates asked mode (Listed answer) = ⊥
+IsBegunOfUpdates asked mode (Changes feed) = ⊥
+IsBegunOfUpdates asked mode (Updates feed) = (mode ≡ asked.mode) × IsNew (updates_asked asked) feed
+
+-- the feed of the log of updates that is asked for is begun, or refused: parameters that mean nothing there are
+-- refused where they are bad
+abbrev pub BeginsUpdates : Result FeedAsked ParamFault → Result Response Refusal → Type 0
+BeginsUpdates asked (Ok (Body status body)) = ⊥
+BeginsUpdates (Err fault) (Ok (Stream mode sent)) = ⊥
+BeginsUpdates (Ok asked) (Ok (Stream mode sent)) = IsBegunOfUpdates asked mode sent
+BeginsUpdates (Err fault) (Err e) = (e ≡ of_param_fault fault) ⊎ (e ≡ refusal.NoMemory)
+BeginsUpdates (Ok asked) (Err e) = (e ≡ refusal.TooManyFeeds) ⊎ (e ≡ refusal.NoMemory)
+
+-- ---- its items
+
+-- the next item of an answer with these rows left, and what is left behind it
+abbrev pub next_of_rows : List ChangeRow → ℕ → ℕ → Item ChangeRow × Option Descending
+next_of_rows [] last_seq pending = (End last_seq pending, None)
+next_of_rows (row ∷ rows) last_seq pending =
+    (Row row, Some (record { rows = rows; last_seq = last_seq; pending = pending }))
+
+-- the next item of an answer that was made at once, and what is left of it
+abbrev pub next_listed : Descending → Item ChangeRow × Option Descending
+next_listed answer = next_of_rows answer.rows answer.last_seq answer.pending
+
+-- what was taken of a feed of changes is a front of a list that is rightly handed for what was asked
+abbrev pub IsRightChanges : FeedOf ChangeRow → Type 0
+IsRightChanges = IsAllowedBeginning (λ l items. changes.IsRightFor (params_in l.asked) l.since items)
+
+-- and so of a feed of updates
+abbrev pub IsRightUpdates : FeedOf UpdateRow → Type 0
+IsRightUpdates = IsAllowedBeginning (λ l items. updates.IsRightFor (params_in l.asked) l.since items)
+
+-- what is sent behind an item: nothing more behind an end
+abbrev pub sent_behind : {R : Type 0} → Item R → Sent → Option Sent
+sent_behind item sent = if is_end item then None else Some sent
+
+-- What is sent goes on with this item, and is then the other; or it stops, and is what it was. An answer that
+-- was made at once hands its rows in turn and then its end; what a feed hands was taken from it, behind what
+-- was taken before.
+abbrev pub Gives : Option Sent → Option StreamItem → Option Sent → Type 0
+Gives s None t = t ≡ s
+Gives None (Some item) t = ⊥
+Gives (Some (Listed answer)) (Some (Change item)) t =
+    (item ≡ (next_listed answer).0) × (t ≡ option_map Listed (next_listed answer).1)
+Gives (Some (Listed answer)) (Some (Update item)) t = ⊥
+Gives (Some (Changes feed)) (Some (Change item)) t =
+    (t ≡ sent_behind item (Changes (behind_take feed item))) × IsRightChanges (behind_take feed item)
+Gives (Some (Changes feed)) (Some (Update item)) t = ⊥
+Gives (Some (Updates feed)) (Some (Change item)) t = ⊥
+Gives (Some (Updates feed)) (Some (Update item)) t =
+    (t ≡ sent_behind item (Updates (behind_take feed item))) × IsRightUpdates (behind_take feed item)
+
+-- what is sent is not sent on
+abbrev pub Drops : Option Sent → Option Sent → Type 0
+Drops s t = t ≡ None

@@ -1,0 +1,9 @@
+pub mod Said
+pub mod Refusals
+pub mod Moments
+pub mod Bulk
+pub mod Calls
+pub mod Deletions
+pub mod Feeds
+pub mod Requests
+pub mod Laws

@@ -1,0 +1,57 @@
+-- What is found behind locks: each call looks at a database once, as it was at some moment (own).
+use Rattle.std.specs.Prelude.{◌≡◌, ◌⊎◌, ◌≤◌, ◌^◌, ℕ, List, [], Bool, true, false, Result, Ok, Err, IsSome}
+use Rattle.std.specs.Prelude.{if◌then◌else◌}
+use Rattle.hub_document.specs.declared.doc.Doc.{Doc}
+use Rattle.hub_document.specs.declared.local_doc.LocalDoc.{LocalDoc}
+use Rattle.hub_model.specs.Journal.{IsLegal}
+use Rattle.hub_database.specs.Database.{Database}
+use Rattle.hub_database.specs.Locals.{written}
+use Rattle.hub_databases.specs.declared.hub.Written.{Written}
+use Rattle.hub_http.specs.declared.refusal.Refusal.{Refusal}
+use Rattle.hub_http.specs.declared.refusal.Refusal.TheVariants.{NoMemory, Deleted, SequenceFull}
+use Rattle.hub_threads.specs.Handles.{IsWrittenBy}
+use Rattle.hub_service.specs.Said.{Said, Body, Refusing, Says, IsSaid, IsWant}
+use Rattle.hub_service.specs.declared.response.Response.{Response}
+
+-- this holds of some database, as one may lie under its lock
+pub record HasDatabase (holds : Database → Type 0) : Type 0 where
+  pub db : Database
+  pub legal : IsLegal db.journal
+  pub held : holds db
+
+-- a database that was deleted refuses a call that looks at it
+abbrev pub stands : Database → Said → Said
+stands db said = if db.deleted then Refusing Deleted else said
+
+-- a look at some database found this; it was deleted, or memory was missing, where nothing was found
+abbrev pub IsFound : {A : Type 0} → (Database → A → Type 0) → Result A Refusal → Type 0
+IsFound found (Ok a) = HasDatabase (λ db. (db.deleted ≡ false) × found db a)
+IsFound found (Err e) = (e ≡ NoMemory) ⊎ ((e ≡ Deleted) × HasDatabase (λ db. db.deleted ≡ true))
+
+-- a call that reads was answered as some database says it, or memory was missing
+abbrev pub IsRead : (Database → Said) → Result Response Refusal → Type 0
+IsRead says r = HasDatabase (λ db. Says r (stands db (says db))) ⊎ IsWant r
+
+-- a call would have been answered with a body
+abbrev pub IsDone : Said → Type 0
+IsDone said = (status : ℕ) × (body : List ℕ) × (said ≡ Body status body)
+
+-- A call that writes was answered as some database says it, which then has what was written; or memory was
+-- missing; or it was written, and the log of updates was full, so that it has no note of it. With a log of
+-- one note, that of the database's making, each put of a document is stored and answered 503 sequence_full.
+abbrev pub IsWritten : (Database → Said) → Result Response Refusal → Type 0
+IsWritten says r = HasDatabase (λ db. Says r (says db))
+    ⊎ (IsWant r ⊎ ((r ≡ Err SequenceFull) × HasDatabase (λ db. IsDone (says db))))
+
+-- what became of a write to some database: the log of updates may have no note of it only where edits were
+-- stored
+pub record IsStored (new_edits : Bool) (docs : List Doc) (w : Written) : Type 0 where
+  pub accepted : IsWrittenBy false 0 (record { parts = 0; count = 0 }) new_edits docs w.accepted
+  pub lapsed : IsSome w.lapsed → ¬ (w.accepted.receipts.items ≡ [])
+
+-- some database, whose journal is not looked at, has kept a local document, and says how often it was written;
+-- or it was deleted, or can't count on, or memory was missing
+abbrev pub IsKept : LocalDoc → Result ℕ Refusal → Type 0
+IsKept doc (Ok count) = (db : Database) × (db.deleted ≡ false) × (count ≡ (written db.locals doc).count)
+IsKept doc (Err e) = (e ≡ NoMemory) ⊎ (((e ≡ Deleted) × ((db : Database) × (db.deleted ≡ true)))
+    ⊎ ((e ≡ SequenceFull) × ((db : Database) × (db.deleted ≡ false) × (2 ^ 64 ≤ (written db.locals doc).count))))

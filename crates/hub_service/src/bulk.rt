@@ -1,0 +1,179 @@
+//! Batches of documents (CouchDB API reference, `POST /{db}/_bulk_docs`).
+
+ghost use Rattle.std.specs.Prelude.{◌≡◌, Ok, Err, IfOk, IfErr, codes};
+ghost use Rattle.serde_json.specs.Find.{get};
+ghost use Rattle.serde_json.specs.View.{view, items_view};
+ghost use Rattle.hub_replies.specs.Bulk.{batch_body};
+ghost use Rattle.hub_service.specs.Bulk.{batch_in, batch_of, faults_of, flag_of, read_docs, readings, replies_of, reply_to};
+ghost use Rattle.hub_service.specs.Calls.{stores};
+ghost use Rattle.hub_service.specs.Moments.{IsWritten};
+
+use crate::refusal::unnoted;
+use crate::response::{Response, created};
+use crate::target::Target;
+use hub_document::{Doc, DocFault, RevId, read_value};
+use hub_http::Refusal;
+use hub_model::Outcome;
+use hub_replies::{BatchReply, batch_body};
+use serde_json::Value;
+use std::alloc::{AllocError, Global};
+use std::sync::Wait;
+
+// Whether the revisions of a batch are made here: yes, where the request does not say.
+fn new_edits_of(request: &Value) -> Option<bool>
+    ensures { result ≡ flag_of (get (codes "new_edits") (view request.now)) }
+{
+    match request.get("new_edits") {
+        Some(flag) => flag.as_bool(),
+        None => Some(true),
+    }
+}
+
+// The elements of a batch, and whether their revisions are made here.
+fn batch_of(request: &Value) -> Result<(&Vec<Value>, bool), Refusal>
+    ensures ok { IfOk result (λ b. batch_of (view request.now) ≡ Ok (record { docs = items_view b.0.now.items; new_edits = b.1 })) }
+    ensures err { IfErr result (λ e. batch_of (view request.now) ≡ Err e) }
+{
+    let Some(docs) = request.get("docs").and_then(Value::as_array) else {
+        return Err(Refusal::NotObject);
+    };
+    match new_edits_of(request) {
+        Some(new_edits) => Ok((docs, new_edits)),
+        None => Err(Refusal::NotObject),
+    }
+}
+
+/// What the elements of a batch are.
+#[derive(Debug, Drop)]
+struct Readings {
+    /// Those that are documents, in order.
+    docs: Vec<Doc>,
+    /// For each element its fault, if it is no document.
+    faults: Vec<Option<DocFault>>,
+}
+
+// Reads each element by itself. It costs the elements' length.
+fn read_elements(alloc: Global, elements: &[Value], new_edits: bool) -> Result<Readings, AllocError>
+    ensures docs { IfOk result (λ r. r.docs.items ≡ read_docs (readings new_edits (items_view elements.now))) }
+    ensures faults { IfOk result (λ r. r.faults.items ≡ faults_of (readings new_edits (items_view elements.now))) }
+{
+    let mut docs = Vec::with_capacity(alloc, elements.len())?;
+    let mut faults = Vec::with_capacity(alloc, elements.len())?;
+    for element in elements {
+        match Doc::of_value(alloc, element, new_edits) {
+            Ok(doc) => {
+                docs.push(doc)?;
+                faults.push(None)?;
+            }
+            Err(DocFault::NoMemory) => return Err(AllocError),
+            Err(fault) => faults.push(Some(fault))?,
+        }
+    }
+    Ok(Readings { docs, faults })
+}
+
+// The reply to a document, if it has one.
+fn reply_to(new_edits: bool, outcome: &Outcome<RevId>) -> Option<BatchReply>
+    ensures { result ≡ reply_to new_edits outcome.now }
+{
+    match outcome {
+        Outcome::Stored(rev) => {
+            if new_edits {
+                Some(BatchReply::Stored(*rev))
+            } else {
+                None
+            }
+        }
+        Outcome::Known => None,
+        Outcome::Refused(fault) => Some(BatchReply::Refused(Refusal::from(*fault))),
+    }
+}
+
+// The reply to each element, if it has one.
+fn replies_of(
+    alloc: Global,
+    new_edits: bool,
+    faults: &[Option<DocFault>],
+    outcomes: &[Outcome<RevId>],
+) -> Result<Vec<Option<BatchReply>>, AllocError>
+    ensures { IfOk result (λ rs. rs.items ≡ replies_of new_edits faults.now outcomes.now) }
+{
+    let mut list = Vec::with_capacity(alloc, faults.len())?;
+    let mut left = outcomes;
+    for fault in faults {
+        match fault {
+            Some(fault) => list.push(Some(BatchReply::Refused(Refusal::from(*fault))))?,
+            None => match left {
+                [first, rest @ ..] => {
+                    list.push(reply_to(new_edits, first))?;
+                    left = rest;
+                }
+                [] => list.push(None)?,
+            },
+        }
+    }
+    Ok(list)
+}
+
+// The text of the answer to a batch.
+fn answer_text(
+    alloc: Global,
+    elements: &[Value],
+    new_edits: bool,
+    faults: &[Option<DocFault>],
+    outcomes: &[Outcome<RevId>],
+) -> Result<Vec<u8>, AllocError>
+    ensures { IfOk result (λ t. t.items
+        ≡ batch_body (items_view elements.now) (replies_of new_edits faults.now outcomes.now)) }
+{
+    let replies = replies_of(alloc, new_edits, faults, outcomes)?;
+    batch_body(alloc, elements, replies.as_slice())
+}
+
+// Stores the batch of these elements.
+fn store_elements<N: Wait>(
+    target: &Target<'_, N>,
+    elements: &[Value],
+    new_edits: bool,
+) -> Result<Response, Refusal>
+    ensures { IsWritten (λ db. stores db
+        (Ok (record { docs = items_view elements.now; new_edits = new_edits }))) result }
+{
+    let Readings { docs, faults } = read_elements(target.alloc, elements, new_edits)?;
+    let written = target.write(docs, new_edits)?;
+    if written.accepted.stopped {
+        return Err(Refusal::NoMemory);
+    }
+    if let Some(fault) = written.lapsed {
+        return Err(unnoted(fault));
+    }
+    let outcomes = written.accepted.replies.as_slice();
+    created(answer_text(
+        target.alloc,
+        elements,
+        new_edits,
+        faults.as_slice(),
+        outcomes,
+    ))
+}
+
+// Stores the batch that a value is.
+fn store_batch<N: Wait>(target: &Target<'_, N>, request: &Value) -> Result<Response, Refusal>
+    ensures { IsWritten (λ db. stores db (batch_of (view request.now))) result }
+{
+    match batch_of(request) {
+        Ok((docs, new_edits)) => store_elements(target, docs.as_slice(), new_edits),
+        Err(refusal) => Err(refusal),
+    }
+}
+
+/// Stores the batch of documents that a body is. It costs the body's length, and what `Hub::write`
+/// does. Where memory is missing documents from its front may stand.
+pub(crate) fn store<N: Wait>(target: &Target<'_, N>, body: &[u8]) -> Result<Response, Refusal>
+    ensures { IsWritten (λ db. stores db (batch_in body.now)) result }
+{
+    match read_value(target.alloc, body) {
+        Ok(request) => store_batch(target, &request),
+        Err(fault) => Err(Refusal::from(fault)),
+    }
+}

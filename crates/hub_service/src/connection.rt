@@ -1,0 +1,185 @@
+//! Connections: what a client is answered, request by request.
+
+ghost use Rattle.std.specs.Prelude.{◌≡◌, None, Ok, Result, Some, true};
+ghost use Rattle.hub_http.specs.Stream.{asked_by};
+ghost use Rattle.hub_routes.specs.Routes.{GoesTo};
+ghost use Rattle.hub_routes.specs.declared.route.Route.{Route};
+ghost use Rattle.hub_routes.specs.declared.route.RouteFault.{RouteFault};
+ghost use Rattle.hub_service.specs.Feeds.{Drops, Gives};
+ghost use Rattle.hub_service.specs.Requests.{Answers, AtName, IsCalled, IsListed, IsMade, IsRemoved, IsSent, Responds};
+
+use crate::database::answer;
+use crate::feeds::begin_updates;
+use crate::next::next;
+use crate::refusal::unnamed;
+use crate::response::{Response, ok};
+use crate::sent::Sent;
+use crate::target::Target;
+use http::StatusCode;
+use hub_databases::{Hub, is_name};
+use hub_http::{Refusal, Reply, Request};
+use hub_replies::{names_body, ok_body, welcome_body};
+use hub_routes::{Call, Route, Routes};
+use hub_session::{Answer, Service, StreamItem};
+use std::alloc::Global;
+use std::marker::Model;
+use std::sync::Wait;
+
+/// A connection to a hub, which other connections share. It answers one request at a time, and sends at
+/// most one feed: by turns, since the thread that takes its items is the one that hands them.
+#[derive(Drop)]
+pub struct Connection<'h, N: Wait> {
+    rt: &'h N,
+    alloc: Global,
+    hub: &'h Hub,
+    routes: &'h Routes,
+    /// What was asked for last and is sent item by item, until its end was handed.
+    sent: Option<Sent>,
+}
+
+impl<'h, N: Wait> Model for Connection<'h, N> {
+    ghost use Rattle.std.specs.Prelude.{Option};
+    ghost use Rattle.hub_service.specs.declared.sent.Sent.{Sent};
+
+    ghost Value = { Option Sent };
+
+    ghost view = { λ a. a.sent };
+}
+
+impl<'h, N: Wait> Connection<'h, N> {
+    /// A connection that sends nothing. The table of routes may serve every connection.
+    pub fn new(rt: &'h N, alloc: Global, hub: &'h Hub, routes: &'h Routes) -> Connection<'h, N>
+        ensures { result ≡ None }
+    {
+        Connection {
+            rt,
+            alloc,
+            hub,
+            routes,
+            sent: None,
+        }
+    }
+
+    // Makes a database. The answer is made first, so that nothing is made that is not answered.
+    fn create(&self, name: &str) -> Result<Response, Refusal>
+        ensures { AtName name.now IsMade result }
+    {
+        if !is_name(name) {
+            return Err(Refusal::BadName);
+        }
+        let body = Vec::from_slice(self.alloc, ok_body())?;
+        match self.hub.create(self.rt, name) {
+            Ok(()) => Ok(Response::Body(StatusCode::CREATED, body)),
+            Err(fault) => Err(unnamed(fault)),
+        }
+    }
+
+    // Removes a database. The answer is made first.
+    fn remove(&self, name: &str) -> Result<Response, Refusal>
+        ensures { AtName name.now IsRemoved result }
+    {
+        if !is_name(name) {
+            return Err(Refusal::BadName);
+        }
+        let body = Vec::from_slice(self.alloc, ok_body())?;
+        match self.hub.remove(self.rt, name) {
+            Ok(()) => Ok(Response::Body(StatusCode::OK, body)),
+            Err(fault) => Err(unnamed(fault)),
+        }
+    }
+
+    // Lists the names of the databases.
+    fn list(&self) -> Result<Response, Refusal>
+        ensures { IsListed result }
+    {
+        let names = self.hub.list(self.rt)?;
+        ok(names_body(self.alloc, names.as_slice()))
+    }
+
+    // A call on the database of a name.
+    fn call(&self, name: &str, call: Call, body: &[u8]) -> Result<Response, Refusal>
+        ensures { AtName name.now (λ r. IsCalled call name.now body.now r) result }
+    {
+        match self.hub.find(self.rt, name) {
+            Ok(db) => answer(
+                &Target::new(self.rt, self.alloc, self.hub, &db),
+                name,
+                call,
+                body,
+            ),
+            Err(fault) => Err(unnamed(fault)),
+        }
+    }
+
+    // The answer to a request that goes there.
+    fn go(&self, route: Route, body: &[u8]) -> Result<Response, Refusal>
+        ensures { Responds body.now (Ok route) result }
+    {
+        match route {
+            Route::Welcome => ok(Vec::from_slice(self.alloc, welcome_body())),
+            Route::PutDatabase { db } => self.create(db.as_str()),
+            Route::DeleteDatabase { db } => self.remove(db.as_str()),
+            Route::AllDbs => self.list(),
+            Route::DbUpdates { query } => {
+                begin_updates(self.rt, self.alloc, self.hub, query.as_slice(), body)
+            }
+            Route::Database { db, call } => self.call(db.as_str(), call, body),
+        }
+    }
+
+    // The answer to a request.
+    fn respond(&self, request: &Request) -> Result<Response, Refusal>
+        ensures { (route : Result Route RouteFault) × GoesTo (asked_by request.now) route
+            × Responds (asked_by request.now).body route result }
+    {
+        match self.routes.route(self.alloc, request) {
+            Ok(route) => self.go(route, request.body.as_slice()),
+            Err(fault) => Err(Refusal::from(fault)),
+        }
+    }
+
+    // The response as it is sent: a feed is kept until its end was handed.
+    fn send(&mut self, response: Response) -> Answer
+        ensures { IsSent (Ok response) result self.old self.new }
+    {
+        match response {
+            Response::Body(status, body) => Answer::Whole(Reply::Done { status, body }),
+            Response::Stream(mode, sent) => {
+                self.sent = Some(sent);
+                Answer::Stream(mode)
+            }
+        }
+    }
+}
+
+impl<'h, N: Wait> Service for Connection<'h, N> {
+    ghost answer_gives = { Answers };
+
+    ghost item_gives = { Gives };
+
+    ghost drop_gives = { Drops };
+
+    fn answer(&mut self, request: &Request) -> Answer {
+        match self.respond(request) {
+            Ok(response) => self.send(response),
+            Err(refusal) => Answer::Whole(Reply::Refused(refusal)),
+        }
+    }
+
+    fn is_ready(&self) -> bool {
+        true
+    }
+
+    fn item(&mut self) -> Option<StreamItem> {
+        let sent = self.sent.take()?;
+        let (item, left) = next(self.rt, sent);
+        self.sent = left;
+        item
+    }
+
+    fn drop_stream(&mut self) {
+        if let Some(sent) = self.sent.take() {
+            sent.finish(self.rt);
+        }
+    }
+}

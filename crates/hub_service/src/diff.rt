@@ -1,0 +1,42 @@
+//! Missing revisions (CouchDB API reference, `POST /{db}/_revs_diff`).
+
+ghost use Rattle.std.specs.Prelude.{◌≡◌, ◌⊎◌, Err, IfErr, IfOk, Ok};
+ghost use Rattle.hub_model.specs.Missing.{diffs};
+ghost use Rattle.hub_service.specs.Calls.{asked_by, says_diffs};
+ghost use Rattle.hub_service.specs.Moments.{IsRead};
+
+use crate::response::{Response, ok};
+use crate::target::Target;
+use hub_document::{Asked, DocFault, read_value};
+use hub_http::Refusal;
+use hub_replies::diffs_body;
+use std::alloc::Global;
+use std::sync::Wait;
+
+// The revisions that a body asks for.
+fn read_asked(alloc: Global, body: &[u8]) -> Result<Vec<Asked>, DocFault>
+    ensures ok { IfOk result (λ v. asked_by body.now ≡ Ok v.items) }
+    ensures err { IfErr result (λ e. (e ≡ DocFault.NoMemory) ⊎ (asked_by body.now ≡ Err e)) }
+{
+    let value = read_value(alloc, body)?;
+    Asked::read_all(alloc, &value)
+}
+
+// Which of these revisions are missing.
+fn diff<N: Wait>(target: &Target<'_, N>, asked: Vec<Asked>) -> Result<Response, Refusal>
+    ensures { IsRead (λ db. says_diffs db.journal (Ok asked.items)) result }
+{
+    let found = target.missing(asked)?;
+    ok(diffs_body(target.alloc, found.as_slice()))
+}
+
+/// Which of the revisions that a body asks for are missing. It costs the body's length, the wait for
+/// the database, and what `DbState::revs_diff` does.
+pub(crate) fn revs_diff<N: Wait>(target: &Target<'_, N>, body: &[u8]) -> Result<Response, Refusal>
+    ensures { IsRead (λ db. says_diffs db.journal (asked_by body.now)) result }
+{
+    match read_asked(target.alloc, body) {
+        Ok(asked) => diff(target, asked),
+        Err(fault) => Err(Refusal::from(fault)),
+    }
+}

@@ -1,0 +1,234 @@
+//! Documents by their ids (CouchDB API reference, `/{db}/{docid}`).
+
+ghost use Rattle.std.specs.Prelude.{◌≡◌, ◌⊎◌, ◌∷◌, [], Err, IfErr, IfOk, Ok, string_bytes};
+ghost use Rattle.hub_document.specs.Ids.{short_id};
+ghost use Rattle.hub_document.specs.Put.{put_in};
+ghost use Rattle.hub_params.specs.DocParams.{doc_asked};
+ghost use Rattle.hub_database.specs.Reads.{lookup};
+ghost use Rattle.hub_service.specs.Calls.{edits, gets_doc, gets_revs, is_all, puts_doc, says_edit, says_found, says_revs, winner_in};
+ghost use Rattle.hub_service.specs.Deletions.{DeletesLeaf, IsDeletion, refuses_unnamed};
+ghost use Rattle.hub_service.specs.Moments.{IsRead, IsWritten};
+ghost use Rattle.hub_service.specs.Said.{IsSaid, Refusing};
+
+use crate::refusal::unnoted;
+use crate::response::{Response, ok};
+use crate::target::Target;
+use http::StatusCode;
+use hub_database::{Lookup, OpenRev};
+use hub_document::{Body, Doc, DocFault, DocId, OpenRevs, RevId};
+use hub_http::Refusal;
+use hub_model::Outcome;
+use hub_params::DocParams;
+use hub_replies::{doc_body, edit_body, open_revs_body};
+use hub_revtree::Winner;
+use std::alloc::{AllocError, Global};
+use std::sync::Wait;
+
+// The answer to a document that was asked for.
+fn say_found(alloc: Global, found: &Lookup) -> Result<Response, Refusal>
+    ensures { IsSaid (says_found found.now) result }
+{
+    match found {
+        Lookup::Unknown => Err(Refusal::Missing),
+        Lookup::Deleted => Err(Refusal::DocDeleted),
+        Lookup::Found(doc) => ok(doc_body(alloc, doc)),
+    }
+}
+
+// Whether all leaves are asked for.
+fn is_all(which: &OpenRevs) -> bool
+    ensures { result ≡ is_all which.now }
+{
+    matches!(which, OpenRevs::All)
+}
+
+// The answer to revisions that were asked for, to all leaves or some.
+fn say_revs(alloc: Global, all: bool, revs: &[OpenRev]) -> Result<Response, Refusal>
+    ensures { IsSaid (says_revs all revs.now) result }
+{
+    match (all, revs) {
+        (true, []) => Err(Refusal::Missing),
+        _ => ok(open_revs_body(alloc, revs)),
+    }
+}
+
+// The revisions of a document that a value of `open_revs` asks for.
+fn get_revs<N: Wait>(
+    target: &Target<'_, N>,
+    id: String,
+    revs: bool,
+    asked: Option<OpenRevs>,
+) -> Result<Response, Refusal>
+    ensures { IsRead (λ db. gets_revs db.journal (string_bytes id) revs asked) result }
+{
+    let Some(which) = asked else {
+        return Err(Refusal::BadRev);
+    };
+    let all = is_all(&which);
+    let found = target.revisions(id, which, revs)?;
+    say_revs(target.alloc, all, found.as_slice())
+}
+
+// A document.
+fn get_found<N: Wait>(target: &Target<'_, N>, id: String, revs: bool) -> Result<Response, Refusal>
+    ensures { IsRead (λ db. says_found (lookup db.journal (string_bytes id) revs)) result }
+{
+    let found = target.found(id, revs)?;
+    say_found(target.alloc, &found)
+}
+
+/// A document, or those of its revisions that `open_revs` asks for. It costs the wait for the
+/// database, what `DbState::get` or `DbState::open_revs` does, and the length of the answer.
+pub(crate) fn get<N: Wait>(
+    target: &Target<'_, N>,
+    id: String,
+    query: &[u8],
+) -> Result<Response, Refusal>
+    ensures { IsRead (λ db. gets_doc db.journal (string_bytes id) (doc_asked query.now)) result }
+{
+    let DocParams {
+        rev,
+        open_revs,
+        revs,
+        ..
+    } = DocParams::read(target.alloc, query)?;
+    if let Some(text) = open_revs {
+        let asked = OpenRevs::read(target.alloc, text.as_str())?;
+        return get_revs(target, id, revs, asked);
+    }
+    if rev.is_some() {
+        return Err(Refusal::BadRev);
+    }
+    get_found(target, id, revs)
+}
+
+// What came of storing an edit of this id, with this status where it was stored.
+fn say_edit(
+    alloc: Global,
+    status: StatusCode,
+    id: &str,
+    outcome: &Outcome<RevId>,
+) -> Result<Response, Refusal>
+    ensures { IsSaid (says_edit status id.now outcome.now) result }
+{
+    match outcome {
+        Outcome::Stored(rev) => Ok(Response::Body(status, edit_body(alloc, id, rev)?)),
+        Outcome::Known => Err(Refusal::Conflict),
+        Outcome::Refused(fault) => Err(Refusal::from(*fault)),
+    }
+}
+
+// A list of one document.
+fn listed(alloc: Global, doc: Doc) -> Result<Vec<Doc>, AllocError>
+    ensures { IfOk result (λ docs. docs.items ≡ doc ∷ []) }
+{
+    Ok(vec![in alloc; doc]?)
+}
+
+// Stores an edit whose revision is made here, and says so with this status.
+fn edit<N: Wait>(target: &Target<'_, N>, status: StatusCode, doc: Doc) -> Result<Response, Refusal>
+    ensures { IsWritten (λ db. edits status db doc) result }
+{
+    let id = doc.id.copy(target.alloc)?;
+    let written = target.write(listed(target.alloc, doc)?, true)?;
+    if let Some(fault) = written.lapsed {
+        return Err(unnoted(fault));
+    }
+    match written.accepted.replies.as_slice() {
+        [outcome, ..] => say_edit(target.alloc, status, id.as_str(), outcome),
+        [] => Err(Refusal::NoMemory),
+    }
+}
+
+// The document that a body is, which a query may name a leaf of.
+fn read_put(alloc: Global, id: &str, query: &[u8], body: &[u8]) -> Result<Doc, DocFault>
+    ensures ok { IfOk result (λ doc.
+        put_in id.now (doc_asked query.now).rev (doc_asked query.now).new_edits body.now ≡ Ok doc) }
+    ensures err { IfErr result (λ e. (e ≡ DocFault.NoMemory)
+        ⊎ (put_in id.now (doc_asked query.now).rev (doc_asked query.now).new_edits body.now ≡ Err e)) }
+{
+    let params = DocParams::read(alloc, query)?;
+    let rev = params.rev.as_deref();
+    Doc::read_put(alloc, id, rev, params.new_edits, body)
+}
+
+/// Puts a document: an edit of the leaf that the query or the body names. It costs the body's length,
+/// and what `Hub::write` does. Where memory is missing for the answer the edit stands.
+pub(crate) fn put<N: Wait>(
+    target: &Target<'_, N>,
+    id: &str,
+    query: &[u8],
+    body: &[u8],
+) -> Result<Response, Refusal>
+    ensures { IsWritten (λ db. puts_doc db
+        (put_in id.now (doc_asked query.now).rev (doc_asked query.now).new_edits body.now)) result }
+{
+    match read_put(target.alloc, id, query, body) {
+        Ok(doc) => edit(target, StatusCode::CREATED, doc),
+        Err(fault) => Err(Refusal::from(fault)),
+    }
+}
+
+// Why a document of which no leaf is named is not deleted.
+fn refuse_unnamed(winner: Option<Winner>) -> Refusal
+    ensures { result ≡ refuses_unnamed winner }
+{
+    match winner {
+        None => Refusal::Missing,
+        Some(winner) => {
+            if winner.deleted {
+                Refusal::DocDeleted
+            } else {
+                Refusal::Conflict
+            }
+        }
+    }
+}
+
+// Refuses to delete a document of which no leaf is named.
+fn delete_unnamed<N: Wait>(target: &Target<'_, N>, id: String) -> Result<Response, Refusal>
+    ensures { IsRead (λ db. Refusing (refuses_unnamed (winner_in db (string_bytes id)))) result }
+{
+    let winner = target.winner(id)?;
+    Err(refuse_unnamed(winner))
+}
+
+// Deletes the leaf of this revision.
+fn delete_leaf<N: Wait>(target: &Target<'_, N>, id: String, rev: RevId) -> Result<Response, Refusal>
+    ensures { DeletesLeaf (string_bytes id) (short_id (string_bytes id)) rev result }
+{
+    let Some(known) = DocId::read(target.alloc, id.as_str())? else {
+        return Err(Refusal::Missing);
+    };
+    let Some(_) = target.winner(id)? else {
+        return Err(Refusal::Missing);
+    };
+    let body = Body::empty(target.alloc)?;
+    let doc = Doc {
+        id: known,
+        rev: Some(rev),
+        path: None,
+        deleted: true,
+        body,
+    };
+    edit(target, StatusCode::OK, doc)
+}
+
+/// Deletes a document: an edit of the leaf that the query names. It costs a look for the document, and
+/// what `Hub::write` does. Where memory is missing for the answer the edit stands.
+pub(crate) fn delete<N: Wait>(
+    target: &Target<'_, N>,
+    id: String,
+    query: &[u8],
+) -> Result<Response, Refusal>
+    ensures { IsDeletion (string_bytes id) (doc_asked query.now).rev result }
+{
+    let DocParams { rev, .. } = DocParams::read(target.alloc, query)?;
+    let Some(text) = rev else {
+        return delete_unnamed(target, id);
+    };
+    match RevId::read(text.as_str()) {
+        Some(rev) => delete_leaf(target, id, rev),
+        None => Err(Refusal::BadRev),
+    }
+}

@@ -1,0 +1,458 @@
+//! The hub over bytes: feeds of changes.
+
+use crate::connection::Connection;
+use crate::session_tests::Answer::{Bad, Created, Feed, Found, Head};
+use crate::session_tests::Ask::{Batch, Body, Line};
+use crate::session_tests::{
+    Exchange, MAKE, STORED, answers, asks, assert_answered, assert_session,
+};
+use hub_databases::Hub;
+use hub_document::Limits;
+use hub_http::{Output, Requests, Tally};
+use hub_routes::Routes;
+use hub_session::{Closing, serve};
+use std::alloc::{AllocError, Global};
+use std::io;
+use std::io::Write;
+use std::process::Abort;
+use std::sync::Wait;
+use std::test::Fail;
+
+/// Limits within which one feed may be open.
+fn one_feed() -> Limits {
+    let mut limits = Limits::full();
+    limits.feeds = 1;
+    limits
+}
+
+/// Asserts that a session with one feed at a time has these exchanges.
+fn assert_feeds<N: Abort + Wait>(
+    rt: &N,
+    alloc: Global,
+    exchanges: &[Exchange],
+) -> Result<(), Fail> {
+    assert_session(rt, alloc, exchanges, one_feed(), Closing::Finished)
+}
+
+// Rows, by their document and their sequence.
+
+const A1: &str = r#"{"seq":1,"id":"a","changes":[{"rev":"1-a"}]}"#;
+
+const B2: &str = r#"{"seq":2,"id":"b","changes":[{"rev":"1-b"}]}"#;
+
+const A3: &str = r#"{"seq":3,"id":"a","changes":[{"rev":"2-c"}]}"#;
+
+const C3: &str = r#"{"seq":3,"id":"c","changes":[{"rev":"1-c"}]}"#;
+
+const V4: &str = r#"{"seq":4,"id":"_design/v","changes":[{"rev":"1-v"}]}"#;
+
+const A5: &str = r#"{"seq":5,"id":"a","changes":[{"rev":"3-e"}]}"#;
+
+const SINCE: &[Exchange] = &[
+    MAKE,
+    (
+        Batch(&[
+            r#"{"_id":"a","_rev":"1-a"}"#,
+            r#"{"_id":"b","_rev":"1-b"}"#,
+            r#"{"_id":"a","_revisions":{"start":2,"ids":["c","a"]}}"#,
+        ]),
+        STORED,
+    ),
+    (Body("GET /d/_changes", ""), Feed(&[B2, A3], 3, 0)),
+    (Body("GET /d/_changes?since=2", ""), Feed(&[A3], 3, 0)),
+    (Body("GET /d/_changes?since=3", ""), Feed(&[], 3, 0)),
+    (Body("GET /d/_changes?since=99", ""), Feed(&[], 3, 0)),
+    (Body("GET /d/_changes?since=now", ""), Feed(&[], 3, 0)),
+    (
+        Body("POST /d/_changes?since=1", "{}"),
+        Feed(&[B2, A3], 3, 0),
+    ),
+];
+
+/// A feed begins above `since`, and never above the update sequence.
+#[test]
+fn feeds_begin_above_since(rt: HostRuntime) -> Result<(), Fail> {
+    assert_feeds(&rt, rt.alloc(), SINCE)
+}
+
+const WINNER: &str = r#"{"seq":3,"id":"x","changes":[{"rev":"2-a"}]}"#;
+
+const LEAVES: &str = r#"{"seq":3,"id":"x","changes":[{"rev":"2-a"},{"rev":"1-z"},{"rev":"2-b"}]}"#;
+
+const STYLES: &[Exchange] = &[
+    MAKE,
+    (
+        Batch(&[
+            r#"{"_id":"x","_deleted":true,"_revisions":{"start":2,"ids":["b","q"]}}"#,
+            r#"{"_id":"x","_revisions":{"start":2,"ids":["a","q"]}}"#,
+            r#"{"_id":"x","_rev":"1-z"}"#,
+        ]),
+        STORED,
+    ),
+    (
+        Body("GET /d/_changes?style=main_only", ""),
+        Feed(&[WINNER], 3, 0),
+    ),
+    (
+        Body("GET /d/_changes?style=all_docs", ""),
+        Feed(&[LEAVES], 3, 0),
+    ),
+    (
+        Body("GET /d/_changes?style=all_docs&descending=true", ""),
+        Feed(&[LEAVES], 3, 0),
+    ),
+];
+
+/// A row lists the winner, or every leaf, best first.
+#[test]
+fn rows_by_style(rt: HostRuntime) -> Result<(), Fail> {
+    assert_feeds(&rt, rt.alloc(), STYLES)
+}
+
+const FILTERS: &[Exchange] = &[
+    MAKE,
+    (
+        Batch(&[
+            r#"{"_id":"a","_rev":"1-a"}"#,
+            r#"{"_id":"b","_rev":"1-b"}"#,
+            r#"{"_id":"c","_rev":"1-c"}"#,
+            r#"{"_id":"_design/v","_rev":"1-v"}"#,
+        ]),
+        STORED,
+    ),
+    (
+        Body(
+            "GET /d/_changes?filter=_doc_ids&doc_ids=%5B%22c%22,%22b%22%5D&limit=1",
+            "",
+        ),
+        Feed(&[B2], 2, 2),
+    ),
+    (
+        Body(
+            "GET /d/_changes?filter=_doc_ids&doc_ids=%5B%22c%22,%22b%22%5D&limit=0",
+            "",
+        ),
+        Feed(&[B2], 2, 2),
+    ),
+    (
+        Body(
+            "POST /d/_changes?filter=_doc_ids&limit=1",
+            r#"{"doc_ids":["c","b"]}"#,
+        ),
+        Feed(&[B2], 2, 2),
+    ),
+    (
+        Body(
+            "POST /d/_changes?filter=_doc_ids",
+            r#"{"doc_ids":["c","b","c"]}"#,
+        ),
+        Feed(&[B2, C3], 4, 0),
+    ),
+    (
+        Body("GET /d/_changes?filter=_design", ""),
+        Feed(&[V4], 4, 0),
+    ),
+    (Body("GET /d/_changes?limit=2", ""), Feed(&[A1, B2], 2, 2)),
+    (
+        Body("GET /d/_changes?limit=0&since=0&style=all_docs&x=1", ""),
+        Feed(&[A1], 1, 3),
+    ),
+    (
+        Body("GET /d/_changes?limit=5", ""),
+        Feed(&[A1, B2, C3, V4], 4, 0),
+    ),
+    (
+        Body("GET /d/_changes?filter=_design&descending=true", ""),
+        Feed(&[V4], 4, 3),
+    ),
+];
+
+/// The limit counts the rows that pass the filter, 0 acts as 1, and the rows above the last one that
+/// is shown are pending.
+#[test]
+fn filters_and_limits(rt: HostRuntime) -> Result<(), Fail> {
+    assert_feeds(&rt, rt.alloc(), FILTERS)
+}
+
+const DESCENDING: &[Exchange] = &[
+    MAKE,
+    (
+        Batch(&[
+            r#"{"_id":"a","_rev":"1-a"}"#,
+            r#"{"_id":"b","_rev":"1-b"}"#,
+            r#"{"_id":"c","_rev":"1-c"}"#,
+            r#"{"_id":"a","_revisions":{"start":2,"ids":["d","a"]}}"#,
+            r#"{"_id":"a","_revisions":{"start":3,"ids":["e","d","a"]}}"#,
+        ]),
+        STORED,
+    ),
+    (
+        Body("GET /d/_changes?descending=true&since=2", ""),
+        Feed(&[A5, C3], 3, 0),
+    ),
+    (
+        Body("GET /d/_changes?descending=true", ""),
+        Feed(&[A5, C3, B2], 2, 0),
+    ),
+    (
+        Body("GET /d/_changes?descending=true&limit=1", ""),
+        Feed(&[A5], 5, 2),
+    ),
+    (
+        Body("GET /d/_changes?descending=true&since=9", ""),
+        Feed(&[], 5, 0),
+    ),
+    (
+        Body("GET /d/_changes?descending=false&limit=1", ""),
+        Feed(&[B2], 2, 2),
+    ),
+];
+
+/// A feed that goes downwards shows the newest first, and ends at the lowest row shown.
+#[test]
+fn descending_feeds(rt: HostRuntime) -> Result<(), Fail> {
+    assert_feeds(&rt, rt.alloc(), DESCENDING)
+}
+
+const DELETED_B2: &str = r#"{"seq":2,"id":"b","changes":[{"rev":"1-b"}],"deleted":true}"#;
+
+const A1_WITH_DOCUMENT: &str = concat!(
+    r#"{"seq":1,"id":"a","changes":[{"rev":"1-a"}],"#,
+    r#""doc":{"_id":"a","_rev":"1-a","k":[true],"v":7}}"#
+);
+
+const DELETED_B2_WITH_DOCUMENT: &str = concat!(
+    r#"{"seq":2,"id":"b","changes":[{"rev":"1-b"}],"deleted":true,"#,
+    r#""doc":{"_id":"b","_rev":"1-b","_deleted":true}}"#
+);
+
+const DOCUMENTS: &[Exchange] = &[
+    MAKE,
+    (
+        Batch(&[
+            r#"{"_id":"a","_rev":"1-a","v":7,"k":[true]}"#,
+            r#"{"_id":"b","_rev":"1-b","_deleted":true}"#,
+        ]),
+        STORED,
+    ),
+    (
+        Body("GET /d/_changes?include_docs=true", ""),
+        Feed(&[A1_WITH_DOCUMENT, DELETED_B2_WITH_DOCUMENT], 2, 0),
+    ),
+    (
+        Body("GET /d/_changes?include_docs=false", ""),
+        Feed(&[A1, DELETED_B2], 2, 0),
+    ),
+    (
+        Body("GET /d/_changes?include_docs=true&style=all_docs", ""),
+        Feed(&[A1_WITH_DOCUMENT, DELETED_B2_WITH_DOCUMENT], 2, 0),
+    ),
+    (
+        Body("GET /d/_changes?include_docs=true&descending=true", ""),
+        Feed(&[DELETED_B2_WITH_DOCUMENT, A1_WITH_DOCUMENT], 1, 0),
+    ),
+];
+
+/// With `include_docs` a row brings the winner's document, also a deleted one's.
+#[test]
+fn rows_bring_documents(rt: HostRuntime) -> Result<(), Fail> {
+    assert_feeds(&rt, rt.alloc(), DOCUMENTS)
+}
+
+const PUT: &[Exchange] = &[
+    MAKE,
+    (
+        Body("PUT /d/a", r#"{"v":7}"#),
+        Created(r#"{"ok":true,"id":"a","rev":"1-91e3da135d1d0593e6703385cf55957a"}"#),
+    ),
+    (
+        Line("GET /d/_changes?include_docs=true"),
+        Feed(
+            &[concat!(
+                r#"{"seq":1,"id":"a","changes":[{"rev":"1-91e3da135d1d0593e6703385cf55957a"}],"#,
+                r#""doc":{"_id":"a","_rev":"1-91e3da135d1d0593e6703385cf55957a","v":7}}"#
+            )],
+            1,
+            0,
+        ),
+    ),
+    (
+        Line("GET /d/a"),
+        Found(r#"{"_id":"a","_rev":"1-91e3da135d1d0593e6703385cf55957a","v":7}"#),
+    ),
+];
+
+/// A document that was put is shown with the revision that was made for it, and got so.
+#[test]
+fn a_put_document_is_shown(rt: HostRuntime) -> Result<(), Fail> {
+    assert_answered(&rt, rt.alloc(), PUT)
+}
+
+const REFUSALS: &[Exchange] = &[
+    MAKE,
+    (
+        Body("GET /d/_changes?since=x&limit=x", ""),
+        Bad("bad since"),
+    ),
+    (
+        Body("GET /d/_changes?since=18446744073709551616", ""),
+        Bad("bad since"),
+    ),
+    (
+        Body("GET /d/_changes?limit=-1&style=x", ""),
+        Bad("bad limit"),
+    ),
+    (Body("GET /d/_changes?style=x&feed=x", ""), Bad("bad style")),
+    (Body("GET /d/_changes?feed=x&filter=x", ""), Bad("bad feed")),
+    (
+        Body("GET /d/_changes?filter=x&heartbeat=x", ""),
+        Bad("bad filter"),
+    ),
+    (
+        Body("GET /d/_changes?filter=_doc_ids", ""),
+        Bad("bad doc_ids"),
+    ),
+    (
+        Body("POST /d/_changes?filter=_doc_ids", "[]"),
+        Bad("bad doc_ids"),
+    ),
+    (
+        Body("GET /d/_changes?heartbeat=0&descending=x", ""),
+        Bad("bad heartbeat"),
+    ),
+    (
+        Body("GET /d/_changes?descending=true&feed=continuous", ""),
+        Bad("descending needs feed=normal"),
+    ),
+    (Body("GET /d/_changes?descending=x", ""), Bad("bad flag")),
+    (Body("GET /d/_changes?include_docs=1", ""), Bad("bad flag")),
+];
+
+/// Each fault of a query or a body has its refusal, the first of them.
+#[test]
+fn refused_feeds(rt: HostRuntime) -> Result<(), Fail> {
+    assert_answered(&rt, rt.alloc(), REFUSALS)
+}
+
+const HEADS: &[Exchange] = &[
+    MAKE,
+    (Batch(&[]), STORED),
+    (
+        Body("HEAD /d/_changes", ""),
+        Head("405 Method Not Allowed", 61),
+    ),
+    (
+        Body("HEAD /d/_changes?descending=true", ""),
+        Head("405 Method Not Allowed", 61),
+    ),
+    (
+        Body("HEAD /d/_changes", ""),
+        Head("405 Method Not Allowed", 61),
+    ),
+    (Body("GET /d/_changes", ""), Feed(&[], 0, 0)),
+];
+
+/// HEAD is no method of a feed, and holds none open: with one feed at a time the next is shown.
+#[test]
+fn heads_of_feeds(rt: HostRuntime) -> Result<(), Fail> {
+    assert_feeds(&rt, rt.alloc(), HEADS)
+}
+
+/// Takes so many bytes, and then none.
+#[derive(Drop)]
+struct Narrow {
+    room: usize,
+}
+
+impl Write for Narrow {
+    fn write(&mut self, buf: &[u8]) -> io::Result<usize> {
+        let n = buf.len().min(self.room);
+        self.room -= n;
+        Ok(n)
+    }
+
+    fn flush(&mut self) -> io::Result<()> {
+        Ok(())
+    }
+}
+
+/// Why a session over these bytes closes that writes here.
+fn closing<N: Wait, W: Output>(
+    alloc: Global,
+    connection: &mut Connection<'_, N>,
+    input: &[u8],
+    writer: &mut W,
+) -> Closing {
+    let mut requests = Requests::new(alloc, Tally::new(input));
+    serve(alloc, &mut requests, writer, connection)
+}
+
+/// Why a session over these bytes closes whose writer has so much room.
+fn closed<N: Wait>(
+    alloc: Global,
+    connection: &mut Connection<'_, N>,
+    input: &[u8],
+    room: usize,
+) -> Closing {
+    let mut writer = Tally::new(Narrow { room });
+    closing(alloc, connection, input, &mut writer)
+}
+
+/// Whether each of these sessions breaks whose writer has less room than this.
+fn breaks<N: Wait>(
+    alloc: Global,
+    connection: &mut Connection<'_, N>,
+    input: &[u8],
+    len: usize,
+) -> bool {
+    for room in 0..len {
+        if closed(alloc, connection, input, room) != Closing::Broken {
+            return false;
+        }
+    }
+    true
+}
+
+/// Whether these bytes are answered so.
+fn is_shown<N: Wait>(
+    alloc: Global,
+    connection: &mut Connection<'_, N>,
+    input: &[u8],
+    expected: &[u8],
+) -> bool {
+    let mut writer = Tally::new(Vec::new(alloc));
+    let _closing = closing(alloc, connection, input, &mut writer);
+    writer.into_inner().as_slice() == expected
+}
+
+const MAKING: &[Exchange] = &[MAKE];
+
+const ONE_FEED: &[Exchange] = &[(Line("GET /d/_changes"), Feed(&[], 0, 0))];
+
+/// Whether the database is made, a feed breaks wherever its writing ends, and the next is shown.
+fn is_shown_after_breaks<N: Wait>(
+    alloc: Global,
+    connection: &mut Connection<'_, N>,
+) -> Result<bool, AllocError> {
+    let make = asks(alloc, MAKING)?;
+    let asked = asks(alloc, ONE_FEED)?;
+    let shown = answers(alloc, ONE_FEED)?;
+    let made = closed(alloc, connection, make.as_bytes(), 1000);
+    Ok(
+        made == Closing::Finished
+            && breaks(alloc, connection, asked.as_bytes(), shown.len())
+            && is_shown(alloc, connection, asked.as_bytes(), shown.as_bytes()),
+    )
+}
+
+/// Wherever the writing of a feed breaks, it is not held open: with one feed at a time the next is
+/// shown.
+#[test]
+fn broken_feeds(rt: HostRuntime) -> Result<(), Fail> {
+    let hub = Hub::new(rt.alloc(), one_feed())?;
+    let routes = Routes::new(rt.alloc())?;
+    let mut connection = Connection::new(&rt, rt.alloc(), &hub, &routes);
+    let shown = is_shown_after_breaks(rt.alloc(), &mut connection)?;
+    assert!(rt; shown);
+    Ok(())
+}

@@ -1,0 +1,77 @@
+//! Feeds of a database, and of the log of updates (CouchDB API reference, `/{db}/_changes` and
+//! `/_db_updates`).
+
+ghost use Rattle.std.specs.Prelude.{◌≡◌, Ok};
+ghost use Rattle.hub_params.specs.FeedParams.{feed_asked};
+ghost use Rattle.hub_params.specs.FeedShown.{params_asked};
+ghost use Rattle.hub_service.specs.Feeds.{Begins, BeginsUpdates};
+
+use crate::refusal::{unopened, unread};
+use crate::response::Response;
+use crate::sent::{Listed, Sent};
+use crate::target::Target;
+use hub_databases::Hub;
+use hub_http::Refusal;
+use hub_model::Mode;
+use hub_params::FeedParams;
+use std::alloc::Global;
+use std::sync::Wait;
+
+// Begins what parameters ask of a database.
+fn begin_asked<N: Wait>(target: &Target<'_, N>, params: FeedParams) -> Result<Response, Refusal>
+    ensures { Begins (Ok (params_asked params)) result }
+{
+    if params.descending {
+        let answer = target.descending(params)?;
+        let sent = Sent::Listed(Listed::new(answer));
+        return Ok(Response::Stream(Mode::Normal, sent));
+    }
+    let mode = params.mode;
+    match target.open_feed(params) {
+        Ok(feed) => Ok(Response::Stream(mode, Sent::Changes(feed))),
+        Err(fault) => Err(unopened(fault)),
+    }
+}
+
+/// Begins the feed of a database that a query and a body ask for. It costs the reading of both, and the
+/// wait for the database; an answer that goes downwards is made at once.
+pub(crate) fn begin<N: Wait>(
+    target: &Target<'_, N>,
+    query: &[u8],
+    body: &[u8],
+) -> Result<Response, Refusal>
+    ensures { Begins (feed_asked query.now body.now) result }
+{
+    match FeedParams::read(target.alloc, query, body) {
+        Ok(params) => begin_asked(target, params),
+        Err(fault) => Err(unread(fault)),
+    }
+}
+
+// Begins what parameters ask of the log of updates.
+fn begin_asked_updates<N: Wait>(rt: &N, hub: &Hub, params: FeedParams) -> Result<Response, Refusal>
+    ensures { BeginsUpdates (Ok (params_asked params)) result }
+{
+    let mode = params.mode;
+    match hub.updates(rt, params) {
+        Ok(feed) => Ok(Response::Stream(mode, Sent::Updates(feed))),
+        Err(fault) => Err(unopened(fault)),
+    }
+}
+
+/// Begins the feed of the log of updates that a query and a body ask for. It costs the reading of both,
+/// and the wait for the log.
+pub(crate) fn begin_updates<N: Wait>(
+    rt: &N,
+    alloc: Global,
+    hub: &Hub,
+    query: &[u8],
+    body: &[u8],
+) -> Result<Response, Refusal>
+    ensures { BeginsUpdates (feed_asked query.now body.now) result }
+{
+    match FeedParams::read(alloc, query, body) {
+        Ok(params) => begin_asked_updates(rt, hub, params),
+        Err(fault) => Err(unread(fault)),
+    }
+}

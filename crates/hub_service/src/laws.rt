@@ -1,0 +1,15 @@
+//! What the streams of a connection show.
+
+ghost use Rattle.hub_service.specs.Laws.{CompleteChangesAreRight, CompleteListIsWhole, CompleteUpdatesAreRight, StreamsOfChangesAreRight, StreamsOfUpdatesAreRight};
+
+/// What a connection sends of a feed is the front of a list that is rightly handed for what was asked;
+/// to its end it is the whole of one: rows that rise, each its document's current row at its step, each
+/// passing the filter, none left out between where the feed began and where it ends. An answer that goes
+/// downwards is sent with its rows and its end.
+pub fn streams_are_right()
+    ensures changes { StreamsOfChangesAreRight }
+    ensures all_changes { CompleteChangesAreRight }
+    ensures updates { StreamsOfUpdatesAreRight }
+    ensures all_updates { CompleteUpdatesAreRight }
+    ensures listed { CompleteListIsWhole }
+{}

@@ -1,0 +1,36 @@
+//! The HTTP API over the databases of a hub: what a connection answers to requests, and the items of the feeds
+//! that it sends.
+#![tactic(auto)]
+
+mod bulk;
+mod connection;
+mod database;
+#[cfg(test)]
+mod database_tests;
+mod diff;
+#[cfg(test)]
+mod document_tests;
+mod documents;
+#[cfg(test)]
+mod feed_tests;
+mod feeds;
+#[cfg(test)]
+mod hub_tests;
+mod laws;
+mod locals;
+mod next;
+mod refusal;
+mod response;
+mod sent;
+#[cfg(test)]
+mod session_tests;
+mod stream;
+mod target;
+#[cfg(test)]
+mod tests;
+#[cfg(test)]
+mod wire_tests;
+
+pub use connection::Connection;
+pub use laws::streams_are_right;
+pub use stream::answer_stream;

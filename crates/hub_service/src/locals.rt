@@ -1,0 +1,63 @@
+//! Local documents by their ids (CouchDB API reference, `/{db}/_local/{docid}`).
+
+ghost use Rattle.std.specs.Prelude.{◌≡◌, option_map, string_bytes};
+ghost use Rattle.hub_database.specs.Locals.{local_of, written};
+ghost use Rattle.hub_document.specs.Local.{local_in};
+ghost use Rattle.hub_threads.specs.Answers.{local_named};
+ghost use Rattle.hub_service.specs.Calls.{keeps, puts_local, says_local};
+ghost use Rattle.hub_service.specs.Moments.{IsRead};
+ghost use Rattle.hub_service.specs.Said.{IsSaid};
+
+use crate::response::{Response, created, ok};
+use crate::target::Target;
+use hub_database::Local;
+use hub_document::LocalDoc;
+use hub_http::Refusal;
+use hub_replies::{local_doc_body, local_edit_body};
+use std::alloc::Global;
+use std::sync::Wait;
+
+// The answer to a local document that was asked for by its id.
+fn say_local(alloc: Global, id: &str, found: &Option<Local>) -> Result<Response, Refusal>
+    ensures { IsSaid (says_local (option_map (local_named id.now) found.now)) result }
+{
+    match found {
+        Some(local) => ok(local_doc_body(alloc, id, local)),
+        None => Err(Refusal::Missing),
+    }
+}
+
+/// A local document. It costs the wait for the database, a look in the map of local documents, and the
+/// length of the answer.
+pub(crate) fn get<N: Wait>(target: &Target<'_, N>, id: String) -> Result<Response, Refusal>
+    ensures { IsRead (λ db. says_local (local_of db.locals (string_bytes id))) result }
+{
+    let asked = id.as_str().to_string(target.alloc)?;
+    let found = target.local(asked)?;
+    say_local(target.alloc, id.as_str(), &found)
+}
+
+// Keeps a local document.
+fn keep<N: Wait>(target: &Target<'_, N>, doc: LocalDoc) -> Result<Response, Refusal>
+    ensures { IsRead (λ db. keeps (written db.locals doc)) result }
+{
+    let id = doc.id.as_str().to_string(target.alloc)?;
+    let count = target.local_put(doc)?;
+    created(local_edit_body(target.alloc, id.as_str(), count))
+}
+
+/// Keeps a local document in place of the one of its id. It costs the body's length, the wait for the
+/// database, and two looks in the map of local documents. Where memory is missing for the answer the
+/// document is kept.
+pub(crate) fn put<N: Wait>(
+    target: &Target<'_, N>,
+    id: &str,
+    body: &[u8],
+) -> Result<Response, Refusal>
+    ensures { IsRead (λ db. puts_local db (local_in id.now body.now)) result }
+{
+    match LocalDoc::read(target.alloc, id, body) {
+        Ok(doc) => keep(target, doc),
+        Err(fault) => Err(Refusal::from(fault)),
+    }
+}

@@ -1,0 +1,74 @@
+//! Why a call is refused.
+
+ghost use Rattle.std.specs.Prelude.{◌≡◌, ◌⊎◌};
+ghost use Rattle.hub_service.specs.Refusals.{of_db_fault, of_hub_fault, of_open_fault, of_param_fault};
+
+use hub_database::DbFault;
+use hub_databases::HubFault;
+use hub_feed::OpenFault;
+use hub_http::Refusal;
+use hub_params::ParamFault;
+use hub_updates::NoteFault;
+
+/// The refusal of a call on a database that failed.
+pub(crate) fn refusal_of(fault: DbFault) -> Refusal
+    ensures { result ≡ of_db_fault fault }
+{
+    match fault {
+        DbFault::NoMemory => Refusal::NoMemory,
+        DbFault::Refused(fault) => Refusal::from(fault),
+    }
+}
+
+/// The refusal of a write whose notice lapsed.
+pub(crate) fn unnoted(fault: NoteFault) -> Refusal
+    ensures { (result ≡ Refusal.NoMemory) ⊎ (result ≡ Refusal.SequenceFull) }
+{
+    match fault {
+        NoteFault::NoMemory => Refusal::NoMemory,
+        NoteFault::SequenceFull => Refusal::SequenceFull,
+    }
+}
+
+/// The refusal of a call on the names of a hub.
+pub(crate) fn unnamed(fault: HubFault) -> Refusal
+    ensures { result ≡ of_hub_fault fault }
+{
+    match fault {
+        HubFault::NoMemory => Refusal::NoMemory,
+        HubFault::BadName => Refusal::BadName,
+        HubFault::Exists => Refusal::Exists,
+        HubFault::Absent => Refusal::Absent,
+        HubFault::TooMany => Refusal::TooMany,
+        HubFault::SequenceFull => Refusal::SequenceFull,
+    }
+}
+
+/// The refusal of parameters that are none.
+pub(crate) fn unread(fault: ParamFault) -> Refusal
+    ensures { result ≡ of_param_fault fault }
+{
+    match fault {
+        ParamFault::NoMemory => Refusal::NoMemory,
+        ParamFault::BadSince => Refusal::BadSince,
+        ParamFault::BadLimit => Refusal::BadLimit,
+        ParamFault::BadStyle => Refusal::BadStyle,
+        ParamFault::BadFeed => Refusal::BadFeed,
+        ParamFault::BadFilter => Refusal::BadFilter,
+        ParamFault::BadDocIds => Refusal::BadDocIds,
+        ParamFault::BadHeartbeat => Refusal::BadHeartbeat,
+        ParamFault::DescendingMode => Refusal::DescendingMode,
+        ParamFault::BadFlag => Refusal::BadFlag,
+    }
+}
+
+/// The refusal of a feed that was not opened.
+pub(crate) fn unopened(fault: OpenFault) -> Refusal
+    ensures { result ≡ of_open_fault fault }
+{
+    match fault {
+        OpenFault::NoMemory => Refusal::NoMemory,
+        OpenFault::Deleted => Refusal::Deleted,
+        OpenFault::TooManyFeeds => Refusal::TooManyFeeds,
+    }
+}

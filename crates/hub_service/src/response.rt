@@ -1,0 +1,35 @@
+//! What a request is answered.
+
+ghost use Rattle.std.specs.Prelude.{◌≡◌, Err, IfOk, OnErr};
+ghost use Rattle.hub_service.specs.Said.{Body, IsSaid};
+
+use crate::sent::Sent;
+use http::StatusCode;
+use hub_http::Refusal;
+use hub_model::Mode;
+use std::alloc::AllocError;
+
+/// What a request is answered where nothing refuses it.
+#[derive(Drop)]
+pub(crate) enum Response {
+    /// A status, and a body.
+    Body(StatusCode, Vec<u8>),
+    /// A feed, in this mode.
+    Stream(Mode, Sent),
+}
+
+/// 200 with a body, unless that found no memory.
+pub(crate) fn ok(body: Result<Vec<u8>, AllocError>) -> Result<Response, Refusal>
+    ensures said { IfOk body (λ b. IsSaid (Body 200 b.items) result) }
+    ensures memory { OnErr body (result ≡ Err Refusal.NoMemory) }
+{
+    Ok(Response::Body(StatusCode::OK, body?))
+}
+
+/// 201 with a body, unless that found no memory.
+pub(crate) fn created(body: Result<Vec<u8>, AllocError>) -> Result<Response, Refusal>
+    ensures said { IfOk body (λ b. IsSaid (Body 201 b.items) result) }
+    ensures memory { OnErr body (result ≡ Err Refusal.NoMemory) }
+{
+    Ok(Response::Body(StatusCode::CREATED, body?))
+}

@@ -1,0 +1,91 @@
+//! What a connection is sending.
+
+ghost use Rattle.std.specs.Prelude.{◌≡◌};
+ghost use Rattle.hub_service.specs.Feeds.{next_listed};
+
+use hub_database::Descending;
+use hub_document::ChangeRow;
+use hub_model::Item;
+use hub_threads::{Feed, Plain, UpdatesFeed};
+use std::marker::Model;
+use std::sync::Wait;
+use std::vec::IntoIter;
+
+/// What is left of an answer that was made at once.
+#[derive(Drop)]
+pub(crate) struct Listed {
+    /// The rows that were not handed yet.
+    rows: IntoIter<ChangeRow>,
+    last_seq: u64,
+    pending: u64,
+}
+
+impl Model for Listed {
+    ghost use Rattle.std.specs.Vec.Iter.{into_iter_items};
+    ghost use Rattle.hub_model.specs.Descending.{Descending as Answer};
+
+    ghost Value = { Answer };
+
+    ghost view = { λ a. record { rows = into_iter_items a.rows; last_seq = a.last_seq; pending = a.pending } };
+}
+
+impl Listed {
+    /// An answer of which nothing was handed.
+    pub(crate) fn new(answer: Descending) -> Listed
+        ensures { result ≡ answer }
+    {
+        let Descending {
+            rows,
+            last_seq,
+            pending,
+        } = answer;
+        Listed {
+            rows: rows.into_iter(),
+            last_seq,
+            pending,
+        }
+    }
+
+    /// Its next item, and what is left behind it, which is nothing behind the end.
+    pub(crate) fn next(mut self) -> (Item<ChangeRow>, Option<Listed>)
+        ensures { result ≡ next_listed self }
+    {
+        match self.rows.next() {
+            Some(row) => (Item::Row(row), Some(self)),
+            None => {
+                let Listed {
+                    last_seq,
+                    pending,
+                    ..
+                } = self;
+                (Item::End { last_seq, pending }, None)
+            }
+        }
+    }
+}
+
+/// What a connection is sending, item by item.
+#[derive(Drop)]
+pub(crate) enum Sent {
+    /// What is left of an answer that was made at once.
+    Listed(Listed),
+    /// A feed of a database.
+    Changes(Feed<Plain>),
+    /// A feed of the log of updates.
+    Updates(UpdatesFeed),
+}
+
+impl Sent {
+    /// Gives back what it holds: a feed is forgotten by its host.
+    pub(crate) fn finish<N: Wait>(self, rt: &N) {
+        match self {
+            Sent::Listed(_) => {}
+            Sent::Changes(feed) => {
+                feed.finish(rt);
+            }
+            Sent::Updates(feed) => {
+                feed.finish(rt);
+            }
+        }
+    }
+}

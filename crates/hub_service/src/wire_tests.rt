@@ -1,0 +1,322 @@
+//! The hub over readers and writers as networks have them: of one byte a call, cut, broken, interrupted.
+
+use crate::session_tests::Answer::{Feed, Nothing, Written};
+use crate::session_tests::Ask::{Batch, Bytes, Line};
+use crate::session_tests::{
+    Exchange, MAKE, STORED, answers, asks, assert_answered, assert_session,
+};
+use crate::stream::answer_stream;
+use hub_document::Limits;
+use hub_http::{HttpFault, Requests, Tally};
+use hub_session::Closing;
+use std::alloc::{AllocError, Global};
+use std::io;
+use std::io::{ErrorKind, Read, Write};
+use std::sync::Wait;
+use std::test::Fail;
+
+/// Takes one byte a call, so many in all, and then none.
+#[derive(Drop)]
+struct Narrow {
+    held: Vec<u8>,
+    room: usize,
+}
+
+impl Write for Narrow {
+    fn write(&mut self, buf: &[u8]) -> io::Result<usize> {
+        let n = buf.len().min(self.room).min(1);
+        self.held.extend_from_slice(&buf[..n])?;
+        self.room -= n;
+        Ok(n)
+    }
+
+    fn flush(&mut self) -> io::Result<()> {
+        Ok(())
+    }
+}
+
+/// Gives one byte a call, and is interrupted before each. Where it has given so many it fails.
+#[derive(Drop)]
+struct Failing<'a> {
+    text: &'a [u8],
+    left: usize,
+    is_interrupted: bool,
+}
+
+impl Read for Failing<'_> {
+    fn read(&mut self, buf: &mut [u8]) -> io::Result<usize> {
+        self.is_interrupted = !self.is_interrupted;
+        if self.is_interrupted {
+            return Err(io::Error::from(ErrorKind::Interrupted));
+        }
+        if self.left == 0 {
+            return Err(io::Error::from(ErrorKind::ConnectionReset));
+        }
+        self.left -= 1;
+        let n = buf.len().min(1);
+        self.text.read(&mut buf[..n])
+    }
+}
+
+/// What a session over these two writes, and why it closes.
+fn session<N: Wait, R: Drop + Read>(
+    rt: &N,
+    alloc: Global,
+    reader: R,
+    room: usize,
+) -> Result<(Vec<u8>, Closing), AllocError> {
+    let mut requests = Requests::new(alloc, Tally::new(reader));
+    let mut writer = Tally::new(Narrow {
+        held: Vec::new(alloc),
+        room,
+    });
+    let closing = answer_stream(rt, alloc, &mut requests, &mut writer, Limits::full())?;
+    Ok((writer.into_inner().held, closing))
+}
+
+/// A database, a batch and its feed.
+const RUN: &[Exchange] = &[
+    MAKE,
+    (
+        Batch(&[r#"{"_id":"a","_rev":"1-a"}"#, r#"{"_id":"b","_rev":"1-b"}"#]),
+        STORED,
+    ),
+    (
+        Line("GET /d/_changes"),
+        Feed(
+            &[
+                r#"{"seq":1,"id":"a","changes":[{"rev":"1-a"}]}"#,
+                r#"{"seq":2,"id":"b","changes":[{"rev":"1-b"}]}"#,
+            ],
+            2,
+            0,
+        ),
+    ),
+];
+
+/// Whether a session whose writer breaks behind so many bytes writes just these.
+fn is_broken_behind<N: Wait>(
+    rt: &N,
+    alloc: Global,
+    input: &[u8],
+    front: &[u8],
+) -> Result<bool, AllocError> {
+    let (written, closing) = session(rt, alloc, input, front.len())?;
+    Ok(written.as_slice() == front && closing == Closing::Broken)
+}
+
+/// Behind how many bytes of what is expected the writer may break first that other bytes are written.
+fn front_count<N: Wait>(
+    rt: &N,
+    alloc: Global,
+    input: &[u8],
+    expected: &[u8],
+) -> Result<usize, AllocError> {
+    for room in 0..expected.len() {
+        if !is_broken_behind(rt, alloc, input, &expected[..room])? {
+            return Ok(room);
+        }
+    }
+    Ok(expected.len())
+}
+
+/// Wherever a writer breaks, what it took is the front of what is written else.
+#[test]
+fn broken_writers(rt: HostRuntime) -> Result<(), Fail> {
+    let input = asks(rt.alloc(), RUN)?;
+    let expected = answers(rt.alloc(), RUN)?;
+    let (written, closing) = session(&rt, rt.alloc(), input.as_bytes(), usize::MAX)?;
+    assert!(rt; written.as_slice() == expected.as_bytes());
+    assert!(rt; closing == Closing::Finished);
+    let count = front_count(&rt, rt.alloc(), input.as_bytes(), expected.as_bytes())?;
+    assert_eq!(rt; count, expected.len());
+    Ok(())
+}
+
+/// Whether a session whose reader fails behind so many bytes writes the answers of the requests before.
+fn is_failed_behind<N: Wait>(
+    rt: &N,
+    alloc: Global,
+    input: &[u8],
+    count: usize,
+    expected: &[u8],
+) -> Result<bool, AllocError> {
+    let reader = Failing {
+        text: input,
+        left: count,
+        is_interrupted: false,
+    };
+    let (written, closing) = session(rt, alloc, reader, usize::MAX)?;
+    let fault = Closing::Fault(HttpFault::IoFault);
+    Ok(written.as_slice() == expected && closing == fault)
+}
+
+/// The bytes behind which a reader may fail, from one whole request to before the end of the next, first
+/// that other answers are written than those before.
+fn failed_count<N: Wait>(
+    rt: &N,
+    alloc: Global,
+    whole: &[Exchange],
+    next: &[Exchange],
+) -> Result<usize, AllocError> {
+    let expected = answers(alloc, whole)?;
+    let first = asks(alloc, whole)?.len();
+    let input = asks(alloc, next)?;
+    for count in first..input.len() {
+        let input = input.as_bytes();
+        if !is_failed_behind(rt, alloc, input, count, expected.as_bytes())? {
+            return Ok(count);
+        }
+    }
+    Ok(input.len())
+}
+
+/// Wherever a reader fails, the requests before are answered and nothing else; interruptions change
+/// nothing.
+#[test]
+fn failing_readers(rt: HostRuntime) -> Result<(), Fail> {
+    for count in 0..RUN.len() {
+        let whole = &RUN[..count];
+        let next = &RUN[..count + 1];
+        let failed = failed_count(&rt, rt.alloc(), whole, next)?;
+        assert_eq!(rt; failed, asks(rt.alloc(), next)?.len());
+    }
+    Ok(())
+}
+
+/// A request line and a field.
+const HEAD: &str = "PUT /d HTTP/1.1\r\nHost: h\r\n\r\n";
+
+/// Whether a request that ends here has no answer, and closes so.
+fn is_cut<N: Wait>(rt: &N, alloc: Global, part: &[u8], end: Closing) -> Result<bool, AllocError> {
+    let (written, closing) = session(rt, alloc, part, usize::MAX)?;
+    Ok(written.is_empty() && closing == end)
+}
+
+/// Behind how many bytes of a head its end is first not told as one in the middle of a request.
+fn cut_count<N: Wait>(rt: &N, alloc: Global, head: &[u8]) -> Result<usize, AllocError> {
+    let end = Closing::Fault(HttpFault::Ended);
+    for count in 1..head.len() {
+        if !is_cut(rt, alloc, &head[..count], end)? {
+            return Ok(count);
+        }
+    }
+    Ok(head.len())
+}
+
+/// A head that ends behind any of its bytes but the last has no answer; before its first byte there is no
+/// request.
+#[test]
+fn heads_that_end(rt: HostRuntime) -> Result<(), Fail> {
+    assert!(rt; is_cut(&rt, rt.alloc(), b"", Closing::Finished)?);
+    let count = cut_count(&rt, rt.alloc(), HEAD.as_bytes())?;
+    assert_eq!(rt; count, HEAD.len());
+    Ok(())
+}
+
+const MODES: &[Exchange] = &[
+    MAKE,
+    (
+        Batch(&[r#"{"_id":"a","_rev":"1-a"}"#, r#"{"_id":"b","_rev":"1-b"}"#]),
+        STORED,
+    ),
+    (
+        Line("GET /d/_changes?feed=continuous"),
+        Written(concat!(
+            "HTTP/1.1 200 OK\r\nContent-Type: application/json\r\nTransfer-Encoding: chunked\r\n\r\n",
+            "2d\r\n",
+            r#"{"seq":1,"id":"a","changes":[{"rev":"1-a"}]}"#,
+            "\n\r\n",
+            "2d\r\n",
+            r#"{"seq":2,"id":"b","changes":[{"rev":"1-b"}]}"#,
+            "\n\r\n",
+            "1b\r\n{\"last_seq\":2,\"pending\":0}\n\r\n",
+            "0\r\n\r\n"
+        )),
+    ),
+    (
+        Line("GET /d/_changes?feed=longpoll&since=1"),
+        Written(concat!(
+            "HTTP/1.1 200 OK\r\nContent-Type: application/json\r\nTransfer-Encoding: chunked\r\n\r\n",
+            "d\r\n{\"results\":[\n\r\n",
+            "2c\r\n",
+            r#"{"seq":2,"id":"b","changes":[{"rev":"1-b"}]}"#,
+            "\r\n",
+            "1e\r\n\n],\n\"last_seq\":2,\"pending\":0}\n\r\n",
+            "0\r\n\r\n"
+        )),
+    ),
+    (
+        Line("GET /d/_changes?feed=longpoll&since=2"),
+        Written(concat!(
+            "HTTP/1.1 200 OK\r\nContent-Type: application/json\r\nTransfer-Encoding: chunked\r\n\r\n",
+            "d\r\n{\"results\":[\n\r\n",
+            "1e\r\n\n],\n\"last_seq\":2,\"pending\":0}\n\r\n",
+            "0\r\n\r\n"
+        )),
+    ),
+];
+
+/// A continuous feed has no chunk at its head, and ends as a longpoll feed does where nothing is due.
+#[test]
+fn chunks_by_mode(rt: HostRuntime) -> Result<(), Fail> {
+    assert_answered(&rt, rt.alloc(), MODES)
+}
+
+const LONGPOLL: &[Exchange] = &[
+    MAKE,
+    (
+        Batch(&[
+            r#"{"_id":"a","_rev":"1-a"}"#,
+            r#"{"_id":"b","_rev":"1-b"}"#,
+            r#"{"_id":"c","_rev":"1-c"}"#,
+            r#"{"_id":"e","_rev":"1-e"}"#,
+            r#"{"_id":"f","_rev":"1-f"}"#,
+        ]),
+        STORED,
+    ),
+    (
+        Line("GET /d/_changes?feed=longpoll&filter=_design"),
+        Feed(&[], 5, 0),
+    ),
+    (Batch(&[r#"{"_id":"_design/x","_rev":"1-x"}"#]), STORED),
+    (
+        Line("GET /d/_changes?feed=longpoll&filter=_design"),
+        Feed(
+            &[r#"{"seq":6,"id":"_design/x","changes":[{"rev":"1-x"}]}"#],
+            6,
+            0,
+        ),
+    ),
+];
+
+/// A longpoll feed of which no row passes ends at the last row that it looked at.
+#[test]
+fn a_longpoll_feed_of_designs(rt: HostRuntime) -> Result<(), Fail> {
+    assert_answered(&rt, rt.alloc(), LONGPOLL)
+}
+
+const CLOSING_FEED: &[Exchange] = &[
+    MAKE,
+    (
+        Bytes("GET /d/_changes?feed=continuous HTTP/1.1\r\nConnection: CLOSE\r\n\r\n"),
+        Written(concat!(
+            "HTTP/1.1 200 OK\r\nContent-Type: application/json\r\nTransfer-Encoding: chunked\r\n",
+            "Connection: close\r\n\r\n",
+            "1b\r\n{\"last_seq\":0,\"pending\":0}\n\r\n0\r\n\r\n"
+        )),
+    ),
+    (Line("PUT /e"), Nothing),
+];
+
+/// A feed whose client asks to close is sent to its end, and nothing is answered behind it.
+#[test]
+fn a_feed_that_closes(rt: HostRuntime) -> Result<(), Fail> {
+    assert_session(
+        &rt,
+        rt.alloc(),
+        CLOSING_FEED,
+        Limits::full(),
+        Closing::Requested,
+    )
+}

@@ -1,0 +1,56 @@
+//! The items of streams.
+ghost use Rattle.std.specs.Prelude.{◌≡◌, ◌++◌, OnOk};
+ghost use Rattle.hub_session.specs.Items.{is_end, is_row, stream_item_text};
+
+use hub_document::{ChangeRow, UpdateRow};
+use hub_http::item_text;
+use hub_model::{Item, Mode};
+use std::alloc::AllocError;
+
+/// What a stream hands to its subscriber. Of which kind the items of a stream are is up to its
+/// service.
+#[derive(Debug, Drop)]
+pub enum StreamItem {
+    /// An item of a feed of changes of a database (CouchDB API reference, `_changes`).
+    Change(Item<ChangeRow>),
+    /// An item of a feed of the log of updates (CouchDB API reference, `_db_updates`).
+    Update(Item<UpdateRow>),
+}
+
+impl StreamItem {
+    /// Whether it is the end of its stream.
+    pub(crate) fn is_end(&self) -> bool
+        ensures { result ≡ is_end self.now }
+    {
+        match self {
+            StreamItem::Change(item) => item.is_end(),
+            StreamItem::Update(item) => item.is_end(),
+        }
+    }
+
+    /// Whether it is a row, and not what stands between rows or behind them.
+    pub(crate) fn is_row(&self) -> bool
+        ensures { result ≡ is_row self.now }
+    {
+        match self {
+            StreamItem::Change(item) => matches!(item, Item::Row(_)),
+            StreamItem::Update(item) => matches!(item, Item::Row(_)),
+        }
+    }
+
+    /// Appends its text, before which the stream wrote so many rows. After an error a part of the
+    /// text may stand behind what was held.
+    pub(crate) fn put_text(
+        &self,
+        out: &mut Vec<u8>,
+        mode: Mode,
+        rows: u64,
+    ) -> Result<(), AllocError>
+        ensures { OnOk result (out.new.items ≡ out.old.items ++ stream_item_text mode rows self.now) }
+    {
+        match self {
+            StreamItem::Change(item) => item_text(out, mode, rows, item),
+            StreamItem::Update(item) => item_text(out, mode, rows, item),
+        }
+    }
+}

@@ -1,0 +1,119 @@
+use crate::{Answer, Closing, Service, StreamItem, serve};
+use hub_document::UpdateRow;
+use hub_http::{Request, Requests, Tally};
+use hub_model::{Item, Mode, UpdateKind};
+use std::alloc::Global;
+use std::test::Fail;
+
+/// Answers each request with a feed of updates of d, which was made, edited and removed.
+#[derive(Drop)]
+struct Updates {
+    alloc: Global,
+    mode: Mode,
+    next: u64,
+}
+
+impl Service for Updates {
+    ghost answer_gives = { λ _ _ _ _. Unit {0} };
+
+    ghost item_gives = { λ _ _ _. Unit {0} };
+
+    ghost drop_gives = { λ _ _. Unit {0} };
+
+    fn answer(&mut self, _request: &Request) -> Answer {
+        self.next = 0;
+        Answer::Stream(self.mode)
+    }
+
+    fn is_ready(&self) -> bool {
+        true
+    }
+
+    fn item(&mut self) -> Option<StreamItem> {
+        self.next = self.next.saturating_add(1);
+        let kind = match self.next {
+            1 => UpdateKind::Created,
+            2 => UpdateKind::Updated,
+            3 => UpdateKind::Deleted,
+            _ => {
+                return Some(StreamItem::Update(Item::End {
+                    last_seq: 3,
+                    pending: 7,
+                }));
+            }
+        };
+        Some(StreamItem::Update(Item::Row(UpdateRow {
+            db_name: "d".to_string(self.alloc).ok()?,
+            kind,
+            seq: self.next,
+            seen: 3,
+        })))
+    }
+
+    fn drop_stream(&mut self) {}
+}
+
+const FEED_HEAD: &str =
+    "HTTP/1.1 200 OK\r\nContent-Type: application/json\r\nTransfer-Encoding: chunked\r\n\r\n";
+
+const NORMAL: &str = concat!(
+    "d\r\n",
+    r#"{"results":["#,
+    "\n\r\n",
+    "28\r\n",
+    r#"{"db_name":"d","type":"created","seq":1}"#,
+    "\r\n",
+    "2a\r\n,\n",
+    r#"{"db_name":"d","type":"updated","seq":2}"#,
+    "\r\n",
+    "2a\r\n,\n",
+    r#"{"db_name":"d","type":"deleted","seq":3}"#,
+    "\r\n",
+    "12\r\n\n],\n",
+    r#""last_seq":3}"#,
+    "\n\r\n",
+    "0\r\n\r\n"
+);
+
+const CONTINUOUS: &str = concat!(
+    "29\r\n",
+    r#"{"db_name":"d","type":"created","seq":1}"#,
+    "\n\r\n",
+    "29\r\n",
+    r#"{"db_name":"d","type":"updated","seq":2}"#,
+    "\n\r\n",
+    "29\r\n",
+    r#"{"db_name":"d","type":"deleted","seq":3}"#,
+    "\n\r\n",
+    "f\r\n",
+    r#"{"last_seq":3}"#,
+    "\n\r\n",
+    "0\r\n\r\n"
+);
+
+/// Why a session over two requests closed, and what was written.
+fn served(alloc: Global, mode: Mode) -> (Closing, Vec<u8>) {
+    let input = b"GET /_db_updates HTTP/1.1\r\n\r\nGET /_db_updates HTTP/1.1\r\n\r\n";
+    let mut requests = Requests::new(alloc, Tally::new(input.as_slice()));
+    let mut writer = Tally::new(Vec::new(alloc));
+    let mut service = Updates {
+        alloc,
+        mode,
+        next: 0,
+    };
+    let closing = serve(alloc, &mut requests, &mut writer, &mut service);
+    (closing, writer.into_inner())
+}
+
+/// The end of a feed of updates names no pending rows.
+#[test]
+fn streams_of_updates(rt: HostRuntime) -> Result<(), Fail> {
+    let alloc = rt.alloc();
+    for (mode, text) in [(Mode::Normal, NORMAL), (Mode::Continuous, CONTINUOUS)] {
+        let (closing, output) = served(alloc, mode);
+        let expected = format!(in alloc; "{FEED_HEAD}{text}{FEED_HEAD}{text}")?;
+        assert_eq!(rt; output.as_slice(), expected.as_bytes());
+        assert_eq!(rt; closing, Closing::Finished);
+    }
+    Ok(())
+}
