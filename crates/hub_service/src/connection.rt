@@ -1,16 +1,17 @@
 //! Connections: what a client is answered, request by request.
 
-ghost use Rattle.std.specs.Prelude.{◌≡◌, None, Ok, Result, Some, true};
+ghost use Rattle.std.specs.Prelude.{◌≡◌, None, Ok, OnErr, Result, Some, true};
 ghost use Rattle.hub_http.specs.Stream.{asked_by};
 ghost use Rattle.hub_routes.specs.Routes.{GoesTo};
 ghost use Rattle.hub_routes.specs.declared.route.Route.{Route};
 ghost use Rattle.hub_routes.specs.declared.route.RouteFault.{RouteFault};
 ghost use Rattle.hub_service.specs.Feeds.{Drops, Gives};
-ghost use Rattle.hub_service.specs.Requests.{Answers, AtName, IsCalled, IsListed, IsMade, IsRemoved, IsSent, Responds};
+ghost use Rattle.hub_service.specs.Requests.{Answers, AtName, IsCalled, IsListed, IsMade, IsRemoved, IsFeed, IsSent, Responds};
 
 use crate::database::answer;
 use crate::feeds::begin_updates;
 use crate::next::next;
+use crate::pumping::Pumping;
 use crate::refusal::unnamed;
 use crate::response::{Response, ok};
 use crate::sent::Sent;
@@ -21,23 +22,27 @@ use hub_http::{Refusal, Reply, Request};
 use hub_replies::{names_body, ok_body, welcome_body};
 use hub_routes::{Call, Route, Routes};
 use hub_session::{Answer, Service, StreamItem};
-use std::alloc::Global;
+use std::alloc::{AllocError, Global};
 use std::marker::Model;
 use std::sync::Wait;
 
 /// A connection to a hub, which other connections share. It answers one request at a time, and sends at
-/// most one feed: by turns, since the thread that takes its items is the one that hands them.
+/// most one feed.
 #[derive(Drop)]
-pub struct Connection<'h, N: Wait> {
+pub struct Connection<'h, N: Wait, P: Pumping> {
     rt: &'h N,
     alloc: Global,
     hub: &'h Hub,
     routes: &'h Routes,
+    /// What hands a feed its items.
+    pumping: P,
     /// What was asked for last and is sent item by item, until its end was handed.
     sent: Option<Sent>,
+    /// What goes on beside a feed that is sent, until it is finished.
+    running: Option<P::Running>,
 }
 
-impl<'h, N: Wait> Model for Connection<'h, N> {
+impl<'h, N: Wait, P: Pumping> Model for Connection<'h, N, P> {
     ghost use Rattle.std.specs.Prelude.{Option};
     ghost use Rattle.hub_service.specs.declared.sent.Sent.{Sent};
 
@@ -46,9 +51,15 @@ impl<'h, N: Wait> Model for Connection<'h, N> {
     ghost view = { λ a. a.sent };
 }
 
-impl<'h, N: Wait> Connection<'h, N> {
+impl<'h, N: Wait, P: Pumping> Connection<'h, N, P> {
     /// A connection that sends nothing. The table of routes may serve every connection.
-    pub fn new(rt: &'h N, alloc: Global, hub: &'h Hub, routes: &'h Routes) -> Connection<'h, N>
+    pub fn new(
+        rt: &'h N,
+        alloc: Global,
+        hub: &'h Hub,
+        routes: &'h Routes,
+        pumping: P,
+    ) -> Connection<'h, N, P>
         ensures { result ≡ None }
     {
         Connection {
@@ -56,7 +67,9 @@ impl<'h, N: Wait> Connection<'h, N> {
             alloc,
             hub,
             routes,
+            pumping,
             sent: None,
+            running: None,
         }
     }
 
@@ -138,6 +151,29 @@ impl<'h, N: Wait> Connection<'h, N> {
         }
     }
 
+    // Begins to hand a feed its items. A list needs nothing beside it.
+    fn begin(&mut self, sent: &Sent) -> Result<(), AllocError>
+        ensures same { self.new ≡ self.old }
+        ensures err { OnErr result (IsFeed sent.now) }
+    {
+        let running = match sent {
+            Sent::Listed(_) => return Ok(()),
+            Sent::Changes(feed) => self.pumping.begin_changes(feed)?,
+            Sent::Updates(feed) => self.pumping.begin_updates(feed)?,
+        };
+        self.running = Some(running);
+        Ok(())
+    }
+
+    // Waits for what went on beside a feed that is finished.
+    fn end(&mut self)
+        ensures { self.new ≡ self.old }
+    {
+        if let Some(running) = self.running.take() {
+            self.pumping.end(running);
+        }
+    }
+
     // The response as it is sent: a feed is kept until its end was handed.
     fn send(&mut self, response: Response) -> Answer
         ensures { IsSent (Ok response) result self.old self.new }
@@ -145,6 +181,10 @@ impl<'h, N: Wait> Connection<'h, N> {
         match response {
             Response::Body(status, body) => Answer::Whole(Reply::Done { status, body }),
             Response::Stream(mode, sent) => {
+                if self.begin(&sent).is_err() {
+                    sent.finish(self.rt);
+                    return Answer::Whole(Reply::Refused(Refusal::NoMemory));
+                }
                 self.sent = Some(sent);
                 Answer::Stream(mode)
             }
@@ -152,7 +192,7 @@ impl<'h, N: Wait> Connection<'h, N> {
     }
 }
 
-impl<'h, N: Wait> Service for Connection<'h, N> {
+impl<'h, N: Wait, P: Pumping> Service for Connection<'h, N, P> {
     ghost answer_gives = { Answers };
 
     ghost item_gives = { Gives };
@@ -160,6 +200,7 @@ impl<'h, N: Wait> Service for Connection<'h, N> {
     ghost drop_gives = { Drops };
 
     fn answer(&mut self, request: &Request) -> Answer {
+        self.pumping.pass_request();
         match self.respond(request) {
             Ok(response) => self.send(response),
             Err(refusal) => Answer::Whole(Reply::Refused(refusal)),
@@ -167,13 +208,20 @@ impl<'h, N: Wait> Service for Connection<'h, N> {
     }
 
     fn is_ready(&self) -> bool {
-        true
+        match &self.sent {
+            Some(Sent::Changes(feed)) => self.pumping.is_ready(feed),
+            Some(Sent::Updates(feed)) => self.pumping.is_ready(feed),
+            Some(Sent::Listed(_)) | None => true,
+        }
     }
 
     fn item(&mut self) -> Option<StreamItem> {
         let sent = self.sent.take()?;
-        let (item, left) = next(self.rt, sent);
+        let (item, left) = next(self.rt, &self.pumping, sent);
         self.sent = left;
+        if self.sent.is_none() {
+            self.end();
+        }
         item
     }
 
@@ -181,5 +229,6 @@ impl<'h, N: Wait> Service for Connection<'h, N> {
         if let Some(sent) = self.sent.take() {
             sent.finish(self.rt);
         }
+        self.end();
     }
 }

@@ -1,6 +1,7 @@
 //! The hub over bytes: feeds of changes.
 
 use crate::connection::Connection;
+use crate::pumping::ByTurns;
 use crate::session_tests::Answer::{Bad, Created, Feed, Found, Head};
 use crate::session_tests::Ask::{Batch, Body, Line};
 use crate::session_tests::{
@@ -379,7 +380,7 @@ impl Write for Narrow {
 /// Why a session over these bytes closes that writes here.
 fn closing<N: Wait, W: Output>(
     alloc: Global,
-    connection: &mut Connection<'_, N>,
+    connection: &mut Connection<'_, N, ByTurns<'_, N>>,
     input: &[u8],
     writer: &mut W,
 ) -> Closing {
@@ -390,7 +391,7 @@ fn closing<N: Wait, W: Output>(
 /// Why a session over these bytes closes whose writer has so much room.
 fn closed<N: Wait>(
     alloc: Global,
-    connection: &mut Connection<'_, N>,
+    connection: &mut Connection<'_, N, ByTurns<'_, N>>,
     input: &[u8],
     room: usize,
 ) -> Closing {
@@ -401,7 +402,7 @@ fn closed<N: Wait>(
 /// Whether each of these sessions breaks whose writer has less room than this.
 fn breaks<N: Wait>(
     alloc: Global,
-    connection: &mut Connection<'_, N>,
+    connection: &mut Connection<'_, N, ByTurns<'_, N>>,
     input: &[u8],
     len: usize,
 ) -> bool {
@@ -416,7 +417,7 @@ fn breaks<N: Wait>(
 /// Whether these bytes are answered so.
 fn is_shown<N: Wait>(
     alloc: Global,
-    connection: &mut Connection<'_, N>,
+    connection: &mut Connection<'_, N, ByTurns<'_, N>>,
     input: &[u8],
     expected: &[u8],
 ) -> bool {
@@ -432,7 +433,7 @@ const ONE_FEED: &[Exchange] = &[(Line("GET /d/_changes"), Feed(&[], 0, 0))];
 /// Whether the database is made, a feed breaks wherever its writing ends, and the next is shown.
 fn is_shown_after_breaks<N: Wait>(
     alloc: Global,
-    connection: &mut Connection<'_, N>,
+    connection: &mut Connection<'_, N, ByTurns<'_, N>>,
 ) -> Result<bool, AllocError> {
     let make = asks(alloc, MAKING)?;
     let asked = asks(alloc, ONE_FEED)?;
@@ -451,7 +452,7 @@ fn is_shown_after_breaks<N: Wait>(
 fn broken_feeds(rt: HostRuntime) -> Result<(), Fail> {
     let hub = Hub::new(rt.alloc(), one_feed())?;
     let routes = Routes::new(rt.alloc())?;
-    let mut connection = Connection::new(&rt, rt.alloc(), &hub, &routes);
+    let mut connection = Connection::new(&rt, rt.alloc(), &hub, &routes, ByTurns::new(&rt));
     let shown = is_shown_after_breaks(rt.alloc(), &mut connection)?;
     assert!(rt; shown);
     Ok(())

@@ -19,6 +19,7 @@ mod hub_tests;
 mod laws;
 mod locals;
 mod next;
+mod pumping;
 mod refusal;
 mod response;
 mod sent;
@@ -33,4 +34,5 @@ mod wire_tests;
 
 pub use connection::Connection;
 pub use laws::streams_are_right;
-pub use stream::answer_stream;
+pub use pumping::{ByTurns, Pumping};
+pub use stream::{answer_stream, serve_connection};

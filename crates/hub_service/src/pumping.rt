@@ -1,0 +1,100 @@
+//! How the items of feeds come to the connection that sends them.
+
+ghost use Rattle.std.specs.Prelude.{◌≡◌, IfNone, IfSome};
+ghost use Rattle.hub_lane.specs.Ends.{IsAllowedBeginning, behind_take};
+ghost use Rattle.hub_params.specs.FeedModel.{params_in};
+
+use hub_feed::FeedHost;
+use hub_model::Item;
+use hub_threads::{Feed, Gate, HostFeed, Plain, Point, Pumped, Turn, UpdatesFeed};
+use std::alloc::AllocError;
+use std::sync::Wait;
+
+/// What hands feeds their items while a connection sends them.
+pub trait Pumping: Drop {
+    /// What goes on beside a feed until the feed is finished.
+    type Running: Drop;
+
+    /// A request is answered next: where a test may hold the connection.
+    fn pass_request(&self);
+
+    /// Begins to hand a feed of a database its items. An error says that memory or a thread was missing.
+    fn begin_changes(&self, feed: &Feed<Plain>) -> Result<Self::Running, AllocError>;
+
+    /// Begins to hand a feed of the log of updates its items.
+    fn begin_updates(&self, feed: &UpdatesFeed) -> Result<Self::Running, AllocError>;
+
+    /// The next item of a feed. There is none where nothing hands it further, as for want of memory.
+    fn next_item<S: FeedHost, H: Pumped<S>>(
+        &self,
+        feed: &mut HostFeed<S, H>,
+    ) -> Option<Item<S::Row>>
+        ensures taken { IfSome result (λ item. feed.new ≡ behind_take feed.old item) }
+        ensures same { IfNone result (feed.new ≡ feed.old) }
+        ensures allowed { IsAllowedBeginning
+            (λ l items. S.right (params_in l.asked) l.since items) feed.new };
+
+    /// Whether `next_item` would answer at once. It decides flushing alone.
+    fn is_ready<S: FeedHost, H: Pumped<S>>(&self, feed: &HostFeed<S, H>) -> bool;
+
+    /// Waits for what went on beside a feed that is finished.
+    fn end(&self, running: Self::Running);
+}
+
+// A gate that holds nobody.
+#[derive(Drop)]
+struct OpenGate;
+
+impl Gate for OpenGate {
+    fn pass(&self, _point: Point) {}
+}
+
+/// By turns: the thread that takes a feed's items is the one that hands them. Where nothing is due to a feed
+/// its time is over, since whoever could write waits for this thread.
+#[derive(Drop)]
+pub struct ByTurns<'h, N: Wait> {
+    rt: &'h N,
+}
+
+impl<'h, N: Wait> ByTurns<'h, N> {
+    /// One thread that does both.
+    pub fn new(rt: &'h N) -> ByTurns<'h, N> {
+        ByTurns { rt }
+    }
+}
+
+impl<'h, N: Wait> Pumping for ByTurns<'h, N> {
+    type Running = ();
+
+    fn pass_request(&self) {}
+
+    fn begin_changes(&self, _feed: &Feed<Plain>) -> Result<(), AllocError> {
+        Ok(())
+    }
+
+    fn begin_updates(&self, _feed: &UpdatesFeed) -> Result<(), AllocError> {
+        Ok(())
+    }
+
+    fn next_item<S: FeedHost, H: Pumped<S>>(
+        &self,
+        feed: &mut HostFeed<S, H>,
+    ) -> Option<Item<S::Row>> {
+        if let Some(item) = feed.take(self.rt) {
+            return Some(item);
+        }
+        feed.hold(self.rt, Turn::Hand, &OpenGate).ok()?;
+        if let Some(item) = feed.take(self.rt) {
+            return Some(item);
+        }
+        feed.hold(self.rt, Turn::Expire, &OpenGate).ok()?;
+        feed.hold(self.rt, Turn::Hand, &OpenGate).ok()?;
+        feed.take(self.rt)
+    }
+
+    fn is_ready<S: FeedHost, H: Pumped<S>>(&self, _feed: &HostFeed<S, H>) -> bool {
+        true
+    }
+
+    fn end(&self, _running: ()) {}
+}
