@@ -1,5 +1,5 @@
 use Rattle.std.proofs.Common.{◌≡◌, ℕ, List, true, Option, Some, None, Result, Ok, Err, string_bytes, refl, inl, inr, sym, subst, ◌∙◌}
-use Rattle.std.specs.Prelude.{IsSome}
+use Rattle.std.specs.Prelude.{T, IsSome}
 use Rattle.hub_document.specs.Ids.{short_id}
 use Rattle.hub_database.specs.Database.{Database}
 use Rattle.hub_model.specs.Revision.{Revision}
@@ -34,7 +34,7 @@ leaf_written id short known rev w won r is has some written =
       record {
         db = has.db;
         legal = has.legal;
-        held = (has.held.0, λ none. subst IsSome (has.held.1 ∙ none) (some_is_some w won some));
+        held = (has.held.0, λ none. subst T (sym (subst IsSome (has.held.1 ∙ none) (some_is_some w won some))) tt);
       },
       written,
     )))

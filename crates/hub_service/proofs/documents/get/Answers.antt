@@ -34,9 +34,9 @@ none_asked : {A : Type 0} (id : List ℕ) (revs : Bool) (f : A → List ℕ) (re
     (r : Result Response Refusal) → leaves ≡ None → is_some rev ≡ false
     → IsRead (λ db. says_found (lookup db.journal id revs)) r
     → IsRead (λ db. gets_by db.journal id revs (option_map f rev) leaves) r
-none_asked id revs f None leaves r none no read =
+none_asked id revs f None leaves r none without read =
     subst (λ o. IsRead (λ db. gets_by db.journal id revs None o) r) (sym none) read
-none_asked id revs f (Some rev) leaves r none no read = absurd (subst T no tt)
+none_asked id revs f (Some rev) leaves r none without read = absurd (subst T without tt)
 
 pub returns-in-Some : goal.returns-in-Some
 returns-in-Some g c =
