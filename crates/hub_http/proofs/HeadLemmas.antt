@@ -11,6 +11,7 @@ use Rattle.httparse.proofs.GrammarLemmas.{request_prefix_free}
 use Rattle.hub_http.specs.declared.fault.HttpFault.{HttpFault}
 use Rattle.hub_http.specs.declared.fault.HttpFault.TheVariants.{NoMemory, BadHead, HeadTooLong, BodyTooLong, Version, Coding, Ended, IoFault}
 use Rattle.hub_http.specs.Heads.{Pair, is_digits, body_limit, length_of, asked, is_target, values_named, Begins, BeginsFaulty, BeginsTooLong, NeverHasHead, length_by}
+use Rattle.hub_http.specs.Exclusions.{IsHeadFault}
 use Rattle.hub_http.specs.Looking.{LookFaults}
 
 -- a head has bytes
@@ -62,23 +63,19 @@ unfolding length_of
 length_of_faults [] e h = absurd (cc)
 length_of_faults (v ∷ vs) e h = one_faults (is_digits v && list_all (λ w. bytes_eq w v) vs) (nat_le (digits_value 10 v) body_limit) (digits_value 10 v) e h
 
--- a head has one of these faults
-abbrev pub IsAskFault : HttpFault → Type 0
-IsAskFault e = ((e ≡ BadHead) ⊎ (e ≡ BodyTooLong)) ⊎ ((e ≡ Version) ⊎ (e ≡ Coding))
-
 asked_choice : (a b c : Bool) (r : Result (Option ℕ) HttpFault) (e : HttpFault) → (r ≡ Err e → (e ≡ BadHead) ⊎ (e ≡ BodyTooLong))
-    → cond a (cond b (Err Coding) (cond c r (Err BadHead))) (Err Version) ≡ Err e → IsAskFault e
+    → cond a (cond b (Err Coding) (cond c r (Err BadHead))) (Err Version) ≡ Err e → IsHeadFault e
 asked_choice true true c r e f h = inr (inr (cc))
 asked_choice true false true r e f h = inl (f h)
 asked_choice true false false r e f h = inl (inl (cc))
 asked_choice false b c r e f h = inr (inl (cc))
 
-pub asked_faults : (minor : ℕ) (target : List ℕ) (pairs : List Pair) (e : HttpFault) → asked minor target pairs ≡ Err e → IsAskFault e
+pub asked_faults : (minor : ℕ) (target : List ℕ) (pairs : List Pair) (e : HttpFault) → asked minor target pairs ≡ Err e → IsHeadFault e
 unfolding asked
 asked_faults minor target pairs e h =
     asked_choice _ _ (is_target target) (length_of (values_named (codes "content-length") pairs)) e (length_of_faults _ e) h
 
-pub look_faults : (buf : List ℕ) (e : HttpFault) → IsAskFault e → BeginsFaulty buf e → LookFaults buf e
+pub look_faults : (buf : List ℕ) (e : HttpFault) → IsHeadFault e → BeginsFaulty buf e → LookFaults buf e
 look_faults buf NoMemory a b = head_has_bytes buf b.0 b.1 b.2.reads
 look_faults buf BadHead a b = inr b
 look_faults buf HeadTooLong a b = absurd (elim a [ inl x ↦ elim x [ inl y ↦ cc | inr y ↦ cc ] | inr x ↦ elim x [ inl y ↦ cc | inr y ↦ cc ] ])

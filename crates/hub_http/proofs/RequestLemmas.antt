@@ -12,7 +12,7 @@ use Rattle.hub_http.specs.declared.fault.HttpFault.{HttpFault}
 use Rattle.hub_http.specs.declared.fault.HttpFault.TheVariants.{NoMemory, BadHead, HeadTooLong, BodyTooLong, Version, Coding, Ended, IoFault}
 use Rattle.hub_http.specs.declared.head.Head.{Head}
 use Rattle.hub_http.specs.declared.request.Request.{Request}
-use Rattle.hub_http.specs.Heads.{Pair, Begins, BeginsFaulty, BeginsTooLong, GoesOn, NeverHasHead, length_of, asked, is_digits, is_target, values_named, pairs_of, body_limit}
+use Rattle.hub_http.specs.Heads.{Pair, Begins, BeginsFaulty, BeginsTooLong, GoesOn, NeverHasHead, HasHeadFault, IsPartOfHead, length_of, asked, is_digits, is_target, values_named, pairs_of, body_limit}
 use Rattle.hub_http.proofs.HeadLemmas.{head_has_bytes}
 use Rattle.hub_http.specs.Stream.{Spells, asked_by, Leaves}
 use Rattle.hub_http.specs.Looking.{IsHeadAt, FindFaults}
@@ -65,17 +65,22 @@ too_long_more held y b =
       ]
     ]
 
+head_fault_more : (held y : List ℕ) (e : HttpFault) → HasHeadFault held e → HasHeadFault (held ++ y) e
+head_fault_more held y BadHead f = elim f [ inl x ↦ inl (never_request_more held y x) | inr x ↦ inr (faulty_more held y BadHead x) ]
+head_fault_more held y HeadTooLong f = (never_more held y f.0, too_long_more held y f.1)
+head_fault_more held y BodyTooLong f = faulty_more held y BodyTooLong f
+head_fault_more held y Version f = faulty_more held y Version f
+head_fault_more held y Coding f = faulty_more held y Coding f
+head_fault_more held y NoMemory f = f
+head_fault_more held y Ended f = f
+head_fault_more held y IoFault f = f
+
 faults_more : (held y : List ℕ) (e : HttpFault) → FindFaults held (Some y) e → Leaves (held ++ y) (Err e) (Some (held ++ y))
 faults_more held y NoMemory f = (refl, f)
-faults_more held y BadHead f = elim f [ inl x ↦ inl (never_request_more held y x) | inr x ↦ inr (faulty_more held y BadHead x) ]
-faults_more held y HeadTooLong f = (never_more held y f.0, too_long_more held y f.1)
-faults_more held y BodyTooLong f = faulty_more held y BodyTooLong f
-faults_more held y Version f = faulty_more held y Version f
-faults_more held y Coding f = faulty_more held y Coding f
 faults_more held y Ended f =
-    let same : held ++ y ≡ held = ap (λ l. held ++ l) f.3 ∙ append-nil held in
-    inl (subst (λ (l : List ℕ). (0 < length l) × GoesOn l × (length l < 16384)) (sym same) (f.0, f.1, f.2))
+    let same : held ++ y ≡ held = ap (λ l. held ++ l) f.1 ∙ append-nil held in inl (subst IsPartOfHead (sym same) f.0)
 faults_more held y IoFault f = tt
+faults_more held y e f = head_fault_more held y e f
 
 -- a fault of looking for a head is one of the bytes
 pub told_fault : (a0 left : Option (List ℕ)) (held : List ℕ) (e : HttpFault) → Keeps a0 (prepend_known held left) → FindFaults held left e

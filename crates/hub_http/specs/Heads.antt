@@ -7,10 +7,11 @@ use Rattle.std.specs.List.{list_all, list_any, slice_split}
 use Rattle.std.specs.Char.{is_ascii_digit, to_ascii_lowercase}
 use Rattle.std.specs.Str.Parse.{digits_value}
 use Rattle.httparse.specs.Grammar.{RequestHead, print_request, ReadsRequest, HasNoRequest, MayBecomeRequest}
-use Rattle.httparse.specs.Grammar.{trim_ows}
+use Rattle.httparse.specs.Grammar.{NeverHasRequest, trim_ows}
 use Rattle.httparse.specs.Spans.{name_and_value, RequestExceeds}
 use Rattle.hub_http.specs.declared.fault.HttpFault.{HttpFault}
-use Rattle.hub_http.specs.declared.fault.HttpFault.TheVariants.{BadHead, BodyTooLong, Version, Coding}
+use Rattle.hub_http.specs.declared.fault.HttpFault.TheVariants.{NoMemory, BadHead, HeadTooLong, BodyTooLong}
+use Rattle.hub_http.specs.declared.fault.HttpFault.TheVariants.{Version, Coding, Ended, IoFault}
 
 -- a head of at most so many bytes
 abbrev pub head_limit : ℕ
@@ -142,3 +143,19 @@ NeverHasHead bytes = (more : List ℕ) → HasNoHead (bytes ++ more)
 -- the bytes begin with a head that has this fault
 abbrev pub BeginsFaulty : List ℕ → HttpFault → Type 0
 BeginsFaulty bytes e = (h : RequestHead) × (rest : List ℕ) × Begins bytes h rest × (length_by h ≡ Err e)
+
+-- the table of head faults: what bytes are that have this fault, whatever follows them. The last three do not
+-- lie in the bytes: each way to read them says when those come.
+abbrev pub HasHeadFault : List ℕ → HttpFault → Type 0
+HasHeadFault bytes BadHead = NeverHasRequest bytes ⊎ BeginsFaulty bytes BadHead
+HasHeadFault bytes HeadTooLong = NeverHasHead bytes × BeginsTooLong bytes
+HasHeadFault bytes BodyTooLong = BeginsFaulty bytes BodyTooLong
+HasHeadFault bytes Version = BeginsFaulty bytes Version
+HasHeadFault bytes Coding = BeginsFaulty bytes Coding
+HasHeadFault bytes NoMemory = ⊥
+HasHeadFault bytes Ended = ⊥
+HasHeadFault bytes IoFault = ⊥
+
+-- there are bytes, fewer than a head may have, and a head goes on behind them
+abbrev pub IsPartOfHead : List ℕ → Type 0
+IsPartOfHead bytes = (0 < length bytes) × GoesOn bytes × (length bytes < head_limit)

@@ -1,16 +1,15 @@
 -- own: what the steps that read a request answer.
-use Rattle.std.specs.Prelude.{◌≡◌, ℕ, ◌<◌, ◌⊎◌, true, List, [], ◌∷◌, ◌++◌, length, drop, Option, Some, None}
+use Rattle.std.specs.Prelude.{◌≡◌, ℕ, ◌<◌, true, List, [], ◌∷◌, ◌++◌, length, drop, Option, Some, None}
 use Rattle.std.specs.Prelude.{Result, Ok, Err, IfSome, if◌then◌else◌, nat_le, bytes_eq, ⊤}
 use Rattle.std.specs.List.{list_all}
 use Rattle.std.specs.Str.Parse.{digits_value}
 use Rattle.std.specs.Io.KnownBytes.{IsAtEnd}
-use Rattle.httparse.specs.Grammar.{RequestHead, print_request, NeverHasRequest}
+use Rattle.httparse.specs.Grammar.{RequestHead, print_request}
 use Rattle.hub_http.specs.declared.fault.HttpFault.{HttpFault}
-use Rattle.hub_http.specs.declared.fault.HttpFault.TheVariants.{NoMemory, BadHead, HeadTooLong, BodyTooLong}
-use Rattle.hub_http.specs.declared.fault.HttpFault.TheVariants.{Version, Coding, Ended, IoFault}
+use Rattle.hub_http.specs.declared.fault.HttpFault.TheVariants.{NoMemory, BadHead, BodyTooLong, Ended, IoFault}
 use Rattle.hub_http.specs.declared.head.Head.{Head}
-use Rattle.hub_http.specs.Heads.{head_limit, body_limit, is_digits, length_by, close_by, Begins, BeginsFaulty}
-use Rattle.hub_http.specs.Heads.{BeginsTooLong, GoesOn, NeverHasHead}
+use Rattle.hub_http.specs.Heads.{body_limit, is_digits, length_by, close_by, Begins, GoesOn, HasHeadFault}
+use Rattle.hub_http.specs.Heads.{IsPartOfHead}
 
 -- the values seen so far, the first of them if there is one, of all of which these are left
 abbrev pub SoFar : Option (List ℕ) → List (List ℕ) → List (List ℕ) → Type 0
@@ -34,16 +33,10 @@ pub record IsHeadAt (buf : List ℕ) (f : Head) (h : RequestHead) : Type 0 where
   pub length : length_by h ≡ Ok f.length
   pub close : f.close ≡ close_by h
 
--- what a fault says of the bytes in which a head was looked for
+-- what a fault says of the bytes in which a head was looked for: that of the table, or want of memory
 abbrev pub LookFaults : List ℕ → HttpFault → Type 0
 LookFaults buf NoMemory = 0 < length buf
-LookFaults buf BadHead = NeverHasRequest buf ⊎ BeginsFaulty buf BadHead
-LookFaults buf HeadTooLong = NeverHasHead buf × BeginsTooLong buf
-LookFaults buf BodyTooLong = BeginsFaulty buf BodyTooLong
-LookFaults buf Version = BeginsFaulty buf Version
-LookFaults buf Coding = BeginsFaulty buf Coding
-LookFaults buf Ended = ⊥
-LookFaults buf IoFault = ⊥
+LookFaults buf e = HasHeadFault buf e
 
 -- what looking for a head in buf answers
 abbrev pub Looks : List ℕ → Result (Option Head) HttpFault → Type 0
@@ -51,16 +44,13 @@ Looks buf (Ok None) = GoesOn buf
 Looks buf (Ok (Some f)) = (h : RequestHead) × IsHeadAt buf f h
 Looks buf (Err e) = LookFaults buf e
 
--- what a fault of looking for a head says of the bytes that are held and those that are left
+-- what a fault of looking for a head says of the bytes that are held and those that are left: that of the
+-- table, or want of memory, an end in the middle or the reader's failure
 abbrev pub FindFaults : List ℕ → Option (List ℕ) → HttpFault → Type 0
 FindFaults held left NoMemory = IfSome left (λ more. 0 < length (held ++ more))
-FindFaults held left BadHead = NeverHasRequest held ⊎ BeginsFaulty held BadHead
-FindFaults held left HeadTooLong = NeverHasHead held × BeginsTooLong held
-FindFaults held left BodyTooLong = BeginsFaulty held BodyTooLong
-FindFaults held left Version = BeginsFaulty held Version
-FindFaults held left Coding = BeginsFaulty held Coding
-FindFaults held left Ended = (0 < length held) × GoesOn held × (length held < head_limit) × IsAtEnd left
+FindFaults held left Ended = IsPartOfHead held × IsAtEnd left
 FindFaults held left IoFault = ⊤
+FindFaults held left e = HasHeadFault held e
 
 -- what looking for a head answers over a reader
 abbrev pub Finds : List ℕ → Option (List ℕ) → Result (Option Head) HttpFault → Type 0

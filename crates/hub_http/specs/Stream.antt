@@ -1,14 +1,12 @@
 -- RFC 9112, sections 2, 6 and 9.3.2: the requests that a connection's bytes spell, one after the other.
-use Rattle.std.specs.Prelude.{◌≡◌, ⊤, ℕ, ◌<◌, ◌≤◌, ◌⊎◌, Bool, List, [], ◌∷◌, ◌++◌, length, Option, Some, None}
+use Rattle.std.specs.Prelude.{◌≡◌, ⊤, ℕ, ◌<◌, ◌⊎◌, Bool, List, [], ◌++◌, length, Option, Some, None}
 use Rattle.std.specs.Prelude.{Result, Ok, Err, is_some, unwrap_or}
-use Rattle.httparse.specs.Grammar.{RequestHead, NeverHasRequest}
+use Rattle.httparse.specs.Grammar.{RequestHead}
 use Rattle.hub_http.specs.declared.fault.HttpFault.{HttpFault}
-use Rattle.hub_http.specs.declared.fault.HttpFault.TheVariants.{NoMemory, BadHead, HeadTooLong, BodyTooLong}
-use Rattle.hub_http.specs.declared.fault.HttpFault.TheVariants.{Version, Coding, Ended, IoFault}
+use Rattle.hub_http.specs.declared.fault.HttpFault.TheVariants.{NoMemory, Ended, IoFault}
 use Rattle.hub_http.specs.declared.request.Request.{Request}
 use Rattle.std.specs.Io.KnownBytes.{prepend_known}
-use Rattle.hub_http.specs.Heads.{head_limit, length_by, close_by, Begins, NeverHasHead, BeginsTooLong, GoesOn}
-use Rattle.hub_http.specs.Heads.{BeginsFaulty}
+use Rattle.hub_http.specs.Heads.{length_by, close_by, Begins, HasHeadFault, IsPartOfHead}
 
 -- a request without where it lies in memory
 pub record Asked : Type 0 where
@@ -57,16 +55,13 @@ to_read block left = prepend_known block left
 abbrev pub known : List ℕ → Option (List ℕ) → Option (List ℕ)
 known held left = prepend_known held left
 
--- the bytes spell no request, and may be refused so; for want of memory only where there are some
+-- the bytes spell no request, and may be refused so: they have the head fault of the table, or they end in the
+-- middle of a head or of a body; for want of memory only where there are some; and a reader may always fail
 abbrev pub Faults : List ℕ → HttpFault → Type 0
 Faults bytes NoMemory = 0 < length bytes
-Faults bytes BadHead = (NeverHasRequest bytes) ⊎ BeginsFaulty bytes BadHead
-Faults bytes HeadTooLong = NeverHasHead bytes × BeginsTooLong bytes
-Faults bytes BodyTooLong = BeginsFaulty bytes BodyTooLong
-Faults bytes Version = BeginsFaulty bytes Version
-Faults bytes Coding = BeginsFaulty bytes Coding
-Faults bytes Ended = ((0 < length bytes) × GoesOn bytes × (length bytes < head_limit)) ⊎ IsCut bytes
+Faults bytes Ended = IsPartOfHead bytes ⊎ IsCut bytes
 Faults bytes IoFault = ⊤
+Faults bytes e = HasHeadFault bytes e
 
 -- what is left after a call of `next` over these bytes
 abbrev pub Leaves : List ℕ → Result (Option Request) HttpFault → Option (List ℕ) → Type 0
