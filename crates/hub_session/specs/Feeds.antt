@@ -1,8 +1,8 @@
 -- RFC 9112, section 7.1 (chunks); own for the feed: what a stream sends for its items, and how it goes.
-use Rattle.std.specs.Prelude.{◌≡◌, ◌≤◌, ⊤, ℕ, ◌+◌, List, [], ◌∷◌, ◌++◌, Bool, true, false, Option, Some, None}
+use Rattle.std.specs.Prelude.{◌≡◌, ◌≤◌, ℕ, ◌+◌, List, [], ◌∷◌, ◌++◌, Bool, true, false, Some, None}
 use Rattle.std.specs.Prelude.{MatchBool, if◌then◌else◌, codes}
 use Rattle.hub_model.specs.declared.feeds.Mode.{Mode}
-use Rattle.hub_http.specs.Counts.{last_count}
+use Rattle.hub_http.specs.Counts.{last_count, Sends}
 use Rattle.hub_http.specs.Chunks.{text_chunks}
 use Rattle.hub_http.specs.Items.{feed_head}
 use Rattle.hub_session.specs.declared.item.StreamItem.{StreamItem}
@@ -10,14 +10,7 @@ use Rattle.hub_session.specs.declared.closing.StreamEnd.{StreamEnd}
 use Rattle.hub_session.specs.declared.closing.StreamEnd.TheVariants.{Complete, Stopped, NoMemory, Broken}
 use Rattle.hub_session.specs.declared.closing.StreamEnd.TheVariants.{Exhausted}
 use Rattle.hub_session.specs.Items.{is_end, rows_after, stream_item_text}
-
--- from a state a service may go on with this item, or stop, and leave that state
-abbrev pub Gives : Type 0 → Type 1
-Gives S = S → Option StreamItem → S → Type 0
-
--- from a state a service may give back what its stream holds, and leave that state
-abbrev pub Drops : Type 0 → Type 1
-Drops S = S → S → Type 0
+use Rattle.hub_session.specs.Rules.{Rules, Moment}
 
 -- the last chunk of a stream
 abbrev pub last_chunk : List ℕ
@@ -40,37 +33,33 @@ items_text mode rows (item ∷ items) = sent_text mode rows item ++ items_text m
 abbrev pub feed_text : Mode → List StreamItem → List ℕ
 feed_text mode items = text_chunks (feed_head mode) ++ items_text mode 0 items
 
--- the stream is not sent on once the service, now at s, gave this item: behind a row or a beat the service
+-- a stream is not sent on once its service, now at s, gave this item: behind a row or a beat the service
 -- gives back what the stream holds, and behind an End the stream holds nothing
-abbrev pub GivesBack : {S : Type 0} → Drops S → StreamItem → S → S → Type 0
-GivesBack drops item s t = MatchBool (is_end item) (t ≡ s) (drops s t)
+abbrev pub GivesBack : {S : Type 0} → Rules S → StreamItem → S → S → Type 0
+GivesBack rules item s t = MatchBool (is_end item) (t ≡ s) (rules.drops s t)
 
--- from s, a stream that sent so many items may end so before its End, and leave t: in each case the service
--- gives back what the stream holds. For want of memory an item is lost that the service gave.
-abbrev pub StopsSo : {S : Type 0} → Gives S → Drops S → ℕ → S → StreamEnd → S → Type 0
-StopsSo gives drops sent s Complete t = ⊥
-StopsSo gives drops sent s Stopped t = (mid : _) × gives s None mid × drops mid t
-StopsSo gives drops sent s NoMemory t =
-    (lost : StreamItem) × (mid : _) × gives s (Some lost) mid × GivesBack drops lost mid t
-StopsSo gives drops sent s Broken t = drops s t
-StopsSo gives drops sent s Exhausted t = drops s t × (last_count ≤ sent)
-
--- a stream whose End came ends so
-abbrev pub EndsSo : StreamEnd → Type 0
-EndsSo Complete = ⊤
-EndsSo Stopped = ⊥
-EndsSo NoMemory = ⊥
-EndsSo Broken = ⊤
-EndsSo Exhausted = ⊥
-
--- from s, behind so many items, the service may give these, none behind an End, and leave t, and the stream
--- then ends so
-abbrev pub Streams : {S : Type 0} → Gives S → Drops S → ℕ → S → List StreamItem → StreamEnd → S → Type 0
-Streams gives drops sent s [] end t = StopsSo gives drops sent s end t
-Streams gives drops sent s (item ∷ items) end t =
-    (mid : _) × gives s (Some item) mid × MatchBool (is_end item)
-    ((t ≡ mid) × (items ≡ []) × EndsSo end)
-    (Streams gives drops (sent + 1) mid items end t)
+-- behind so many items a stream goes from s, with these items, to such an end, and its service is left at t
+pub data Streams {S : Type 0} (rules : Rules S) : ℕ → S → List StreamItem → StreamEnd → S → Type 0 where
+  -- a row or a beat is sent, and the stream goes on behind it
+  goes_on : {sent : ℕ} {s mid t : S} {item : StreamItem} {items : List StreamItem} {end : StreamEnd}
+      → rules.gives s (Some item) mid → is_end item ≡ false → Streams rules (sent + 1) mid items end t
+      → Streams rules sent s (item ∷ items) end t
+  -- its End is sent, and the last chunk
+  ends : {sent : ℕ} {s t : S} {item : StreamItem} → rules.gives s (Some item) t → is_end item ≡ true
+      → Streams rules sent s (item ∷ []) Complete t
+  -- its End comes, and can't be written to the other side
+  ends_broken : {sent : ℕ} {s t : S} {item : StreamItem} → rules.gives s (Some item) t → is_end item ≡ true
+      → Streams rules sent s (item ∷ []) Broken t
+  -- the service has no further item, and gives back what the stream holds
+  stops : {sent : ℕ} {s t : S} (mid : S) → rules.gives s None mid → rules.drops mid t
+      → Streams rules sent s [] Stopped t
+  -- the text of an item finds no memory: the item is lost, and the stream is not sent on
+  loses : {sent : ℕ} {s t : S} (mid : S) (lost : StreamItem) → rules.gives s (Some lost) mid
+      → GivesBack rules lost mid t → Streams rules sent s [] NoMemory t
+  -- the other side can't be written to: the service gives back what the stream holds
+  breaks : {sent : ℕ} {s t : S} → rules.drops s t → Streams rules sent s [] Broken t
+  -- its items can't be counted further: the service gives back what the stream holds
+  gives_up : {sent : ℕ} {s t : S} → rules.drops s t → last_count ≤ sent → Streams rules sent s [] Exhausted t
 
 -- writing to the other side failed
 abbrev pub is_broken : StreamEnd → Bool
@@ -79,3 +68,10 @@ is_broken Stopped = false
 is_broken NoMemory = false
 is_broken Broken = true
 is_broken Exhausted = false
+
+-- a stream was sent, and ended so: this text of its items was written, or where writing failed a front of it
+pub record IsFed {S : Type 0} (rules : Rules S) (text : List StreamItem → List ℕ) (end : StreamEnd)
+    (before after : Moment S) : Type 0 where
+  pub items : List StreamItem
+  pub streams : Streams rules 0 before.service items end after.service
+  pub written : Sends (is_broken end) before.written after.written (text items)

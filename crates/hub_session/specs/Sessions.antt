@@ -1,10 +1,12 @@
 -- RFC 9112, section 9 (persistent connections); own for the answers: what a session writes, and how it goes.
-use Rattle.std.specs.Prelude.{◌≡◌, ◌≤◌, ◌⊎◌, ℕ, ◌+◌, List, [], ◌∷◌, ◌++◌, Bool, true, false, Option, Some}
+use Rattle.std.specs.Prelude.{◌≡◌, ◌≤◌, ℕ, ◌+◌, List, [], ◌∷◌, ◌++◌, Bool, true, false, Option, Some}
 use Rattle.std.specs.Prelude.{None, if◌then◌else◌, codes, bytes_eq}
 use Rattle.std.specs.List.{flat_map}
 use Rattle.std.specs.Io.KnownBytes.{Appends}
+use Rattle.hub_model.specs.declared.feeds.Mode.{Mode}
 use Rattle.hub_http.specs.Counts.{last_count, Sends}
 use Rattle.hub_http.specs.Texts.{head_text, chunked_line}
+use Rattle.hub_http.specs.declared.reply.Reply.{Reply}
 use Rattle.hub_http.specs.declared.fault.HttpFault.{HttpFault}
 use Rattle.hub_http.specs.Stream.{Asked, Spells, Faults}
 use Rattle.hub_session.specs.declared.item.StreamItem.{StreamItem}
@@ -15,12 +17,9 @@ use Rattle.hub_session.specs.declared.closing.StreamEnd.TheVariants as stream
 use Rattle.hub_session.specs.declared.closing.Closing.{Closing}
 use Rattle.hub_session.specs.declared.closing.Closing.TheVariants.{Finished, Requested, Fault, Cut, Broken}
 use Rattle.hub_session.specs.declared.closing.Closing.TheVariants.{Exhausted}
-use Rattle.hub_session.specs.Feeds.{Gives, Drops, feed_text, Streams}
+use Rattle.hub_session.specs.Feeds.{feed_text, Streams}
 use Rattle.hub_session.specs.Replies.{fault_text, whole_text}
-
--- from a state a service may answer this request so, and leave that state
-abbrev pub Answering : Type 0 → Type 1
-Answering S = S → Asked → Answer → S → Type 0
+use Rattle.hub_session.specs.Rules.{Rules, Moment}
 
 -- a request with its answer
 pub record Exchange : Type 0 where
@@ -57,29 +56,31 @@ after_stream close stream.NoMemory = Some Cut
 after_stream close stream.Broken = Some Broken
 after_stream close stream.Exhausted = Some Exhausted
 
--- behind the head of a stream the service may give these items and leave t, and the session goes on so. The
--- answer to HEAD has no items: the service gives back what the stream holds.
-abbrev pub StreamGoes : {S : Type 0} → Gives S → Drops S
-    → Bool → Bool → S → List StreamItem → Option Closing → S → Type 0
-StreamGoes gives drops true close s items next t = drops s t × (items ≡ []) × (next ≡ after_answer close)
-StreamGoes gives drops false close s items next t =
-    (end : StreamEnd) × Streams gives drops 0 s items end t × (next ≡ after_stream close end)
+-- while the answer of an exchange is sent the service goes from s to t, and then the session closes so, or goes
+-- on where `next` is None
+pub data Goes {S : Type 0} (rules : Rules S) (x : Exchange) (s : S) (next : Option Closing) (t : S) : Type 0 where
+  -- a whole answer is written
+  whole : (reply : Reply) → x.answer ≡ Whole reply → x.items ≡ [] → t ≡ s
+      → next ≡ after_answer x.asked.close → Goes rules x s next t
+  -- a whole answer can't be written to the other side
+  whole_broken : (reply : Reply) → x.answer ≡ Whole reply → x.items ≡ [] → t ≡ s
+      → next ≡ Some Broken → Goes rules x s next t
+  -- HEAD asked for a stream: the head of its answer is written, and the service gives back what the stream holds
+  head_alone : (mode : Mode) → x.answer ≡ Stream mode → is_head x.asked ≡ true → x.items ≡ [] → rules.drops s t
+      → next ≡ after_answer x.asked.close → Goes rules x s next t
+  -- the items of a stream are sent behind the head of its answer
+  stream_sent : (mode : Mode) (end : StreamEnd) → x.answer ≡ Stream mode → is_head x.asked ≡ false
+      → Streams rules 0 s x.items end t → next ≡ after_stream x.asked.close end → Goes rules x s next t
+  -- the head of a stream's answer can't be written to the other side: the service gives back what it holds
+  head_broken : (mode : Mode) → x.answer ≡ Stream mode → x.items ≡ [] → rules.drops s t
+      → next ≡ Some Broken → Goes rules x s next t
 
--- while such an answer is sent the service may go from s to t, and the session goes on so: where the other
--- side can't be written to, the session closes, and what a stream holds is given back
-abbrev pub Goes : {S : Type 0} → Gives S → Drops S
-    → Answer → Bool → Bool → S → List StreamItem → Option Closing → S → Type 0
-Goes gives drops (Whole reply) head_only close s items next t =
-    (t ≡ s) × (items ≡ []) × ((next ≡ after_answer close) ⊎ (next ≡ Some Broken))
-Goes gives drops (Stream mode) head_only close s items next t =
-    StreamGoes gives drops head_only close s items next t ⊎ (drops s t × (items ≡ []) × (next ≡ Some Broken))
-
--- from s the service may answer the request so and leave t, and the session goes on so
-pub record Answers {S : Type 0} (answers : Answering S) (gives : Gives S) (drops : Drops S)
-    (s : S) (x : Exchange) (next : Option Closing) (t : S) : Type 0 where
+-- from s the service may answer the request so and leave t, and then the session closes so, or goes on
+pub record Answers {S : Type 0} (rules : Rules S) (s : S) (x : Exchange) (next : Option Closing) (t : S)
+    : Type 0 where
   pub mid : S
-  pub answered : answers s x.asked x.answer mid
-  pub goes : Goes gives drops x.answer (is_head x.asked) x.asked.close mid x.items next t
+  pub answered : rules.answers s x.asked x.answer mid
+  pub goes : Goes rules x mid next t
 
 -- where bytes begin with no request a session closes so, with this text
 abbrev pub Closes : List ℕ → Closing → List ℕ → Type 0
@@ -90,38 +91,35 @@ Closes bytes Cut text = ⊥
 Closes bytes Broken text = (e : HttpFault) × Faults bytes e × (text ≡ fault_text e)
 Closes bytes Exhausted text = ⊥
 
--- a session gives up once its requests can't be counted further
-abbrev pub GivesUp : ℕ → Closing → List ℕ → Type 0
-GivesUp served closing text = (closing ≡ Exhausted) × (text ≡ []) × (last_count ≤ served)
+-- where a session stands: how many requests it answered, the bytes that are to come, and its service's state
+pub record Standing (S : Type 0) : Type 0 where
+  pub served : ℕ
+  pub bytes : List ℕ
+  pub service : S
 
--- the bytes begin with a request that the service may answer so and leave t, the session closes so behind it,
--- and its answer has this text
-pub record AnswersLast {S : Type 0} (answers : Answering S) (gives : Gives S) (drops : Drops S)
-    (bytes : List ℕ) (s : S) (closing : Closing) (text : List ℕ) (t : S) : Type 0 where
-  pub exchange : Exchange
-  pub rest : List ℕ
-  pub spelt : Spells bytes exchange.asked rest
-  pub goes : Answers answers gives drops s exchange (Some closing) t
-  pub text_is : text ≡ exchange_text exchange
+-- how a session ends: why it closes, the text that it closes with, and the state in which it leaves its service
+pub record Ending (S : Type 0) : Type 0 where
+  pub closing : Closing
+  pub text : List ℕ
+  pub service : S
 
--- behind so many requests a session may close so, with this text, and leave t: behind one more request, or
--- where the bytes begin with none, or where it gives up
-abbrev pub ClosesBy : {S : Type 0} → Answering S → Gives S → Drops S
-    → ℕ → List ℕ → S → Closing → List ℕ → S → Type 0
-ClosesBy answers gives drops served bytes s closing text t =
-    AnswersLast answers gives drops bytes s closing text t
-    ⊎ ((t ≡ s) × (Closes bytes closing text ⊎ GivesUp served closing text))
-
--- behind so many requests, the bytes spell those of these exchanges, the service may answer them so, one
--- after the other, the session going on behind each, and then it closes so, with this text, and leaves t
-abbrev pub Session : {S : Type 0} → Answering S → Gives S → Drops S
-    → ℕ → List ℕ → S → List Exchange → Closing → List ℕ → S → Type 0
-Session answers gives drops served bytes s [] closing text t =
-    ClosesBy answers gives drops served bytes s closing text t
-Session answers gives drops served bytes s (x ∷ xs) closing text t =
-    (rest : List ℕ) × (mid : _) × Spells bytes x.asked rest
-    × Answers answers gives drops s x None mid
-    × Session answers gives drops (served + 1) rest mid xs closing text t
+-- from where it stands a session has these exchanges, goes on behind each of them, and then ends so
+pub data Session {S : Type 0} (rules : Rules S) : Standing S → List Exchange → Ending S → Type 0 where
+  -- a request is answered, and the session goes on behind it
+  goes_on : {now : Standing S} {x : Exchange} {xs : List Exchange} {ending : Ending S} (rest : List ℕ) (mid : S)
+      → Spells now.bytes x.asked rest → Answers rules now.service x None mid
+      → Session rules (record { served = now.served + 1; bytes = rest; service = mid }) xs ending
+      → Session rules now (x ∷ xs) ending
+  -- a request is answered, and the session closes behind it, with the text of its answer
+  closes_behind : {now : Standing S} {ending : Ending S} (x : Exchange) (rest : List ℕ)
+      → Spells now.bytes x.asked rest → Answers rules now.service x (Some ending.closing) ending.service
+      → ending.text ≡ exchange_text x → Session rules now [] ending
+  -- the bytes begin with no request
+  closes : {now : Standing S} {ending : Ending S} → Closes now.bytes ending.closing ending.text
+      → ending.service ≡ now.service → Session rules now [] ending
+  -- its requests can't be counted further
+  gives_up : {now : Standing S} {ending : Ending S} → last_count ≤ now.served → ending.closing ≡ Exhausted
+      → ending.text ≡ [] → ending.service ≡ now.service → Session rules now [] ending
 
 -- writing to the other side failed
 abbrev pub is_broken : Closing → Bool
@@ -132,41 +130,56 @@ is_broken Cut = false
 is_broken Broken = true
 is_broken Exhausted = false
 
--- such bytes were served so: the texts of the exchanges behind which the session went on were written whole,
--- one after the other, and then the text that it closed with, or where that writing broke a front of it. Two
--- requests of which the second could not be answered, since the other side is gone: the text of the first,
--- and then a front of the text of the second, which is `last`.
-pub record IsSession {S : Type 0} (answers : Answering S) (gives : Gives S) (drops : Drops S)
-    (bytes : List ℕ) (s : S) (closing : Closing) (t : S) (old new : Option (List ℕ)) : Type 0 where
+-- such bytes were served, and the session closed so: the texts of the exchanges behind which it went on were
+-- written whole, one after the other, and then the text that it closed with, or where that writing broke a front
+-- of it. Two requests of which the second could not be answered, since the other side is gone: the text of the
+-- first, and then a front of the text of the second, which is `last`.
+pub record IsSession {S : Type 0} (rules : Rules S) (bytes : List ℕ) (closing : Closing) (before after : Moment S)
+    : Type 0 where
   pub exchanges : List Exchange  -- those behind which the session went on
   pub last : List ℕ  -- the text that it closed with
   pub mid : Option (List ℕ)  -- the known bytes before that text
-  pub goes : Session answers gives drops 0 bytes s exchanges closing last t
-  pub whole : Appends old mid (flat_map exchange_text exchanges)
-  pub written : Sends (is_broken closing) mid new last
+  pub goes : Session rules (record { served = 0; bytes = bytes; service = before.service }) exchanges
+      (record { closing = closing; text = last; service = after.service })
+  pub whole : Appends before.written mid (flat_map exchange_text exchanges)
+  pub written : Sends (is_broken closing) mid after.written last
 
 -- writing failed, if the session closes
 abbrev pub breaks : Option Closing → Bool
 breaks None = false
 breaks (Some closing) = is_broken closing
 
--- the first request was answered so, and the bytes that are left are told
-pub record IsAnswered {S : Type 0} (answers : Answering S) (gives : Gives S) (drops : Drops S)
-    (bytes : List ℕ) (s : S) (next : Option Closing) (left : Option (List ℕ)) (t : S)
-    (old new : Option (List ℕ)) : Type 0 where
+-- this request was answered, and then the session closes so, or goes on: the text of the answer was written, or
+-- where that writing broke a front of it
+pub record HasAnswer {S : Type 0} (rules : Rules S) (asked : Asked) (next : Option Closing)
+    (before after : Moment S) : Type 0 where
   pub exchange : Exchange
-  pub rest : List ℕ
-  pub spelt : Spells bytes exchange.asked rest
-  pub left_is : left ≡ Some rest
-  pub goes : Answers answers gives drops s exchange next t
-  pub written : Sends (breaks next) old new (exchange_text exchange)
+  pub asked_is : exchange.asked ≡ asked
+  pub goes : Answers rules before.service exchange next after.service
+  pub written : Sends (breaks next) before.written after.written (exchange_text exchange)
 
--- there was no request, and the session closes
-pub record IsClosed {S : Type 0} (bytes : List ℕ) (s : S) (next : Option Closing) (t : S)
-    (old new : Option (List ℕ)) : Type 0 where
+-- the bytes begin with a request, which was answered, and those behind it are left
+pub record IsAnswered {S : Type 0} (rules : Rules S) (bytes : List ℕ) (next : Option Closing)
+    (left : Option (List ℕ)) (before after : Moment S) : Type 0 where
+  pub asked : Asked
+  pub rest : List ℕ
+  pub spelt : Spells bytes asked rest
+  pub left_is : left ≡ Some rest
+  pub answer : HasAnswer rules asked next before after
+
+-- the bytes begin with no request, and the session closes
+pub record IsClosed {S : Type 0} (bytes : List ℕ) (next : Option Closing) (before after : Moment S) : Type 0 where
   pub closing : Closing
   pub text : List ℕ
   pub next_is : next ≡ Some closing
   pub closes : Closes bytes closing text
-  pub same : t ≡ s
-  pub written : Sends (is_broken closing) old new text
+  pub same : after.service ≡ before.service
+  pub written : Sends (is_broken closing) before.written after.written text
+
+-- a session took one step over these bytes, and then closes so, or goes on with those that are left
+pub data IsServed {S : Type 0} (rules : Rules S) (bytes : List ℕ) (next : Option Closing)
+    (left : Option (List ℕ)) (before after : Moment S) : Type 0 where
+  -- the next request was answered
+  answered : IsAnswered rules bytes next left before after → IsServed rules bytes next left before after
+  -- there was none, and the session closes
+  closed : IsClosed bytes next before after → IsServed rules bytes next left before after

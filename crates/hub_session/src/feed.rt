@@ -1,12 +1,12 @@
 //! Streams to a writer.
-ghost use Rattle.std.specs.Prelude.{◌≡◌, ◌<◌, ◌≤◌, ◌+◌, ◌^◌, List, is_err, OnErr, IsErrOf};
+ghost use Rattle.std.specs.Prelude.{◌≡◌, ◌<◌, ◌≤◌, ◌+◌, ◌^◌, is_err, OnErr, IsErrOf};
 ghost use Rattle.std.specs.Io.KnownBytes.{Keeps};
 ghost use Rattle.hub_http.specs.Counts.{Rose, Sends};
 ghost use Rattle.hub_http.specs.Items.{feed_head};
 ghost use Rattle.hub_http.specs.Chunks.{Writes, text_chunks};
-ghost use Rattle.hub_session.specs.declared.item.StreamItem.{StreamItem as Item};
 ghost use Rattle.hub_session.specs.Items.{rows_after, stream_item_text};
-ghost use Rattle.hub_session.specs.Feeds.{feed_text, items_text, sent_text, behind_item, GivesBack, Streams, is_broken, last_chunk};
+ghost use Rattle.hub_session.specs.Feeds.{feed_text, items_text, sent_text, behind_item, GivesBack, IsFed, last_chunk};
+ghost use Rattle.hub_session.specs.Rules.{moment};
 
 use crate::closing::StreamEnd;
 use crate::item::StreamItem;
@@ -145,7 +145,7 @@ fn flush_cut<W: Output>(writer: &mut W)
 
 /// Gives back what a stream holds of which this item was not sent. Behind an End it holds nothing.
 fn give_back<S: Service>(service: &mut S, item: &StreamItem)
-    ensures { GivesBack S.drop_gives item.now service.old service.new }
+    ensures { GivesBack S.rules item.now service.old service.new }
 {
     if !item.is_end() {
         service.drop_stream();
@@ -159,8 +159,8 @@ fn send_items<W: Output, S: Service>(
     service: &mut S,
     mode: Mode,
 ) -> StreamEnd
-    ensures fed { (items : List Item) × Streams S.item_gives S.drop_gives 0 service.old items result service.new
-        × Sends (is_broken result) (W.written writer.old) (W.written writer.new) (items_text mode 0 items) }
+    ensures fed { IsFed S.rules (items_text mode 0) result
+        (moment service.old (W.written writer.old)) (moment service.new (W.written writer.new)) }
     ensures monotone { W.fault_count writer.old ≤ W.fault_count writer.new }
     ensures fault { result ≡ StreamEnd.Broken → Rose (W.fault_count writer.old) (W.fault_count writer.new) }
 {
@@ -207,8 +207,8 @@ pub fn stream_feed<W: Output, S: Service>(
     service: &mut S,
     mode: Mode,
 ) -> StreamEnd
-    ensures fed { (items : List Item) × Streams S.item_gives S.drop_gives 0 service.old items result service.new
-        × Sends (is_broken result) (W.written writer.old) (W.written writer.new) (feed_text mode items) }
+    ensures fed { IsFed S.rules (feed_text mode) result
+        (moment service.old (W.written writer.old)) (moment service.new (W.written writer.new)) }
     ensures monotone { W.fault_count writer.old ≤ W.fault_count writer.new }
     ensures fault { result ≡ StreamEnd.Broken → Rose (W.fault_count writer.old) (W.fault_count writer.new) }
 {

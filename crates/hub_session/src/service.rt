@@ -1,8 +1,6 @@
 //! What answers requests.
-ghost use Rattle.std.specs.Prelude.{Option};
-ghost use Rattle.hub_http.specs.Stream.{Asked, asked_by};
-ghost use Rattle.hub_session.specs.declared.item.StreamItem.{StreamItem as Item};
-ghost use Rattle.hub_session.specs.declared.service.Answer.{Answer as Said};
+ghost use Rattle.hub_http.specs.Stream.{asked_by};
+ghost use Rattle.hub_session.specs.Rules.{Rules};
 
 use crate::item::StreamItem;
 use hub_http::{Reply, Request};
@@ -19,18 +17,12 @@ pub enum Answer {
 
 /// What answers requests.
 pub trait Service {
-    /// From a state, this request may have this answer and leave that state.
-    ghost answer_gives: { Self → Asked → Said → Self → Type 0 };
-
-    /// From a state, a stream may go on with this item, or stop, and leave that state.
-    ghost item_gives: { Self → Option Item → Self → Type 0 };
-
-    /// From a state, what the stream holds may be given back, and leave that state.
-    ghost drop_gives: { Self → Self → Type 0 };
+    /// What it may answer, what its stream may go on with, and how it may give back what that holds.
+    ghost rules: { Rules Self };
 
     /// The answer to a request. Want of memory is an answer too.
     fn answer(&mut self, request: &Request) -> Answer
-        ensures { answer_gives self.old (asked_by request.now) result self.new };
+        ensures { rules.answers self.old (asked_by request.now) result self.new };
 
     /// Whether `item` would answer at once. It decides when a stream is flushed, and nothing of
     /// what is written: before an item that is said to be ready, what was written may lie unseen
@@ -40,10 +32,10 @@ pub trait Service {
     /// The next item of the stream that was answered last, `None` where the stream stops, as for
     /// want of memory. It may wait for one; after an End it is not called.
     fn item(&mut self) -> Option<StreamItem>
-        ensures { item_gives self.old result self.new };
+        ensures { rules.gives self.old result self.new };
 
     /// The stream that was answered last is not sent on: what it holds is given back. After the End
     /// of a stream it is not called.
     fn drop_stream(&mut self)
-        ensures { drop_gives self.old self.new };
+        ensures { rules.drops self.old self.new };
 }

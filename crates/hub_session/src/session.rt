@@ -1,10 +1,11 @@
 //! Sessions over a reader and a writer.
-ghost use Rattle.std.specs.Prelude.{◌≡◌, ◌≤◌, ◌⊎◌, IfSome, Some};
-ghost use Rattle.hub_http.specs.Counts.{Rose, Sends};
+ghost use Rattle.std.specs.Prelude.{◌≡◌, ◌≤◌, IfSome, Some};
+ghost use Rattle.hub_http.specs.Counts.{Rose};
 ghost use Rattle.hub_http.specs.declared.fault.HttpFault.{HttpFault};
 ghost use Rattle.hub_http.specs.Stream.{asked_by};
 ghost use Rattle.hub_http.specs.Words.{to_come, IsOpen, HasEnded, faults_of};
-ghost use Rattle.hub_session.specs.Sessions.{Exchange, exchange_text, Answers, IsAnswered, IsClosed, IsSession, breaks, after_answer, after_stream, is_head};
+ghost use Rattle.hub_session.specs.Rules.{moment};
+ghost use Rattle.hub_session.specs.Sessions.{HasAnswer, IsServed, IsSession, after_answer, after_stream, is_head};
 
 use crate::closing::{Closing, StreamEnd};
 use crate::feed::stream_feed;
@@ -48,8 +49,8 @@ fn answer_one<W: Output, S: Service>(
     service: &mut S,
     request: &Request,
 ) -> Option<Closing>
-    ensures told { (x : Exchange) × (x.asked ≡ asked_by request.now) × Answers S.answer_gives S.item_gives S.drop_gives service.old x result service.new
-        × Sends (breaks result) (W.written writer.old) (W.written writer.new) (exchange_text x) }
+    ensures told { HasAnswer S.rules (asked_by request.now) result
+        (moment service.old (W.written writer.old)) (moment service.new (W.written writer.new)) }
     ensures monotone { W.fault_count writer.old ≤ W.fault_count writer.new }
     ensures fault { result ≡ Some Closing.Broken → Rose (W.fault_count writer.old) (W.fault_count writer.new) }
 {
@@ -89,8 +90,8 @@ pub fn serve_one<R: Input, W: Output, S: Service>(
     service: &mut S,
 ) -> Option<Closing>
     ensures told { IsOpen requests.old → IfSome (to_come R.left requests.old) (λ bytes.
-        IsAnswered S.answer_gives S.item_gives S.drop_gives bytes service.old result (to_come R.left requests.new) service.new (W.written writer.old) (W.written writer.new)
-        ⊎ IsClosed bytes service.old result service.new (W.written writer.old) (W.written writer.new)) }
+        IsServed S.rules bytes result (to_come R.left requests.new)
+        (moment service.old (W.written writer.old)) (moment service.new (W.written writer.new))) }
     ensures stays { IsOpen requests.old → result ≡ None → IsOpen requests.new }
     ensures ended { HasEnded requests.old → (result ≡ Some (Closing.Fault HttpFault.Ended))
         × (requests.new ≡ requests.old) × (service.new ≡ service.old) × (writer.new ≡ writer.old) }
@@ -120,7 +121,8 @@ pub fn serve<R: Input, W: Output, S: Service>(
     service: &mut S,
 ) -> Closing
     ensures session { IsOpen requests.old → IfSome (to_come R.left requests.old) (λ bytes.
-        IsSession S.answer_gives S.item_gives S.drop_gives bytes service.old result service.new (W.written writer.old) (W.written writer.new)) }
+        IsSession S.rules bytes result
+        (moment service.old (W.written writer.old)) (moment service.new (W.written writer.new))) }
     ensures ended { HasEnded requests.old → (result ≡ Closing.Fault HttpFault.Ended)
         × (requests.new ≡ requests.old) × (service.new ≡ service.old) × (writer.new ≡ writer.old) }
     ensures monotone { W.fault_count writer.old ≤ W.fault_count writer.new }

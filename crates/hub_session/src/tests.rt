@@ -59,11 +59,11 @@ impl Rows {
 }
 
 impl Service for Rows {
-    ghost answer_gives = { λ _ _ _ _. Unit {0} };
-
-    ghost item_gives = { λ _ _ _. Unit {0} };
-
-    ghost drop_gives = { λ _ _. Unit {0} };
+    ghost rules = { record {
+        answers = λ _ _ _ _. Unit {0};
+        gives = λ _ _ _. Unit {0};
+        drops = λ _ _. Unit {0};
+    } };
 
     fn answer(&mut self, request: &Request) -> Answer {
         match request.target.as_slice() {

@@ -14,11 +14,11 @@ struct Updates {
 }
 
 impl Service for Updates {
-    ghost answer_gives = { λ _ _ _ _. Unit {0} };
-
-    ghost item_gives = { λ _ _ _. Unit {0} };
-
-    ghost drop_gives = { λ _ _. Unit {0} };
+    ghost rules = { record {
+        answers = λ _ _ _ _. Unit {0};
+        gives = λ _ _ _. Unit {0};
+        drops = λ _ _. Unit {0};
+    } };
 
     fn answer(&mut self, _request: &Request) -> Answer {
         self.next = 0;

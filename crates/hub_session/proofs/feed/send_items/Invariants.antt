@@ -1,4 +1,5 @@
 use Rattle.std.proofs.Common.{◌≤◌}
+use Rattle.hub_session.specs.Rules.{moment}
 use Rattle.hub_session.proofs.FeedLemmas.{Went}
 use Rattle.hub_session.proofs.feed.send_items.Given as goal
 
@@ -6,6 +7,6 @@ abbrev pub invariant-loop : goal.invariant-loop
 invariant-loop g l =
     let written = g.W.Output.written in
     let faults = g.W.Output.fault_count in
-    Went g.S.Service.item_gives g.S.Service.drop_gives l.mode l.fn.service l.counter l.service l.rows (written l.fn.writer) (written l.writer)
+    Went g.S.Service.rules l.mode (moment l.fn.service (written l.fn.writer)) l.counter l.rows (moment l.service (written l.writer))
     × (faults l.fn.writer ≤ faults l.writer)
     × (l.rows ≤ l.counter)

@@ -5,5 +5,4 @@ use Rattle.hub_session.proofs.feed.stream_feed.Goals as goal
 
 pub returns-in-Ok-clause-fed : goal.returns-in-Ok-clause-fed
 returns-in-Ok-clause-fed g c =
-    fed_behind g.S.Service.item_gives g.S.Service.drop_gives c.args.mode _ _ _ _ _ _
-    (subst (Appends _ _) (c.as_bytes.ensures.value ∙ c.head_chunk.ensures) c.in-Ok.ensures.sent) c.send_items.ensures.fed
+    fed_behind g.S.Service.rules c.args.mode _ _ _ _ (subst (Appends _ _) (c.as_bytes.ensures.value ∙ c.head_chunk.ensures) c.in-Ok.ensures.sent) c.send_items.ensures.fed

@@ -5,7 +5,7 @@ use Rattle.hub_session.proofs.session.serve.Goals as goal
 
 pub returns-in-Some-clause-session : goal.returns-in-Some-clause-session
 returns-in-Some-clause-session g c = λ is_open.
-    serves_so g.S.Service.answer_gives g.S.Service.item_gives g.S.Service.drop_gives _ _ _ c.loop.counter _ _ _ _ _ _ c.in-Some.closing
+    serves_so g.S.Service.rules _ _ _ c.loop.counter _ _ _ c.in-Some.closing
     (c.loop.invariant.served is_open) (c.in-Some.ensures.told (c.loop.invariant.is_open is_open))
 
 pub returns-in-Some-clause-ended : goal.returns-in-Some-clause-ended
@@ -17,8 +17,7 @@ returns-in-Some-clause-ended g c = λ ended.
 
 pub returns-clause-session : goal.returns-clause-session
 returns-clause-session g c = λ is_open.
-    serves_all g.S.Service.answer_gives g.S.Service.item_gives g.S.Service.drop_gives _ _ c.loop.counter _ _ _ _ c.loop-test.false
-    (c.loop.invariant.served is_open)
+    serves_all g.S.Service.rules _ _ c.loop.counter _ _ c.loop-test.false (c.loop.invariant.served is_open)
 
 pub returns-clause-ended : goal.returns-clause-ended
 returns-clause-ended g c = λ ended.
@@ -27,7 +26,7 @@ returns-clause-ended g c = λ ended.
 
 pub loop-init : goal.loop-init
 loop-init g c = record {
-  served = λ is_open. served_none g.S.Service.answer_gives g.S.Service.item_gives g.S.Service.drop_gives _ _ _;
+  served = λ is_open. served_none g.S.Service.rules _ _;
   is_open = λ is_open. is_open;
   ended = λ ended. (refl, refl, refl, refl);
   writes = omega arith;
@@ -36,7 +35,7 @@ loop-init g c = record {
 
 pub loop-preserved : goal.loop-preserved
 loop-preserved g c = record {
-  served = λ is_open. serves_more g.S.Service.answer_gives g.S.Service.item_gives g.S.Service.drop_gives _ _ _ c.loop.counter _ _ _ _ _ _
+  served = λ is_open. serves_more g.S.Service.rules _ _ _ c.loop.counter _ _ _
       (c.loop.invariant.served is_open) (c.in_default.ensures.told (c.loop.invariant.is_open is_open));
   is_open = λ is_open. c.in_default.ensures.stays (c.loop.invariant.is_open is_open) refl;
   ended = λ ended.

@@ -1,5 +1,6 @@
 use Rattle.std.proofs.Common.{◌≡◌, ◌≤◌, IfSome}
 use Rattle.hub_http.specs.Words.{to_come, IsOpen, HasEnded}
+use Rattle.hub_session.specs.Rules.{moment}
 use Rattle.hub_session.proofs.SessionLemmas.{Served}
 use Rattle.hub_session.proofs.session.serve.Given as goal
 
@@ -9,7 +10,7 @@ invariant-loop g l =
     let left = g.R.Input.left in
     record {
       served : IsOpen l.fn.requests → IfSome (to_come left l.fn.requests) (λ bytes.
-          Served g.S.Service.answer_gives g.S.Service.item_gives g.S.Service.drop_gives bytes l.fn.service l.counter (to_come left l.requests) l.service (written l.fn.writer) (written l.writer));
+          Served g.S.Service.rules bytes (moment l.fn.service (written l.fn.writer)) l.counter (to_come left l.requests) (moment l.service (written l.writer)));
       is_open : IsOpen l.fn.requests → IsOpen l.requests;
       ended : HasEnded l.fn.requests → (l.requests ≡ l.fn.requests) × (l.service ≡ l.fn.service) × (l.writer ≡ l.fn.writer) × (l.counter ≡ 0);
       writes : g.W.Output.fault_count l.fn.writer ≤ g.W.Output.fault_count l.writer;

@@ -5,19 +5,19 @@ use Rattle.hub_session.proofs.session.serve_one.Goals as goal
 pub returns-in-Ok-Some-clause-told : goal.returns-in-Ok-Some-clause-told
 returns-in-Ok-Some-clause-told g c = λ is_open.
     let told = rw c.in-Ok-Some.field-0-is at (c.in-Ok-Some.ensures.told is_open) in
-    one_answered g.S.Service.answer_gives g.S.Service.item_gives g.S.Service.drop_gives _ _ _ _ _ _ c.in-Ok-Some.request _ told c.answer_one.ensures.told
+    one_answered g.S.Service.rules _ _ _ _ c.in-Ok-Some.request _ told c.answer_one.ensures.told
 
 pub returns-in-Ok-None-clause-told : goal.returns-in-Ok-None-clause-told
 returns-in-Ok-None-clause-told g c = λ is_open.
     let told = rw c.in-Ok-None.field-0-is at (c.in-Ok-None.ensures.told is_open) in
-    one_finished g.S.Service.answer_gives g.S.Service.item_gives g.S.Service.drop_gives _ _ (g.W.Output.written c.args.writer.now) _ _ told
+    one_finished g.S.Service.rules _ _ _ told
 
 pub returns-in-Ok-clause-told : goal.returns-in-Ok-clause-told
 returns-in-Ok-clause-told g c = λ is_open.
-    one_faulted g.S.Service.answer_gives g.S.Service.item_gives g.S.Service.drop_gives _ _ _ _ _ c.in-Err.fault _ (c.in-Err.ensures.told is_open)
+    one_faulted g.S.Service.rules _ _ _ _ c.in-Err.fault _ (c.in-Err.ensures.told is_open)
     (c.as_bytes.ensures.value ∙ c.fault_text.ensures) c.in-Ok.ensures.sent
 
 pub returns-in-Err-send-clause-told : goal.returns-in-Err-send-clause-told
 returns-in-Err-send-clause-told g c = λ is_open.
-    one_broken g.S.Service.answer_gives g.S.Service.item_gives g.S.Service.drop_gives _ _ _ _ _ c.in-Err.fault _ (c.in-Err.ensures.told is_open)
+    one_broken g.S.Service.rules _ _ _ _ c.in-Err.fault _ (c.in-Err.ensures.told is_open)
     (c.as_bytes.ensures.value ∙ c.fault_text.ensures) c.in-Err-send.ensures.sent

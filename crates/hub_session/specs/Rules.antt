@@ -1,0 +1,22 @@
+-- own: what a service may do, and where a connection stands.
+use Rattle.std.specs.Prelude.{ℕ, List, Option}
+use Rattle.hub_http.specs.Stream.{Asked}
+use Rattle.hub_session.specs.declared.item.StreamItem.{StreamItem}
+use Rattle.hub_session.specs.declared.service.Answer.{Answer}
+
+-- what a service may do, each from a state to the one that it leaves
+pub record Rules (S : Type 0) : Type 1 where
+  -- answer this request so
+  pub answers : S → Asked → Answer → S → Type 0
+  -- go on with this item of its stream, or with none where the stream stops
+  pub gives : S → Option StreamItem → S → Type 0
+  -- give back what its stream holds
+  pub drops : S → S → Type 0
+
+-- a moment of a connection: the state of its service, and the bytes that were written, where they are told
+pub record Moment (S : Type 0) : Type 0 where
+  pub service : S
+  pub written : Option (List ℕ)
+
+abbrev pub moment : {S : Type 0} → S → Option (List ℕ) → Moment S
+moment service written = record { service = service; written = written }
