@@ -92,3 +92,9 @@ fed_behind rules mode end before after mid p f = record {
   streams = f.streams;
   written = sends_after (is_broken end) before.written mid after.written (text_chunks (feed_head mode)) _ p f.written;
 }
+
+-- the head can't be written
+pub fed_broken : {S : Type 0} (rules : Rules S) (mode : Mode) (before after : Moment S) → rules.drops before.service after.service
+    → Sends true before.written after.written (text_chunks (feed_head mode)) → IsFed rules (feed_text mode) Broken before after
+fed_broken rules mode before after d p =
+    record { items = []; streams = Streams.breaks d; written = front_of_more before.written after.written (text_chunks (feed_head mode)) _ p }

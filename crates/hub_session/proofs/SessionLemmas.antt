@@ -13,7 +13,7 @@ use Rattle.hub_session.specs.declared.closing.Closing.{Closing}
 use Rattle.hub_session.specs.declared.closing.Closing.TheVariants.{Finished, Fault, Broken, Exhausted}
 use Rattle.hub_session.specs.Replies.{fault_text}
 use Rattle.hub_session.specs.Rules.{Rules, Moment, moment}
-use Rattle.hub_session.specs.Sessions.{Exchange, exchange_text, Answers, Standing, Ending, Session, IsSession, HasAnswer, IsAnswered, IsClosed, IsServed, Closes, is_broken}
+use Rattle.hub_session.specs.Sessions.{Exchange, exchange_text, Standing, Ending, Session, IsSession, HasAnswer, IsServed, Closes, is_broken}
 
 -- a fault of the next request is one that its bytes have
 ends_faulty : (b c : Option (List ℕ)) (e : HttpFault) → IfSome b (λ bytes. Leaves bytes (Err e) c) → IfSome b (λ bytes. Faults bytes e)

@@ -60,9 +60,9 @@ impl Rows {
 
 impl Service for Rows {
     ghost rules = { record {
-        answers = λ _ _ _ _. Unit {0};
-        gives = λ _ _ _. Unit {0};
-        drops = λ _ _. Unit {0};
+      answers = λ _ _ _ _. Unit {0};
+      gives = λ _ _ _. Unit {0};
+      drops = λ _ _. Unit {0};
     } };
 
     fn answer(&mut self, request: &Request) -> Answer {

@@ -15,9 +15,9 @@ struct Updates {
 
 impl Service for Updates {
     ghost rules = { record {
-        answers = λ _ _ _ _. Unit {0};
-        gives = λ _ _ _. Unit {0};
-        drops = λ _ _. Unit {0};
+      answers = λ _ _ _ _. Unit {0};
+      gives = λ _ _ _. Unit {0};
+      drops = λ _ _. Unit {0};
     } };
 
     fn answer(&mut self, _request: &Request) -> Answer {
