@@ -1,7 +1,6 @@
 -- What a stream shows is the front of a list that is rightly handed.
-use Rattle.std.proofs.Common.{◌≡◌, ℕ, ◌+◌, List, [], ◌∷◌, ◌++◌, true, false, ◌⊎◌, inl, inr, refl, sym, ap, ◌∙◌, subst, append_assoc, append-nil}
-use Rattle.std.specs.Prelude.{◌≢◌, Option, Some, None, MatchBool, map, if◌then◌else◌}
-use Rattle.std.proofs.lemmas.Bool.{cases_Bool}
+use Rattle.std.proofs.Common.{◌≡◌, ℕ, List, [], ◌∷◌, ◌++◌, true, false, refl, sym, ap, ◌∙◌, subst, append_assoc, append-nil}
+use Rattle.std.specs.Prelude.{◌≢◌, Option, Some, None, map, if◌then◌else◌, option_map}
 use Rattle.hub_database.specs.Handing as changes
 use Rattle.hub_updates.specs.Log as updates
 use Rattle.hub_model.specs.Descending.{Descending}
@@ -12,15 +11,15 @@ use Rattle.hub_model.specs.declared.feeds.Item.{Item}
 use Rattle.hub_model.specs.declared.feeds.Item.TheVariants.{Row, Beat, End}
 use Rattle.hub_lane.specs.Ends.{IsAllowedBeginning, behind_take}
 use Rattle.hub_params.specs.FeedModel.{params_in}
-use Rattle.hub_session.specs.Feeds.{EndsSo, StopsSo, Streams}
+use Rattle.hub_session.specs.Feeds.{Streams}
 use Rattle.hub_session.specs.Items as stream
 use Rattle.hub_session.specs.declared.closing.StreamEnd.{StreamEnd}
-use Rattle.hub_session.specs.declared.closing.StreamEnd.TheVariants.{Complete}
+use Rattle.hub_session.specs.declared.closing.StreamEnd.TheVariants.{Complete, Stopped, NoMemory, Broken, Exhausted}
 use Rattle.hub_session.specs.declared.item.StreamItem.{StreamItem}
 use Rattle.hub_session.specs.declared.item.StreamItem.TheVariants.{Change, Update}
 use Rattle.hub_shared.specs.Label.{Label}
-use Rattle.hub_service.specs.Feeds.{Drops, FeedOf, Gives, sent_behind}
-use Rattle.hub_service.specs.Laws.{StreamsOfChangesAreRight, CompleteChangesAreRight, StreamsOfUpdatesAreRight, CompleteUpdatesAreRight, CompleteListIsWhole, whole_list}
+use Rattle.hub_service.specs.Feeds.{FeedOf, Gives, next_listed, sent_behind}
+use Rattle.hub_service.specs.Laws.{connection_rules, StreamsOfChangesAreRight, CompleteChangesAreRight, StreamsOfUpdatesAreRight, CompleteUpdatesAreRight, CompleteListIsWhole, whole_list}
 use Rattle.hub_service.specs.declared.sent.Sent.{Sent}
 use Rattle.hub_service.specs.declared.sent.Sent.TheVariants.{Listed, Changes, Updates}
 
@@ -61,53 +60,66 @@ module _ {R : Type 0} (wrap : Item R → StreamItem) (sent : FeedOf R → Sent)
   grown : (l : Label) (taken : List (Item R)) (i : Item R) (items : List (Item R)) → right l ((taken ++ i ∷ []) ++ items) → right l (taken ++ i ∷ items)
   grown l taken i items r = subst (right l) (append_assoc taken (i ∷ []) items) r
 
-  sent_of : (items : List StreamItem) (n : ℕ) (feed : FeedOf R) (end : StreamEnd) (t : Option Sent) → Streams Gives Drops n (Some (sent feed)) items end t → items ≢ [] → IsSentOf wrap right feed items end
-  sent_of [] n feed end t goes some = absurd (some refl)
-  sent_of (item ∷ []) n feed end t (mid, given, more) some = from (cases_Bool (stream.is_end item))
-    where
-      s : IsStep wrap sent right feed item mid
-      s = step feed item mid given
+  -- an item that is no End, and what is sent behind it
+  one_more : (feed : FeedOf R) (item : StreamItem) (items : List StreamItem) (end : StreamEnd) (mid : Option Sent) (s : IsStep wrap sent right feed item mid)
+      → IsSentOf wrap right (behind_take feed s.item) items end → IsSentOf wrap right feed (item ∷ items) end
+  one_more feed item items end mid s later = record {
+    handed = s.item ∷ later.handed;
+    wrapped = ap (λ i. i ∷ items) s.wrapped ∙ ap (λ l. wrap s.item ∷ l) later.wrapped;
+    rest = later.rest;
+    front = grown feed.label feed.taken s.item (later.handed ++ later.rest) later.front;
+    whole = later.whole;
+  }
 
-      from : (stream.is_end item ≡ true) ⊎ (stream.is_end item ≡ false) → IsSentOf wrap right feed (item ∷ []) end
-      from (inl is) = record {
+  -- an End
+  last : (feed : FeedOf R) (item : StreamItem) (end : StreamEnd) (mid : Option Sent) (s : IsStep wrap sent right feed item mid) → stream.is_end item ≡ true
+      → IsSentOf wrap right feed (item ∷ []) end
+  last feed item end mid s is =
+      let right_is = grown feed.label feed.taken s.item s.allowed.0 s.allowed.1 in
+      record {
         handed = s.item ∷ [];
         wrapped = ap (λ i. i ∷ []) s.wrapped;
         rest = s.allowed.0;
-        front = grown feed.label feed.taken s.item s.allowed.0 s.allowed.1;
-        whole = λ c. let right_is = grown feed.label feed.taken s.item s.allowed.0 s.allowed.1 in
-            let e = ends feed.label _ right_is in
-            nothing_behind e.0 feed.taken s.item s.allowed.0 (sym s.ends ∙ is) e.1;
+        front = right_is;
+        whole = λ c. let e = ends feed.label _ right_is in nothing_behind e.0 feed.taken s.item s.allowed.0 (sym s.ends ∙ is) e.1;
       }
-      from (inr is) = record {
-        handed = s.item ∷ [];
-        wrapped = ap (λ i. i ∷ []) s.wrapped;
-        rest = s.allowed.0;
-        front = grown feed.label feed.taken s.item s.allowed.0 s.allowed.1;
-        whole = λ c. absurd (let goes = subst (λ b. MatchBool b ((t ≡ mid) × (◌≡◌ {A = List StreamItem} [] []) × EndsSo end) (StopsSo Gives Drops (n + 1) mid end t)) is more in
-            subst (λ e. StopsSo Gives Drops (n + 1) mid e t) c goes);
-      }
-  sent_of (item ∷ x ∷ items) n feed end t (mid, given, more) some =
-      from (cases_Bool (stream.is_end item)) (λ next goes. sent_of (x ∷ items) (n + 1) next end t goes (λ e. cc))
-    where
-      s : IsStep wrap sent right feed item mid
-      s = step feed item mid given
 
-      from : (stream.is_end item ≡ true) ⊎ (stream.is_end item ≡ false)
-          → ((next : FeedOf R) → Streams Gives Drops (n + 1) (Some (sent next)) (x ∷ items) end t → IsSentOf wrap right next (x ∷ items) end)
-          → IsSentOf wrap right feed (item ∷ x ∷ items) end
-      from (inl is) later_of = absurd (let goes = subst (λ b. MatchBool b ((t ≡ mid) × (x ∷ items ≡ []) × EndsSo end) (Streams Gives Drops (n + 1) mid (x ∷ items) end t)) is more in
-          let no : x ∷ items ≡ [] = goes.1 in cc)
-      from (inr is) later_of =
-          let goes = subst (λ b. MatchBool b ((t ≡ mid) × (x ∷ items ≡ []) × EndsSo end) (Streams Gives Drops (n + 1) mid (x ∷ items) end t)) is more in
-          let at : mid ≡ Some (sent (behind_take feed s.item)) = s.behind ∙ ap (λ b. if b then None else Some (sent (behind_take feed s.item))) (sym s.ends ∙ is) in
-          let later = later_of (behind_take feed s.item) (subst (λ m. Streams Gives Drops (n + 1) m (x ∷ items) end t) at goes) in
-          record {
-            handed = s.item ∷ later.handed;
-            wrapped = ap (λ i. i ∷ x ∷ items) s.wrapped ∙ ap (λ l. wrap s.item ∷ l) later.wrapped;
-            rest = later.rest;
-            front = grown feed.label feed.taken s.item (later.handed ++ later.rest) later.front;
-            whole = later.whole;
-          }
+  -- nothing more
+  none_more : (feed : FeedOf R) (end : StreamEnd) → IsAllowedBeginning right feed → (end ≡ Complete → ⊥) → IsSentOf wrap right feed [] end
+  none_more feed end allowed stops = record { handed = []; wrapped = refl; rest = allowed.0; front = allowed.1; whole = λ c. absurd (stops c) }
+
+  step_from : (feed : FeedOf R) (s : Option Sent) (item : StreamItem) (mid : Option Sent) → s ≡ Some (sent feed) → Gives s (Some item) mid → IsStep wrap sent right feed item mid
+  step_from feed s item mid is given = step feed item mid (subst (λ o. Gives o (Some item) mid) is given)
+
+  -- behind an item that is no End the feed is still sent
+  still_sent : (feed : FeedOf R) (item : StreamItem) (mid : Option Sent) (s : IsStep wrap sent right feed item mid) → stream.is_end item ≡ false → mid ≡ Some (sent (behind_take feed s.item))
+  still_sent feed item mid s is = s.behind ∙ ap (λ b. if b then None else Some (sent (behind_take feed s.item))) (sym s.ends ∙ is)
+
+  -- what is sent behind what was taken before
+  sent_behind_taken : {n : ℕ} {s t : Option Sent} {items : List StreamItem} {end : StreamEnd} → Streams connection_rules n s items end t
+      → (feed : FeedOf R) → s ≡ Some (sent feed) → IsAllowedBeginning right feed → IsSentOf wrap right feed items end
+  sent_behind_taken (Streams.goes_on {s = s} {mid = mid} {item = item} {items = items} {end = end} given is more) feed at allowed =
+      let x = step_from feed s item mid at given in
+      one_more feed item items end mid x (sent_behind_taken more (behind_take feed x.item) (still_sent feed item mid x is) x.allowed)
+  sent_behind_taken (Streams.ends {s = s} {t = t} {item = item} given is) feed at allowed = last feed item Complete t (step_from feed s item t at given) is
+  sent_behind_taken (Streams.ends_broken {s = s} {t = t} {item = item} given is) feed at allowed = last feed item Broken t (step_from feed s item t at given) is
+  sent_behind_taken (Streams.stops mid given dropped) feed at allowed = none_more feed Stopped allowed (λ c. cc)
+  sent_behind_taken (Streams.loses mid lost given dropped) feed at allowed = none_more feed NoMemory allowed (λ c. cc)
+  sent_behind_taken (Streams.breaks dropped) feed at allowed = none_more feed Broken allowed (λ c. cc)
+  sent_behind_taken (Streams.gives_up dropped many) feed at allowed = none_more feed Exhausted allowed (λ c. cc)
+
+  -- what is sent of a feed, where anything is
+  sent_of : {n : ℕ} {s t : Option Sent} {items : List StreamItem} {end : StreamEnd} → Streams connection_rules n s items end t
+      → (feed : FeedOf R) → s ≡ Some (sent feed) → items ≢ [] → IsSentOf wrap right feed items end
+  sent_of (Streams.goes_on {s = s} {mid = mid} {item = item} {items = items} {end = end} given is more) feed at some =
+      let x = step_from feed s item mid at given in
+      one_more feed item items end mid x (sent_behind_taken more (behind_take feed x.item) (still_sent feed item mid x is) x.allowed)
+  sent_of (Streams.ends {s = s} {t = t} {item = item} given is) feed at some = last feed item Complete t (step_from feed s item t at given) is
+  sent_of (Streams.ends_broken {s = s} {t = t} {item = item} given is) feed at some = last feed item Broken t (step_from feed s item t at given) is
+  sent_of (Streams.stops mid given dropped) feed at some = absurd (some refl)
+  sent_of (Streams.loses mid lost given dropped) feed at some = absurd (some refl)
+  sent_of (Streams.breaks dropped) feed at some = absurd (some refl)
+  sent_of (Streams.gives_up dropped many) feed at some = absurd (some refl)
 
 -- ---- feeds of changes
 
@@ -126,20 +138,25 @@ step_of_updates : (feed : FeedOf UpdateRow) (item : StreamItem) (mid : Option Se
 step_of_updates feed (Change item) mid given = absurd given
 step_of_updates feed (Update item) mid given = record { item = item; wrapped = refl; ends = refl; behind = given.0; allowed = given.1 }
 
-sent_changes : (items : List StreamItem) (feed : FeedOf ChangeRow) (end : StreamEnd) (t : Option Sent) → Streams Gives Drops 0 (Some (Changes feed)) items end t → items ≢ [] → IsSentOf Change right_changes feed items end
-sent_changes items feed end t goes some = sent_of Change Changes right_changes step_of_changes (λ l items r. (r.feed.place, r.right.ends)) items 0 feed end t goes some
+sent_changes : (items : List StreamItem) (feed : FeedOf ChangeRow) (end : StreamEnd) (t : Option Sent) → Streams connection_rules 0 (Some (Changes feed)) items end t → items ≢ [] → IsSentOf Change right_changes feed items end
+sent_changes items feed end t goes some = sent_of Change Changes right_changes step_of_changes (λ l items r. (r.feed.place, r.right.ends)) goes feed refl some
 
-sent_updates : (items : List StreamItem) (feed : FeedOf UpdateRow) (end : StreamEnd) (t : Option Sent) → Streams Gives Drops 0 (Some (Updates feed)) items end t → items ≢ [] → IsSentOf Update right_updates feed items end
-sent_updates items feed end t goes some = sent_of Update Updates right_updates step_of_updates (λ l items r. (r.feed.place, r.right.ends)) items 0 feed end t goes some
+sent_updates : (items : List StreamItem) (feed : FeedOf UpdateRow) (end : StreamEnd) (t : Option Sent) → Streams connection_rules 0 (Some (Updates feed)) items end t → items ≢ [] → IsSentOf Update right_updates feed items end
+sent_updates items feed end t goes some = sent_of Update Updates right_updates step_of_updates (λ l items r. (r.feed.place, r.right.ends)) goes feed refl some
 
 -- nothing was taken before
 from_nothing : {R : Type 0} (right : Label → List (Item R) → Type 0) (feed : FeedOf R) (items : List (Item R)) → feed.taken ≡ [] → right feed.label (feed.taken ++ items) → right feed.label items
 from_nothing right feed items none r = subst (λ taken. right feed.label (taken ++ items)) none r
 
 -- a stream that came to its end handed something
-some_handed : (items : List StreamItem) (s t : Option Sent) → Streams Gives Drops 0 s items Complete t → items ≢ []
-some_handed [] s t goes none = goes
-some_handed (item ∷ items) s t goes none = cc
+some_handed : {n : ℕ} {s t : Option Sent} {items : List StreamItem} {end : StreamEnd} → Streams connection_rules n s items end t → end ≡ Complete → items ≢ []
+some_handed (Streams.goes_on given is more) c none = cc
+some_handed (Streams.ends given is) c none = cc
+some_handed (Streams.ends_broken given is) c none = cc
+some_handed (Streams.stops mid given dropped) c none = cc
+some_handed (Streams.loses mid lost given dropped) c none = cc
+some_handed (Streams.breaks dropped) c none = cc
+some_handed (Streams.gives_up dropped many) c none = cc
 
 pub streams_of_changes : StreamsOfChangesAreRight
 streams_of_changes feed items end t none some goes =
@@ -148,7 +165,7 @@ streams_of_changes feed items end t none some goes =
 
 pub complete_changes : CompleteChangesAreRight
 complete_changes feed items t none goes =
-    let s = sent_changes items feed Complete t goes (some_handed items _ t goes) in
+    let s = sent_changes items feed Complete t goes (some_handed goes refl) in
     let front = from_nothing right_changes feed _ none s.front in
     (s.handed, s.wrapped, subst (right_changes feed.label) (ap (λ rest. s.handed ++ rest) (s.whole refl) ∙ append-nil s.handed) front)
 
@@ -159,7 +176,7 @@ streams_of_updates feed items end t none some goes =
 
 pub complete_updates : CompleteUpdatesAreRight
 complete_updates feed items t none goes =
-    let s = sent_updates items feed Complete t goes (some_handed items _ t goes) in
+    let s = sent_updates items feed Complete t goes (some_handed goes refl) in
     let front = from_nothing right_updates feed _ none s.front in
     (s.handed, s.wrapped, subst (right_updates feed.label) (ap (λ rest. s.handed ++ rest) (s.whole refl) ∙ append-nil s.handed) front)
 
@@ -169,19 +186,39 @@ complete_updates feed items t none goes =
 abbrev left_of : List ChangeRow → ℕ → ℕ → Descending
 left_of rows last_seq pending = record { rows = rows; last_seq = last_seq; pending = pending }
 
+-- how it goes on
+listed_step : (answer : Descending) (s : Option Sent) (item : StreamItem) (mid : Option Sent) → s ≡ Some (Listed answer) → Gives s (Some item) mid
+    → (item ≡ Change (next_listed answer).0) × (mid ≡ option_map Listed (next_listed answer).1)
+listed_step answer s item mid at given = by_kind item (subst (λ o. Gives o (Some item) mid) at given)
+  where
+    by_kind : (item : StreamItem) → Gives (Some (Listed answer)) (Some item) mid → (item ≡ Change (next_listed answer).0) × (mid ≡ option_map Listed (next_listed answer).1)
+    by_kind (Change i) g = (ap Change g.0, g.1)
+    by_kind (Update i) g = absurd g
+
+-- an end is no row
+no_end : (item : StreamItem) (last pending : ℕ) → item ≡ Change (End last pending) → stream.is_end item ≡ false → ⊥
+no_end item last pending e is = let both : true ≡ false = sym (ap stream.is_end e) ∙ is in cc
+
+no_row : (item : StreamItem) (r : ChangeRow) → item ≡ Change (Row r) → stream.is_end item ≡ true → ⊥
+no_row item r e is = let both : false ≡ true = sym (ap stream.is_end e) ∙ is in cc
+
 -- it hands what is left, and its end
-list_whole : (items : List StreamItem) (n : ℕ) (t : Option Sent) (rows : List ChangeRow) (last pending : ℕ) → Streams Gives Drops n (Some (Listed (left_of rows last pending))) items Complete t → items ≡ whole_list (left_of rows last pending)
-list_whole [] n t rows last pending goes = absurd goes
-list_whole (Update item ∷ items) n t rows last pending (mid, given, more) = absurd given
-list_whole (Change item ∷ items) n t [] last pending (mid, given, more) =
-    let same : item ≡ End last pending = given.0 in
-    let goes = subst (λ (i : Item ChangeRow). MatchBool (is_end i) ((t ≡ mid) × (items ≡ []) × EndsSo Complete) (Streams Gives Drops (n + 1) mid items Complete t)) same more in
-    ap (λ i. Change i ∷ items) same ∙ ap (λ l. Change (End last pending) ∷ l) goes.1
-list_whole (Change item ∷ items) n t (r ∷ rows) last pending (mid, given, more) =
-    let same : item ≡ Row r = given.0 in
-    let goes = subst (λ (i : Item ChangeRow). MatchBool (is_end i) ((t ≡ mid) × (items ≡ []) × EndsSo Complete) (Streams Gives Drops (n + 1) mid items Complete t)) same more in
-    let next = subst (λ m. Streams Gives Drops (n + 1) m items Complete t) given.1 goes in
-    ap (λ i. Change i ∷ items) same ∙ ap (λ l. Change (Row r) ∷ l) (list_whole items (n + 1) t rows last pending next)
+list_whole : {n : ℕ} {s t : Option Sent} {items : List StreamItem} {end : StreamEnd} → Streams connection_rules n s items end t → end ≡ Complete
+    → (rows : List ChangeRow) (l pending : ℕ) → s ≡ Some (Listed (left_of rows l pending)) → items ≡ whole_list (left_of rows l pending)
+list_whole (Streams.goes_on {s = s} {mid = mid} {item = item} given is more) c [] l pending at =
+    absurd (no_end item l pending (listed_step (left_of [] l pending) s item mid at given).0 is)
+list_whole (Streams.goes_on {s = s} {mid = mid} {item = item} {items = items} given is more) c (r ∷ rows) l pending at =
+    let x = listed_step (left_of (r ∷ rows) l pending) s item mid at given in
+    ap (λ i. i ∷ items) x.0 ∙ ap (λ xs. Change (Row r) ∷ xs) (list_whole more c rows l pending x.1)
+list_whole (Streams.ends {s = s} {t = t} {item = item} given is) c [] l pending at =
+    ap (λ i. i ∷ []) (listed_step (left_of [] l pending) s item t at given).0
+list_whole (Streams.ends {s = s} {t = t} {item = item} given is) c (r ∷ rows) l pending at =
+    absurd (no_row item r (listed_step (left_of (r ∷ rows) l pending) s item t at given).0 is)
+list_whole (Streams.ends_broken given is) c rows l pending at = absurd (cc)
+list_whole (Streams.stops mid given dropped) c rows l pending at = absurd (cc)
+list_whole (Streams.loses mid lost given dropped) c rows l pending at = absurd (cc)
+list_whole (Streams.breaks dropped) c rows l pending at = absurd (cc)
+list_whole (Streams.gives_up dropped many) c rows l pending at = absurd (cc)
 
 pub complete_list : CompleteListIsWhole
-complete_list answer items t goes = list_whole items 0 t answer.rows answer.last_seq answer.pending goes
+complete_list answer items t goes = list_whole goes refl answer.rows answer.last_seq answer.pending refl

@@ -1,4 +1,4 @@
--- What streams show (CouchDB API reference, _changes and _db_updates).
+-- What a connection may do, and what its streams show (CouchDB API reference, _changes and _db_updates).
 use Rattle.std.specs.Prelude.{◌≡◌, ◌≢◌, List, [], ◌∷◌, ◌++◌, map, Option, Some}
 use Rattle.hub_database.specs.Handing as changes
 use Rattle.hub_updates.specs.Log as updates
@@ -9,13 +9,19 @@ use Rattle.hub_model.specs.declared.feeds.Item.{Item}
 use Rattle.hub_model.specs.declared.feeds.Item.TheVariants.{Row, End}
 use Rattle.hub_params.specs.FeedModel.{params_in}
 use Rattle.hub_session.specs.Feeds.{Streams}
+use Rattle.hub_session.specs.Rules.{Rules}
 use Rattle.hub_session.specs.declared.closing.StreamEnd.{StreamEnd}
 use Rattle.hub_session.specs.declared.closing.StreamEnd.TheVariants.{Complete}
 use Rattle.hub_session.specs.declared.item.StreamItem.{StreamItem}
 use Rattle.hub_session.specs.declared.item.StreamItem.TheVariants.{Change, Update}
 use Rattle.hub_service.specs.Feeds.{Drops, FeedOf, Gives}
+use Rattle.hub_service.specs.Requests.{Answers}
 use Rattle.hub_service.specs.declared.sent.Sent.{Sent}
 use Rattle.hub_service.specs.declared.sent.Sent.TheVariants.{Listed, Changes, Updates}
+
+-- what a connection may do, where its state is what it sends
+abbrev pub connection_rules : Rules (Option Sent)
+connection_rules = record { answers = Answers; gives = Gives; drops = Drops }
 
 -- these items are the front of a list that is rightly handed for what was asked of the feed
 abbrev pub IsFrontOfChanges : FeedOf ChangeRow → List (Item ChangeRow) → Type 0
@@ -30,26 +36,26 @@ IsFrontOfUpdates feed items = (rest : List (Item UpdateRow))
 -- what is sent of a feed of changes, however its stream ends, is the front of a list that is rightly handed
 abbrev pub StreamsOfChangesAreRight : Type 0
 StreamsOfChangesAreRight = (feed : FeedOf ChangeRow) (items : List StreamItem) (end : StreamEnd) (t : Option Sent)
-    → feed.taken ≡ [] → items ≢ [] → Streams Gives Drops 0 (Some (Changes feed)) items end t
+    → feed.taken ≡ [] → items ≢ [] → Streams connection_rules 0 (Some (Changes feed)) items end t
     → (handed : List (Item ChangeRow)) × (items ≡ map Change handed) × IsFrontOfChanges feed handed
 
 -- what is sent of a feed of changes to its end is the whole of a list that is rightly handed
 abbrev pub CompleteChangesAreRight : Type 0
 CompleteChangesAreRight = (feed : FeedOf ChangeRow) (items : List StreamItem) (t : Option Sent)
-    → feed.taken ≡ [] → Streams Gives Drops 0 (Some (Changes feed)) items Complete t
+    → feed.taken ≡ [] → Streams connection_rules 0 (Some (Changes feed)) items Complete t
     → (handed : List (Item ChangeRow)) × (items ≡ map Change handed)
     × changes.IsRightFor (params_in feed.label.asked) feed.label.since handed
 
 -- what is sent of a feed of updates, however its stream ends, is the front of a list that is rightly handed
 abbrev pub StreamsOfUpdatesAreRight : Type 0
 StreamsOfUpdatesAreRight = (feed : FeedOf UpdateRow) (items : List StreamItem) (end : StreamEnd) (t : Option Sent)
-    → feed.taken ≡ [] → items ≢ [] → Streams Gives Drops 0 (Some (Updates feed)) items end t
+    → feed.taken ≡ [] → items ≢ [] → Streams connection_rules 0 (Some (Updates feed)) items end t
     → (handed : List (Item UpdateRow)) × (items ≡ map Update handed) × IsFrontOfUpdates feed handed
 
 -- what is sent of a feed of updates to its end is the whole of a list that is rightly handed
 abbrev pub CompleteUpdatesAreRight : Type 0
 CompleteUpdatesAreRight = (feed : FeedOf UpdateRow) (items : List StreamItem) (t : Option Sent)
-    → feed.taken ≡ [] → Streams Gives Drops 0 (Some (Updates feed)) items Complete t
+    → feed.taken ≡ [] → Streams connection_rules 0 (Some (Updates feed)) items Complete t
     → (handed : List (Item UpdateRow)) × (items ≡ map Update handed)
     × updates.IsRightFor (params_in feed.label.asked) feed.label.since handed
 
@@ -60,4 +66,4 @@ whole_list answer = map Change (map Row answer.rows ++ End answer.last_seq answe
 -- what is sent to its end of an answer that was made at once is its rows and its end
 abbrev pub CompleteListIsWhole : Type 0
 CompleteListIsWhole = (answer : Descending) (items : List StreamItem) (t : Option Sent)
-    → Streams Gives Drops 0 (Some (Listed answer)) items Complete t → items ≡ whole_list answer
+    → Streams connection_rules 0 (Some (Listed answer)) items Complete t → items ≡ whole_list answer

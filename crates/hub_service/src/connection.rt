@@ -5,8 +5,8 @@ ghost use Rattle.hub_http.specs.Stream.{asked_by};
 ghost use Rattle.hub_routes.specs.Routes.{GoesTo};
 ghost use Rattle.hub_routes.specs.declared.route.Route.{Route};
 ghost use Rattle.hub_routes.specs.declared.route.RouteFault.{RouteFault};
-ghost use Rattle.hub_service.specs.Feeds.{Drops, Gives};
-ghost use Rattle.hub_service.specs.Requests.{Answers, AtName, IsCalled, IsListed, IsMade, IsRemoved, IsFeed, IsSent, Responds};
+ghost use Rattle.hub_service.specs.Laws.{connection_rules};
+ghost use Rattle.hub_service.specs.Requests.{AtName, IsCalled, IsFeed, IsListed, IsMade, IsRemoved, IsSent, Responds};
 
 use crate::database::answer;
 use crate::feeds::begin_updates;
@@ -193,11 +193,7 @@ impl<'h, N: Wait, P: Pumping> Connection<'h, N, P> {
 }
 
 impl<'h, N: Wait, P: Pumping> Service for Connection<'h, N, P> {
-    ghost answer_gives = { Answers };
-
-    ghost item_gives = { Gives };
-
-    ghost drop_gives = { Drops };
+    ghost rules = { connection_rules };
 
     fn answer(&mut self, request: &Request) -> Answer {
         self.pumping.pass_request();

@@ -4,9 +4,9 @@ ghost use Rattle.std.specs.Prelude.{◌≡◌, ◌≤◌, Err, IfOk, IfSome, Non
 ghost use Rattle.hub_http.specs.Counts.{Rose};
 ghost use Rattle.hub_http.specs.Words.{HasEnded, IsOpen, faults_of, to_come};
 ghost use Rattle.hub_http.specs.declared.fault.HttpFault.{HttpFault};
+ghost use Rattle.hub_session.specs.Rules.{moment};
 ghost use Rattle.hub_session.specs.Sessions.{IsSession};
-ghost use Rattle.hub_service.specs.Feeds.{Drops, Gives};
-ghost use Rattle.hub_service.specs.Requests.{Answers};
+ghost use Rattle.hub_service.specs.Laws.{connection_rules};
 ghost use Rattle.hub_service.specs.declared.sent.Sent.{Sent};
 
 use crate::connection::Connection;
@@ -56,8 +56,8 @@ pub fn answer_stream<N: Wait, R: Input, W: Output>(
     limits: Limits,
 ) -> Result<Closing, AllocError>
     ensures session { IsOpen requests.old → IfOk result (λ closing. IfSome (to_come R.left requests.old) (λ bytes.
-        (last : Option Sent) × IsSession Answers Gives Drops bytes None closing last
-        (W.written writer.old) (W.written writer.new))) }
+        (last : Option Sent) × IsSession connection_rules bytes closing
+        (moment None (W.written writer.old)) (moment last (W.written writer.new)))) }
     ensures ended { HasEnded requests.old → IfOk result (λ closing. (closing ≡ Closing.Fault HttpFault.Ended)
         × (requests.new ≡ requests.old) × (writer.new ≡ writer.old)) }
     ensures writes { W.fault_count writer.old ≤ W.fault_count writer.new }
