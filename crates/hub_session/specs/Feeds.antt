@@ -38,7 +38,8 @@ feed_text mode items = text_chunks (feed_head mode) ++ items_text mode 0 items
 abbrev pub GivesBack : {S : Type 0} → Rules S → StreamItem → S → S → Type 0
 GivesBack rules item s t = MatchBool (is_end item) (t ≡ s) (rules.drops s t)
 
--- behind so many items a stream goes from s, with these items, to such an end, and its service is left at t
+-- behind so many items, with its service at s, a stream goes on with these items, ends so, and leaves its
+-- service at t
 pub data Streams {S : Type 0} (rules : Rules S) : ℕ → S → List StreamItem → StreamEnd → S → Type 0 where
   -- a row or a beat is sent, and the stream goes on behind it
   goes_on : {sent : ℕ} {s mid t : S} {item : StreamItem} {items : List StreamItem} {end : StreamEnd}
@@ -69,7 +70,8 @@ is_broken NoMemory = false
 is_broken Broken = true
 is_broken Exhausted = false
 
--- a stream was sent, and ended so: this text of its items was written, or where writing failed a front of it
+-- a stream was sent, and ended so: this text of its items was written, or where that writing broke a front of
+-- it
 pub record IsFed {S : Type 0} (rules : Rules S) (text : List StreamItem → List ℕ) (end : StreamEnd)
     (before after : Moment S) : Type 0 where
   pub items : List StreamItem

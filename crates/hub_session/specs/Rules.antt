@@ -18,5 +18,6 @@ pub record Moment (S : Type 0) : Type 0 where
   pub service : S
   pub written : Option (List ℕ)
 
+-- the moment of such a service and such bytes
 abbrev pub moment : {S : Type 0} → S → Option (List ℕ) → Moment S
 moment service written = record { service = service; written = written }

@@ -56,26 +56,28 @@ after_stream close stream.NoMemory = Some Cut
 after_stream close stream.Broken = Some Broken
 after_stream close stream.Exhausted = Some Exhausted
 
--- while the answer of an exchange is sent the service goes from s to t, and then the session closes so, or goes
--- on where `next` is None
-pub data Goes {S : Type 0} (rules : Rules S) (x : Exchange) (s : S) (next : Option Closing) (t : S) : Type 0 where
+-- while the answer of an exchange is sent the service goes from s to t, and then the session closes so, or
+-- goes on where `next` is None
+pub data Goes {S : Type 0} (rules : Rules S) (x : Exchange) (s : S) (next : Option Closing) (t : S)
+    : Type 0 where
   -- a whole answer is written
   whole : (reply : Reply) → x.answer ≡ Whole reply → x.items ≡ [] → t ≡ s
       → next ≡ after_answer x.asked.close → Goes rules x s next t
   -- a whole answer can't be written to the other side
   whole_broken : (reply : Reply) → x.answer ≡ Whole reply → x.items ≡ [] → t ≡ s
       → next ≡ Some Broken → Goes rules x s next t
-  -- HEAD asked for a stream: the head of its answer is written, and the service gives back what the stream holds
+  -- HEAD asked for a stream: the head of its answer is written, and the service gives back what it holds
   head_alone : (mode : Mode) → x.answer ≡ Stream mode → is_head x.asked ≡ true → x.items ≡ [] → rules.drops s t
       → next ≡ after_answer x.asked.close → Goes rules x s next t
-  -- the items of a stream are sent behind the head of its answer
+  -- a stream: its items are sent behind the head of its answer
   stream_sent : (mode : Mode) (end : StreamEnd) → x.answer ≡ Stream mode → is_head x.asked ≡ false
       → Streams rules 0 s x.items end t → next ≡ after_stream x.asked.close end → Goes rules x s next t
   -- the head of a stream's answer can't be written to the other side: the service gives back what it holds
   head_broken : (mode : Mode) → x.answer ≡ Stream mode → x.items ≡ [] → rules.drops s t
       → next ≡ Some Broken → Goes rules x s next t
 
--- from s the service may answer the request so and leave t, and then the session closes so, or goes on
+-- from s the service may answer the request of the exchange so and, once that is sent, stand at t; and then the
+-- session closes so, or goes on
 pub record Answers {S : Type 0} (rules : Rules S) (s : S) (x : Exchange) (next : Option Closing) (t : S)
     : Type 0 where
   pub mid : S
@@ -97,13 +99,14 @@ pub record Standing (S : Type 0) : Type 0 where
   pub bytes : List ℕ
   pub service : S
 
--- how a session ends: why it closes, the text that it closes with, and the state in which it leaves its service
+-- how a session ends: why it closes, the text that it closes with, and the state of its service then
 pub record Ending (S : Type 0) : Type 0 where
   pub closing : Closing
   pub text : List ℕ
   pub service : S
 
--- from where it stands a session has these exchanges, goes on behind each of them, and then ends so
+-- from where it stands a session has these exchanges, one after the other, goes on behind each of them, and
+-- then ends so
 pub data Session {S : Type 0} (rules : Rules S) : Standing S → List Exchange → Ending S → Type 0 where
   -- a request is answered, and the session goes on behind it
   goes_on : {now : Standing S} {x : Exchange} {xs : List Exchange} {ending : Ending S} (rest : List ℕ) (mid : S)
@@ -131,11 +134,11 @@ is_broken Broken = true
 is_broken Exhausted = false
 
 -- such bytes were served, and the session closed so: the texts of the exchanges behind which it went on were
--- written whole, one after the other, and then the text that it closed with, or where that writing broke a front
--- of it. Two requests of which the second could not be answered, since the other side is gone: the text of the
--- first, and then a front of the text of the second, which is `last`.
-pub record IsSession {S : Type 0} (rules : Rules S) (bytes : List ℕ) (closing : Closing) (before after : Moment S)
-    : Type 0 where
+-- written whole, one after the other, and then the text that it closed with, or where that writing broke a
+-- front of it. Two requests of which the second could not be answered, since the other side is gone: the text
+-- of the first, and then a front of the text of the second, which is `last`.
+pub record IsSession {S : Type 0} (rules : Rules S) (bytes : List ℕ) (closing : Closing)
+    (before after : Moment S) : Type 0 where
   pub exchanges : List Exchange  -- those behind which the session went on
   pub last : List ℕ  -- the text that it closed with
   pub mid : Option (List ℕ)  -- the known bytes before that text
@@ -149,8 +152,8 @@ abbrev pub breaks : Option Closing → Bool
 breaks None = false
 breaks (Some closing) = is_broken closing
 
--- this request was answered, and then the session closes so, or goes on: the text of the answer was written, or
--- where that writing broke a front of it
+-- this request was answered, and then the session closes so, or goes on: the text of the answer was written,
+-- or where that writing broke a front of it
 pub record HasAnswer {S : Type 0} (rules : Rules S) (asked : Asked) (next : Option Closing)
     (before after : Moment S) : Type 0 where
   pub exchange : Exchange
@@ -168,7 +171,8 @@ pub record IsAnswered {S : Type 0} (rules : Rules S) (bytes : List ℕ) (next : 
   pub answer : HasAnswer rules asked next before after
 
 -- the bytes begin with no request, and the session closes
-pub record IsClosed {S : Type 0} (bytes : List ℕ) (next : Option Closing) (before after : Moment S) : Type 0 where
+pub record IsClosed {S : Type 0} (bytes : List ℕ) (next : Option Closing) (before after : Moment S)
+    : Type 0 where
   pub closing : Closing
   pub text : List ℕ
   pub next_is : next ≡ Some closing

@@ -1,11 +1,13 @@
 use Rattle.std.proofs.Common.{◌∙◌}
+use Rattle.hub_session.specs.Rules.{moment}
 use Rattle.hub_session.proofs.SessionLemmas.{one_answered, one_finished, one_faulted, one_broken}
 use Rattle.hub_session.proofs.session.serve_one.Goals as goal
 
 pub returns-in-Ok-Some-clause-told : goal.returns-in-Ok-Some-clause-told
 returns-in-Ok-Some-clause-told g c = λ is_open.
     let told = rw c.in-Ok-Some.field-0-is at (c.in-Ok-Some.ensures.told is_open) in
-    one_answered g.S.Service.rules _ _ _ _ c.in-Ok-Some.request _ told c.answer_one.ensures.told
+    let after = moment c.answer_one.new.service (g.W.Output.written c.answer_one.new.writer) in
+    one_answered g.S.Service.rules _ after _ _ c.in-Ok-Some.request _ told c.answer_one.ensures.told
 
 pub returns-in-Ok-None-clause-told : goal.returns-in-Ok-None-clause-told
 returns-in-Ok-None-clause-told g c = λ is_open.
