@@ -31,8 +31,8 @@ pub fn serve_connection<N: Wait, P: Pumping, R: Input, W: Output>(
     writer: &mut W,
 ) -> Closing
     ensures session { IsOpen requests.old → IfSome (to_come R.left requests.old) (λ bytes.
-        (last : Option Sent) × IsSession Answers Gives Drops bytes None result last
-        (W.written writer.old) (W.written writer.new)) }
+        (last : Option Sent) × IsSession connection_rules bytes result
+        (moment None (W.written writer.old)) (moment last (W.written writer.new))) }
     ensures ended { HasEnded requests.old → (result ≡ Closing.Fault HttpFault.Ended)
         × (requests.new ≡ requests.old) × (writer.new ≡ writer.old) }
     ensures writes { W.fault_count writer.old ≤ W.fault_count writer.new }
