@@ -19,7 +19,7 @@ use Rattle.hub_feed.specs.declared.host.OpenFault.{OpenFault}
 use Rattle.hub_feed.specs.declared.host.OpenFault.TheVariants as open_fault
 use Rattle.hub_params.specs.FeedParams.{FeedAsked}
 use Rattle.hub_http.specs.declared.refusal.Refusal.{Refusal}
-use Rattle.hub_http.specs.declared.refusal.Refusal.TheVariants.{NoMemory, NotJson, Deleted, SequenceFull}
+use Rattle.hub_http.specs.declared.refusal.Refusal.TheVariants.{NoMemory, Deleted, SequenceFull}
 use Rattle.hub_shared.specs.Receipts.{receipts_from}
 use Rattle.hub_shared.specs.declared.write.Accepted.{Accepted}
 use Rattle.hub_threads.specs.Answers.{IsAnswer, TakesMemory}

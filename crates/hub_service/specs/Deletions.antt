@@ -1,5 +1,5 @@
 -- What deleting a document is answered (CouchDB API reference, DELETE /{db}/{docid}).
-use Rattle.std.specs.Prelude.{◌≡◌, ◌≢◌, ◌⊎◌, ℕ, List, Bool, true, false, Option, Some, None, Result, Ok, Err}
+use Rattle.std.specs.Prelude.{◌≡◌, ◌≢◌, ◌⊎◌, ℕ, List, true, false, Option, Some, None, Result, Err}
 use Rattle.std.specs.Prelude.{if◌then◌else◌}
 use Rattle.hub_document.specs.Ids.{short_id}
 use Rattle.hub_document.specs.RevisionText.{revision_of}

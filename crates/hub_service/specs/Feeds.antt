@@ -1,5 +1,5 @@
 -- What a connection shows of a feed (CouchDB API reference, _changes and _db_updates).
-use Rattle.std.specs.Prelude.{◌≡◌, ◌⊎◌, ℕ, List, [], ◌∷◌, Bool, true, false, if◌then◌else◌, Option, Some, None}
+use Rattle.std.specs.Prelude.{◌≡◌, ◌⊎◌, ℕ, List, [], ◌∷◌, true, false, if◌then◌else◌, Option, Some, None}
 use Rattle.std.specs.Prelude.{Result, Ok, Err, option_map}
 use Rattle.hub_model.specs.Row.{ChangeRow}
 use Rattle.hub_model.specs.Updates.{UpdateRow}

@@ -10,7 +10,7 @@ use Rattle.hub_databases.specs.declared.hub.Written.{Written}
 use Rattle.hub_http.specs.declared.refusal.Refusal.{Refusal}
 use Rattle.hub_http.specs.declared.refusal.Refusal.TheVariants.{NoMemory, Deleted, SequenceFull}
 use Rattle.hub_threads.specs.Handles.{IsWrittenBy}
-use Rattle.hub_service.specs.Said.{Said, Body, Refusing, Says, IsSaid, IsWant}
+use Rattle.hub_service.specs.Said.{Said, Body, Refusing, Says, IsWant}
 use Rattle.hub_service.specs.declared.response.Response.{Response}
 
 -- this holds of some database, as one may lie under its lock

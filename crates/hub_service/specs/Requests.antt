@@ -1,7 +1,7 @@
 -- What a connection answers to a request (CouchDB API reference, the server, its databases, and each call on one;
 -- own for the order of refusals). Each call looks at a database under its lock, and is answered as the database
 -- says it that lies there then.
-use Rattle.std.specs.Prelude.{◌≡◌, ◌⊎◌, ⊤, ℕ, List, map, Bool, true, false, Option, Some, Result, Ok, Err}
+use Rattle.std.specs.Prelude.{◌≡◌, ◌⊎◌, ⊤, ℕ, List, true, false, Option, Some, Result, Ok, Err}
 use Rattle.std.specs.Prelude.{string_bytes}
 use Rattle.hub_document.specs.Local.{local_in}
 use Rattle.hub_document.specs.Put.{put_in}

@@ -1,4 +1,4 @@
-use Rattle.std.proofs.Common.{◌≡◌, ℕ, List, subst, ◌∙◌}
+use Rattle.std.proofs.Common.{ℕ, List, subst, ◌∙◌}
 use Rattle.std.specs.Prelude.{Vec}
 use Rattle.std.specs.declared.alloc.Global.{Global}
 use Rattle.serde_json.specs.View.{items_view}

@@ -1,4 +1,4 @@
-use Rattle.std.proofs.Common.{◌≡◌, ◌∷◌, [], true, sym, subst, ◌∙◌}
+use Rattle.std.proofs.Common.{◌∷◌, [], true, sym, subst, ◌∙◌}
 use Rattle.hub_service.specs.Calls.{says_edit}
 use Rattle.hub_service.specs.Moments.{IsStored}
 use Rattle.hub_service.specs.Said.{IsSaid}

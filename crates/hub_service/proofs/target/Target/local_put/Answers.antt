@@ -1,4 +1,4 @@
-use Rattle.std.proofs.Common.{◌≡◌, sym, subst, Err}
+use Rattle.std.proofs.Common.{sym, subst, Err}
 use Rattle.hub_service.specs.Moments.{IsKept}
 use Rattle.hub_service.proofs.Looks.{unkept}
 use Rattle.hub_service.proofs.target.Target.local_put.Goals as goal
