@@ -4,13 +4,13 @@ use std::io;
 use std::time::{self, Instant};
 
 /// The time since it was made, by the system's clock that is never set.
-#[derive(Clone, Copy)]
+#[derive(Drop)]
 pub struct Uptime<R> {
     rt: R,
     start: Instant,
 }
 
-impl<R: time::Clock> Uptime<R> {
+impl<R: time::Clock + Drop> Uptime<R> {
     /// A clock that reads 0 now. An error says that the system tells no time.
     pub fn new(rt: R) -> io::Result<Uptime<R>> {
         let start = Instant::now(&rt)?;

@@ -1,0 +1,121 @@
+//! Clients that go.
+
+use crate::tests::client::Client;
+use crate::tests::{Machine, Open, Running, serve};
+use hub_document::Limits;
+use std::alloc::Global;
+use std::net::SocketAddr;
+use std::test::Fail;
+use std::thread;
+use std::time::Duration;
+
+/// How many clients follow at once.
+const CLIENTS: u64 = 200;
+
+/// How often a feed is asked for before the test fails.
+const LOOKS: u64 = 500;
+
+/// A client that follows `d`, which is asked for again while there are too many feeds.
+fn follower<R: Machine>(rt: &R, alloc: Global, address: SocketAddr) -> Result<Client, Fail> {
+    let mut client = Client::connect(rt, alloc, address)?;
+    for _ in 0..LOOKS {
+        if client.follows("GET /d/_changes?feed=continuous&heartbeat=200")? {
+            return Ok(client);
+        }
+        thread::sleep(rt, Duration::from_millis(10));
+    }
+    Err(Fail::new("no feed"))
+}
+
+/// As many clients as there may be feeds, each of which follows.
+fn followers<R: Machine>(
+    rt: &R,
+    alloc: Global,
+    address: SocketAddr,
+) -> Result<Vec<Client>, Fail> {
+    let mut clients = Vec::new(alloc);
+    for _ in 0..CLIENTS {
+        clients.push(follower(rt, alloc, address)?)?;
+    }
+    Ok(clients)
+}
+
+/// The feeds of clients that closed are gone behind three writes and a heartbeat: as many as there may be
+/// can be opened again.
+#[test]
+fn two_hundred_clients_that_close(rt: HostRuntime) -> Result<(), Fail> {
+    let alloc = rt.alloc();
+    let mut limits = Limits::full();
+    limits.feeds = CLIENTS;
+    let server = Running::start(&rt, alloc, 1 + 2 * CLIENTS, Open, limits)?;
+    let mut writer = Client::connect(&rt, alloc, server.address)?;
+    assert!(rt; writer.gets("PUT /d", "", "201")?);
+    let first = followers(&rt, alloc, server.address)?;
+    assert!(rt; writer.gets("GET /d/_changes", "", "503")?);
+    drop(first);
+    for number in 0..3 {
+        let line = format!(in alloc; "PUT /d/{number}")?;
+        assert!(rt; writer.gets(line.as_str(), "{}", "201")?);
+    }
+    let second = followers(&rt, alloc, server.address)?;
+    assert!(rt; writer.gets("GET /d/_changes", "", "503")?);
+    drop(second);
+    drop(writer);
+    assert!(rt; server.ends(&rt));
+    Ok(())
+}
+
+/// A document of a million bytes, in a batch of one.
+fn large_batch(alloc: Global, id: u64) -> Result<String, Fail> {
+    let mut body = format!(in alloc; r#"{{"docs":[{{"_id":"{id}","text":""#)?;
+    for _ in 0..10_000 {
+        body.push_str(
+            "0123456789012345678901234567890123456789012345678901234567890123456789012345678901234567890123456789",
+        )?;
+    }
+    body.push_str(r#""}]}"#)?;
+    Ok(body)
+}
+
+/// Clients that go in the middle of a head, of a body and of a chunk leave the others as they are, and
+/// nothing of what they began.
+#[test]
+fn clients_that_go_in_the_middle(rt: HostRuntime) -> Result<(), Fail> {
+    let alloc = rt.alloc();
+    let mut limits = Limits::full();
+    limits.feeds = 1;
+    let server = Running::start(&rt, alloc, 5, Open, limits)?;
+    let mut writer = Client::connect(&rt, alloc, server.address)?;
+    assert!(rt; writer.gets("PUT /d", "", "201")?);
+    for id in 0..8 {
+        let batch = large_batch(alloc, id)?;
+        assert!(rt; writer.gets("POST /d/_bulk_docs", batch.as_str(), "201")?);
+    }
+    let head = Client::connect(&rt, alloc, server.address)?;
+    head.send("PUT /e HTTP/1.1\r\nHo")?;
+    drop(head);
+    let body = Client::connect(&rt, alloc, server.address)?;
+    body.send("PUT /d/a HTTP/1.1\r\nContent-Length: 7\r\n\r\n{\"v\":")?;
+    drop(body);
+    let mut chunk = Client::connect(&rt, alloc, server.address)?;
+    assert!(rt; chunk.follows("GET /d/_changes?include_docs=true")?);
+    assert!(rt; chunk.text(1_000)?.as_str().starts_with("d\r\n{\"results\":["));
+    drop(chunk);
+    drop(follower(&rt, alloc, server.address)?);
+    let info = writer.answered("GET /d", "")?;
+    assert!(rt; info.body.as_str().contains("\"doc_count\":8,"));
+    let names = writer.answered("GET /_all_dbs", "")?;
+    assert_eq!(rt; names.body.as_str(), "[\"d\"]\n");
+    drop(writer);
+    assert!(rt; server.ends(&rt));
+    Ok(())
+}
+
+/// A client that says nothing and goes is served too: the server ends behind it.
+#[test]
+fn a_client_that_says_nothing(rt: HostRuntime) -> Result<(), Fail> {
+    let server = serve(&rt, rt.alloc(), 1)?;
+    drop(Client::connect(&rt, rt.alloc(), server.address)?);
+    assert!(rt; server.ends(&rt));
+    Ok(())
+}

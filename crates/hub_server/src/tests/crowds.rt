@@ -1,0 +1,173 @@
+//! Many connections at once, and slow ones.
+
+use crate::tests::client::Client;
+use crate::tests::{Machine, serve};
+use std::alloc::Global;
+use std::net::SocketAddr;
+use std::test::Fail;
+use std::thread;
+
+/// How many connections write at once.
+const WRITERS: u64 = 50;
+
+/// How many documents each of them writes.
+const DOCUMENTS: u64 = 20;
+
+/// What one of the clients of a crowd does.
+#[derive(Drop)]
+enum Part {
+    /// Writes documents, by this number.
+    Write(u64),
+    /// Reads the rows of a feed that has begun.
+    Read(Client),
+}
+
+/// Writes a client's documents on a connection of its own; None where one is not stored.
+fn write_all<R: Machine>(rt: &R, alloc: Global, address: SocketAddr, writer: u64) -> Option<()> {
+    let mut client = Client::connect(rt, alloc, address).ok()?;
+    for number in 0..DOCUMENTS {
+        let line = format!(in alloc; "PUT /d/w{writer}-{number}").ok()?;
+        let is_stored = client.gets(line.as_str(), r#"{"v":1}"#, "201").ok()?;
+        if !is_stored {
+            return None;
+        }
+    }
+    Some(())
+}
+
+/// The rows of a continuous feed, so many, without heartbeats.
+fn rows(client: &mut Client, alloc: Global, count: u64) -> Option<String> {
+    let mut rows = String::new(alloc);
+    let mut left = count;
+    for _ in 0..u64::MAX {
+        if left == 0 {
+            break;
+        }
+        let chunk = client.chunk().ok()?;
+        if chunk.as_str() != "\n" {
+            rows.push_str(chunk.as_str()).ok()?;
+            left = left.saturating_sub(1);
+        }
+    }
+    Some(rows)
+}
+
+/// Does a part: what was read, or nothing; None where it failed.
+fn play<R: Machine>(rt: &R, alloc: Global, address: SocketAddr, part: Part) -> Option<String> {
+    match part {
+        Part::Write(writer) => {
+            write_all(rt, alloc, address, writer)?;
+            Some(String::new(alloc))
+        }
+        Part::Read(mut client) => rows(&mut client, alloc, WRITERS * DOCUMENTS),
+    }
+}
+
+/// The text of a normal feed with its rows as a continuous one has them: each on a line.
+fn as_lines(alloc: Global, body: &str) -> Option<String> {
+    let rows = body.strip_prefix("{\"results\":[\n")?;
+    let (rows, _end) = rows.split_once("\n],\n")?;
+    let mut lines = String::new(alloc);
+    for row in rows.split(",\n") {
+        lines.push_str(row).ok()?;
+        lines.push_str("\n").ok()?;
+    }
+    Some(lines)
+}
+
+/// A client that follows the database `d`.
+fn follower<R: Machine>(rt: &R, alloc: Global, address: SocketAddr) -> Result<Client, Fail> {
+    let mut client = Client::connect(rt, alloc, address)?;
+    if client.follows("GET /d/_changes?feed=continuous&heartbeat=500")? {
+        Ok(client)
+    } else {
+        Err(Fail::new("no feed"))
+    }
+}
+
+/// Two feeds show what fifty connections write, each row once and in order, as the database has it.
+#[test]
+fn fifty_writers_beside_two_feeds(rt: HostRuntime) -> Result<(), Fail> {
+    let alloc = rt.alloc();
+    let server = serve(&rt, alloc, 3 + WRITERS)?;
+    let address = server.address;
+    let mut control = Client::connect(&rt, alloc, address)?;
+    assert!(rt; control.gets("PUT /d", "", "201")?);
+    let mut parts = Vec::new(alloc);
+    for _ in 0..2 {
+        parts.push(Part::Read(follower(&rt, alloc, address)?))?;
+    }
+    for writer in 0..WRITERS {
+        parts.push(Part::Write(writer))?;
+    }
+    let played = thread::map_vec(&rt, parts, &|part| play(&rt, alloc, address, part))?;
+    let body = control.answered("GET /d/_changes", "")?.body;
+    let Some(lines) = as_lines(alloc, body.as_str()) else {
+        return Err(Fail::new("no feed"));
+    };
+    assert_eq!(rt; lines.as_str().lines().count() as u64, WRITERS * DOCUMENTS);
+    for (at, text) in played.iter().enumerate() {
+        let Some(text) = text else {
+            return Err(Fail::new("a client did not get on"));
+        };
+        if at < 2 {
+            assert_eq!(rt; text.as_str(), lines.as_str());
+        }
+    }
+    drop(control);
+    assert!(rt; server.ends(&rt));
+    Ok(())
+}
+
+/// How many documents are written beside a client that does not read.
+const LARGE: u64 = 160;
+
+/// The body of a large document.
+fn large_body(alloc: Global) -> Result<String, Fail> {
+    let mut body = String::from_str(alloc, r#"{"text":""#)?;
+    for _ in 0..1_000 {
+        body.push_str("0123456789abcdef0123456789abcdef0123456789abcdef0123456789abcdef")?;
+    }
+    body.push_str(r#""}"#)?;
+    Ok(body)
+}
+
+/// Whether the next row of a continuous feed is of this sequence.
+fn is_row(client: &mut Client, alloc: Global, seq: u64) -> Result<bool, Fail> {
+    let begin = format!(in alloc; r#"{{"seq":{seq},"id":"{seq}","#)?;
+    for _ in 0..u64::MAX {
+        let chunk = client.chunk()?;
+        if chunk.as_str() != "\n" {
+            return Ok(chunk.as_str().starts_with(begin.as_str()));
+        }
+    }
+    Ok(false)
+}
+
+/// A client that does not read holds no writer and no other reader, and gets every row in the end.
+#[test]
+fn a_client_that_does_not_read(rt: HostRuntime) -> Result<(), Fail> {
+    let alloc = rt.alloc();
+    let server = serve(&rt, alloc, 3)?;
+    let mut writer = Client::connect(&rt, alloc, server.address)?;
+    assert!(rt; writer.gets("PUT /d", "", "201")?);
+    let mut slow = Client::connect(&rt, alloc, server.address)?;
+    let mut fast = Client::connect(&rt, alloc, server.address)?;
+    let line = "GET /d/_changes?feed=continuous&include_docs=true&heartbeat=500";
+    assert!(rt; slow.follows(line)?);
+    assert!(rt; fast.follows(line)?);
+    let body = large_body(alloc)?;
+    for seq in 1..=LARGE {
+        let line = format!(in alloc; "PUT /d/{seq}")?;
+        assert!(rt; writer.gets(line.as_str(), body.as_str(), "201")?);
+        assert!(rt; is_row(&mut fast, alloc, seq)?);
+    }
+    for seq in 1..=LARGE {
+        assert!(rt; is_row(&mut slow, alloc, seq)?);
+    }
+    drop(slow);
+    drop(fast);
+    drop(writer);
+    assert!(rt; server.ends(&rt));
+    Ok(())
+}

@@ -1,0 +1,91 @@
+//! A connection that is held does not hold the others.
+
+use crate::tests::client::Client;
+use crate::tests::{Machine, Running};
+use hub_document::Limits;
+use hub_threads::{Gate, Point};
+use std::alloc::Global;
+use std::sync::Arc;
+use std::sync::atomic::{AtomicBool, Ordering};
+use std::test::Fail;
+use std::thread;
+use std::time::{self, Duration};
+
+/// How often a gate looks before it gives up.
+const LOOKS: u64 = 1_000;
+
+/// What a gate and its test tell each other.
+#[derive(Drop)]
+struct Scene {
+    /// A request stands before the gate.
+    is_held: AtomicBool,
+    /// The other connection was answered.
+    is_answered: AtomicBool,
+    /// The gate looked as often as it does, and opened.
+    gave_up: AtomicBool,
+}
+
+/// Holds the requests of connection 1 until connection 2 was answered.
+#[derive(Drop)]
+struct Held<R> {
+    rt: R,
+    scene: Arc<Scene, Global>,
+}
+
+impl<R: time::Clock> Gate for Held<R> {
+    fn pass(&self, point: Point) {
+        if point != Point::Request(1) {
+            return;
+        }
+        self.scene.is_held.store(true, Ordering::SeqCst);
+        for _ in 0..LOOKS {
+            if self.scene.is_answered.load(Ordering::SeqCst) {
+                return;
+            }
+            thread::sleep(&self.rt, Duration::from_millis(5));
+        }
+        self.scene.gave_up.store(true, Ordering::SeqCst);
+    }
+}
+
+/// Waits until a request stands before the gate; whether one came.
+fn is_held<R: Machine>(rt: &R, scene: &Scene) -> bool {
+    for _ in 0..LOOKS {
+        if scene.is_held.load(Ordering::SeqCst) {
+            return true;
+        }
+        thread::sleep(rt, Duration::from_millis(5));
+    }
+    false
+}
+
+#[test]
+fn a_writer_that_is_held_holds_no_other(rt: HostRuntime) -> Result<(), Fail> {
+    let alloc = rt.alloc();
+    let scene = Arc::new(
+        alloc,
+        Scene {
+            is_held: AtomicBool::new(false),
+            is_answered: AtomicBool::new(false),
+            gave_up: AtomicBool::new(false),
+        },
+    )?;
+    let gate = Held {
+        rt,
+        scene: Arc::try_clone(&scene)?,
+    };
+    let server = Running::start(&rt, alloc, 2, gate, Limits::full())?;
+    let mut first = Client::connect(&rt, alloc, server.address)?;
+    let mut second = Client::connect(&rt, alloc, server.address)?;
+    assert!(rt; second.gets("PUT /d", "", "201")?);
+    first.ask("PUT /d/a", "{}")?;
+    assert!(rt; is_held(&rt, &scene));
+    assert!(rt; second.gets("PUT /d/b", "{}", "201")?);
+    scene.is_answered.store(true, Ordering::SeqCst);
+    assert!(rt; first.answer()?.is("201"));
+    assert!(rt; !scene.gave_up.load(Ordering::SeqCst));
+    drop(first);
+    drop(second);
+    assert!(rt; server.ends(&rt));
+    Ok(())
+}

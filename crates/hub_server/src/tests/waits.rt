@@ -1,0 +1,109 @@
+//! Feeds that wait.
+
+use crate::tests::client::Client;
+use crate::tests::{Machine, serve};
+use std::alloc::Global;
+use std::net::SocketAddr;
+use std::test::Fail;
+
+/// A client whose database `d` was made.
+fn writer<R: Machine>(rt: &R, alloc: Global, address: SocketAddr) -> Result<Client, Fail> {
+    let mut client = Client::connect(rt, alloc, address)?;
+    if client.gets("PUT /d", "", "201")? {
+        Ok(client)
+    } else {
+        Err(Fail::new("no database"))
+    }
+}
+
+const ANSWERED: &str = concat!(
+    "{\"results\":[\n",
+    r#"{"seq":1,"id":"a","changes":[{"rev":"1-dfddbf319adb018d1e5ac3465b83542c"}]}"#,
+    "\n],\n\"last_seq\":1,\"pending\":0}\n"
+);
+
+/// A longpoll is answered by the write of another connection, though its client has nothing more to send.
+#[test]
+fn a_longpoll_that_another_answers(rt: HostRuntime) -> Result<(), Fail> {
+    let alloc = rt.alloc();
+    let server = serve(&rt, alloc, 2)?;
+    let mut writer = writer(&rt, alloc, server.address)?;
+    let mut reader = Client::connect(&rt, alloc, server.address)?;
+    assert!(rt; reader.follows("GET /d/_changes?feed=longpoll")?);
+    reader.half_close()?;
+    assert!(rt; writer.gets("PUT /d/a", "{}", "201")?);
+    assert_eq!(rt; reader.chunks()?.as_str(), ANSWERED);
+    assert!(rt; reader.rest()?.is_empty());
+    drop(writer);
+    assert!(rt; server.ends(&rt));
+    Ok(())
+}
+
+const LINE: &str = concat!(
+    r#"{"seq":1,"id":"a","changes":[{"rev":"1-dfddbf319adb018d1e5ac3465b83542c"}]}"#,
+    "\n"
+);
+
+/// Reads heartbeats until something else comes: how many there were, and what came.
+fn beats(client: &mut Client) -> Result<(u64, String), Fail> {
+    let mut count = 0u64;
+    for _ in 0..u64::MAX {
+        let chunk = client.chunk()?;
+        if chunk.as_str() != "\n" {
+            return Ok((count, chunk));
+        }
+        count = count.saturating_add(1);
+    }
+    Err(Fail::new("only heartbeats"))
+}
+
+/// Reads so many heartbeats; whether nothing else came.
+fn are_beats(client: &mut Client, count: u64) -> Result<bool, Fail> {
+    for _ in 0..count {
+        if client.chunk()?.as_str() != "\n" {
+            return Ok(false);
+        }
+    }
+    Ok(true)
+}
+
+/// A continuous feed beats while nothing is written, and goes on behind its rows.
+#[test]
+fn a_continuous_feed_that_beats(rt: HostRuntime) -> Result<(), Fail> {
+    let alloc = rt.alloc();
+    let server = serve(&rt, alloc, 2)?;
+    let mut writer = writer(&rt, alloc, server.address)?;
+    let mut reader = Client::connect(&rt, alloc, server.address)?;
+    assert!(rt; reader.follows("GET /d/_changes?feed=continuous&heartbeat=20")?);
+    assert!(rt; are_beats(&mut reader, 3)?);
+    assert!(rt; writer.gets("PUT /d/a", "{}", "201")?);
+    let (_, row) = beats(&mut reader)?;
+    assert_eq!(rt; row.as_str(), LINE);
+    assert!(rt; are_beats(&mut reader, 3)?);
+    assert!(rt; writer.gets("DELETE /d", "", "200")?);
+    let (_, end) = beats(&mut reader)?;
+    assert_eq!(rt; end.as_str(), "{\"last_seq\":1,\"pending\":0}\n");
+    assert!(rt; reader.chunk()?.is_empty());
+    drop(reader);
+    drop(writer);
+    assert!(rt; server.ends(&rt));
+    Ok(())
+}
+
+/// A feed of the log of updates tells what another connection does, and ends with its time.
+#[test]
+fn a_feed_of_updates(rt: HostRuntime) -> Result<(), Fail> {
+    let alloc = rt.alloc();
+    let server = serve(&rt, alloc, 2)?;
+    let mut reader = Client::connect(&rt, alloc, server.address)?;
+    assert!(rt; reader.follows("GET /_db_updates?feed=continuous&timeout=1500")?);
+    let writer = writer(&rt, alloc, server.address)?;
+    assert_eq!(rt; reader.chunk()?.as_str(),
+        "{\"db_name\":\"d\",\"type\":\"created\",\"seq\":1}\n");
+    assert_eq!(rt; reader.chunk()?.as_str(), "{\"last_seq\":1}\n");
+    assert!(rt; reader.chunk()?.is_empty());
+    drop(reader);
+    drop(writer);
+    assert!(rt; server.ends(&rt));
+    Ok(())
+}
