@@ -65,9 +65,9 @@ fn two_hundred_clients_that_close(rt: HostRuntime) -> Result<(), Fail> {
     Ok(())
 }
 
-/// A document of a million bytes, in a batch of one.
+/// A batch of one document of a million bytes.
 fn large_batch(alloc: Global, id: u64) -> Result<String, Fail> {
-    let mut body = format!(in alloc; r#"{{"docs":[{{"_id":"{id}","text":""#)?;
+    let mut body = format!(in alloc; r#"{{"new_edits":false,"docs":[{{"_id":"{id}","_rev":"1-a","text":""#)?;
     for _ in 0..10_000 {
         body.push_str(
             "0123456789012345678901234567890123456789012345678901234567890123456789012345678901234567890123456789",

@@ -1,7 +1,8 @@
 //! Many connections at once, and slow ones.
 
 use crate::tests::client::Client;
-use crate::tests::{Machine, serve};
+use crate::tests::{Machine, Open, Running, serve};
+use hub_document::Limits;
 use std::alloc::Global;
 use std::net::SocketAddr;
 use std::test::Fail;
@@ -119,16 +120,16 @@ fn fifty_writers_beside_two_feeds(rt: HostRuntime) -> Result<(), Fail> {
     Ok(())
 }
 
-/// How many documents are written beside a client that does not read.
-const LARGE: u64 = 160;
+/// How many documents are written beside a client that does not read: more than sockets hold, and the lane.
+const LARGE: u64 = 100;
 
-/// The body of a large document.
-fn large_body(alloc: Global) -> Result<String, Fail> {
-    let mut body = String::from_str(alloc, r#"{"text":""#)?;
+/// A batch of one document of 64,000 bytes.
+fn large_batch(alloc: Global, id: u64) -> Result<String, Fail> {
+    let mut body = format!(in alloc; r#"{{"new_edits":false,"docs":[{{"_id":"{id}","_rev":"1-a","text":""#)?;
     for _ in 0..1_000 {
         body.push_str("0123456789abcdef0123456789abcdef0123456789abcdef0123456789abcdef")?;
     }
-    body.push_str(r#""}"#)?;
+    body.push_str(r#""}]}"#)?;
     Ok(body)
 }
 
@@ -148,7 +149,9 @@ fn is_row(client: &mut Client, alloc: Global, seq: u64) -> Result<bool, Fail> {
 #[test]
 fn a_client_that_does_not_read(rt: HostRuntime) -> Result<(), Fail> {
     let alloc = rt.alloc();
-    let server = serve(&rt, alloc, 3)?;
+    let mut limits = Limits::full();
+    limits.lane = 8;
+    let server = Running::start(&rt, alloc, 3, Open, limits)?;
     let mut writer = Client::connect(&rt, alloc, server.address)?;
     assert!(rt; writer.gets("PUT /d", "", "201")?);
     let mut slow = Client::connect(&rt, alloc, server.address)?;
@@ -156,10 +159,9 @@ fn a_client_that_does_not_read(rt: HostRuntime) -> Result<(), Fail> {
     let line = "GET /d/_changes?feed=continuous&include_docs=true&heartbeat=500";
     assert!(rt; slow.follows(line)?);
     assert!(rt; fast.follows(line)?);
-    let body = large_body(alloc)?;
     for seq in 1..=LARGE {
-        let line = format!(in alloc; "PUT /d/{seq}")?;
-        assert!(rt; writer.gets(line.as_str(), body.as_str(), "201")?);
+        let batch = large_batch(alloc, seq)?;
+        assert!(rt; writer.gets("POST /d/_bulk_docs", batch.as_str(), "201")?);
         assert!(rt; is_row(&mut fast, alloc, seq)?);
     }
     for seq in 1..=LARGE {
