@@ -6,13 +6,12 @@ use hub_http::{Requests, Tally};
 use hub_routes::Routes;
 use hub_service::serve_connection;
 use hub_session::Closing;
-use hub_threads::{Clock, Gate};
+use hub_threads::Gate;
 use std::alloc::Global;
 use std::io::{self, BufWriter, Read};
 use std::net::{Shutdown, TcpStream};
 use std::sync::Wait;
-use std::thread::Threads;
-use std::time::{self, Duration};
+use std::time::Duration;
 
 /// The bytes that are handed to the socket at once.
 const BUFFER: usize = 65_536;
@@ -42,24 +41,22 @@ fn see_off(mut stream: &TcpStream) -> io::Result<()> {
 
 /// Whether the client may still send to a connection that closed for this reason, and read.
 fn is_left_open(closing: Closing) -> bool {
-    matches!(closing, Closing::Requested | Closing::Fault(_) | Closing::Cut)
+    matches!(
+        closing,
+        Closing::Requested | Closing::Fault(_) | Closing::Cut
+    )
 }
 
 /// Answers the requests of a socket, up to the first closing. An error says that nothing was answered, or
 /// that the client was gone at the end.
-pub(crate) fn answer_socket<R, G, K>(
+pub(crate) fn answer_socket<R: Wait + Drop, G: Gate + Drop>(
     rt: &R,
     alloc: Global,
     hub: &Hub,
     routes: &Routes,
-    pumps: ByThreads<R, G, K>,
+    pumps: ByThreads<R, G>,
     stream: &TcpStream,
-) -> io::Result<()>
-where
-    R: Threads + Wait + time::Clock + Copy + Send + Sync + Drop + 'static,
-    G: Gate + Send + Sync + Drop + 'static,
-    K: Clock + Send + Sync + Drop + 'static,
-{
+) -> io::Result<()> {
     stream.set_nodelay(true)?;
     stream.set_write_timeout(Some(Duration::from_secs(PATIENCE)))?;
     let mut requests = Requests::new(alloc, Tally::new(stream));

@@ -4,11 +4,14 @@
 mod alive;
 mod clock;
 mod connection;
+mod orders;
 mod pumps;
 mod server;
+mod starter;
 #[cfg(test)]
 mod tests;
 
 pub use clock::Uptime;
+pub use orders::PumpThread;
 pub use pumps::ByThreads;
 pub use server::run_server;

@@ -1,104 +1,57 @@
 //! Feeds whose pumps run in threads of their own.
 
-ghost use Rattle.std.specs.Prelude.{◌≡◌};
-
-use hub_database::DbState;
+use crate::orders::{Orders, Pump, PumpThread};
 use hub_feed::FeedHost;
 use hub_model::Item;
 use hub_service::Pumping;
-use hub_threads::{
-    Clock, Feed, FeedPump, Gate, Guarded, HostFeed, Plain, Point, Pumped, Served, UpdatesFeed,
-};
-use hub_updates::UpdatesState;
+use hub_threads::{Feed, Gate, HostFeed, Plain, Point, Pumped, UpdatesFeed};
 use std::alloc::{AllocError, Global};
 use std::sync::{Arc, Wait};
-use std::thread::{self, JoinHandle, Threads};
-use std::time;
 
 /// By threads: the pump of each feed runs in a thread of its own, and the thread of the connection sleeps
 /// until there are items to take.
 #[derive(Drop)]
-pub struct ByThreads<R, G, K> {
+pub struct ByThreads<R, G> {
     rt: R,
-    /// What pumps and requests pass.
+    /// What a request passes.
     gate: Arc<G, Global>,
-    /// What tells pumps when a heartbeat is due, or a feed's end.
-    clock: Arc<K, Global>,
+    /// Where the threads of pumps are ordered.
+    orders: Arc<Orders, Global>,
     /// The connection's number.
     number: u64,
 }
 
-impl<R, G, K> ByThreads<R, G, K>
-where
-    R: Threads + Wait + time::Clock + Copy + Send + Sync + Drop + 'static,
-    G: Gate + Send + Sync + Drop + 'static,
-    K: Clock + Send + Sync + Drop + 'static,
-{
+impl<R, G> ByThreads<R, G> {
     /// Pumps for the feeds of the connection of this number.
-    pub fn new(
+    pub(crate) fn new(
         rt: R,
         gate: Arc<G, Global>,
-        clock: Arc<K, Global>,
+        orders: Arc<Orders, Global>,
         number: u64,
-    ) -> ByThreads<R, G, K> {
+    ) -> ByThreads<R, G> {
         ByThreads {
             rt,
             gate,
-            clock,
+            orders,
             number,
         }
     }
-
-    // Runs the pump of a feed of a database in a thread of its own.
-    fn start_changes(
-        &self,
-        pump: FeedPump<DbState, Guarded<Plain>>,
-    ) -> Result<JoinHandle<()>, AllocError> {
-        let rt = self.rt;
-        let gate = Arc::try_clone(&self.gate)?;
-        let clock = Arc::try_clone(&self.clock)?;
-        // Without memory for a row the pump ends, and its feed stops there.
-        let running = thread::spawn(&self.rt, move || {
-            let _done = pump.run(&rt, &*gate, &*clock);
-        })?;
-        Ok(running)
-    }
-
-    // Runs the pump of a feed of the log of updates in a thread of its own.
-    fn start_updates(
-        &self,
-        pump: FeedPump<UpdatesState, Served<UpdatesState>>,
-    ) -> Result<JoinHandle<()>, AllocError> {
-        let rt = self.rt;
-        let gate = Arc::try_clone(&self.gate)?;
-        let clock = Arc::try_clone(&self.clock)?;
-        // Without memory for a row the pump ends, and its feed stops there.
-        let running = thread::spawn(&self.rt, move || {
-            let _done = pump.run(&rt, &*gate, &*clock);
-        })?;
-        Ok(running)
-    }
 }
 
-impl<R, G, K> Pumping for ByThreads<R, G, K>
-where
-    R: Threads + Wait + time::Clock + Copy + Send + Sync + Drop + 'static,
-    G: Gate + Send + Sync + Drop + 'static,
-    K: Clock + Send + Sync + Drop + 'static,
-{
+impl<R: Wait + Drop, G: Gate + Drop> Pumping for ByThreads<R, G> {
     /// The thread of the feed's pump.
-    type Running = JoinHandle<()>;
+    type Running = PumpThread;
 
     fn pass_request(&self) {
         self.gate.pass(Point::Request(self.number));
     }
 
-    fn begin_changes(&self, feed: &Feed<Plain>) -> Result<JoinHandle<()>, AllocError> {
-        self.start_changes(feed.pump()?)
+    fn begin_changes(&self, feed: &Feed<Plain>) -> Result<PumpThread, AllocError> {
+        self.orders.start(&self.rt, Pump::Changes(feed.pump()?))
     }
 
-    fn begin_updates(&self, feed: &UpdatesFeed) -> Result<JoinHandle<()>, AllocError> {
-        self.start_updates(feed.pump()?)
+    fn begin_updates(&self, feed: &UpdatesFeed) -> Result<PumpThread, AllocError> {
+        self.orders.start(&self.rt, Pump::Updates(feed.pump()?))
     }
 
     fn next_item<S: FeedHost, H: Pumped<S>>(
@@ -121,7 +74,7 @@ where
         feed.is_ready()
     }
 
-    fn end(&self, running: JoinHandle<()>) {
+    fn end(&self, running: PumpThread) {
         running.join(&self.rt);
     }
 }

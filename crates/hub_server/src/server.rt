@@ -2,7 +2,9 @@
 
 use crate::alive::Alive;
 use crate::connection::answer_socket;
+use crate::orders::Orders;
 use crate::pumps::ByThreads;
+use crate::starter::Starter;
 use hub_databases::Hub;
 use hub_document::Limits;
 use hub_routes::Routes;
@@ -11,59 +13,53 @@ use std::alloc::{AllocError, Global};
 use std::io::{self, ErrorKind};
 use std::net::{TcpListener, TcpStream};
 use std::sync::{Arc, Wait};
-use std::thread::{self, Threads};
+use std::thread::{self, JoinHandle, Threads};
 use std::time;
 
 /// What the connections of a server share.
 #[derive(Drop)]
-struct Shared<G, K> {
+struct Shared<G> {
     hub: Arc<Hub, Global>,
     routes: Arc<Routes, Global>,
     gate: Arc<G, Global>,
-    clock: Arc<K, Global>,
+    /// Where they order the threads of pumps.
+    orders: Arc<Orders, Global>,
     alive: Arc<Alive, Global>,
 }
 
-impl<G, K> Shared<G, K>
-where
-    G: Gate + Send + Sync + Drop + 'static,
-    K: Clock + Send + Sync + Drop + 'static,
-{
+impl<G: Gate + Send + Sync + Drop + 'static> Shared<G> {
     /// A hub without databases, which no connection shares yet.
-    fn new(alloc: Global, gate: G, clock: K, limits: Limits) -> Result<Shared<G, K>, AllocError> {
+    fn new(alloc: Global, gate: G, limits: Limits) -> Result<Shared<G>, AllocError> {
         Ok(Shared {
             hub: Arc::new(alloc, Hub::new(alloc, limits)?)?,
             routes: Arc::new(alloc, Routes::new(alloc)?)?,
             gate: Arc::new(alloc, gate)?,
-            clock: Arc::new(alloc, clock)?,
+            orders: Arc::new(alloc, Orders::new(alloc))?,
             alive: Arc::new(alloc, Alive::new())?,
         })
     }
 
     /// The same once more.
-    fn again(&self) -> Result<Shared<G, K>, AllocError> {
+    fn again(&self) -> Result<Shared<G>, AllocError> {
         Ok(Shared {
             hub: Arc::try_clone(&self.hub)?,
             routes: Arc::try_clone(&self.routes)?,
             gate: Arc::try_clone(&self.gate)?,
-            clock: Arc::try_clone(&self.clock)?,
+            orders: Arc::try_clone(&self.orders)?,
             alive: Arc::try_clone(&self.alive)?,
         })
     }
 
     /// Serves a connection to its end.
-    fn serve<R>(self, rt: &R, alloc: Global, stream: TcpStream, number: u64)
-    where
-        R: Threads + Wait + time::Clock + Copy + Send + Sync + Drop + 'static,
-    {
+    fn serve<R: Wait + Copy + Drop>(self, rt: &R, alloc: Global, stream: TcpStream, number: u64) {
         let Shared {
             hub,
             routes,
             gate,
-            clock,
+            orders,
             alive,
         } = self;
-        let pumps = ByThreads::new(*rt, gate, clock, number);
+        let pumps = ByThreads::new(*rt, gate, orders, number);
         // A client that is gone is told nothing.
         let _answered = answer_socket(rt, alloc, &hub, &routes, pumps, &stream);
         drop(stream);
@@ -72,9 +68,15 @@ where
 
     /// Serves a connection in a thread that nobody joins. Where none can be made, the connection is closed
     /// unanswered.
-    fn start<R>(&self, rt: &R, alloc: Global, stream: TcpStream, number: u64) -> Result<(), AllocError>
+    fn start<R>(
+        &self,
+        rt: &R,
+        alloc: Global,
+        stream: TcpStream,
+        number: u64,
+    ) -> Result<(), AllocError>
     where
-        R: Threads + Wait + time::Clock + Copy + Send + Sync + Drop + 'static,
+        R: Threads + Wait + Copy + Send + Sync + Drop + 'static,
     {
         let shared = self.again()?;
         let handle = *rt;
@@ -85,6 +87,43 @@ where
         }
         Ok(())
     }
+
+    /// Accepts so many connections, and serves each.
+    fn accept_all<R>(
+        &self,
+        rt: &R,
+        alloc: Global,
+        listener: &TcpListener,
+        count: u64,
+    ) -> io::Result<()>
+    where
+        R: Threads + Wait + Copy + Send + Sync + Drop + 'static,
+    {
+        for before in 0..count {
+            let stream = accept(listener)?;
+            let _started = self.start(rt, alloc, stream, before + 1);
+        }
+        Ok(())
+    }
+}
+
+/// Makes the thread that makes the threads of pumps, until no more are ordered.
+fn start_starter<R, G, K>(
+    rt: &R,
+    alloc: Global,
+    shared: &Shared<G>,
+    clock: K,
+) -> Result<JoinHandle<()>, AllocError>
+where
+    R: Threads + Wait + time::Clock + Copy + Send + Sync + Drop + 'static,
+    G: Gate + Send + Sync + Drop + 'static,
+    K: Clock + Send + Sync + Drop + 'static,
+{
+    let starter = Starter::new(Arc::try_clone(&shared.gate)?, Arc::new(alloc, clock)?);
+    let orders = Arc::try_clone(&shared.orders)?;
+    let handle = *rt;
+    let running = thread::spawn(rt, move || starter.run(&handle, &orders))?;
+    Ok(running)
 }
 
 /// Whether the next connection may be accepted in spite of this error: the call was interrupted, or the
@@ -111,8 +150,8 @@ fn accept(listener: &TcpListener) -> io::Result<TcpStream> {
 /// pump of each feed, and comes back once all have ended. Connections are numbered from 1 as they are
 /// accepted; each passes `Point::Request` of its number at the gate before each answer. A connection for
 /// which no thread can be made is closed unanswered; a feed for whose pump none can be made is answered
-/// as want of memory is. An error says that there was no memory to begin with, or that no connection
-/// could be accepted: then the threads of those that are open go on.
+/// as want of memory is. An error says that there was no memory or no thread to begin with, or that no
+/// connection could be accepted: then those that are open go on, and begin no feed.
 pub fn run_server<R, G, K>(
     rt: &R,
     alloc: Global,
@@ -127,11 +166,13 @@ where
     G: Gate + Send + Sync + Drop + 'static,
     K: Clock + Send + Sync + Drop + 'static,
 {
-    let shared = Shared::new(alloc, gate, clock, limits)?;
-    for before in 0..count {
-        let stream = accept(listener)?;
-        let _started = shared.start(rt, alloc, stream, before + 1);
+    let shared = Shared::new(alloc, gate, limits)?;
+    let starter = start_starter(rt, alloc, &shared, clock)?;
+    let accepted = shared.accept_all(rt, alloc, listener, count);
+    if accepted.is_ok() {
+        shared.alive.wait(rt);
     }
-    shared.alive.wait(rt);
-    Ok(())
+    shared.orders.close(rt);
+    starter.join(rt);
+    accepted
 }

@@ -18,8 +18,7 @@ use std::thread::{self, JoinHandle, Threads};
 use std::time;
 
 /// What a test with a server asks of the machine.
-pub(crate) trait Machine:
-    Threads
+pub(crate) trait Machine: Threads
     + Wait
     + time::Clock
     + Net<Listener = TcpListener, Stream = TcpStream>
@@ -27,9 +26,7 @@ pub(crate) trait Machine:
     + Send
     + Sync
     + Drop
-    + 'static
-{
-}
+    + 'static {}
 
 impl<R> Machine for R
 where
@@ -42,8 +39,7 @@ where
         + Sync
         + Drop
         + 'static,
-{
-}
+{}
 
 /// A gate that holds nobody.
 #[derive(Drop)]

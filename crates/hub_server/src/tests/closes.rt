@@ -28,11 +28,7 @@ fn follower<R: Machine>(rt: &R, alloc: Global, address: SocketAddr) -> Result<Cl
 }
 
 /// As many clients as there may be feeds, each of which follows.
-fn followers<R: Machine>(
-    rt: &R,
-    alloc: Global,
-    address: SocketAddr,
-) -> Result<Vec<Client>, Fail> {
+fn followers<R: Machine>(rt: &R, alloc: Global, address: SocketAddr) -> Result<Vec<Client>, Fail> {
     let mut clients = Vec::new(alloc);
     for _ in 0..CLIENTS {
         clients.push(follower(rt, alloc, address)?)?;
@@ -67,7 +63,9 @@ fn two_hundred_clients_that_close(rt: HostRuntime) -> Result<(), Fail> {
 
 /// A batch of one document of a million bytes.
 fn large_batch(alloc: Global, id: u64) -> Result<String, Fail> {
-    let mut body = format!(in alloc; r#"{{"new_edits":false,"docs":[{{"_id":"{id}","_rev":"1-a","text":""#)?;
+    let mut body = format!(in alloc;
+        r#"{{"new_edits":false,"docs":[{{"_id":"{id}","_rev":"1-a","text":""#
+    )?;
     for _ in 0..10_000 {
         body.push_str(
             "0123456789012345678901234567890123456789012345678901234567890123456789012345678901234567890123456789",
@@ -99,7 +97,12 @@ fn clients_that_go_in_the_middle(rt: HostRuntime) -> Result<(), Fail> {
     drop(body);
     let mut chunk = Client::connect(&rt, alloc, server.address)?;
     assert!(rt; chunk.follows("GET /d/_changes?include_docs=true")?);
-    assert!(rt; chunk.text(1_000)?.as_str().starts_with("d\r\n{\"results\":["));
+    assert!(rt;
+        chunk
+            .text(1_000)?
+            .as_str()
+            .starts_with("d\r\n{\"results\":[")
+    );
     drop(chunk);
     drop(follower(&rt, alloc, server.address)?);
     let info = writer.answered("GET /d", "")?;

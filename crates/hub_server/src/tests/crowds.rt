@@ -125,7 +125,9 @@ const LARGE: u64 = 100;
 
 /// A batch of one document of 64,000 bytes.
 fn large_batch(alloc: Global, id: u64) -> Result<String, Fail> {
-    let mut body = format!(in alloc; r#"{{"new_edits":false,"docs":[{{"_id":"{id}","_rev":"1-a","text":""#)?;
+    let mut body = format!(in alloc;
+        r#"{{"new_edits":false,"docs":[{{"_id":"{id}","_rev":"1-a","text":""#
+    )?;
     for _ in 0..1_000 {
         body.push_str("0123456789abcdef0123456789abcdef0123456789abcdef0123456789abcdef")?;
     }

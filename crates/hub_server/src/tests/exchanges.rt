@@ -62,8 +62,10 @@ fn a_document_that_is_put(rt: HostRuntime) -> Result<(), Fail> {
     let feed = client.answered("GET /d/_changes?include_docs=true", "")?;
     assert_eq!(rt; feed.body.as_str(), ROW);
     let document = client.answered("GET /d/a", "")?;
-    assert_eq!(rt; document.body.as_str(),
-        "{\"_id\":\"a\",\"_rev\":\"1-91e3da135d1d0593e6703385cf55957a\",\"v\":7}\n");
+    assert_eq!(rt;
+        document.body.as_str(),
+        "{\"_id\":\"a\",\"_rev\":\"1-91e3da135d1d0593e6703385cf55957a\",\"v\":7}\n"
+    );
     drop(client);
     assert!(rt; server.ends(&rt));
     Ok(())
@@ -77,9 +79,7 @@ fn requests_behind_one_another(rt: HostRuntime) -> Result<(), Fail> {
     let mut client = Client::connect(&rt, alloc, server.address)?;
     let mut asked = String::from_str(alloc, "PUT /d HTTP/1.1\r\n\r\n")?;
     for number in 0..50 {
-        let text = format!(in alloc;
-            "PUT /d/{number} HTTP/1.1\r\nContent-Length: 2\r\n\r\n{{}}"
-        )?;
+        let text = format!(in alloc; "PUT /d/{number} HTTP/1.1\r\nContent-Length: 2\r\n\r\n{{}}")?;
         asked.push_str(text.as_str())?;
     }
     client.send(asked.as_str())?;

@@ -98,8 +98,10 @@ fn a_feed_of_updates(rt: HostRuntime) -> Result<(), Fail> {
     let mut reader = Client::connect(&rt, alloc, server.address)?;
     assert!(rt; reader.follows("GET /_db_updates?feed=continuous&timeout=1500")?);
     let writer = writer(&rt, alloc, server.address)?;
-    assert_eq!(rt; reader.chunk()?.as_str(),
-        "{\"db_name\":\"d\",\"type\":\"created\",\"seq\":1}\n");
+    assert_eq!(rt;
+        reader.chunk()?.as_str(),
+        "{\"db_name\":\"d\",\"type\":\"created\",\"seq\":1}\n"
+    );
     assert_eq!(rt; reader.chunk()?.as_str(), "{\"last_seq\":1}\n");
     assert!(rt; reader.chunk()?.is_empty());
     drop(reader);
