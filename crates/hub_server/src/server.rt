@@ -78,10 +78,25 @@ impl<G: Gate + Send + Sync + Drop + 'static> Shared<G> {
     where
         R: Threads + Wait + Copy + Send + Sync + Drop + 'static,
     {
-        let shared = self.again()?;
+        let Shared {
+            hub,
+            routes,
+            gate,
+            orders,
+            alive,
+        } = self.again()?;
         let handle = *rt;
         self.alive.begin(rt);
-        let started = thread::spawn(rt, move || shared.serve(&handle, alloc, stream, number));
+        let started = thread::spawn(rt, move || {
+            let shared = Shared {
+                hub,
+                routes,
+                gate,
+                orders,
+                alive,
+            };
+            shared.serve(&handle, alloc, stream, number)
+        });
         if started.is_err() {
             self.alive.end(rt);
         }
