@@ -131,7 +131,12 @@ fn main(rt: HostRuntime) -> io::Result<ExitCode> {
             let writer = BufWriter::with_capacity(rt.alloc(), OUTPUT, rt.stdout())?;
             answer(&rt, rt.alloc(), rt.stdin(), writer)
         }
-        Some(Command::Serve { address, count }) => match serve(&rt, rt.alloc(), address.as_str(), count) {
+        Some(Command::Serve { address, count }) => match serve(
+            &rt,
+            rt.alloc(),
+            address.as_str(),
+            count,
+        ) {
             Ok(()) => Ok(ExitCode::SUCCESS),
             Err(_) => Ok(ExitCode::FAILURE),
         },
