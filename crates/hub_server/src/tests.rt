@@ -17,30 +17,6 @@ use std::test::Fail;
 use std::thread::{self, JoinHandle, Threads};
 use std::time;
 
-/// What a test with a server asks of the machine.
-pub(crate) trait Machine: Threads
-    + Wait
-    + time::Clock
-    + Net<Listener = TcpListener, Stream = TcpStream>
-    + Copy
-    + Send
-    + Sync
-    + Drop
-    + 'static {}
-
-impl<R> Machine for R
-where
-    R: Threads
-        + Wait
-        + time::Clock
-        + Net<Listener = TcpListener, Stream = TcpStream>
-        + Copy
-        + Send
-        + Sync
-        + Drop
-        + 'static,
-{}
-
 /// A gate that holds nobody.
 #[derive(Drop)]
 pub(crate) struct Open;
@@ -59,13 +35,25 @@ pub(crate) struct Running {
 
 impl Running {
     /// Starts a server for so many connections on a free port.
-    pub(crate) fn start<R: Machine, G: Gate + Send + Sync + Drop + 'static>(
+    pub(crate) fn start<R, G>(
         rt: &R,
         alloc: Global,
         count: u64,
         gate: G,
         limits: Limits,
-    ) -> Result<Running, Fail> {
+    ) -> Result<Running, Fail>
+    where
+        R: Threads
+            + Wait
+            + time::Clock
+            + Net<Listener = TcpListener, Stream = TcpStream>
+            + Copy
+            + Send
+            + Sync
+            + Drop
+            + 'static,
+        G: Gate + Send + Sync + Drop + 'static,
+    {
         let listener = TcpListener::bind(rt, "127.0.0.1:0")?;
         let address = listener.local_addr()?;
         let handle = *rt;
@@ -84,6 +72,17 @@ impl Running {
 }
 
 /// A server without a gate, within the limits of a hub that serves.
-pub(crate) fn serve<R: Machine>(rt: &R, alloc: Global, count: u64) -> Result<Running, Fail> {
+pub(crate) fn serve<R>(rt: &R, alloc: Global, count: u64) -> Result<Running, Fail>
+where
+    R: Threads
+        + Wait
+        + time::Clock
+        + Net<Listener = TcpListener, Stream = TcpStream>
+        + Copy
+        + Send
+        + Sync
+        + Drop
+        + 'static,
+{
     Running::start(rt, alloc, count, Open, Limits::full())
 }

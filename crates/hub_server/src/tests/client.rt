@@ -1,9 +1,8 @@
 //! Clients.
 
-use crate::tests::Machine;
 use std::alloc::Global;
 use std::io::{self, BufRead, BufReader, Read, Write};
-use std::net::{Shutdown, SocketAddr, TcpStream};
+use std::net::{Net, Shutdown, SocketAddr, TcpListener, TcpStream};
 use std::time::Duration;
 
 /// How long a client waits for its server, in seconds, before the test fails.
@@ -44,7 +43,7 @@ fn bad(why: &str) -> io::Error {
 
 impl Client {
     /// A new connection.
-    pub(crate) fn connect<R: Machine>(
+    pub(crate) fn connect<R: Net<Listener = TcpListener, Stream = TcpStream>>(
         rt: &R,
         alloc: Global,
         address: SocketAddr,

@@ -1,13 +1,13 @@
 //! Clients that go.
 
 use crate::tests::client::Client;
-use crate::tests::{Machine, Open, Running, serve};
+use crate::tests::{Open, Running, serve};
 use hub_document::Limits;
 use std::alloc::Global;
-use std::net::SocketAddr;
+use std::net::{Net, SocketAddr, TcpListener, TcpStream};
 use std::test::Fail;
 use std::thread;
-use std::time::Duration;
+use std::time::{Clock, Duration};
 
 /// How many clients follow at once.
 const CLIENTS: u64 = 200;
@@ -16,7 +16,11 @@ const CLIENTS: u64 = 200;
 const LOOKS: u64 = 500;
 
 /// A client that follows `d`, which is asked for again while there are too many feeds.
-fn follower<R: Machine>(rt: &R, alloc: Global, address: SocketAddr) -> Result<Client, Fail> {
+fn follower<R: Clock + Net<Listener = TcpListener, Stream = TcpStream>>(
+    rt: &R,
+    alloc: Global,
+    address: SocketAddr,
+) -> Result<Client, Fail> {
     let mut client = Client::connect(rt, alloc, address)?;
     for _ in 0..LOOKS {
         if client.follows("GET /d/_changes?feed=continuous&heartbeat=200")? {
@@ -28,7 +32,11 @@ fn follower<R: Machine>(rt: &R, alloc: Global, address: SocketAddr) -> Result<Cl
 }
 
 /// As many clients as there may be feeds, each of which follows.
-fn followers<R: Machine>(rt: &R, alloc: Global, address: SocketAddr) -> Result<Vec<Client>, Fail> {
+fn followers<R: Clock + Net<Listener = TcpListener, Stream = TcpStream>>(
+    rt: &R,
+    alloc: Global,
+    address: SocketAddr,
+) -> Result<Vec<Client>, Fail> {
     let mut clients = Vec::new(alloc);
     for _ in 0..CLIENTS {
         clients.push(follower(rt, alloc, address)?)?;

@@ -1,10 +1,10 @@
 //! Many connections at once, and slow ones.
 
 use crate::tests::client::Client;
-use crate::tests::{Machine, Open, Running, serve};
+use crate::tests::{Open, Running, serve};
 use hub_document::Limits;
 use std::alloc::Global;
-use std::net::SocketAddr;
+use std::net::{Net, SocketAddr, TcpListener, TcpStream};
 use std::test::Fail;
 use std::thread;
 
@@ -24,7 +24,12 @@ enum Part {
 }
 
 /// Writes a client's documents on a connection of its own; None where one is not stored.
-fn write_all<R: Machine>(rt: &R, alloc: Global, address: SocketAddr, writer: u64) -> Option<()> {
+fn write_all<R: Net<Listener = TcpListener, Stream = TcpStream>>(
+    rt: &R,
+    alloc: Global,
+    address: SocketAddr,
+    writer: u64,
+) -> Option<()> {
     let mut client = Client::connect(rt, alloc, address).ok()?;
     for number in 0..DOCUMENTS {
         let line = format!(in alloc; "PUT /d/w{writer}-{number}").ok()?;
@@ -54,7 +59,12 @@ fn rows(client: &mut Client, alloc: Global, count: u64) -> Option<String> {
 }
 
 /// Does a part: what was read, or nothing; None where it failed.
-fn play<R: Machine>(rt: &R, alloc: Global, address: SocketAddr, part: Part) -> Option<String> {
+fn play<R: Net<Listener = TcpListener, Stream = TcpStream>>(
+    rt: &R,
+    alloc: Global,
+    address: SocketAddr,
+    part: Part,
+) -> Option<String> {
     match part {
         Part::Write(writer) => {
             write_all(rt, alloc, address, writer)?;
@@ -77,7 +87,11 @@ fn as_lines(alloc: Global, body: &str) -> Option<String> {
 }
 
 /// A client that follows the database `d`.
-fn follower<R: Machine>(rt: &R, alloc: Global, address: SocketAddr) -> Result<Client, Fail> {
+fn follower<R: Net<Listener = TcpListener, Stream = TcpStream>>(
+    rt: &R,
+    alloc: Global,
+    address: SocketAddr,
+) -> Result<Client, Fail> {
     let mut client = Client::connect(rt, alloc, address)?;
     if client.follows("GET /d/_changes?feed=continuous&heartbeat=500")? {
         Ok(client)

@@ -1,7 +1,7 @@
 //! A connection that is held does not hold the others.
 
+use crate::tests::Running;
 use crate::tests::client::Client;
-use crate::tests::{Machine, Running};
 use hub_document::Limits;
 use hub_threads::{Gate, Point};
 use std::alloc::Global;
@@ -49,7 +49,7 @@ impl<R: time::Clock> Gate for Held<R> {
 }
 
 /// Waits until a request stands before the gate; whether one came.
-fn is_held<R: Machine>(rt: &R, scene: &Scene) -> bool {
+fn is_held<R: time::Clock>(rt: &R, scene: &Scene) -> bool {
     for _ in 0..LOOKS {
         if scene.is_held.load(Ordering::SeqCst) {
             return true;

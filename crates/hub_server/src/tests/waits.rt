@@ -1,13 +1,17 @@
 //! Feeds that wait.
 
 use crate::tests::client::Client;
-use crate::tests::{Machine, serve};
+use crate::tests::serve;
 use std::alloc::Global;
-use std::net::SocketAddr;
+use std::net::{Net, SocketAddr, TcpListener, TcpStream};
 use std::test::Fail;
 
 /// A client whose database `d` was made.
-fn writer<R: Machine>(rt: &R, alloc: Global, address: SocketAddr) -> Result<Client, Fail> {
+fn writer<R: Net<Listener = TcpListener, Stream = TcpStream>>(
+    rt: &R,
+    alloc: Global,
+    address: SocketAddr,
+) -> Result<Client, Fail> {
     let mut client = Client::connect(rt, alloc, address)?;
     if client.gets("PUT /d", "", "201")? {
         Ok(client)
