@@ -1,0 +1,5 @@
+pub mod Opening
+pub mod Telling
+pub mod Walking
+pub mod Served
+pub mod ExactRuns

@@ -1,0 +1,4 @@
+pub mod Views
+pub mod Peers
+pub mod LogText
+pub mod Exact

@@ -1,0 +1,24 @@
+//! A follower, which copies one database into another, call by call (CouchDB Replication Protocol).
+#![tactic(auto)]
+
+mod call;
+mod driving;
+mod fault;
+mod follower;
+mod laws;
+mod log;
+mod log_text;
+mod machine;
+mod peer;
+mod phase;
+mod serving;
+mod session;
+
+pub use call::{Answer, Call};
+pub use fault::FollowFault;
+pub use follower::{FailedStart, Follower, Round};
+pub use laws::exact_peers_run;
+pub use log::{HistoryEntry, Log, common_sequence};
+pub use machine::FollowCore;
+pub use peer::{CallFault, Changes, Peer};
+pub use session::Session;
