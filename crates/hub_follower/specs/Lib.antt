@@ -2,3 +2,4 @@ pub mod Views
 pub mod Peers
 pub mod LogText
 pub mod Exact
+pub mod Shared

@@ -28,13 +28,23 @@ abbrev pub IsDbFault : DbFault → CallFault → Type 0
 IsDbFault db_fault.NoMemory f = f ≡ call_fault.NoMemory
 IsDbFault (db_fault.Refused refusal) f = f ≡ call_fault.Peer
 
--- a follower tells a fault of a peer only where that peer's count rose so; of one peer
+-- why a call of the follower fails that has an answer: no peer is at fault, and the logs' id is a good one
+abbrev pub IsOwnFault : FollowFault → Type 0
+IsOwnFault told.Peer = ⊥
+IsOwnFault told.BadLogId = ⊥
+IsOwnFault e = Unit {0}
+
+-- a follower with a good id tells a fault of a peer only where that peer's count rose so; of one peer
 abbrev pub IsCountedOf : FollowFault → ℕ → ℕ → Type 0
-IsCountedOf e old new = e ≡ told.Peer → Rose old new
+IsCountedOf told.Peer old new = Rose old new
+IsCountedOf told.BadLogId old new = ⊥
+IsCountedOf e old new = Unit {0}
 
 -- and of two
-abbrev pub HasPeerRisen : FollowFault → (s s' t t' : ℕ) → Type 0
-HasPeerRisen e s s' t t' = e ≡ told.Peer → Rose s s' ⊎ Rose t t'
+abbrev pub IsCountedOfBoth : FollowFault → (s s' t t' : ℕ) → Type 0
+IsCountedOfBoth told.Peer s s' t t' = Rose s s' ⊎ Rose t t'
+IsCountedOfBoth told.BadLogId s s' t t' = ⊥
+IsCountedOfBoth e s s' t t' = Unit {0}
 
 -- whose call it is
 abbrev pub side_of : follow.Call → follow.Side

@@ -4,7 +4,7 @@ ghost use Rattle.std.specs.Prelude.{◌≡◌, ◌≤◌, ◌⊎◌, true, false
 ghost use Rattle.hub_follow_model.specs.Follower as follow;
 ghost use Rattle.hub_follow_model.specs.World as world;
 ghost use Rattle.hub_follower.specs.Peers.{Serves, Loses, Steps, FailsSo, Reaches, Idles};
-ghost use Rattle.hub_follower.specs.Peers.{IsCountedOf, HasPeerRisen};
+ghost use Rattle.hub_follower.specs.Peers.{IsCountedOf, IsCountedOfBoth};
 ghost use Rattle.hub_follower.specs.Views.{answer_of, call_of, AnswerHasPaths};
 
 use crate::call::{Answer, Call};
@@ -78,7 +78,7 @@ fn made<S: Peer, T: Peer>(
     ensures paths { IfOk result AnswerHasPaths }
     ensures err { IfErr result (λ _. Loses S.loses T.loses (call_of call.entry)
         source.old target.old source.new target.new) }
-    ensures fault { IfErr result (λ e. HasPeerRisen e (S.fault_count source.old) (S.fault_count source.new)
+    ensures fault { IfErr result (λ e. IsCountedOfBoth e (S.fault_count source.old) (S.fault_count source.new)
         (T.fault_count target.old) (T.fault_count target.new)) }
     ensures source { S.fault_count source.old ≤ S.fault_count source.new }
     ensures target { T.fault_count target.old ≤ T.fault_count target.new }
@@ -128,7 +128,7 @@ pub(crate) fn step<S: Peer, T: Peer>(
         → Steps S.gives T.gives core.old source.old target.old core.new source.new target.new) }
     ensures err { IfErr result (λ _. FailsSo S.gives T.gives S.loses T.loses
         core.old source.old target.old core.new source.new target.new) }
-    ensures fault { IfErr result (λ e. HasPeerRisen e (S.fault_count source.old) (S.fault_count source.new)
+    ensures fault { IfErr result (λ e. IsCountedOfBoth e (S.fault_count source.old) (S.fault_count source.new)
         (T.fault_count target.old) (T.fault_count target.new)) }
     ensures source { S.fault_count source.old ≤ S.fault_count source.new }
     ensures target { T.fault_count target.old ≤ T.fault_count target.new }
@@ -162,7 +162,7 @@ pub(crate) fn drive<S: Peer, T: Peer>(
         × (follow.next_call core.new ≡ None)) }
     ensures err { OnErr result ((world.place_of core.new ≡ world.place_of core.old)
         × (world.is_free core.new ≡ true)) }
-    ensures fault { IfErr result (λ e. HasPeerRisen e (S.fault_count source.old) (S.fault_count source.new)
+    ensures fault { IfErr result (λ e. IsCountedOfBoth e (S.fault_count source.old) (S.fault_count source.new)
         (T.fault_count target.old) (T.fault_count target.new)) }
     ensures source { S.fault_count source.old ≤ S.fault_count source.new }
     ensures target { T.fault_count target.old ≤ T.fault_count target.new }

@@ -4,7 +4,7 @@ ghost use Rattle.std.specs.Prelude.{◌≡◌, ◌≤◌, true, IfOk, IfErr, OnO
 ghost use Rattle.hub_document.specs.Local.{IsLocalId};
 ghost use Rattle.hub_follow_model.specs.Follower as follow;
 ghost use Rattle.hub_follow_model.specs.World as world;
-ghost use Rattle.hub_follower.specs.Peers.{IsWalk, HasPeerRisen};
+ghost use Rattle.hub_follower.specs.Peers.{IsWalk, IsCountedOfBoth};
 
 use crate::driving::drive;
 use crate::fault::FollowFault;
@@ -95,7 +95,7 @@ impl<S: Peer + Drop, T: Peer + Drop> Follower<S, T> {
         ensures err { OnErr result (world.place_of self.new.core ≡ world.place_of self.old.core) }
         ensures rests { world.is_free self.new.core ≡ true }
         ensures id { self.new.log_id ≡ self.old.log_id }
-        ensures fault { IfErr result (λ e. HasPeerRisen e
+        ensures fault { IfErr result (λ e. IsCountedOfBoth e
             (S.fault_count self.old.source) (S.fault_count self.new.source)
             (T.fault_count self.old.target) (T.fault_count self.new.target)) }
         ensures source { S.fault_count self.old.source ≤ S.fault_count self.new.source }
@@ -125,7 +125,7 @@ impl<S: Peer + Drop, T: Peer + Drop> Follower<S, T> {
         ensures rests { IfOk result (λ f. world.is_free f.core ≡ true) }
         ensures id { IfOk result (λ f. (string_bytes f.log_id ≡ log_id.now) × IsLocalId log_id.now) }
         ensures bad_id { IfErr result (λ e. e.fault ≡ FollowFault.BadLogId → ¬ IsLocalId log_id.now) }
-        ensures fault { IfErr result (λ e. HasPeerRisen e.fault
+        ensures fault { IfErr result (λ e. IsCountedOfBoth e.fault
             (S.fault_count source) (S.fault_count e.source)
             (T.fault_count target) (T.fault_count e.target)) }
     {
@@ -174,7 +174,7 @@ impl<S: Peer + Drop, T: Peer + Drop> Follower<S, T> {
         ensures err { OnErr result (world.place_of self.new.core ≡ world.place_of self.old.core) }
         ensures rests { world.is_free self.new.core ≡ true }
         ensures id { self.new.log_id ≡ self.old.log_id }
-        ensures fault { IfErr result (λ e. HasPeerRisen e
+        ensures fault { IfErr result (λ e. IsCountedOfBoth e
             (S.fault_count self.old.source) (S.fault_count self.new.source)
             (T.fault_count self.old.target) (T.fault_count self.new.target)) }
     {
@@ -197,7 +197,7 @@ impl<S: Peer + Drop, T: Peer + Drop> Follower<S, T> {
         ensures err { OnErr result (world.place_of self.new.core ≡ world.place_of self.old.core) }
         ensures rests { world.is_free self.new.core ≡ true }
         ensures id { self.new.log_id ≡ self.old.log_id }
-        ensures fault { IfErr result (λ e. HasPeerRisen e
+        ensures fault { IfErr result (λ e. IsCountedOfBoth e
             (S.fault_count self.old.source) (S.fault_count self.new.source)
             (T.fault_count self.old.target) (T.fault_count self.new.target)) }
     {

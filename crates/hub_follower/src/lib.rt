@@ -2,8 +2,11 @@
 #![tactic(auto)]
 
 mod call;
+mod copies;
+mod db_peer;
 mod driving;
 mod fault;
+mod fault_peer;
 mod follower;
 mod laws;
 mod log;
@@ -13,9 +16,13 @@ mod peer;
 mod phase;
 mod serving;
 mod session;
+#[cfg(test)]
+mod tests;
 
 pub use call::{Answer, Call};
+pub use db_peer::DbPeer;
 pub use fault::FollowFault;
+pub use fault_peer::{FaultPeer, Loss};
 pub use follower::{FailedStart, Follower, Round};
 pub use laws::exact_peers_run;
 pub use log::{HistoryEntry, Log, common_sequence};

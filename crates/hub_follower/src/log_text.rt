@@ -1,11 +1,13 @@
 //! Replication logs as the members of local documents.
 
-ghost use Rattle.std.specs.Prelude.{◌≡◌, ◌⊎◌, ◌++◌, ◌≤◌, length, Some, None, option_map, IfOk, OnOk};
+ghost use Rattle.std.specs.Prelude.{◌≡◌, ◌⊎◌, ◌++◌, ◌≤◌, length, Some, None, option_map, decimal, IfOk, OnOk};
 ghost use Rattle.serde_json.specs.View.{view, items_view};
-ghost use Rattle.hub_follower.specs.LogText.{entry_in, entries_in, history_in, log_of, log_in, log_text};
+ghost use Rattle.hub_follower.specs.LogText.{entry_in, entries_in, history_in, log_of, log_in};
+ghost use Rattle.hub_follower.specs.LogText.{entry_text, later_entries_text, entries_text, log_text};
 
 use crate::log::{HistoryEntry, Log};
-use hub_document::{DocFault, read_value};
+use hub_document::{DocFault, put_quoted, read_value};
+use itoa::Buffer;
 use serde_json::Value;
 use std::alloc::{AllocError, Global};
 
@@ -92,6 +94,67 @@ fn log_of_value(alloc: Global, value: &Value) -> Result<Option<Log>, AllocError>
     }))
 }
 
+// Appends the digits of a whole number.
+fn put_number(out: &mut Vec<u8>, number: u64) -> Result<(), AllocError>
+    ensures { OnOk result (out.new.items ≡ out.old.items ++ decimal number) }
+{
+    let mut digits = Buffer::new();
+    out.extend_from_slice(digits.format(number).as_bytes())
+}
+
+// Appends the text of an entry.
+fn put_entry(out: &mut Vec<u8>, entry: &HistoryEntry) -> Result<(), AllocError>
+    ensures { OnOk result (out.new.items ≡ out.old.items ++ entry_text entry.now) }
+{
+    out.extend_from_slice(b"{\"end_last_seq\":")?;
+    put_number(out, entry.end_last_seq)?;
+    out.extend_from_slice(b",\"recorded_seq\":")?;
+    put_number(out, entry.recorded_seq)?;
+    out.extend_from_slice(b",\"session_id\":")?;
+    put_quoted(out, entry.session_id.as_str())?;
+    out.extend_from_slice(b",\"start_last_seq\":")?;
+    put_number(out, entry.start_last_seq)?;
+    out.extend_from_slice(b"}")?;
+    Ok(())
+}
+
+// Appends the texts of entries, each with a comma in front.
+fn put_later_entries(out: &mut Vec<u8>, entries: &[HistoryEntry]) -> Result<(), AllocError>
+    ensures { OnOk result (out.new.items ≡ out.old.items ++ later_entries_text entries.now) }
+{
+    for entry in entries {
+        out.extend_from_slice(b",")?;
+        put_entry(out, entry)?;
+    }
+    Ok(())
+}
+
+// Appends the texts of entries, with commas between them.
+fn put_entries(out: &mut Vec<u8>, entries: &[HistoryEntry]) -> Result<(), AllocError>
+    ensures { OnOk result (out.new.items ≡ out.old.items ++ entries_text entries.now) }
+{
+    let Some((first, later)) = entries.split_first() else {
+        return Ok(());
+    };
+    put_entry(out, first)?;
+    put_later_entries(out, later)?;
+    Ok(())
+}
+
+// Appends the text of a log.
+fn put_log(out: &mut Vec<u8>, log: &Log) -> Result<(), AllocError>
+    ensures { OnOk result (out.new.items ≡ out.old.items ++ log_text log.now) }
+{
+    out.extend_from_slice(b"{\"history\":[")?;
+    put_entries(out, log.history.as_slice())?;
+    out.extend_from_slice(b"],\"replication_id_version\":3,\"session_id\":")?;
+    put_quoted(out, log.session_id.as_str())?;
+    out.extend_from_slice(b",\"source_last_seq\":")?;
+    put_number(out, log.source_last_seq)?;
+    out.extend_from_slice(b"}")?;
+    Ok(())
+}
+
 impl Log {
     /// The log that a local document's members are. None where a member is absent or of another kind, the
     /// version is not 3, or the history has more than 50 entries. It costs the text's length.
@@ -103,5 +166,14 @@ impl Log {
             Err(DocFault::NotJson) => Ok(None),
             Err(_) => Err(AllocError),
         }
+    }
+
+    /// The members of its local document, in the byte order of the keys. It costs the text's length.
+    pub fn text(&self, alloc: Global) -> Result<Vec<u8>, AllocError>
+        ensures { IfOk result (λ text. text.items ≡ log_text self.now) }
+    {
+        let mut out = Vec::new(alloc);
+        put_log(&mut out, self)?;
+        Ok(out)
     }
 }

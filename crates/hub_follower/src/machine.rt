@@ -4,7 +4,7 @@ ghost use Rattle.std.specs.Prelude.{◌≡◌, true, map, option_map, string_byt
 ghost use Rattle.hub_follow_model.specs.Follower as follow;
 ghost use Rattle.hub_follow_model.specs.World as world;
 ghost use Rattle.hub_database.specs.Edits.{edit_of};
-ghost use Rattle.hub_follower.specs.Peers.{calls_left};
+ghost use Rattle.hub_follower.specs.Peers.{calls_left, IsOwnFault};
 ghost use Rattle.hub_follower.specs.Views.{answer_of, call_of, follower_of, phase_of, follower_behind};
 ghost use Rattle.hub_follower.specs.Views.{StateHasPaths, PhaseHasPaths, NextHasPaths, HasPath, AnswerHasPaths};
 ghost use Rattle.hub_follower.specs.Views.{IsFaultOf};
@@ -387,7 +387,7 @@ impl FollowCore {
     }
 
     /// Takes the answer to the owed call, which fits it. `Refused` comes only of an answer that
-    /// refuses that document, `Lost` only of one that misses that revision, and `Peer` never. After
+    /// refuses that document, `Lost` only of one that misses that revision, and no other but `NoMemory`. After
     /// an error the phase is dropped, and the place stays.
     pub fn accept(&mut self, alloc: Global, answer: Answer) -> Result<(), FollowFault>
         requires fits { follow.IsAnswerToNext (follow.next_call self.old) (answer_of answer) }
@@ -395,7 +395,7 @@ impl FollowCore {
         ensures ok { OnOk result (follow.answer_result self.old (answer_of answer) ≡ Ok self.new) }
         ensures err { IfErr result (λ e. (self.new ≡ follow.after_failure self.old)
             × IsFaultOf e (follow.answer_result self.old (answer_of answer))) }
-        ensures never { IfErr result (λ e. ¬ (e ≡ FollowFault.Peer)) }
+        ensures own { IfErr result IsOwnFault }
     {
         let state = mem::replace(&mut self.state, State::Down);
         let (state, result) = after(alloc, state, answer);
