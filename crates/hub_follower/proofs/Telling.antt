@@ -1,5 +1,5 @@
 -- How a fault goes on to be told.
-use Rattle.std.proofs.Common.{◌≡◌, ◌∙◌, ◌≤◌, ◌<◌, ◌⊎◌, inl, inr, ⊎_elim, arith, ℕ, List, ap, subst, Option, Some, Result, Ok, Err}
+use Rattle.std.proofs.Common.{◌≡◌, ◌∙◌, ◌≤◌, ◌<◌, ◌⊎◌, inl, inr, ⊎_elim, arith, ℕ, List, ap, sym, subst, Option, Some, Result, Ok, Err}
 use Rattle.hub_model.specs.Journal.{Edit}
 use Rattle.hub_model.specs.Missing.{Asked}
 use Rattle.std.specs.Prelude.{IfErr}
@@ -7,7 +7,9 @@ use Rattle.hub_follow_model.specs.Follower as follow
 use Rattle.hub_follow_model.proofs.Fitting.{fitting_is_taken}
 use Rattle.hub_follower.specs.declared.fault.FollowFault.{FollowFault}
 use Rattle.hub_follower.specs.declared.fault.FollowFault.TheVariants.{NoMemory, BadLogId, Peer, Refused, Lost}
-use Rattle.hub_follower.specs.Peers.{IsOwnFault, IsCountedOf, IsCountedOfBoth, Rose}
+use Rattle.hub_follower.specs.Peers.{IsOwnFault, IsCountedOf, IsCountedOfBoth, IsCountedFault, IsCallFault, Rose}
+use Rattle.hub_follower.specs.declared.peer.CallFault.{CallFault}
+use Rattle.hub_follower.specs.declared.peer.CallFault.TheVariants as call_fault
 use Rattle.hub_follower.specs.Views.{IsFaultOf}
 
 pub told_retrieval : (s : follow.Session) (later : List Asked) (got : List Edit) (last : ℕ) (e : FollowFault) (o : Result (List Edit) follow.Fault) → IsFaultOf e o → IsFaultOf e (follow.after_retrieval s later got last o)
@@ -67,3 +69,14 @@ counted_more BadLogId s s1 s2 t t1 t2 a b h = h
 counted_more Peer s s1 s2 t t1 t2 a b h = ⊎_elim (λ x. inl (rose_more s s1 s2 a x)) (λ x. inr (rose_more t t1 t2 b x)) h
 counted_more (Refused id rev fault) s s1 s2 t t1 t2 a b h = tt
 counted_more (Lost id rev) s s1 s2 t t1 t2 a b h = tt
+
+-- a call's fault is counted as its peer says
+pub call_counted : (f : CallFault) (e : FollowFault) (a b : ℕ) → IsCallFault f e → IsCountedFault f a b → IsCountedOf e a b
+call_counted call_fault.Peer e a b q h = subst (λ z. IsCountedOf z a b) (sym q) h
+call_counted call_fault.NoMemory e a b q h = subst (λ z. IsCountedOf z a b) (sym q) tt
+
+pub source_call : (f : CallFault) (e : FollowFault) (s s' t t' : ℕ) → IsCallFault f e → IsCountedFault f s s' → IsCountedOfBoth e s s' t t'
+source_call f e s s' t t' q h = source_counted e s s' t t' (call_counted f e s s' q h)
+
+pub target_call : (f : CallFault) (e : FollowFault) (s s' t t' : ℕ) → IsCallFault f e → IsCountedFault f t t' → IsCountedOfBoth e s s' t t'
+target_call f e s s' t t' q h = target_counted e s s' t t' (call_counted f e t t' q h)
