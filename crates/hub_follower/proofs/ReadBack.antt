@@ -13,7 +13,7 @@ use Rattle.serde_json.proofs.OnLiterals.{serde_json_on_literals}
 use Rattle.hub_document.specs.Read.{json_of}
 use Rattle.hub_follow_model.specs.ReplicationLog.{ReplicationLog, HistoryEntry}
 use Rattle.hub_round_trip.specs.RoundTrip.{IsWritable, AreWritable, IsOrdered, AreOrdered}
-use Rattle.hub_round_trip.proofs.ValueLemmas.{read-compact_text, utf8-compact_text, of_json-outline}
+use Rattle.hub_follower.proofs.CompactTexts.{read-compact_text, utf8-compact_text, of_json-outline}
 use Rattle.hub_follower.specs.LogText.{entry_in, entries_in, log_of, log_in, entry_text, later_entries_text, entries_text, log_text}
 use Rattle.hub_follower.specs.Laws.{IsWritableEntry, AreWritableEntries, IsWritableLog, LogsReadBack}
 

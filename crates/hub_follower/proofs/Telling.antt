@@ -1,5 +1,5 @@
 -- How a fault goes on to be told.
-use Rattle.std.proofs.Common.{◌≡◌, ◌∙◌, ◌≤◌, ◌<◌, ◌⊎◌, inl, inr, ⊎_elim, arith, ℕ, List, ap, sym, subst, Option, Some, Result, Ok, Err}
+use Rattle.std.proofs.Common.{◌≡◌, ◌∙◌, ◌≤◌, ◌<◌, ◌⊎◌, inl, inr, ⊎_elim, arith, ℕ, List, ap, sym, refl, subst, Option, Some, Result, Ok, Err}
 use Rattle.hub_model.specs.Journal.{Edit}
 use Rattle.hub_model.specs.Missing.{Asked}
 use Rattle.std.specs.Prelude.{IfErr}
@@ -80,3 +80,11 @@ source_call f e s s' t t' q h = source_counted e s s' t t' (call_counted f e s s
 
 pub target_call : (f : CallFault) (e : FollowFault) (s s' t t' : ℕ) → IsCallFault f e → IsCountedFault f t t' → IsCountedOfBoth e s s' t t'
 target_call f e s s' t t' q h = target_counted e s s' t t' (call_counted f e t t' q h)
+
+-- a fault that is no peer's, nor the id's, needs no count
+pub quiet_fault : (e : FollowFault) (s s' t t' : ℕ) → ¬ (e ≡ Peer) → ¬ (e ≡ BadLogId) → IsCountedOfBoth e s s' t t'
+quiet_fault NoMemory s s' t t' p b = tt
+quiet_fault BadLogId s s' t t' p b = absurd (b refl)
+quiet_fault Peer s s' t t' p b = absurd (p refl)
+quiet_fault (Refused id rev fault) s s' t t' p b = tt
+quiet_fault (Lost id rev) s s' t t' p b = tt

@@ -3,3 +3,4 @@ pub mod Peers
 pub mod LogText
 pub mod Exact
 pub mod Shared
+pub mod Laws

@@ -80,5 +80,6 @@ entries_text (entry ∷ history) = entry_text entry ++ later_entries_text histor
 -- the text of a log, its keys in byte order
 abbrev pub log_text : ReplicationLog → List ℕ
 log_text log =
-    codes "{\"history\":[" ++ (entries_text log.history ++ (codes "],\"replication_id_version\":3,\"session_id\":"
-    ++ (quoted log.session_id ++ (codes ",\"source_last_seq\":" ++ (decimal log.source_last_seq ++ codes "}")))))
+    codes "{\"history\":[" ++ (entries_text log.history ++ (codes "],\"replication_id_version\":"
+    ++ (decimal 3 ++ (codes ",\"session_id\":" ++ (quoted log.session_id
+    ++ (codes ",\"source_last_seq\":" ++ (decimal log.source_last_seq ++ codes "}")))))))

@@ -4,7 +4,7 @@ ghost use Rattle.std.specs.Prelude.{◌≡◌, ◌≤◌, true, map, length, All
 ghost use Rattle.hub_follow_model.specs.Follower as follow;
 ghost use Rattle.hub_database.specs.Edits.{edit_of};
 ghost use Rattle.hub_follower.specs.Peers.{IsCountedFault};
-ghost use Rattle.hub_follower.specs.Shared.{IsShared};
+ghost use Rattle.hub_follower.specs.Shared.{IsShared, IsQuestionFor};
 ghost use Rattle.hub_follower.specs.Views.{found_edit, FoundHasPath};
 
 use crate::copies::{copy_asked, copy_docs};
@@ -122,7 +122,9 @@ fn diffs_of<R: Wait>(
 }
 
 // The question for these revisions of a document, with their histories.
-fn question_of(alloc: Global, asked: &Asked) -> Result<Question, AllocError> {
+fn question_of(alloc: Global, asked: &Asked) -> Result<Question, AllocError>
+    ensures { IfOk result (λ question. IsQuestionFor asked.now question) }
+{
     Ok(Question::OpenRevs {
         id: String::from_str(alloc, asked.id.as_str())?,
         which: OpenRevs::Listed(asked.revs.copy(alloc)?),

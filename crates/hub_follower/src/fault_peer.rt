@@ -1,7 +1,7 @@
 //! Peers that fail, for tests of what goes on behind a failure.
 
-ghost use Rattle.std.specs.Prelude.{◌≡◌, ◌≤◌, ◌<◌, min, ◌+◌, ◌-◌, ◌^◌};
-ghost use Rattle.hub_follower.specs.Peers.{Rose};
+ghost use Rattle.std.specs.Prelude.{◌≡◌, ◌⊎◌, ◌≤◌, min, ◌+◌, ◌-◌, ◌^◌};
+ghost use Rattle.hub_follow_model.specs.Follower as follow;
 
 use crate::log::Log;
 use crate::peer::{CallFault, Changes, Peer};
@@ -28,6 +28,22 @@ pub struct FaultPeer<P> {
     again: u64,
     loss: Loss,
     faults: u64,
+}
+
+// Asks a peer for a log, unless the call is lost, and loses the answer.
+fn lose_log<P: Peer>(peer: &mut P, log_id: &str, loss: Loss)
+    ensures lost { (side : follow.Side) → (peer.new ≡ peer.old)
+        ⊎ (((answer : follow.Answer) × P.gives peer.old (follow.LocalGet side) answer peer.new)
+        ⊎ P.loses peer.old (follow.LocalGet side) peer.new) }
+    ensures counts { P.fault_count peer.old ≤ P.fault_count peer.new }
+{
+    if loss == Loss::Before {
+        return;
+    }
+    match peer.local_get(log_id) {
+        Ok(log) => return drop(log),
+        Err(_) => return,
+    }
 }
 
 impl<P: Peer> FaultPeer<P> {
@@ -156,10 +172,7 @@ impl<P: Peer> Peer for FaultPeer<P> {
         if !self.is_failing() {
             return self.peer.local_get(log_id);
         }
-        match self.loss {
-            Loss::Before => {}
-            Loss::After => drop(self.peer.local_get(log_id)),
-        }
+        lose_log(&mut self.peer, log_id, self.loss);
         Err(self.fault())
     }
 

@@ -125,11 +125,14 @@ impl<S: Peer + Drop, T: Peer + Drop> Follower<S, T> {
         ensures rests { IfOk result (λ f. world.is_free f.core ≡ true) }
         ensures id { IfOk result (λ f. (string_bytes f.log_id ≡ log_id.now) × IsLocalId log_id.now) }
         ensures bad_id { IfErr result (λ e. e.fault ≡ FollowFault.BadLogId → ¬ IsLocalId log_id.now) }
-        ensures fault { IfErr result (λ e. IsCountedOfBoth e.fault
+        ensures fault { IfErr result (λ e. ¬ (e.fault ≡ FollowFault.BadLogId) → IsCountedOfBoth e.fault
             (S.fault_count source) (S.fault_count e.source)
             (T.fault_count target) (T.fault_count e.target)) }
     {
-        let mut follower = Follower::new(alloc, source, target, log_id)?;
+        let mut follower = match Follower::new(alloc, source, target, log_id) {
+            Ok(follower) => follower,
+            Err(failed) => return Err(failed),
+        };
         let begun = match String::from_str(alloc, session_id) {
             Ok(session_id) => {
                 follower.core.start(session_id);

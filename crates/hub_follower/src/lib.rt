@@ -24,7 +24,7 @@ pub use db_peer::DbPeer;
 pub use fault::FollowFault;
 pub use fault_peer::{FaultPeer, Loss};
 pub use follower::{FailedStart, Follower, Round};
-pub use laws::exact_peers_run;
+pub use laws::{exact_peers_run, logs_read_back};
 pub use log::{HistoryEntry, Log, common_sequence};
 pub use machine::FollowCore;
 pub use peer::{CallFault, Changes, Peer};

@@ -11,6 +11,12 @@ use itoa::Buffer;
 use serde_json::Value;
 use std::alloc::{AllocError, Global};
 
+// The version of replication logs that is known.
+const VERSION: u64 = 3;
+
+// How many entries a log's history has at most.
+const ENTRIES: usize = 50;
+
 // The entry that a value writes.
 fn entry_of(alloc: Global, value: &Value) -> Result<Option<HistoryEntry>, AllocError>
     ensures { IfOk result (λ o. o ≡ entry_in (view value.now)) }
@@ -60,7 +66,7 @@ fn history_of(alloc: Global, value: &Value) -> Result<Option<Vec<HistoryEntry>>,
     let Some(history) = entries_of(alloc, items)? else {
         return Ok(None);
     };
-    if history.len() <= 50 {
+    if history.len() <= ENTRIES {
         Ok(Some(history))
     } else {
         Ok(None)
@@ -74,7 +80,7 @@ fn log_of_value(alloc: Global, value: &Value) -> Result<Option<Log>, AllocError>
     let Some(version) = value.get("replication_id_version").and_then(Value::as_u64) else {
         return Ok(None);
     };
-    if version != 3 {
+    if version != VERSION {
         return Ok(None);
     }
     let Some(session) = value.get("session_id").and_then(Value::as_str) else {
@@ -102,20 +108,24 @@ fn put_number(out: &mut Vec<u8>, number: u64) -> Result<(), AllocError>
     out.extend_from_slice(digits.format(number).as_bytes())
 }
 
+// Appends what stands in front of a member's number, and the number.
+fn put_member(out: &mut Vec<u8>, key: &[u8], number: u64) -> Result<(), AllocError>
+    ensures { OnOk result (out.new.items ≡ out.old.items ++ (key.now ++ decimal number)) }
+{
+    out.extend_from_slice(key)?;
+    put_number(out, number)
+}
+
 // Appends the text of an entry.
 fn put_entry(out: &mut Vec<u8>, entry: &HistoryEntry) -> Result<(), AllocError>
     ensures { OnOk result (out.new.items ≡ out.old.items ++ entry_text entry.now) }
 {
-    out.extend_from_slice(b"{\"end_last_seq\":")?;
-    put_number(out, entry.end_last_seq)?;
-    out.extend_from_slice(b",\"recorded_seq\":")?;
-    put_number(out, entry.recorded_seq)?;
+    put_member(out, b"{\"end_last_seq\":", entry.end_last_seq)?;
+    put_member(out, b",\"recorded_seq\":", entry.recorded_seq)?;
     out.extend_from_slice(b",\"session_id\":")?;
     put_quoted(out, entry.session_id.as_str())?;
-    out.extend_from_slice(b",\"start_last_seq\":")?;
-    put_number(out, entry.start_last_seq)?;
-    out.extend_from_slice(b"}")?;
-    Ok(())
+    put_member(out, b",\"start_last_seq\":", entry.start_last_seq)?;
+    out.extend_from_slice(b"}")
 }
 
 // Appends the texts of entries, each with a comma in front.
@@ -147,12 +157,11 @@ fn put_log(out: &mut Vec<u8>, log: &Log) -> Result<(), AllocError>
 {
     out.extend_from_slice(b"{\"history\":[")?;
     put_entries(out, log.history.as_slice())?;
-    out.extend_from_slice(b"],\"replication_id_version\":3,\"session_id\":")?;
+    put_member(out, b"],\"replication_id_version\":", VERSION)?;
+    out.extend_from_slice(b",\"session_id\":")?;
     put_quoted(out, log.session_id.as_str())?;
-    out.extend_from_slice(b",\"source_last_seq\":")?;
-    put_number(out, log.source_last_seq)?;
-    out.extend_from_slice(b"}")?;
-    Ok(())
+    put_member(out, b",\"source_last_seq\":", log.source_last_seq)?;
+    out.extend_from_slice(b"}")
 }
 
 impl Log {
