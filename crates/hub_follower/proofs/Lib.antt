@@ -6,3 +6,4 @@ pub mod ExactRuns
 pub mod CompactTexts
 pub mod ReadBack
 pub mod Listing
+pub mod Appends

@@ -1,9 +1,13 @@
 -- The changes of a journal above a sequence, in one list, are an answer to a follower.
-use Rattle.std.proofs.Common.{◌≡◌, ◌∙◌, ℕ, suc, ◌+◌, ◌<◌, ◌≤◌, List, [], ◌∷◌, ◌++◌, length, map, take, Contains, ◌⊎◌, inl, inr, ⊎_elim, Bool, true, false, refl, sym, ap, subst, arith, get_or}
+use Rattle.std.proofs.Common.{◌≡◌, ◌∙◌, ℕ, zero, suc, ◌+◌, ◌<◌, ◌≤◌, List, [], ◌∷◌, ◌++◌, length, map, take, Contains, ◌⊎◌, inl, inr, ⊎_elim, Bool, true, false, refl, sym, ap, subst, arith, get_or}
 use Rattle.std.proofs.lemmas.Bool.Decides.{nat_tests}
 use Rattle.std.proofs.lemmas.List.Elements.{All-nil, All-cons}
 use Rattle.std.proofs.lemmas.List.Kept.{AllPairs-cons, AllPairs-filter}
-use Rattle.std.specs.Prelude.{All, AllPairs, ◌&&◌, nat_lt, filter}
+use Rattle.std.proofs.lemmas.Bool.{cases_lt}
+use Rattle.std.proofs.lemmas.List.{reverse-append, take-map}
+use Rattle.std.specs.Prelude.{All, AllPairs, ◌&&◌, nat_lt, filter, reverse, min}
+use Rattle.hub_model.specs.Descending.{descending, falling, falling_rows}
+use Rattle.hub_follower.specs.Listing.{rows_above, all_above, listing_params, AreFirst}
 use Rattle.hub_model.specs.Current.{Current, current}
 use Rattle.hub_model.specs.Filter.{passes, Everything}
 use Rattle.hub_model.specs.Journal.{Edit}
@@ -48,19 +52,19 @@ above_in n [] d a h = absurd (contains_none d h)
 above_in n (c ∷ cs) d a h = ⊎_elim (λ (e : c ≡ d). subst (λ (z : Current). n < z.seq) e a.0) (λ k. above_in n cs d a.1 k) (contains_cases c d cs h)
 
 above_take : (n k : ℕ) (cs : List Current) → AreAbove n cs → AreAbove n (take k cs)
-above_take n 0 cs a = tt
+above_take n zero cs a = tt
 above_take n (suc k) [] a = tt
 above_take n (suc k) (c ∷ cs) a = (a.0, above_take n k cs a.1)
 
 pub rise_take : (k : ℕ) (cs : List Current) → Rise cs → Rise (take k cs)
-rise_take 0 cs r = tt
+rise_take zero cs r = tt
 rise_take (suc k) [] r = tt
 rise_take (suc k) (c ∷ cs) r = (above_take c.seq k cs r.0, rise_take k cs r.1)
 
 -- what is not above the one at k is among the first k + 1
 pub in_take : (k : ℕ) (cs : List Current) (c d : Current) → Rise cs → k < length cs → Contains cs c → c.seq ≤ (get_or cs k d).seq → Contains (take (suc k) cs) c
 in_take k [] c d r l h low = absurd (contains_none c h)
-in_take 0 (x ∷ cs) c d r l h low =
+in_take zero (x ∷ cs) c d r l h low =
     ⊎_elim (λ (e : x ≡ c). subst (λ z. Contains (x ∷ []) z) e (contains_here x []))
     (λ m. let up = above_in x.seq cs c r.0 m in absurd (omega (arith, up, low))) (contains_cases x c cs h)
 in_take (suc k) (x ∷ cs) c d r l h low =
@@ -68,7 +72,7 @@ in_take (suc k) (x ∷ cs) c d r l h low =
     (λ m. contains_there x c (take (suc k) cs) (in_take k cs c d r.1 (omega (arith, l)) m low)) (contains_cases x c cs h)
 
 take_in : (k : ℕ) (cs : List Current) (c : Current) → Contains (take k cs) c → Contains cs c
-take_in 0 cs c h = absurd (contains_none c h)
+take_in zero cs c h = absurd (contains_none c h)
 take_in (suc k) [] c h = absurd (contains_none c h)
 take_in (suc k) (x ∷ cs) c h =
     ⊎_elim (λ (e : x ≡ c). subst (λ z. Contains (x ∷ cs) z) e (contains_here x cs)) (λ m. contains_there x c cs (take_in k cs c m)) (contains_cases x c (take k cs) h)
@@ -134,3 +138,104 @@ module _ (J : List Edit) where
 
       seqs : (c : Current) (cs : List Current) → Contains cs c → Contains (map (λ (row : ChangeRow). row.seq) (map shown_row cs)) c.seq
       seqs c cs m = contains_map (λ (row : ChangeRow). row.seq) (shown_row c) (map shown_row cs) (contains_map shown_row c cs m)
+
+-- ---- the whole list, and its first rows
+
+map_push : {X Y : Type 0} (f : X → Y) (xs : List X) (x : X) → map f (xs ++ x ∷ []) ≡ map f xs ++ f x ∷ []
+map_push f [] x = refl
+map_push f (y ∷ xs) x = ap (λ z. f y ∷ z) (map_push f xs x)
+
+map_reverse : {X Y : Type 0} (f : X → Y) (xs : List X) → map f (reverse xs) ≡ reverse (map f xs)
+map_reverse f [] = refl
+map_reverse f (x ∷ xs) =
+    ap (map f) (reverse-append (x ∷ []) xs) ∙ (map_push f (reverse xs) x ∙ (ap (λ z. z ++ f x ∷ []) (map_reverse f xs) ∙ sym (reverse-append (f x ∷ []) (map f xs))))
+
+reverse_twice : {X : Type 0} (xs : List X) → reverse (reverse xs) ≡ xs
+reverse_twice [] = refl
+reverse_twice (x ∷ xs) = ap reverse (reverse-append (x ∷ []) xs) ∙ (reverse-append (reverse xs) (x ∷ []) ∙ ap (λ z. x ∷ z) (reverse_twice xs))
+
+above_test : (since n : ℕ) → since < n → (nat_lt since n && true) ≡ true
+above_test since n h = grind (arith, nat_tests)
+
+test_above : (since n : ℕ) → (nat_lt since n && true) ≡ true → since < n
+test_above since n h = grind (arith, nat_tests)
+
+map_at : {X Y : Type 0} (f : X → Y) (k : ℕ) (xs : List X) (x : X) (y : Y) → k < length xs → get_or (map f xs) k y ≡ f (get_or xs k x)
+map_at f k [] x y l = absurd (omega (arith, l))
+map_at f zero (z ∷ xs) x y l = refl
+map_at f (suc k) (z ∷ xs) x y l = map_at f k xs x y (omega (arith, l))
+
+at_in : (k : ℕ) (cs : List Current) (d : Current) → k < length cs → Contains cs (get_or cs k d)
+at_in k [] d l = absurd (omega (arith, l))
+at_in zero (c ∷ cs) d l = contains_here c cs
+at_in (suc k) (c ∷ cs) d l = contains_there c (get_or cs k d) cs (at_in k cs d (omega (arith, l)))
+
+-- what is among the first k + 1 is not above the one at k
+under_last : (k : ℕ) (cs : List Current) (c d : Current) → Rise cs → k < length cs → Contains (take (suc k) cs) c → c.seq ≤ (get_or cs k d).seq
+under_last k [] c d r l h = absurd (omega (arith, l))
+under_last zero (x ∷ cs) c d r l h =
+    ⊎_elim (λ (e : x ≡ c). subst (λ (z : Current). z.seq ≤ x.seq) e (omega arith)) (λ m. absurd (contains_none c m)) (contains_cases x c [] h)
+under_last (suc k) (x ∷ cs) c d r l h =
+    let up = above_in x.seq cs (get_or cs k d) r.0 (at_in k cs d (omega (arith, l))) in
+    ⊎_elim (λ (e : x ≡ c). subst (λ (z : Current). z.seq ≤ (get_or cs k d).seq) e (omega (arith, up))) (λ m. under_last k cs c d r.1 (omega (arith, l)) m) (contains_cases x c (take (suc k) cs) h)
+
+module _ (J : List Edit) (since : ℕ) (from : since ≤ length J) where
+  abbrev above : List Current
+  above = rows_above J since
+
+  abbrev every : List ChangeRow
+  every = all_above J since
+
+  rise_above : Rise above
+  rise_above = rise_from above (AllPairs-filter Lower (λ c. nat_lt since c.seq && passes Everything c.id) (current J) (rows_rise J))
+
+  sound_in : (c : Current) → Contains above c → Contains (current J) c × (since < c.seq) × (c.seq ≤ length J)
+  sound_in c m =
+      let p = filter_in (λ (c : Current). nat_lt since c.seq && passes Everything c.id) (current J) c m in
+      let w = current_within 1 J c p.0 in
+      (p.0, test_above since c.seq p.1, omega (arith, w.1))
+
+  whole_in : (c : Current) → Contains (current J) c → since < c.seq → Contains above c
+  whole_in c m up = in_filter (λ (c : Current). nat_lt since c.seq && passes Everything c.id) (current J) c m (above_test since c.seq up)
+
+  -- what goes downwards is this list from its end
+  pub turned : reverse (descending J (listing_params since)).rows ≡ every
+  turned =
+      let same : min since (length J) ≡ since = omega (arith, from) in
+      ap (λ n. reverse (falling J (listing_params since) n (falling_rows J (listing_params since) n)).rows) same
+      ∙ (ap reverse (map_reverse (shown_row J) above) ∙ reverse_twice every)
+
+  whole_answer : length every ≤ 100 → HasChangesAnswer J since every (length J)
+  whole_answer few =
+      let n = length_mapped J above in
+      listed J since (length J) above rise_above (omega (arith, n, few)) from (omega arith)
+      sound_in (λ c m up low. whole_in c m up)
+
+  first_answer : 100 < length every → (d : Current) → HasChangesAnswer J since (take 100 every) (get_or above 99 d).seq
+  first_answer many d =
+      let n = length_mapped J above in
+      let more : 99 < length above = omega (arith, n, many) in
+      let last = get_or above 99 d in
+      let here = sound_in last (at_in 99 above d more) in
+      subst (λ z. HasChangesAnswer J since z last.seq) (sym (take-map (shown_row J) 100 above))
+      (listed J since last.seq (take 100 above) (rise_take 100 above rise_above) (few 100 above) (let up = here.1 in omega (arith, up)) here.2
+      (λ c m. let p = sound_in c (take_in 100 above c m) in (p.0, p.1, under_last 99 above c d rise_above more m))
+      (λ c m up low. in_take 99 above c d rise_above more (whole_in c m up) low))
+    where
+      few : {X : Type 0} (k : ℕ) (xs : List X) → length (take k xs) ≤ k
+      few zero xs = omega arith
+      few (suc k) [] = omega arith
+      few (suc k) (x ∷ xs) = let h = few k xs in omega (arith, h)
+
+  -- all rows where they are few, and else the first ones
+  pub first_answered : (rows : List ChangeRow) (last : ℕ) → AreFirst every (length J) rows last → HasChangesAnswer J since rows last
+  first_answered rows last h = by (cases_lt 100 (length every))
+    where
+      by : (100 < length every) ⊎ (length every ≤ 100) → HasChangesAnswer J since rows last
+      by (inr few) = let p = h.short few in subst (λ z. HasChangesAnswer J since z last) (sym p.0) (subst (λ z. HasChangesAnswer J since every z) (sym p.1) (whole_answer few))
+      by (inl many) =
+          let p = h.long many in
+          let d : Current = record { seq = 0; id = [] } in
+          let n = length_mapped J above in
+          let is : last ≡ (get_or above 99 d).seq = p.1 (shown_row J d) ∙ ap (λ (z : ChangeRow). z.seq) (map_at (shown_row J) 99 above d (shown_row J d) (omega (arith, n, many))) in
+          subst (λ z. HasChangesAnswer J since z last) (sym p.0) (subst (λ z. HasChangesAnswer J since (take 100 every) z) (sym is) (first_answer many d))

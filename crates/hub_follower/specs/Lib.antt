@@ -4,3 +4,4 @@ pub mod LogText
 pub mod Exact
 pub mod Shared
 pub mod Laws
+pub mod Listing

@@ -125,7 +125,8 @@ fn put_entry(out: &mut Vec<u8>, entry: &HistoryEntry) -> Result<(), AllocError>
     out.extend_from_slice(b",\"session_id\":")?;
     put_quoted(out, entry.session_id.as_str())?;
     put_member(out, b",\"start_last_seq\":", entry.start_last_seq)?;
-    out.extend_from_slice(b"}")
+    out.extend_from_slice(b"}")?;
+    Ok(())
 }
 
 // Appends the texts of entries, each with a comma in front.
@@ -161,7 +162,8 @@ fn put_log(out: &mut Vec<u8>, log: &Log) -> Result<(), AllocError>
     out.extend_from_slice(b",\"session_id\":")?;
     put_quoted(out, log.session_id.as_str())?;
     put_member(out, b",\"source_last_seq\":", log.source_last_seq)?;
-    out.extend_from_slice(b"}")
+    out.extend_from_slice(b"}")?;
+    Ok(())
 }
 
 impl Log {

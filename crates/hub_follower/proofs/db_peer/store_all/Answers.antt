@@ -1,4 +1,4 @@
-use Rattle.std.proofs.Common.{◌≡◌, ◌∙◌, ap, sym, subst, map, length, take, false}
+use Rattle.std.proofs.Common.{◌≡◌, ◌∙◌, ap, sym, subst, map, length, take, false, rules}
 use Rattle.hub_database.specs.Edits.{writes}
 use Rattle.hub_follower.proofs.Served.{all_stored}
 use Rattle.hub_follower.proofs.db_peer.store_all.Goals as goal
