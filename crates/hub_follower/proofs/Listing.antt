@@ -43,9 +43,10 @@ above_from n (c ∷ cs) h = (h 0 c (omega arith), above_from n cs (λ k d l. h (
 
 rise_from : (cs : List Current) → AllPairs Lower cs → Rise cs
 rise_from [] h = tt
-rise_from (c ∷ cs) h =
-    (above_from c.seq cs (λ k d l. h 0 (suc k) d (omega arith) (omega (arith, l))),
-    rise_from cs (λ i j d a b. h (suc i) (suc j) d (omega (arith, a)) (omega (arith, b))))
+rise_from (c ∷ cs) h = (
+  above_from c.seq cs (λ k d l. h 0 (suc k) d (omega arith) (omega (arith, l))),
+  rise_from cs (λ i j d a b. h (suc i) (suc j) d (omega (arith, a)) (omega (arith, b))),
+)
 
 above_in : (n : ℕ) (cs : List Current) (d : Current) → AreAbove n cs → Contains cs d → n < d.seq
 above_in n [] d a h = absurd (contains_none d h)
@@ -115,22 +116,24 @@ module _ (J : List Edit) where
   listed since last cs r few from to sound whole =
       let rows = map shown_row cs in
       let same = rows_of-items rows last 0 in
-      let f = ended_feed since last (length rows) in
-      (0, record {
-        rising = subst (λ z. AllPairs (Follows change_rows) z) (sym same) (rise_follow cs r);
-        rows = subst (λ z. All (IsRowOf change_rows J f) z) (sym same) (all_mapped (IsRowOf change_rows J f) cs (λ c m. let (now, up, low) = sound c m in record {
-          shown = (c, subst (λ (z : List Edit). Contains (current z) c) (sym (take_all J)) now, ap (λ (z : List Edit). row_of z AllDocs false c) (sym (take_all J)), refl);
-          above = up;
-          reached = low;
-          bounded = low;
-        }));
-        from_since = from;
-        to_length = to;
-        ends = ends_of rows last;
-        whole = λ c now passing up low. subst (λ z. Contains (map (λ (row : ChangeRow). row.seq) z) c.seq) (sym same) (seqs c cs (whole c now up low));
-        limited = let n = length_mapped cs in let k = ap length same in omega (arith, n, k, few);
-        beats = beats_of rows last;
-      })
+      let f = ended_feed since last (length rows) in (
+        0,
+        record {
+          rising = subst (λ z. AllPairs (Follows change_rows) z) (sym same) (rise_follow cs r);
+          rows = subst (λ z. All (IsRowOf change_rows J f) z) (sym same) (all_mapped (IsRowOf change_rows J f) cs (λ c m. let (now, up, low) = sound c m in record {
+            shown = (c, subst (λ (z : List Edit). Contains (current z) c) (sym (take_all J)) now, ap (λ (z : List Edit). row_of z AllDocs false c) (sym (take_all J)), refl);
+            above = up;
+            reached = low;
+            bounded = low;
+          }));
+          from_since = from;
+          to_length = to;
+          ends = ends_of rows last;
+          whole = λ c now passing up low. subst (λ z. Contains (map (λ (row : ChangeRow). row.seq) z) c.seq) (sym same) (seqs c cs (whole c now up low));
+          limited = let n = length_mapped cs in let k = ap length same in omega (arith, n, k, few);
+          beats = beats_of rows last;
+        },
+      )
     where
       take_all : {X : Type 0} (xs : List X) → take (length xs) xs ≡ xs
       take_all [] = refl

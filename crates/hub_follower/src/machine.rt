@@ -377,9 +377,9 @@ impl FollowCore {
             State::Ready(_session) => None,
             State::Busy(session, Phase::Listing) => Some(Call::Changes(session.place())),
             State::Busy(_session, Phase::Comparison(asked, _last)) => Some(Call::RevsDiff(asked)),
-            State::Busy(_session, Phase::Retrieval(next, _later, _got, _last)) => Some(Call::OpenRevs(
-                next,
-            )),
+            State::Busy(_session, Phase::Retrieval(next, _later, _got, _last)) => Some(
+                Call::OpenRevs(next),
+            ),
             State::Busy(_session, Phase::Storage(docs, _last)) => Some(Call::Merge(docs)),
             State::Busy(session, Phase::SourceCheckpoint) => Some(Call::PutSource(session)),
             State::Busy(session, Phase::TargetCheckpoint) => Some(Call::PutTarget(session)),

@@ -8,8 +8,8 @@ mod rounds;
 mod threads;
 
 use crate::{DbPeer, FollowFault, Follower, Peer, Round};
-use hub_document::{Doc, Limits, OpenRevs};
 use hub_database::OpenRev;
+use hub_document::{Doc, Limits, OpenRevs};
 use hub_threads::{Answer, Db, Handle, Plain, Question};
 use std::alloc::Global;
 use std::sync::Wait;
@@ -129,7 +129,9 @@ fn checkpoint<S: Peer + Drop, T: Peer + Drop>(follower: &mut Follower<S, T>) -> 
 }
 
 // Rounds until there is nothing new.
-fn copy_all<S: Peer + Drop, T: Peer + Drop>(follower: &mut Follower<S, T>) -> Result<(), FollowFault> {
+fn copy_all<S: Peer + Drop, T: Peer + Drop>(
+    follower: &mut Follower<S, T>,
+) -> Result<(), FollowFault> {
     for _ in 0..100 {
         if follower.round()? == Round::Idle {
             return Ok(());

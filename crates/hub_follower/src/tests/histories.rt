@@ -19,7 +19,10 @@ fn a_leaf_that_goes_on_is_copied(rt: HostRuntime) -> Result<(), Fail> {
         r#"{"_id":"x","_rev":"3-c","_revisions":{"start":3,"ids":["c","p","a"]}}"#,
     );
     let leaves = format!(in rt.alloc(); "{c}{b}")?;
-    assert_eq!(rt; leaves_text(&rt, rt.alloc(), &target, "x")?.as_str(), leaves.as_str());
+    assert_eq!(rt;
+        leaves_text(&rt, rt.alloc(), &target, "x")?.as_str(),
+        leaves.as_str()
+    );
     let four = r#"{"_id":"x","_revisions":{"start":4,"ids":["d","c","p","a"]}}"#;
     let deleted = r#"{"_id":"x","_revisions":{"start":3,"ids":["e","b","a"]},"_deleted":true}"#;
     write(&rt, rt.alloc(), &source, &[four, deleted])?;
@@ -29,8 +32,14 @@ fn a_leaf_that_goes_on_is_copied(rt: HostRuntime) -> Result<(), Fail> {
         r#"{"_id":"x","_rev":"3-e","_deleted":true,"_revisions":{"start":3,"ids":["e","b","a"]}}"#,
     );
     let leaves = format!(in rt.alloc(); "{d}{e}")?;
-    assert_eq!(rt; leaves_text(&rt, rt.alloc(), &source, "x")?.as_str(), leaves.as_str());
-    assert_eq!(rt; leaves_text(&rt, rt.alloc(), &target, "x")?.as_str(), leaves.as_str());
+    assert_eq!(rt;
+        leaves_text(&rt, rt.alloc(), &source, "x")?.as_str(),
+        leaves.as_str()
+    );
+    assert_eq!(rt;
+        leaves_text(&rt, rt.alloc(), &target, "x")?.as_str(),
+        leaves.as_str()
+    );
     assert_eq!(rt; edits(&rt, &target)?, 4);
     Ok(())
 }

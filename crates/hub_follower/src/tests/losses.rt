@@ -1,6 +1,8 @@
 //! Calls and answers that are lost, at every call of a run.
 
-use crate::tests::{FIVE, LOG, TWO, agree, checkpoint, copy_all, database, edits, recorded, start, write};
+use crate::tests::{
+    FIVE, LOG, TWO, agree, checkpoint, copy_all, database, edits, recorded, start, write,
+};
 use crate::{DbPeer, FaultPeer, FollowFault, Follower, Loss, Round};
 use hub_threads::{Db, Plain};
 use std::alloc::Global;

@@ -16,8 +16,10 @@ fn a_round_copies_and_the_next_is_idle(rt: HostRuntime) -> Result<(), Fail> {
     assert_eq!(rt; round(&mut follower)?, Round::Moved);
     assert_eq!(rt; follower.place(), Some(2));
     assert_eq!(rt; edits(&rt, &target)?, 2);
-    assert_eq!(rt; leaves_text(&rt, rt.alloc(), &target, "b")?.as_str(),
-        r#"{"_id":"b","_rev":"1-b","_revisions":{"start":1,"ids":["b"]}}"#);
+    assert_eq!(rt;
+        leaves_text(&rt, rt.alloc(), &target, "b")?.as_str(),
+        r#"{"_id":"b","_rev":"1-b","_revisions":{"start":1,"ids":["b"]}}"#
+    );
     assert_eq!(rt; round(&mut follower)?, Round::Idle);
     assert_eq!(rt; edits(&rt, &target)?, 2);
     assert_eq!(rt; recorded(&rt, rt.alloc(), &target)?, None);

@@ -8,6 +8,8 @@ pub returns-in-Ok-clause-ok : goal.returns-in-Ok-clause-ok
 returns-in-Ok-clause-ok c =
     let J = c.args.db.now.journal in
     let since = c.args.since in
-    let all = ap reverse (ap (λ (z : Descending). z.rows) (c.in-Ok.ensures.ok.1 ∙ ap (descending J) c.listing_after.ensures)) ∙ turned J since c.requires in
-    first_answered J since c.requires _ _ (subst (λ z. AreFirst z (length J) c.first_rows.result.rows.items c.first_rows.result.last_seq) all
-    (subst (λ z. AreFirst (reverse c.in-Ok.answer.rows.items) z c.first_rows.result.rows.items c.first_rows.result.last_seq) c.update_seq.ensures.value c.first_rows.ensures))
+    let rows = c.first_rows.result.rows.items in
+    let last = c.first_rows.result.last_seq in
+    let all = ap (λ (z : Descending). reverse z.rows) (c.answer.view_is ∙ (c.in-Ok.ensures.ok.1 ∙ ap (descending J) c.listing_after.ensures)) ∙ turned J since c.requires in
+    first_answered J since c.requires rows last (subst (λ z. AreFirst z (length J) rows last) all
+    (subst (λ z. AreFirst (reverse c.answer.inside.rows.items) z rows last) c.update_seq.ensures.value c.first_rows.ensures))
