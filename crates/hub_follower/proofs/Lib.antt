@@ -7,3 +7,4 @@ pub mod CompactTexts
 pub mod ReadBack
 pub mod Listing
 pub mod Appends
+pub mod Happening

@@ -5,3 +5,4 @@ pub mod Exact
 pub mod Shared
 pub mod Laws
 pub mod Listing
+pub mod Worlds

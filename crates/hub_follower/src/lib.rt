@@ -12,12 +12,14 @@ mod laws;
 mod log;
 mod log_text;
 mod machine;
+mod pair;
 mod peer;
 mod phase;
 mod serving;
 mod session;
 #[cfg(test)]
 mod tests;
+mod world;
 
 pub use call::{Answer, Call};
 pub use db_peer::DbPeer;
@@ -29,3 +31,4 @@ pub use log::{HistoryEntry, Log, common_sequence};
 pub use machine::FollowCore;
 pub use peer::{CallFault, Changes, Peer};
 pub use session::Session;
+pub use world::{FollowEvent, FollowWorld};

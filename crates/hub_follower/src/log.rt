@@ -86,6 +86,24 @@ impl Model for Log {
     } };
 }
 
+impl Log {
+    /// A copy. It costs the log's length.
+    pub fn copy(&self, alloc: Global) -> Result<Log, AllocError>
+        ensures { IfOk result (λ log. log ≡ self.now) }
+    {
+        let session_id = String::from_str(alloc, self.session_id.as_str())?;
+        let mut history = Vec::new(alloc);
+        for entry in &self.history {
+            history.push(entry.copy(alloc)?)?;
+        }
+        Ok(Log {
+            session_id,
+            source_last_seq: self.source_last_seq,
+            history,
+        })
+    }
+}
+
 // What the first entry of a session records, if there is one.
 fn recorded_seq_of(session: &str, history: &[HistoryEntry]) -> Option<u64>
     ensures { result ≡ model.recorded_seq_of session.now history.now }

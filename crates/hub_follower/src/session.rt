@@ -47,8 +47,8 @@ fn history_of(alloc: Global, log: Option<Log>) -> Vec<HistoryEntry>
     }
 }
 
-// Copies entries behind what the vector holds, so many at most.
-fn copy_history(
+/// Copies entries behind what the vector holds, so many at most.
+pub(crate) fn copy_history(
     history: &mut Vec<HistoryEntry>,
     alloc: Global,
     older: &[HistoryEntry],
