@@ -191,7 +191,7 @@ impl Pair {
 
     /// What the database answers that the call names.
     pub(crate) fn answer(&mut self, call: Call<'_>) -> Result<Answer, AllocError>
-        requires { IsWithin (length self.old.source) (call_of call.entry) }
+        requires { IsWithin (length self.old.source) (call_of call) }
         ensures answered { IfOk result (λ answer. (sessions : List (List ℕ)) (follower : follow.Follower)
             → world.IsAnswered (world_of self.old sessions follower) (call_of call.entry)
             (answer_of answer) (world_of self.new sessions follower)) }
