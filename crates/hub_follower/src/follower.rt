@@ -109,7 +109,14 @@ impl<S: Peer + Drop, T: Peer + Drop> Follower<S, T> {
         }
         let (mut source, mut target) = (source, target);
         let mut core = FollowCore::new();
-        match begin(alloc, &mut core, &mut source, &mut target, log_id, session_id) {
+        match begin(
+            alloc,
+            &mut core,
+            &mut source,
+            &mut target,
+            log_id,
+            session_id,
+        ) {
             Ok(log_id) => Ok(Follower {
                 alloc,
                 source,

@@ -6,6 +6,7 @@ mod logs;
 mod losses;
 mod rounds;
 mod threads;
+mod worlds;
 
 use crate::{DbPeer, FollowFault, Follower, Peer, Round};
 use hub_database::OpenRev;
