@@ -1,71 +1,72 @@
 //! Runs of a follower's world.
 
-use crate::FollowEvent::{Answer, Checkpoint, LostAfter, LostBefore, Restart, Round, Start, Write};
 use crate::tests::TWO;
 use crate::{FollowEvent, FollowWorld};
 use hub_document::Doc;
-use std::alloc::Global;
+use std::alloc::{AllocError, Global};
 use std::test::Fail;
 
-// Two documents are written, and a session of this id begins.
-fn begun(alloc: Global, session_id: &str) -> Result<Vec<FollowEvent>, Fail> {
+// Two documents.
+fn two(alloc: Global) -> Option<Vec<Doc>> {
     let mut docs = Vec::new(alloc);
     for text in TWO {
-        docs.push(Doc::read(alloc, text.as_bytes(), false)?)?;
+        docs.push(Doc::read(alloc, text.as_bytes(), false).ok()?)
+            .ok()?;
     }
+    Some(docs)
+}
+
+// A session of this id begins.
+fn start(alloc: Global, session_id: &str) -> Result<FollowEvent, AllocError> {
+    Ok(FollowEvent::Start(String::from_str(alloc, session_id)?))
+}
+
+// The event that a sign stands for.
+fn event(alloc: Global, sign: u8) -> Option<FollowEvent> {
+    match sign {
+        b'w' => Some(FollowEvent::Write(two(alloc)?)),
+        b'1' => start(alloc, "S1").ok(),
+        b'2' => start(alloc, "S2").ok(),
+        b'r' => Some(FollowEvent::Round),
+        b'c' => Some(FollowEvent::Checkpoint),
+        b'a' => Some(FollowEvent::Answer),
+        b'<' => Some(FollowEvent::LostBefore),
+        b'>' => Some(FollowEvent::LostAfter),
+        b'x' => Some(FollowEvent::Restart),
+        _ => None,
+    }
+}
+
+// The place where the events lead that the signs stand for; the first None where memory ran out.
+fn place(alloc: Global, signs: &str) -> Option<Option<u64>> {
     let mut events = Vec::new(alloc);
-    events.push(Write(docs))?;
-    events.push(Start(String::from_str(alloc, session_id)?))?;
-    Ok(events)
-}
-
-// So many calls are answered.
-fn answers(events: &mut Vec<FollowEvent>, count: u64) -> Result<(), Fail> {
-    for _ in 0..count {
-        events.push(Answer)?;
+    for sign in signs.as_bytes() {
+        events.push(event(alloc, *sign)?).ok()?;
     }
-    Ok(())
+    let world = FollowWorld::run(alloc, events).ok()?;
+    Some(world.core().place())
 }
 
-// The logs, the changes, what is missing, two documents, the merge, and the two logs.
+// The logs; the changes, what is missing, two documents, the merge; and the two logs. A later session
+// begins where both logs agree.
 #[test]
 fn a_round_and_its_checkpoint(rt: HostRuntime) -> Result<(), Fail> {
-    let mut events = begun(rt.alloc(), "S1")?;
-    answers(&mut events, 2)?;
-    events.push(Round)?;
-    answers(&mut events, 5)?;
-    events.push(Checkpoint)?;
-    answers(&mut events, 2)?;
-    events.push(Restart)?;
-    events.push(Start(String::from_str(rt.alloc(), "S2")?))?;
-    answers(&mut events, 2)?;
-    let world = FollowWorld::run(rt.alloc(), events)?;
-    assert_eq!(rt; world.core().place(), Some(2));
+    assert_eq!(rt; place(rt.alloc(), "w1aaraaaaacaax2aa"), Some(Some(2)));
     Ok(())
 }
 
-// The merge's answer is lost: the next round finds that nothing is missing. The target's log is lost: the
-// next session begins at 0. A session of an id that was used does not begin.
+// The merge's answer is lost: the next round finds that nothing is missing.
 #[test]
-fn lost_calls_and_answers(rt: HostRuntime) -> Result<(), Fail> {
-    let mut events = begun(rt.alloc(), "S1")?;
-    answers(&mut events, 2)?;
-    events.push(Round)?;
-    answers(&mut events, 4)?;
-    events.push(LostAfter)?;
-    events.push(Round)?;
-    answers(&mut events, 2)?;
-    events.push(Checkpoint)?;
-    events.push(Answer)?;
-    events.push(LostBefore)?;
-    let world = FollowWorld::run(rt.alloc(), events)?;
-    assert_eq!(rt; world.core().place(), Some(2));
-    assert!(rt; world.core().is_free());
-    let mut events = begun(rt.alloc(), "S1")?;
-    events.push(Restart)?;
-    events.push(Start(String::from_str(rt.alloc(), "S1")?))?;
-    let world = FollowWorld::run(rt.alloc(), events)?;
-    assert_eq!(rt; world.core().place(), None);
-    assert!(rt; world.core().is_free());
+fn a_merge_whose_answer_is_lost(rt: HostRuntime) -> Result<(), Fail> {
+    assert_eq!(rt; place(rt.alloc(), "w1aaraaaa>"), Some(Some(0)));
+    assert_eq!(rt; place(rt.alloc(), "w1aaraaaa>raa"), Some(Some(2)));
+    Ok(())
+}
+
+// The target's log is not written: the next session begins at 0. A session whose id was used does not.
+#[test]
+fn a_checkpoint_that_is_lost(rt: HostRuntime) -> Result<(), Fail> {
+    assert_eq!(rt; place(rt.alloc(), "w1aaraaaaaca<x2aa"), Some(Some(0)));
+    assert_eq!(rt; place(rt.alloc(), "w1aax1aa"), Some(None));
     Ok(())
 }
