@@ -82,7 +82,7 @@ fn count<R: Wait>(rt: &R, alloc: Global, loss: Loss) -> Result<(u64, u64), Fail>
             loss,
         };
         if run(rt, alloc, source)? {
-            counts.0 += 1;
+            counts.0 = counts.0.saturating_add(1);
         }
         let target = Losses {
             source_call: 0,
@@ -90,7 +90,7 @@ fn count<R: Wait>(rt: &R, alloc: Global, loss: Loss) -> Result<(u64, u64), Fail>
             loss,
         };
         if run(rt, alloc, target)? {
-            counts.1 += 1;
+            counts.1 = counts.1.saturating_add(1);
         }
     }
     Ok(counts)
