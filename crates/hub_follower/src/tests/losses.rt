@@ -74,7 +74,7 @@ fn run<R: Wait>(rt: &R, alloc: Global, losses: Losses) -> Result<bool, Fail> {
 
 // How many calls of the source are lost in turn, and how many of the target.
 fn count<R: Wait>(rt: &R, alloc: Global, loss: Loss) -> Result<(u64, u64), Fail> {
-    let mut counts = (0, 0);
+    let mut counts = (0u64, 0u64);
     for call in 1..20 {
         let source = Losses {
             source_call: call,
