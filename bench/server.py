@@ -5,11 +5,12 @@
 
 starts the proved hub (./hub builds it; or another program of the same commands), talks to it over
 sockets of this machine, prints a table, and writes the figures to bench/out/server.json. Only Python's
-standard library is used. No figure is asserted anywhere: a figure is read, beside the machine's load.
+standard library is used, and wrk for PUTs and GETs where it is installed. No figure is asserted anywhere:
+a figure is read, beside the machine's load and the share of its processors that a host took for others.
 
-The clients are slower than the hub: requests a second are what clients and hub reach together, and
-beside them stands the hub's own processor time for a request, user and system. Latencies are what a
-client waits.
+Without wrk the clients are slower than the hub. Requests a second are what clients and hub reach
+together, and beside them stands the hub's own processor time for a request, user and system. Latencies
+are what a client waits.
 """
 
 import argparse
@@ -19,9 +20,11 @@ import os
 import re
 import resource
 import select
+import shutil
 import socket
 import subprocess
 import sys
+import tempfile
 import time
 
 TOP = os.path.dirname(os.path.dirname(os.path.abspath(__file__)))
@@ -30,6 +33,19 @@ FIGURES = os.path.join(TOP, "bench", "out", "server.json")
 TICK = os.sysconf("SC_CLK_TCK")
 # The most feeds that a database may have.
 MOST = 1_000
+# What wrk sends: a document of a new id each time, and one document.
+SCRIPTS = {
+    "PUT": """
+local threads = 0
+function setup(thread) thread:set("number", threads); threads = threads + 1 end
+function init() count = 0; start = "PUT /put/" .. os.time() .. "-" .. number .. "-" end
+local rest = " HTTP/1.1\\r\\nHost: h\\r\\nContent-Length: 32\\r\\n\\r\\n" .. '{"number":1,"text":"0123456789"}'
+function request() count = count + 1; return start .. count .. rest end
+""",
+    "GET": """
+function request() return "GET /get/doc0000007 HTTP/1.1\\r\\nHost: h\\r\\n\\r\\n" end
+""",
+}
 
 
 class Server:
@@ -105,6 +121,18 @@ class Client:
         self.stream.sendall(request(line, body))
         return self.answer()
 
+    def drain(self, line):
+        """Asks, and reads an answer in chunks to its end without a look at them; how many bytes came."""
+        self.stream.sendall(request(line))
+        total, tail = 0, b""
+        while not tail.endswith(b"\r\n0\r\n\r\n"):
+            some = self.stream.recv(1 << 18)
+            if not some:
+                sys.exit("no whole answer")
+            total += len(some)
+            tail = (tail + some[-7:])[-7:]
+        return total
+
     def follow(self, line):
         """Asks for a feed, and reads the head of its answer."""
         self.stream.sendall(request(line))
@@ -161,30 +189,52 @@ def work(port, kind, number, seconds, ready, go, told):
     told.put(count)
 
 
+def by_wrk(server, kind, connections, seconds):
+    """How many requests wrk made, and the hub's seconds for them."""
+    with tempfile.NamedTemporaryFile("w", suffix=".lua") as script:
+        script.write(SCRIPTS[kind])
+        script.flush()
+        words = ["wrk", "-t%d" % min(connections, 2), "-c%d" % connections, "-d%ds" % seconds]
+        words += ["-s", script.name, "http://127.0.0.1:%d/" % server.port]
+        before = server.seconds()
+        told = subprocess.run(words, stdout=subprocess.PIPE, check=True).stdout.decode()
+        spent = server.seconds() - before
+    if "Non-2xx" in told or "Socket errors" in told:
+        sys.exit(told)
+    return int(re.search(r"(\d+) requests in", told).group(1)), spent
+
+
+def by_clients(server, kind, connections, seconds):
+    """The same by processes of Python."""
+    context = multiprocessing.get_context("fork")
+    ready, go, told = context.Semaphore(0), context.Event(), context.Queue()
+    workers = [
+        context.Process(target=work, args=(server.port, kind, n, seconds, ready, go, told))
+        for n in range(connections)
+    ]
+    for worker in workers:
+        worker.start()
+    for _ in workers:
+        ready.acquire()
+    before = server.seconds()
+    go.set()
+    count = sum(told.get() for _ in workers)
+    spent = server.seconds() - before
+    for worker in workers:
+        worker.join()
+    return count, spent
+
+
 def requests(program, connections, seconds):
     """Requests a second and microseconds of the hub's processor for each, for PUT and for GET."""
     entries = []
+    run = by_wrk if shutil.which("wrk") else by_clients
     for kind in ("PUT", "GET"):
         with Server(program) as server:
             control = server.connect()
             control.ask("PUT /put")
             load(control, "get", 1000)
-            context = multiprocessing.get_context("fork")
-            ready, go, told = context.Semaphore(0), context.Event(), context.Queue()
-            workers = [
-                context.Process(target=work, args=(server.port, kind, n, seconds, ready, go, told))
-                for n in range(connections)
-            ]
-            for worker in workers:
-                worker.start()
-            for _ in workers:
-                ready.acquire()
-            before = server.seconds()
-            go.set()
-            count = sum(told.get() for _ in workers)
-            spent = server.seconds() - before
-            for worker in workers:
-                worker.join()
+            count, spent = run(server, kind, connections, seconds)
             entry = {
                 "case": "%s, %d connections" % (kind, connections),
                 "per_second": round(count / seconds),
@@ -206,7 +256,7 @@ def replays(program, count):
         entries.append(told_of("documents in batches of 1,000", count, took, spent))
         for name, query in (("without documents", ""), ("with documents", "?include_docs=true")):
             before, began = server.seconds(), time.perf_counter()
-            _, size = client.ask("GET /replay/_changes" + query)
+            size = client.drain("GET /replay/_changes" + query)
             took, spent = time.perf_counter() - began, server.seconds() - before
             entry = told_of("replay of rows %s" % name, count, took, spent)
             entry["megabytes"] = round(size / 1e6, 1)
@@ -314,6 +364,13 @@ def idle(program, feeds, seconds):
     return entries
 
 
+def ticks():
+    """Ticks that the host took from the processors for others, and all ticks."""
+    with open("/proc/stat") as file:
+        fields = [int(word) for word in file.readline().split()[1:9]]
+    return fields[7], sum(fields)
+
+
 def main():
     parser = argparse.ArgumentParser(description=__doc__.split("\n\n")[0])
     parser.add_argument("--small", action="store_true", help="fewer connections, feeds and rows")
@@ -327,6 +384,7 @@ def main():
     hard = resource.getrlimit(resource.RLIMIT_NOFILE)[1]
     resource.setrlimit(resource.RLIMIT_NOFILE, (hard, hard))
     print("load %.1f, %d processors" % (os.getloadavg()[0], os.cpu_count()))
+    before = ticks()
     entries = []
     for connections in (1, 16) if options.small else (1, 16, 64):
         entries += requests(program, connections, 1 if options.small else 3)
@@ -334,9 +392,12 @@ def main():
     for feeds in (1, 100) if options.small else (1, 100, MOST):
         entries.append(fan(program, feeds, 20 if options.small else 200))
     entries += idle(program, 100 if options.small else MOST, 2 if options.small else 10)
+    stolen, total = (after - first for after, first in zip(ticks(), before))
+    print("the host took %.0f in 100 of the processors" % (100 * stolen / total))
     os.makedirs(os.path.dirname(FIGURES), exist_ok=True)
     with open(FIGURES, "w") as file:
-        json.dump({"load": os.getloadavg()[0], "cases": entries}, file, indent=1)
+        figures = {"load": os.getloadavg()[0], "stolen": round(stolen / total, 3), "cases": entries}
+        json.dump(figures, file, indent=1)
         file.write("\n")
 
 

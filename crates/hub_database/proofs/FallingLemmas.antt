@@ -1,6 +1,9 @@
 -- Rows from the last down, a row at a time.
-use Rattle.std.proofs.Common.{◌≡◌, ℕ, zero, suc, ◌+◌, ◌-◌, ◌<◌, ◌≤◌, List, [], ◌∷◌, ◌++◌, length, Bool, true, false, ◌&&◌, ap, refl, sym, ◌∙◌, subst, arith, inl, inr, find, filter, map, nat_lt, Contains, AllPairs, append_assoc}
-use Rattle.std.specs.Prelude.{Option, Some, None, get_or, slice_get, take, reverse, max, count_by, if◌then◌else◌}
+use Rattle.std.proofs.Common.{◌≡◌, ℕ, zero, suc, ◌+◌, ◌-◌, ◌<◌, ◌≤◌, List, [], ◌∷◌, ◌++◌, length, Bool, true}
+use Rattle.std.proofs.Common.{false, ◌&&◌, ap, refl, sym, ◌∙◌, subst, arith, inl, inr, find, filter, map}
+use Rattle.std.proofs.Common.{nat_lt, Contains, AllPairs, append_assoc}
+use Rattle.std.specs.Prelude.{Option, Some, None, get_or, slice_get, take, reverse, max, count_by}
+use Rattle.std.specs.Prelude.{if◌then◌else◌}
 use Rattle.std.proofs.lemmas.Bool.{and_parts, cases_Bool, ltb-true, ltb-false, lt-ltb, le-ltb}
 use Rattle.std.proofs.lemmas.List.{append-nil, length_push, reverse-append, length-reverse}
 use Rattle.std.proofs.lemmas.List.Elements.{All-contains, All-contains_itself}
@@ -20,17 +23,25 @@ use Rattle.hub_model.proofs.Shown.{find_is}
 use Rattle.hub_model.proofs.Tests.{filter_in}
 use Rattle.hub_database.specs.Falling.{lowest_row, most_of}
 use Rattle.hub_database.specs.Laid.{rows_below}
-use Rattle.hub_database.proofs.ListLemmas.{count_filter, contains_reverse}
+use Rattle.hub_index.proofs.ListLemmas.{contains_reverse}
+use Rattle.hub_database.proofs.ListLemmas.{count_filter}
 
-pub filter_agree : {A : Type 0} (p q : A → Bool) (xs : List A) → ((x : A) → Contains xs x → p x ≡ q x) → filter p xs ≡ filter q xs
+pub filter_agree : {A : Type 0} (p q : A → Bool) (xs : List A) → ((x : A) → Contains xs x → p x ≡ q x)
+    → filter p xs ≡ filter q xs
 filter_agree p q [] h = refl
-filter_agree p q (x ∷ xs) h = ap (λ b. if b then (x ∷ filter p xs) else filter p xs) (h x (contains_here x xs)) ∙ ap (λ ys. if q x then (x ∷ ys) else ys) (filter_agree p q xs (λ y c. h y (contains_there x y xs c)))
+filter_agree p q (x ∷ xs) h =
+    ap (λ b. if b then (x ∷ filter p xs) else filter p xs) (h x (contains_here x xs))
+    ∙ ap (λ ys. if q x then (x ∷ ys) else ys) (filter_agree p q xs (λ y c. h y (contains_there x y xs c)))
 
-filter_nothing : {A : Type 0} (p : A → Bool) (xs : List A) → ((x : A) → Contains xs x → p x ≡ false) → filter p xs ≡ []
+filter_nothing : {A : Type 0} (p : A → Bool) (xs : List A) → ((x : A) → Contains xs x → p x ≡ false)
+    → filter p xs ≡ []
 filter_nothing p [] h = refl
-filter_nothing p (x ∷ xs) h = ap (λ b. if b then (x ∷ filter p xs) else filter p xs) (h x (contains_here x xs)) ∙ filter_nothing p xs (λ y c. h y (contains_there x y xs c))
+filter_nothing p (x ∷ xs) h =
+    ap (λ b. if b then (x ∷ filter p xs) else filter p xs) (h x (contains_here x xs))
+    ∙ filter_nothing p xs (λ y c. h y (contains_there x y xs c))
 
-pairs_reverse : {A : Type 0} (R : A → A → Type 0) (xs : List A) → AllPairs R xs → AllPairs (λ a b. R b a) (reverse xs)
+pairs_reverse : {A : Type 0} (R : A → A → Type 0) (xs : List A) → AllPairs R xs
+    → AllPairs (λ a b. R b a) (reverse xs)
 pairs_reverse R [] pairs = λ i j d a b. absurd (omega arith)
 pairs_reverse R (x ∷ xs) pairs =
     subst (AllPairs (λ a b. R b a)) (sym (reverse-append (x ∷ []) xs))
@@ -43,9 +54,11 @@ take_nothing (suc n) = refl
 contains_take : {A : Type 0} (n : ℕ) (xs : List A) (x : A) → Contains (take n xs) x → Contains xs x
 contains_take n [] x h = subst (λ ys. Contains ys x) (take_nothing n) h
 contains_take zero (y ∷ xs) x h = absurd (contains_none x h)
-contains_take (suc n) (y ∷ xs) x h = elim (contains_cases y x (take n xs) h) [ inl e ↦ subst (λ z. Contains (y ∷ xs) z) e (contains_here y xs) | inr m ↦ contains_there y x xs (contains_take n xs x m) ]
+contains_take (suc n) (y ∷ xs) x h =
+    elim (contains_cases y x (take n xs) h) [ inl e ↦ subst (λ z. Contains (y ∷ xs) z) e (contains_here y xs) | inr m ↦ contains_there y x xs (contains_take n xs x m) ]
 
-contains_most : {A : Type 0} (limit : Option ℕ) (xs : List A) (x : A) → Contains (at_most limit xs) x → Contains xs x
+contains_most : {A : Type 0} (limit : Option ℕ) (xs : List A) (x : A) → Contains (at_most limit xs) x
+    → Contains xs x
 contains_most None xs x h = h
 contains_most (Some limit) xs x h = contains_take (max 1 limit) xs x h
 
@@ -59,7 +72,10 @@ below q place rows = filter (λ (c : Current). nat_lt c.seq place && q c) rows
 
 module _ (q : Current → Bool) where
   -- of rows that fall, a step finds the first below a place, and what is left lies below that
-  step_some : (rows : List Current) (place : ℕ) (c : Current) → AllPairs (λ (a b : Current). b.seq < a.seq) rows → find (λ (c : Current). nat_lt c.seq place) rows ≡ Some c → below q place rows ≡ (if q c then (c ∷ below q c.seq rows) else below q c.seq rows)
+  step_some : (rows : List Current) (place : ℕ) (c : Current)
+      → AllPairs (λ (a b : Current). b.seq < a.seq) rows
+      → find (λ (c : Current). nat_lt c.seq place) rows ≡ Some c
+      → below q place rows ≡ (if q c then (c ∷ below q c.seq rows) else below q c.seq rows)
   step_some [] place c falls e = absurd (none-some c e)
   step_some (x ∷ rows) place c falls e =
       elim (cases_Bool (nat_lt x.seq place)) [
@@ -68,29 +84,43 @@ module _ (q : Current → Bool) where
       ]
     where
       lower : (d : Current) → Contains rows d → d.seq < x.seq
-      lower d h = All-contains (λ (d : Current). d.seq < x.seq) rows d (of_head (λ (a b : Current). b.seq < a.seq) x rows falls) h
+      lower d h =
+          All-contains (λ (d : Current). d.seq < x.seq) rows d
+          (of_head (λ (a b : Current). b.seq < a.seq) x rows falls) h
 
       not_itself : (n : ℕ) → nat_lt n n ≡ false
       not_itself n = le-ltb n n (omega arith)
 
-      here : nat_lt x.seq place ≡ true → x ≡ c → below q place (x ∷ rows) ≡ (if q c then (c ∷ below q c.seq (x ∷ rows)) else below q c.seq (x ∷ rows))
+      here : nat_lt x.seq place ≡ true → x ≡ c
+          → below q place (x ∷ rows)
+          ≡ (if q c then (c ∷ below q c.seq (x ∷ rows)) else below q c.seq (x ∷ rows))
       here t s =
           let high : x.seq < place = ltb-true x.seq place t in
-          let rest : below q place rows ≡ below q x.seq rows = filter_agree (λ (d : Current). nat_lt d.seq place && q d) (λ (d : Current). nat_lt d.seq x.seq && q d) rows (λ d h. let l = lower d h in ap (λ b. b && q d) (lt-ltb d.seq place (omega (arith, l, high)) ∙ sym (lt-ltb d.seq x.seq l))) in
-          let own : below q x.seq (x ∷ rows) ≡ below q x.seq rows = ap (λ b. if b && q x then (x ∷ below q x.seq rows) else below q x.seq rows) (not_itself x.seq) in
+          let rest : below q place rows ≡ below q x.seq rows =
+          filter_agree (λ (d : Current). nat_lt d.seq place && q d)
+          (λ (d : Current). nat_lt d.seq x.seq && q d) rows
+          (λ d h. let l = lower d h in ap (λ b. b && q d) (lt-ltb d.seq place (omega (arith, l, high)) ∙ sym (lt-ltb d.seq x.seq l))) in
+          let own : below q x.seq (x ∷ rows) ≡ below q x.seq rows =
+          ap (λ b. if b && q x then (x ∷ below q x.seq rows) else below q x.seq rows) (not_itself x.seq) in
           ap (λ b. if b && q x then (x ∷ below q place rows) else below q place rows) t
           ∙ (ap (λ (ys : List Current). if q x then (x ∷ ys) else ys) (rest ∙ sym own)
           ∙ ap (λ (z : Current). if q z then (z ∷ below q z.seq (x ∷ rows)) else below q z.seq (x ∷ rows)) s)
 
-      there : nat_lt x.seq place ≡ false → find (λ (c : Current). nat_lt c.seq place) rows ≡ Some c → below q place rows ≡ (if q c then (c ∷ below q c.seq rows) else below q c.seq rows)
-          → below q place (x ∷ rows) ≡ (if q c then (c ∷ below q c.seq (x ∷ rows)) else below q c.seq (x ∷ rows))
+      there : nat_lt x.seq place ≡ false → find (λ (c : Current). nat_lt c.seq place) rows ≡ Some c
+          → below q place rows ≡ (if q c then (c ∷ below q c.seq rows) else below q c.seq rows)
+          → below q place (x ∷ rows)
+          ≡ (if q c then (c ∷ below q c.seq (x ∷ rows)) else below q c.seq (x ∷ rows))
       there f found rest =
           let l = lower c (find_is (λ (c : Current). nat_lt c.seq place) rows c found).1 in
-          let own : below q c.seq (x ∷ rows) ≡ below q c.seq rows = ap (λ b. if b && q x then (x ∷ below q c.seq rows) else below q c.seq rows) (le-ltb x.seq c.seq (omega (arith, l))) in
-          ap (λ b. if b && q x then (x ∷ below q place rows) else below q place rows) f ∙ (rest ∙ ap (λ (ys : List Current). if q c then (c ∷ ys) else ys) (sym own))
+          let own : below q c.seq (x ∷ rows) ≡ below q c.seq rows =
+          ap (λ b. if b && q x then (x ∷ below q c.seq rows) else below q c.seq rows)
+          (le-ltb x.seq c.seq (omega (arith, l))) in
+          ap (λ b. if b && q x then (x ∷ below q place rows) else below q place rows) f
+          ∙ (rest ∙ ap (λ (ys : List Current). if q c then (c ∷ ys) else ys) (sym own))
 
   -- where it finds none, none is left
-  step_none : (rows : List Current) (place : ℕ) → find (λ (c : Current). nat_lt c.seq place) rows ≡ None → below q place rows ≡ []
+  step_none : (rows : List Current) (place : ℕ) → find (λ (c : Current). nat_lt c.seq place) rows ≡ None
+      → below q place rows ≡ []
   step_none [] place e = refl
   step_none (x ∷ rows) place e =
       elim (cases_Bool (nat_lt x.seq place)) [
@@ -106,7 +136,8 @@ current_few : (n : ℕ) (J : List Edit) → length (current_from n J) ≤ length
 current_few n [] = omega arith
 current_few n (e ∷ J) = from (is_edited e.id J) (current_few (n + 1) J)
   where
-    from : (b : Bool) → length (current_from (n + 1) J) ≤ length J → length (if b then current_from (n + 1) J else (record { seq = n; id = e.id } ∷ current_from (n + 1) J)) ≤ length (e ∷ J)
+    from : (b : Bool) → length (current_from (n + 1) J) ≤ length J
+        → length (if b then current_from (n + 1) J else (record { seq = n; id = e.id } ∷ current_from (n + 1) J)) ≤ length (e ∷ J)
     from true h = omega (arith, h)
     from false h = omega (arith, h)
 
@@ -130,35 +161,49 @@ module _ (J : List Edit) (asked : Params) (since : ℕ) where
   falls = pairs_reverse (λ (a b : Current). a.seq < b.seq) (current J) (rows_rise J)
 
   -- at the beginning all is left
-  pub begins : (most place : ℕ) → place ≡ length J + 1 → all_shown most ≡ [] ++ map show (take (most - 0) (left place))
+  pub begins : (most place : ℕ) → place ≡ length J + 1
+      → all_shown most ≡ [] ++ map show (take (most - 0) (left place))
   begins most place e =
       let whole : most ≡ most - 0 = omega arith in
-      ap (λ cs. map show (take most cs)) (filter_agree (is_shown asked since) (λ (c : Current). nat_lt c.seq place && is_shown asked since c) (falling_all J)
+      ap (λ cs. map show (take most cs))
+      (filter_agree (is_shown asked since) (λ (c : Current). nat_lt c.seq place && is_shown asked since c)
+      (falling_all J)
       (λ c h. let w = rows_below J c (contains_reverse (current J) c h) in sym (ap (λ b. b && is_shown asked since c) (lt-ltb c.seq place (omega (arith, w, e))))))
       ∙ ap (λ n. map show (take n (left place))) whole
 
-  module _ (place : ℕ) (c : Current) (found : Some c ≡ find (λ (c : Current). nat_lt c.seq place) (falling_all J)) where
+  module _ (place : ℕ) (c : Current)
+      (found : Some c ≡ find (λ (c : Current). nat_lt c.seq place) (falling_all J)) where
     pub goes_down : c.seq < place
-    goes_down = ltb-true c.seq place (find_is (λ (c : Current). nat_lt c.seq place) (falling_all J) c (sym found)).0
+    goes_down =
+        ltb-true c.seq place (find_is (λ (c : Current). nat_lt c.seq place) (falling_all J) c (sym found)).0
 
     pub is_current : Contains (current J) c
-    is_current = contains_reverse (current J) c (find_is (λ (c : Current). nat_lt c.seq place) (falling_all J) c (sym found)).1
+    is_current =
+        contains_reverse (current J) c
+        (find_is (λ (c : Current). nat_lt c.seq place) (falling_all J) c (sym found)).1
 
     step : left place ≡ (if is_shown asked since c then (c ∷ left c.seq) else left c.seq)
     step = step_some (is_shown asked since) (falling_all J) place c falls (sym found)
 
     -- a row that does not pass
     pub passed_by : since < c.seq → passes asked.filter c.id ≡ false → left place ≡ left c.seq
-    passed_by h f = step ∙ ap (λ b. if b then (c ∷ left c.seq) else left c.seq) (ap (λ b. b && passes asked.filter c.id) (lt-ltb since c.seq h) ∙ f)
+    passed_by h f =
+        step
+        ∙ ap (λ b. if b then (c ∷ left c.seq) else left c.seq)
+        (ap (λ b. b && passes asked.filter c.id) (lt-ltb since c.seq h) ∙ f)
 
     -- and one that does
     pub taken_up : since < c.seq → passes asked.filter c.id ≡ true → left place ≡ c ∷ left c.seq
-    taken_up h t = step ∙ ap (λ b. if b then (c ∷ left c.seq) else left c.seq) (ap (λ b. b && passes asked.filter c.id) (lt-ltb since c.seq h) ∙ t)
+    taken_up h t =
+        step
+        ∙ ap (λ b. if b then (c ∷ left c.seq) else left c.seq)
+        (ap (λ b. b && passes asked.filter c.id) (lt-ltb since c.seq h) ∙ t)
 
     -- none of the rows from here on lies above where the feed begins
     pub past_since : c.seq ≤ since → left place ≡ []
     past_since h =
-        step ∙ (ap (λ b. if b then (c ∷ left c.seq) else left c.seq) (ap (λ b. b && passes asked.filter c.id) (le-ltb since c.seq h))
+        step
+        ∙ (ap (λ b. if b then (c ∷ left c.seq) else left c.seq) (ap (λ b. b && passes asked.filter c.id) (le-ltb since c.seq h))
         ∙ filter_nothing (λ (d : Current). nat_lt d.seq c.seq && is_shown asked since d) (falling_all J) (λ d m. low d))
       where
         low : (d : Current) → (nat_lt d.seq c.seq && (nat_lt since d.seq && passes asked.filter d.id)) ≡ false
@@ -168,7 +213,8 @@ module _ (J : List Edit) (asked : Params) (since : ℕ) where
         ]
 
   -- no row is left
-  pub none_left : (place : ℕ) → None ≡ find (λ (c : Current). nat_lt c.seq place) (falling_all J) → left place ≡ []
+  pub none_left : (place : ℕ) → None ≡ find (λ (c : Current). nat_lt c.seq place) (falling_all J)
+      → left place ≡ []
   none_left place e = step_none (is_shown asked since) (falling_all J) place (sym e)
 
   take_none : (n : ℕ) → map show (take n []) ≡ []
@@ -176,30 +222,45 @@ module _ (J : List Edit) (asked : Params) (since : ℕ) where
   take_none (suc n) = refl
 
   -- so the rows are all
-  pub rows_all : (most : ℕ) (rows : List ChangeRow) (place : ℕ) → all_shown most ≡ rows ++ map show (take (most - length rows) (left place)) → left place ≡ [] → rows ≡ all_shown most
-  rows_all most rows place h e = sym (h ∙ (ap (λ cs. rows ++ map show (take (most - length rows) cs)) e ∙ (ap (λ rs. rows ++ rs) (take_none (most - length rows)) ∙ append-nil rows)))
+  pub rows_all : (most : ℕ) (rows : List ChangeRow) (place : ℕ)
+      → all_shown most ≡ rows ++ map show (take (most - length rows) (left place)) → left place ≡ []
+      → rows ≡ all_shown most
+  rows_all most rows place h e =
+      sym
+      (h
+      ∙ (ap (λ cs. rows ++ map show (take (most - length rows) cs)) e
+      ∙ (ap (λ rs. rows ++ rs) (take_none (most - length rows)) ∙ append-nil rows)))
 
   -- as they are once there are enough
-  pub rows_enough : (most : ℕ) (rows : List ChangeRow) (place : ℕ) → all_shown most ≡ rows ++ map show (take (most - length rows) (left place)) → most ≤ length rows → rows ≡ all_shown most
+  pub rows_enough : (most : ℕ) (rows : List ChangeRow) (place : ℕ)
+      → all_shown most ≡ rows ++ map show (take (most - length rows) (left place)) → most ≤ length rows
+      → rows ≡ all_shown most
   rows_enough most rows place h e =
       let none : most - length rows ≡ 0 = omega (arith, e) in
       sym (h ∙ (ap (λ n. rows ++ map show (take n (left place))) none ∙ append-nil rows))
 
   -- one row more
-  pub rows_more : (most : ℕ) (rows rows' : List ChangeRow) (place : ℕ) (c : Current) (row : ChangeRow) → length rows < most → all_shown most ≡ rows ++ map show (take (most - length rows) (left place)) → left place ≡ c ∷ left c.seq
-      → row ≡ show c → rows' ≡ rows ++ row ∷ [] → all_shown most ≡ rows' ++ map show (take (most - length rows') (left c.seq))
+  pub rows_more : (most : ℕ) (rows rows' : List ChangeRow) (place : ℕ) (c : Current) (row : ChangeRow)
+      → length rows < most → all_shown most ≡ rows ++ map show (take (most - length rows) (left place))
+      → left place ≡ c ∷ left c.seq
+      → row ≡ show c → rows' ≡ rows ++ row ∷ []
+      → all_shown most ≡ rows' ++ map show (take (most - length rows') (left c.seq))
   rows_more most rows rows' place c row few h e is more =
       let longer : length rows' ≡ length rows + 1 = ap length more ∙ length_push rows row in
       let one : most - length rows ≡ suc (most - length rows') = omega (arith, longer, few) in
-      h ∙ (ap (λ cs. rows ++ map show (take (most - length rows) cs)) e ∙ (ap (λ n. rows ++ map show (take n (c ∷ left c.seq))) one
+      h
+      ∙ (ap (λ cs. rows ++ map show (take (most - length rows) cs)) e ∙ (ap (λ n. rows ++ map show (take n (c ∷ left c.seq))) one
       ∙ (sym (append_assoc rows (show c ∷ []) (map show (take (most - length rows') (left c.seq)))) ∙ ap (λ rs. rs ++ map show (take (most - length rows') (left c.seq))) (ap (λ r. rows ++ r ∷ []) (sym is) ∙ sym more))))
 
-  more_than_none : (rows : List ChangeRow) (row : ChangeRow) (more : List ChangeRow) → rows ++ row ∷ more ≡ [] → ⊥
+  more_than_none : (rows : List ChangeRow) (row : ChangeRow) (more : List ChangeRow) → rows ++ row ∷ more ≡ []
+      → ⊥
   more_than_none [] row more e = absurd (cc)
   more_than_none (x ∷ rows) row more e = absurd (cc)
 
   -- a row that is taken up while there are too few is one of those that are shown
-  row_shown : (most : ℕ) (rows : List ChangeRow) (place : ℕ) (c : Current) → length rows < most → all_shown most ≡ rows ++ map show (take (most - length rows) (left place)) → left place ≡ c ∷ left c.seq → ¬ (all_shown most ≡ [])
+  row_shown : (most : ℕ) (rows : List ChangeRow) (place : ℕ) (c : Current) → length rows < most
+      → all_shown most ≡ rows ++ map show (take (most - length rows) (left place))
+      → left place ≡ c ∷ left c.seq → ¬ (all_shown most ≡ [])
   row_shown most rows place c few h e = λ none.
       let one : most - length rows ≡ suc (most - length rows - 1) = omega (arith, few) in
       more_than_none rows (show c) (map show (take (most - length rows - 1) (left c.seq)))
@@ -207,31 +268,53 @@ module _ (J : List Edit) (asked : Params) (since : ℕ) where
 
   -- what is shown in all is the answer
   pub shown_all : all_shown (most_of asked.limit (length J)) ≡ map show (falling_rows J asked since)
-  shown_all = ap (map show) (ap (take (most_of asked.limit (length J))) (filter_reverse (is_shown asked since) (current J)) ∙ from asked.limit)
+  shown_all =
+      ap (map show)
+      (ap (take (most_of asked.limit (length J))) (filter_reverse (is_shown asked since) (current J))
+      ∙ from asked.limit)
     where
       few : length (reverse (filter (is_shown asked since) (current J))) ≤ length J
-      few = omega (arith, length-reverse (filter (is_shown asked since) (current J)), count_filter (is_shown asked since) (current J), current_few 1 J)
+      few =
+          omega (
+            arith,
+            length-reverse (filter (is_shown asked since) (current J)),
+            count_filter (is_shown asked since) (current J),
+            current_few 1 J,
+          )
 
-      from : (limit : Option ℕ) → take (most_of limit (length J)) (reverse (filter (is_shown asked since) (current J))) ≡ at_most limit (reverse (filter (is_shown asked since) (current J)))
+      from : (limit : Option ℕ)
+          → take (most_of limit (length J)) (reverse (filter (is_shown asked since) (current J)))
+          ≡ at_most limit (reverse (filter (is_shown asked since) (current J)))
       from None = take_all (length J) (reverse (filter (is_shown asked since) (current J))) few
       from (Some limit) = refl
 
   -- so where a row is taken up the answer has one
-  pub row_due : (most : ℕ) (rows : List ChangeRow) (place : ℕ) (c : Current) → most ≡ most_of asked.limit (length J) → length rows < most → all_shown most ≡ rows ++ map show (take (most - length rows) (left place)) → left place ≡ c ∷ left c.seq
+  pub row_due : (most : ℕ) (rows : List ChangeRow) (place : ℕ) (c : Current)
+      → most ≡ most_of asked.limit (length J) → length rows < most
+      → all_shown most ≡ rows ++ map show (take (most - length rows) (left place))
+      → left place ≡ c ∷ left c.seq
       → ¬ (falling_rows J asked since ≡ [])
-  row_due most rows place c is few h e = λ none. row_shown most rows place c few h e (ap all_shown is ∙ (shown_all ∙ ap (map show) none))
+  row_due most rows place c is few h e =
+      λ none. row_shown most rows place c few h e (ap all_shown is ∙ (shown_all ∙ ap (map show) none))
 
   nothing_shown : (cs : List Current) → map show cs ≡ [] → cs ≡ []
   nothing_shown [] e = refl
   nothing_shown (c ∷ cs) e = absurd (cc)
 
   -- and has one where one is due
-  pub answer_some : since ≡ since_of asked.since (length J) → ¬ (falling_rows J asked since ≡ []) → ¬ ((descending J asked).rows ≡ [])
-  answer_some begin some = λ e. some (nothing_shown (falling_rows J asked since) (ap (λ n. map (row_of J asked.style asked.include_docs) (falling_rows J asked n)) begin ∙ e))
+  pub answer_some : since ≡ since_of asked.since (length J) → ¬ (falling_rows J asked since ≡ [])
+      → ¬ ((descending J asked).rows ≡ [])
+  answer_some begin some =
+      λ e. some (nothing_shown (falling_rows J asked since) (ap (λ n. map (row_of J asked.style asked.include_docs) (falling_rows J asked n)) begin ∙ e))
 
   -- and lies above where the feed begins
   pub rows_above : (c : Current) → Contains (falling_rows J asked since) c → since < c.seq
-  rows_above c h = let i = filter_in (is_shown asked since) (current J) c (contains_reverse (filter (is_shown asked since) (current J)) c (contains_most asked.limit (reverse (filter (is_shown asked since) (current J))) c h)) in ltb-true since c.seq (and_parts (nat_lt since c.seq) (passes asked.filter c.id) i.1).0
+  rows_above c h =
+      let i =
+      filter_in (is_shown asked since) (current J) c
+      (contains_reverse (filter (is_shown asked since) (current J)) c
+      (contains_most asked.limit (reverse (filter (is_shown asked since) (current J))) c h)) in
+      ltb-true since c.seq (and_parts (nat_lt since c.seq) (passes asked.filter c.id) i.1).0
 
   -- the lowest row that is shown
   lowest_shown : (cs : List Current) → lowest_row since (map show cs) ≡ lowest since cs
@@ -239,12 +322,14 @@ module _ (J : List Edit) (asked : Params) (since : ℕ) where
   lowest_shown (c ∷ []) = refl
   lowest_shown (c ∷ d ∷ cs) = lowest_shown (d ∷ cs)
 
-  lowest_high : (cs : List Current) → ((c : Current) → Contains cs c → since < c.seq) → since ≤ lowest since cs
+  lowest_high : (cs : List Current) → ((c : Current) → Contains cs c → since < c.seq)
+      → since ≤ lowest since cs
   lowest_high [] h = omega arith
   lowest_high (c ∷ []) h = let l = h c (contains_here c []) in omega (arith, l)
   lowest_high (c ∷ d ∷ cs) h = lowest_high (d ∷ cs) (λ e m. h e (contains_there c e (d ∷ cs) m))
 
-  module _ (rows : List ChangeRow) (last : ℕ) (all : rows ≡ map show (falling_rows J asked since)) (low : last ≡ lowest_row since rows) where
+  module _ (rows : List ChangeRow) (last : ℕ) (all : rows ≡ map show (falling_rows J asked since))
+      (low : last ≡ lowest_row since rows) where
     last_is : last ≡ lowest since (falling_rows J asked since)
     last_is = low ∙ (ap (lowest_row since) all ∙ lowest_shown (falling_rows J asked since))
 
@@ -252,7 +337,9 @@ module _ (J : List Edit) (asked : Params) (since : ℕ) where
     last_high = let l = lowest_high (falling_rows J asked since) rows_above in omega (arith, l, last_is)
 
     -- the whole answer
-    pub answer_is : (count : ℕ) → count ≡ count_by (λ (c : Current). nat_lt since c.seq && nat_lt c.seq last) (current J) → since ≡ since_of asked.since (length J)
+    pub answer_is : (count : ℕ)
+        → count ≡ count_by (λ (c : Current). nat_lt since c.seq && nat_lt c.seq last) (current J)
+        → since ≡ since_of asked.since (length J)
         → ◌≡◌ {A = Descending} (record { rows = rows; last_seq = last; pending = count }) (descending J asked)
     answer_is count many begin =
         ap (λ (n : ℕ). record { rows = rows; last_seq = last; pending = n }) many
@@ -261,7 +348,8 @@ module _ (J : List Edit) (asked : Params) (since : ℕ) where
         ∙ ap (λ (n : ℕ). falling J asked n (falling_rows J asked n)) begin))
 
 -- the last of falling rows is the lowest
-pub lowest_last : (since : ℕ) (rows : List ChangeRow) (k : ℕ) (r : ChangeRow) → k ≡ length rows - 1 → Some r ≡ slice_get rows k → r.seq ≡ lowest_row since rows
+pub lowest_last : (since : ℕ) (rows : List ChangeRow) (k : ℕ) (r : ChangeRow) → k ≡ length rows - 1
+    → Some r ≡ slice_get rows k → r.seq ≡ lowest_row since rows
 lowest_last since [] k r e g = absurd (none-some r (sym g))
 lowest_last since (x ∷ []) zero r e g = ap (λ (z : ChangeRow). z.seq) (same_Some r x g)
 lowest_last since (x ∷ []) (suc k) r e g = absurd (omega arith)
@@ -275,11 +363,31 @@ one b = if b then 1 else 0
 module _ (p q : Current → Bool) where
   few_count : ((c : Current) → one (p c) ≤ one (q c)) → (xs : List Current) → count_by p xs ≤ count_by q xs
   few_count h [] = omega arith
-  few_count h (x ∷ xs) = let rest = few_count h xs in let here = h x in omega (arith, rest, here, sum_by-cons (λ (c : Current). one (p c)) x xs, sum_by-cons (λ (c : Current). one (q c)) x xs)
+  few_count h (x ∷ xs) =
+      let rest = few_count h xs in
+      let here = h x in
+      omega (
+        arith,
+        rest,
+        here,
+        sum_by-cons (λ (c : Current). one (p c)) x xs,
+        sum_by-cons (λ (c : Current). one (q c)) x xs,
+      )
 
-  split_count : (r : Current → Bool) → ((c : Current) → one (p c) ≡ one (q c) + one (r c)) → (xs : List Current) → count_by p xs ≡ count_by q xs + count_by r xs
+  split_count : (r : Current → Bool) → ((c : Current) → one (p c) ≡ one (q c) + one (r c))
+      → (xs : List Current) → count_by p xs ≡ count_by q xs + count_by r xs
   split_count r h [] = omega arith
-  split_count r h (x ∷ xs) = let rest = split_count r h xs in let here = h x in omega (arith, rest, here, sum_by-cons (λ (c : Current). one (p c)) x xs, sum_by-cons (λ (c : Current). one (q c)) x xs, sum_by-cons (λ (c : Current). one (r c)) x xs)
+  split_count r h (x ∷ xs) =
+      let rest = split_count r h xs in
+      let here = h x in
+      omega (
+        arith,
+        rest,
+        here,
+        sum_by-cons (λ (c : Current). one (p c)) x xs,
+        sum_by-cons (λ (c : Current). one (q c)) x xs,
+        sum_by-cons (λ (c : Current). one (r c)) x xs,
+      )
 
 module _ (since low : ℕ) where
   abbrev is_between : Current → Bool
@@ -292,7 +400,8 @@ module _ (since low : ℕ) where
     | inr f ↦ ap (λ b. b && nat_lt c.seq low) f
   ]
 
-  parts : since < low → (c : Current) → one (nat_lt since c.seq) ≡ one (is_between c) + one (nat_lt (low - 1) c.seq)
+  parts : since < low → (c : Current)
+      → one (nat_lt since c.seq) ≡ one (is_between c) + one (nat_lt (low - 1) c.seq)
   parts h c = elim (cases_Bool (nat_lt c.seq low)) [
     | inl t ↦ let l : c.seq < low = ltb-true c.seq low t in rw (t, le-ltb (low - 1) c.seq (omega (arith, l))) (under (nat_lt since c.seq))
     | inr f ↦ let l : low ≤ c.seq = ltb-false c.seq low f in rw (f, lt-ltb (low - 1) c.seq (omega (arith, l, h)), lt-ltb since c.seq (omega (arith, l, h))) refl
@@ -302,16 +411,21 @@ module _ (since low : ℕ) where
       under true = refl
       under false = refl
 
-  pub between : (xs : List Current) → since ≤ low → pending xs since - pending xs (low - 1) ≡ count_by is_between xs
+  pub between : (xs : List Current) → since ≤ low
+      → pending xs since - pending xs (low - 1) ≡ count_by is_between xs
   between xs h = elim (cases_Bool (nat_lt since low)) [
     | inl t ↦ let s = split_count (λ (c : Current). nat_lt since c.seq) is_between (λ (c : Current). nat_lt (low - 1) c.seq) (parts (ltb-true since low t)) xs in omega (arith, s)
     | inr f ↦ let e : since ≡ low = let l : low ≤ since = ltb-false since low f in omega (arith, l, h) in
         let none : count_by is_between xs ≡ 0 = count_nothing xs (none_between e) in
-        let few = few_count (λ (c : Current). nat_lt since c.seq) (λ (c : Current). nat_lt (low - 1) c.seq) (lower e) xs in omega (arith, none, few)
+        let few =
+        few_count (λ (c : Current). nat_lt since c.seq) (λ (c : Current). nat_lt (low - 1) c.seq) (lower e) xs in
+        omega (arith, none, few)
   ]
     where
-      count_nothing : (xs : List Current) → ((c : Current) → is_between c ≡ false) → count_by is_between xs ≡ 0
-      count_nothing xs h = sym (length-filter is_between xs) ∙ ap length (filter_nothing is_between xs (λ c m. h c))
+      count_nothing : (xs : List Current) → ((c : Current) → is_between c ≡ false)
+          → count_by is_between xs ≡ 0
+      count_nothing xs h =
+          sym (length-filter is_between xs) ∙ ap length (filter_nothing is_between xs (λ c m. h c))
 
       lower : since ≡ low → (c : Current) → one (nat_lt since c.seq) ≤ one (nat_lt (low - 1) c.seq)
       lower e c = elim (cases_Bool (nat_lt since c.seq)) [

@@ -1,6 +1,8 @@
 -- What a document's tree shows is what the journal has of it.
-use Rattle.std.proofs.Common.{◌≡◌, ℕ, zero, suc, ◌≤◌, List, [], ◌∷◌, Bool, true, false, ap, refl, sym, ◌∙◌, subst, arith}
-use Rattle.std.specs.Prelude.{Option, Some, None, Contains, map, find, option_map, slice_get, get_or, if◌then◌else◌}
+use Rattle.std.proofs.Common.{◌≡◌, ℕ, zero, suc, ◌≤◌, List, [], ◌∷◌, Bool, true, false, ap, refl, sym, ◌∙◌}
+use Rattle.std.proofs.Common.{subst, arith}
+use Rattle.std.specs.Prelude.{Option, Some, None, Contains, map, find, option_map, slice_get, get_or}
+use Rattle.std.specs.Prelude.{if◌then◌else◌}
 use Rattle.std.proofs.lemmas.Option.{same_Some, none-some, slice_get-map}
 use Rattle.hub_model.specs.Revision.{Revision}
 use Rattle.hub_model.specs.Path.{IsFirst, IsHistory, IsPath, names, is_first}
@@ -24,9 +26,11 @@ use Rattle.hub_database.specs.declared.entry.Entry.{Entry}
 use Rattle.hub_database.specs.Filed.{Filed, named, journal_of, IsFiled}
 use Rattle.hub_database.specs.Store.{filed, files}
 use Rattle.hub_database.specs.Found.{IsFound, shown_in, history_of}
-use Rattle.hub_database.specs.Reads.{HasDocument, doc_shown, lookup, lookup_of, open_rev_of, open_rev, open_revs}
+use Rattle.hub_database.specs.Reads.{HasDocument, doc_shown, lookup, lookup_of, open_rev_of, open_rev}
+use Rattle.hub_database.specs.Reads.{open_revs}
 use Rattle.hub_database.proofs.NamedLemmas.{renamed, revisions_named, leaves_named, shown_named}
-use Rattle.hub_database.proofs.StoreLemmas.{number_below, get_at}
+use Rattle.hub_index.proofs.ListLemmas.{at_place}
+use Rattle.hub_database.proofs.StoreLemmas.{number_below}
 
 winner_renamed : (id : List ℕ) (ls : List Leaf) → winner_of (map (renamed id) ls) ≡ winner_of ls
 winner_renamed id [] = refl
@@ -35,15 +39,21 @@ winner_renamed id (l ∷ ls) = refl
 module _ (J : List Edit) (id : List ℕ) (d : Document) (f : IsFound J id d) where
   -- the winner
   pub winner_found : winner_of (leaves_of J id) ≡ winner_of (leaves_of d.tree.edits [])
-  winner_found = ap winner_of (leaves_named J id d.tree.edits f.kept f.one) ∙ winner_renamed id (leaves_of d.tree.edits [])
+  winner_found =
+      ap winner_of (leaves_named J id d.tree.edits f.kept f.one)
+      ∙ winner_renamed id (leaves_of d.tree.edits [])
 
   -- what is shown of a revision
   pub shown_found : (r : Revision) → shown J id r ≡ shown_in d r
-  shown_found r = shown_named J id d.tree.edits f.kept f.one r ∙ ap (λ i. option_map (named i) (shown d.tree.edits [] r)) (sym f.same)
+  shown_found r =
+      shown_named J id d.tree.edits f.kept f.one r
+      ∙ ap (λ i. option_map (named i) (shown d.tree.edits [] r)) (sym f.same)
 
   -- the leaves
   pub leaves_same : revisions_of (leaves_of d.tree.edits []) ≡ revisions_of (leaves_of J id)
-  leaves_same = sym (revisions_named id (leaves_of d.tree.edits [])) ∙ ap revisions_of (sym (leaves_named J id d.tree.edits f.kept f.one))
+  leaves_same =
+      sym (revisions_named id (leaves_of d.tree.edits []))
+      ∙ ap revisions_of (sym (leaves_named J id d.tree.edits f.kept f.one))
 
 head_first : (p : List Revision) (r h : Revision) → is_first r p ≡ true → slice_get p 0 ≡ Some h → r ≡ h
 head_first [] r h t e = absurd (cc)
@@ -60,55 +70,83 @@ line_first es (suc n) r h = refl
 
 -- a document that is copied from the edit that a revision heads
 module _ (d : Document) (r : Revision) (path : List Revision) (deleted : Bool) (body : List ℕ)
-    (found : Some (nameless path deleted body) ≡ find (is_head r) (edits_of d.tree.edits [])) (h : Revision) (first : slice_get path 0 ≡ Some h) (good : IsHistory path) where
+    (found : Some (nameless path deleted body) ≡ find (is_head r) (edits_of d.tree.edits [])) (h : Revision)
+    (first : slice_get path 0 ≡ Some h) (good : IsHistory path) where
   is : (is_first r path ≡ true) × Contains (edits_of d.tree.edits []) (nameless path deleted body)
   is = find_is (is_head r) (edits_of d.tree.edits []) (nameless path deleted body) (sym found)
 
   known : is_known d.tree.edits [] r ≡ true
-  known = at_any (λ (e : Edit). names e.path r) (edits_of d.tree.edits []) (nameless path deleted body) is.1 (is_named path r (first_in path r (head_is path r is.0)))
+  known =
+      at_any (λ (e : Edit). names e.path r) (edits_of d.tree.edits []) (nameless path deleted body) is.1
+      (is_named path r (first_in path r (head_is path r is.0)))
 
-  whole : (revs : Bool) → history_of revs d.tree.edits r ≡ (if revs then Some (line_of d.tree.edits [] r) else None)
+  whole : (revs : Bool)
+      → history_of revs d.tree.edits r ≡ (if revs then Some (line_of d.tree.edits [] r) else None)
   whole true = ap (λ b. if b then Some (line_of d.tree.edits [] r) else None) known
   whole false = refl
 
-  head : head_of (record { id = d.id; path = line_of d.tree.edits [] r; deleted = deleted; body = body }) ≡ Some h
-  head = line_first (edits_of d.tree.edits []) r.generation r (above_zero path r good.falls (head_is path r is.0)) ∙ ap Some (head_first path r h is.0 first)
+  head : head_of (record { id = d.id; path = line_of d.tree.edits [] r; deleted = deleted; body = body })
+      ≡ Some h
+  head =
+      line_first (edits_of d.tree.edits []) r.generation r
+      (above_zero path r good.falls (head_is path r is.0))
+      ∙ ap Some (head_first path r h is.0 first)
 
   pub doc_found : (revs : Bool) (history : Option (List Revision)) → history ≡ history_of revs d.tree.edits r
-      → Some (record { id = d.id; rev = Some h; path = history; deleted = deleted; body = body }) ≡ option_map (doc_shown revs) (shown_in d r)
+      → Some (record { id = d.id; rev = Some h; path = history; deleted = deleted; body = body })
+      ≡ option_map (doc_shown revs) (shown_in d r)
   doc_found revs history is_so =
-      ap (λ (p : Option (List Revision)). Some (record { id = d.id; rev = Some h; path = p; deleted = deleted; body = body })) (is_so ∙ whole revs)
+      ap
+      (λ (p : Option (List Revision)). Some (record { id = d.id; rev = Some h; path = p; deleted = deleted; body = body }))
+      (is_so ∙ whole revs)
       ∙ (ap (λ (o : Option Revision). Some (record { id = d.id; rev = o; path = if revs then Some (line_of d.tree.edits [] r) else None; deleted = deleted; body = body })) (sym head)
       ∙ ap (λ o. option_map (doc_shown revs) (option_map (named d.id) (shown_of d.tree.edits [] r o))) found)
 
 -- the edit of a winner is the one that its revision heads
 module _ (J : List Edit) (id : List ℕ) (legal : IsLegal J) where
-  pub leaf_headed : (l : Leaf) → Contains (leaves_of J id) l → find (is_head l.rev) (edits_of J id) ≡ Some l.edit
+  pub leaf_headed : (l : Leaf) → Contains (leaves_of J id) l
+      → find (is_head l.rev) (edits_of J id) ≡ Some l.edit
   leaf_headed l c = from (find (is_head l.rev) (edits_of J id)) refl
     where
-      from : (o : Option Edit) → find (is_head l.rev) (edits_of J id) ≡ o → find (is_head l.rev) (edits_of J id) ≡ Some l.edit
-      from None q = let e = leaf_edit J id legal l c in absurd (find_not (is_head l.rev) (edits_of J id) q l.edit (in_edits J id l.edit e.0) (is_head_from l.edit.path l.rev e.1))
+      from : (o : Option Edit) → find (is_head l.rev) (edits_of J id) ≡ o
+          → find (is_head l.rev) (edits_of J id) ≡ Some l.edit
+      from None q =
+          let e = leaf_edit J id legal l c in
+          absurd
+          (find_not (is_head l.rev) (edits_of J id) q l.edit (in_edits J id l.edit e.0)
+          (is_head_from l.edit.path l.rev e.1))
       from (Some f) q =
           let e = leaf_edit J id legal l c in
           let i = find_is (is_head l.rev) (edits_of J id) f q in
-          q ∙ ap Some ((legal_sound J legal).once id l.rev f l.edit (edits_in J id f i.1) e.0 (head_is f.path l.rev i.0) e.1)
+          q
+          ∙ ap Some
+          ((legal_sound J legal).once id l.rev f l.edit (edits_in J id f i.1) e.0 (head_is f.path l.rev i.0)
+          e.1)
 
-  leaf_shown : (l : Leaf) → Contains (leaves_of J id) l → shown J id l.rev ≡ Some (record { id = id; path = line_of J id l.rev; deleted = l.edit.deleted; body = l.edit.body })
+  leaf_shown : (l : Leaf) → Contains (leaves_of J id) l
+      → shown J id l.rev
+      ≡ Some (record { id = id; path = line_of J id l.rev; deleted = l.edit.deleted; body = l.edit.body })
   leaf_shown l c = ap (shown_of J id l.rev) (leaf_headed l c)
 
   -- a winner that is deleted
-  pub lookup_deleted : (revs : Bool) (w : Winner) → Some w ≡ winner_of (leaves_of J id) → w.deleted ≡ true → looked.Deleted ≡ lookup J id revs
+  pub lookup_deleted : (revs : Bool) (w : Winner) → Some w ≡ winner_of (leaves_of J id) → w.deleted ≡ true
+      → looked.Deleted ≡ lookup J id revs
   lookup_deleted revs w is gone = from (leaves_of J id) is
     where
       from : (ls : List Leaf) → Some w ≡ winner_of ls → looked.Deleted ≡ lookup_of J id revs ls
       from [] e = absurd (cc)
-      from (l ∷ ls) e = let mark : l.edit.deleted ≡ true = ap (λ (z : Winner). z.deleted) (same_Some _ w (sym e)) ∙ gone in rw mark refl
+      from (l ∷ ls) e =
+          let mark : l.edit.deleted ≡ true = ap (λ (z : Winner). z.deleted) (same_Some _ w (sym e)) ∙ gone in
+          rw mark refl
 
   -- and one that is not
-  lookup_live : (revs : Bool) (w : Winner) → Some w ≡ winner_of (leaves_of J id) → w.deleted ≡ false → option_map looked.Found (option_map (doc_shown revs) (shown J id w.rev)) ≡ Some (lookup J id revs)
+  lookup_live : (revs : Bool) (w : Winner) → Some w ≡ winner_of (leaves_of J id) → w.deleted ≡ false
+      → option_map looked.Found (option_map (doc_shown revs) (shown J id w.rev)) ≡ Some (lookup J id revs)
   lookup_live revs w is live = from (leaves_of J id) refl is
     where
-      from : (ls : List Leaf) → leaves_of J id ≡ ls → Some w ≡ winner_of ls → option_map looked.Found (option_map (doc_shown revs) (shown J id w.rev)) ≡ Some (lookup_of J id revs ls)
+      from : (ls : List Leaf) → leaves_of J id ≡ ls → Some w ≡ winner_of ls
+          → option_map looked.Found (option_map (doc_shown revs) (shown J id w.rev))
+          ≡ Some (lookup_of J id revs ls)
       from [] q e = absurd (cc)
       from (l ∷ ls) q e =
           let same = same_Some _ w (sym e) in
@@ -119,33 +157,41 @@ module _ (J : List Edit) (id : List ℕ) (legal : IsLegal J) where
           ∙ ap (λ b. Some (if b then looked.Deleted else looked.Found (doc_shown revs (record { id = id; path = line_of J id l.rev; deleted = l.edit.deleted; body = l.edit.body })))) (sym mark))
 
   -- it is found
-  lookup_found : (revs : Bool) (w : Winner) → Some w ≡ winner_of (leaves_of J id) → w.deleted ≡ false → HasDocument J id revs
+  lookup_found : (revs : Bool) (w : Winner) → Some w ≡ winner_of (leaves_of J id) → w.deleted ≡ false
+      → HasDocument J id revs
   lookup_found revs w is live = from (leaves_of J id) is
     where
-      from : (ls : List Leaf) → Some w ≡ winner_of ls → (doc : Doc) × (lookup_of J id revs ls ≡ looked.Found doc)
+      from : (ls : List Leaf) → Some w ≡ winner_of ls
+          → (doc : Doc) × (lookup_of J id revs ls ≡ looked.Found doc)
       from [] e = absurd (cc)
       from (l ∷ ls) e =
           let mark : l.edit.deleted ≡ false = ap (λ (z : Winner). z.deleted) (same_Some _ w (sym e)) ∙ live in
           (doc_shown revs (record { id = id; path = line_of J id l.rev; deleted = l.edit.deleted; body = l.edit.body }), ap (λ b. if b then looked.Deleted else looked.Found (doc_shown revs (record { id = id; path = line_of J id l.rev; deleted = l.edit.deleted; body = l.edit.body }))) mark)
 
-  module _ (d : Document) (f : IsFound J id d) (revs : Bool) (w : Winner) (is : Some w ≡ winner_of (leaves_of d.tree.edits [])) where
+  module _ (d : Document) (f : IsFound J id d) (revs : Bool) (w : Winner)
+      (is : Some w ≡ winner_of (leaves_of d.tree.edits [])) where
     pub deleted_found : w.deleted ≡ true → looked.Deleted ≡ lookup J id revs
     deleted_found = lookup_deleted revs w (is ∙ sym (winner_found J id d f))
 
     pub is_there : w.deleted ≡ false → HasDocument J id revs
     is_there = lookup_found revs w (is ∙ sym (winner_found J id d f))
 
-    live : (o : Option Doc) → o ≡ option_map (doc_shown revs) (shown_in d w.rev) → w.deleted ≡ false → option_map looked.Found o ≡ Some (lookup J id revs)
-    live o e m = ap (option_map looked.Found) (e ∙ ap (option_map (doc_shown revs)) (sym (shown_found J id d f w.rev))) ∙ lookup_live revs w (is ∙ sym (winner_found J id d f)) m
+    live : (o : Option Doc) → o ≡ option_map (doc_shown revs) (shown_in d w.rev) → w.deleted ≡ false
+        → option_map looked.Found o ≡ Some (lookup J id revs)
+    live o e m =
+        ap (option_map looked.Found) (e ∙ ap (option_map (doc_shown revs)) (sym (shown_found J id d f w.rev)))
+        ∙ lookup_live revs w (is ∙ sym (winner_found J id d f)) m
 
-    pub live_found : (doc : Doc) → Some doc ≡ option_map (doc_shown revs) (shown_in d w.rev) → w.deleted ≡ false → looked.Found doc ≡ lookup J id revs
+    pub live_found : (doc : Doc) → Some doc ≡ option_map (doc_shown revs) (shown_in d w.rev)
+        → w.deleted ≡ false → looked.Found doc ≡ lookup J id revs
     live_found doc e m = same_Some _ _ (live (Some doc) e m)
 
     pub never_none : None ≡ option_map (doc_shown revs) (shown_in d w.rev) → w.deleted ≡ false → ⊥
     never_none e m = none-some _ (live None e m)
 
   -- no winner
-  pub unknown_found : (d : Document) → IsFound J id d → (revs : Bool) → winner_of (leaves_of d.tree.edits []) ≡ None → looked.Unknown ≡ lookup J id revs
+  pub unknown_found : (d : Document) → IsFound J id d → (revs : Bool)
+      → winner_of (leaves_of d.tree.edits []) ≡ None → looked.Unknown ≡ lookup J id revs
   unknown_found d f revs none = from (leaves_of J id) (winner_found J id d f ∙ none)
     where
       from : (ls : List Leaf) → winner_of ls ≡ None → looked.Unknown ≡ lookup_of J id revs ls
@@ -153,33 +199,45 @@ module _ (J : List Edit) (id : List ℕ) (legal : IsLegal J) where
       from (l ∷ ls) e = absurd (cc)
 
 -- a document that a number names, in a database whose ids have these numbers
-pub document_found : (limit : ℕ) (numbers : List ℕ → Option ℕ) (documents : List Document) (entries : List Entry) → IsFiled limit numbers (files documents) entries → (id : List ℕ) (k : ℕ) → numbers id ≡ Some k
+pub document_found : (limit : ℕ) (numbers : List ℕ → Option ℕ) (documents : List Document)
+    (entries : List Entry) → IsFiled limit numbers (files documents) entries → (id : List ℕ) (k : ℕ)
+    → numbers id ≡ Some k
     → (d : Document) → d ≡ get_or documents k d → IsFound (journal_of (files documents) entries) id d
 document_found limit numbers documents entries st id k there d is =
     let low = number_below limit numbers documents entries st id k there in
-    let at : slice_get (files documents) k ≡ Some (filed d) = slice_get-map filed documents k ∙ ap (option_map filed) (get_at documents k d low is) in
+    let at : slice_get (files documents) k ≡ Some (filed d) =
+    slice_get-map filed documents k ∙ ap (option_map filed) (at_place documents k d low is) in
     let own = st.found id k there in
     let same : filed d ≡ own.0 = same_Some (filed d) own.0 (sym at ∙ own.1) in
     let named_so : d.id ≡ id = ap (λ (z : Filed). z.id) same ∙ own.2 in
-    let kept : edits_of (journal_of (files documents) entries) d.id ≡ map (named d.id) d.tree.edits = st.kept k (filed d) at in
+    let kept : edits_of (journal_of (files documents) entries) d.id ≡ map (named d.id) d.tree.edits =
+    st.kept k (filed d) at in
     record {
       same = named_so;
-      kept = subst (λ i. edits_of (journal_of (files documents) entries) i ≡ map (named i) d.tree.edits) named_so kept;
+      kept =
+          subst (λ i. edits_of (journal_of (files documents) entries) i ≡ map (named i) d.tree.edits) named_so
+          kept;
       one = st.one k (filed d) at;
     }
 
 -- each of the revisions that are asked for
 module _ (J : List Edit) (id : List ℕ) (d : Document) (f : IsFound J id d) (revs : Bool) where
-  opened : (rs : List Revision) → map (λ r. open_rev_of revs r (shown_in d r)) rs ≡ map (open_rev J id revs) rs
+  opened : (rs : List Revision)
+      → map (λ r. open_rev_of revs r (shown_in d r)) rs ≡ map (open_rev J id revs) rs
   opened [] = refl
-  opened (r ∷ rs) = ap (λ o. open_rev_of revs r o ∷ map (λ s. open_rev_of revs s (shown_in d s)) rs) (sym (shown_found J id d f r)) ∙ ap (λ os. open_rev J id revs r ∷ os) (opened rs)
+  opened (r ∷ rs) =
+      ap (λ o. open_rev_of revs r o ∷ map (λ s. open_rev_of revs s (shown_in d s)) rs)
+      (sym (shown_found J id d f r))
+      ∙ ap (λ os. open_rev J id revs r ∷ os) (opened rs)
 
   -- listed ones
-  pub listed_found : (rs : List Revision) → map (λ r. open_rev_of revs r (shown_in d r)) rs ≡ open_revs J id (Listed rs) revs
+  pub listed_found : (rs : List Revision)
+      → map (λ r. open_rev_of revs r (shown_in d r)) rs ≡ open_revs J id (Listed rs) revs
   listed_found rs = opened rs
 
   -- and the leaves
-  pub all_found : (rs : List Revision) → rs ≡ revisions_of (leaves_of d.tree.edits []) → map (λ r. open_rev_of revs r (shown_in d r)) rs ≡ open_revs J id All revs
+  pub all_found : (rs : List Revision) → rs ≡ revisions_of (leaves_of d.tree.edits [])
+      → map (λ r. open_rev_of revs r (shown_in d r)) rs ≡ open_revs J id All revs
   all_found rs same = opened rs ∙ ap (map (open_rev J id revs)) (same ∙ leaves_same J id d f)
 
 -- of an unknown document
@@ -188,18 +246,25 @@ module _ (J : List Edit) (id : List ℕ) (none : edits_of J id ≡ []) where
   no_leaves = ap (λ es. best_first (leaves_among es es)) none
 
 -- the members of the winner of a tree
-module _ (edits : List Edit) (tree : IsRevTree edits) (w : Winner) (is : Some w ≡ winner_of (leaves_of edits [])) where
-  winner_edit : (l : Leaf) (others : List Leaf) → leaves_of edits [] ≡ l ∷ others → find (is_head w.rev) (edits_of edits []) ≡ Some l.edit
+module _ (edits : List Edit) (tree : IsRevTree edits) (w : Winner)
+    (is : Some w ≡ winner_of (leaves_of edits [])) where
+  winner_edit : (l : Leaf) (others : List Leaf) → leaves_of edits [] ≡ l ∷ others
+      → find (is_head w.rev) (edits_of edits []) ≡ Some l.edit
   winner_edit l others q =
       let rev : w.rev ≡ l.rev = ap (λ (z : Winner). z.rev) (same_Some w _ (is ∙ ap winner_of q)) in
-      ap (λ r. find (is_head r) (edits_of edits [])) rev ∙ leaf_headed edits [] tree.legal l (subst (λ ls. Contains ls l) (sym q) (contains_here l others))
+      ap (λ r. find (is_head r) (edits_of edits [])) rev
+      ∙ leaf_headed edits [] tree.legal l (subst (λ ls. Contains ls l) (sym q) (contains_here l others))
 
-  pub members_found : (path : List Revision) (deleted : Bool) (body : List ℕ) → Some (nameless path deleted body) ≡ find (is_head w.rev) (edits_of edits []) → Some body ≡ doc_of true (leaves_of edits [])
+  pub members_found : (path : List Revision) (deleted : Bool) (body : List ℕ)
+      → Some (nameless path deleted body) ≡ find (is_head w.rev) (edits_of edits [])
+      → Some body ≡ doc_of true (leaves_of edits [])
   members_found path deleted body found = from (leaves_of edits []) refl
     where
       from : (ls : List Leaf) → leaves_of edits [] ≡ ls → Some body ≡ doc_of true ls
       from [] q = absurd (none-some w (sym (is ∙ ap winner_of q)))
-      from (l ∷ others) q = ap (λ (e : Edit). Some e.body) (same_Some (nameless path deleted body) l.edit (found ∙ winner_edit l others q))
+      from (l ∷ others) q =
+          ap (λ (e : Edit). Some e.body)
+          (same_Some (nameless path deleted body) l.edit (found ∙ winner_edit l others q))
 
   pub members_none : None ≡ find (is_head w.rev) (edits_of edits []) → ⊥
   members_none none = from (leaves_of edits []) refl

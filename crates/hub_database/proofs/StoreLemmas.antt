@@ -1,12 +1,15 @@
 -- What storing one edit does to the documents and the journal of a store.
-use Rattle.std.proofs.Common.{◌≡◌, ◌≢◌, ℕ, zero, suc, ◌+◌, ◌<◌, ◌≤◌, List, [], ◌∷◌, ◌++◌, length, Bool, true, false, ap, refl, sym, ◌∙◌, subst, arith, inl, inr, ◌⊎◌}
-use Rattle.std.specs.Prelude.{IfOk, OnErr, Result, Ok, Err, get_or, Option, Some, None, slice_get, slice_set, map, option_map, nat_le, unwrap_or, if◌then◌else◌}
+use Rattle.std.proofs.Common.{◌≡◌, ◌≢◌, ℕ, ◌+◌, ◌<◌, ◌≤◌, List, [], ◌∷◌, ◌++◌, length, Bool, true}
+use Rattle.std.proofs.Common.{false, ap, refl, sym, ◌∙◌, subst, arith, inl, inr}
+use Rattle.std.specs.Prelude.{IfOk, OnErr, Result, Ok, Err, Option, Some, None, slice_get, slice_set}
+use Rattle.std.specs.Prelude.{map, get_or, option_map, nat_le, unwrap_or, if◌then◌else◌}
 use Rattle.std.specs.BTreeMap.{get_by_text}
 use Rattle.std.specs.Map.{update}
 use Rattle.std.specs.Str.{bytes_eq}
 use Rattle.std.specs.declared.alloc.AllocError.{AllocError}
 use Rattle.std.proofs.lemmas.Bool.{leb-false}
-use Rattle.std.proofs.lemmas.Option.{same_Some, none-some, slice_get-map, slice_get_past, slice_get_within, get_or_from_slice_get}
+use Rattle.std.proofs.lemmas.Option.{same_Some, none-some, slice_get-map, slice_get_past, slice_get_within}
+use Rattle.std.proofs.lemmas.Option.{get_or_from_slice_get}
 use Rattle.std.proofs.lemmas.List.{length-map, length_push}
 use Rattle.std.proofs.lemmas.List.Elements.{filter-append}
 use Rattle.std.proofs.Math.Seq.{map-set_same}
@@ -18,7 +21,6 @@ use Rattle.hub_model.specs.Leaves.{leaves_of, leaves_among, best_first}
 use Rattle.hub_model.specs.Row.{is_deleted}
 use Rattle.hub_model.specs.declared.outcomes.Outcome.{Outcome}
 use Rattle.hub_model.specs.declared.outcomes.Outcome.TheVariants as outcome
-use Rattle.hub_model.proofs.Lists.{same_text}
 use Rattle.hub_revtree.specs.Tree.{IsRevTree}
 use Rattle.hub_database.specs.declared.entry.Entry.{Entry}
 use Rattle.hub_database.specs.declared.document.Document.{Document}
@@ -27,20 +29,30 @@ use Rattle.hub_database.specs.declared.document.Looked.{Looked}
 use Rattle.hub_database.specs.declared.document.Looked.TheVariants.{Known, Refused, Ready}
 use Rattle.hub_database.specs.declared.store.Store.{Store}
 use Rattle.hub_database.specs.Filed.{Filed, named, edit_at, journal_of, IsFiled}
-use Rattle.hub_database.specs.Looked.{Setting, IsWritten, NeedsRoomFor, IsStorable, stores_edit, look_at, look_in, unless_full, outcome_of, document_after, documents_after, entries_after, journal_after, numbers_after, rows_after}
-use Rattle.hub_database.specs.Indexed.{IsIndexed}
-use Rattle.hub_database.specs.Store.{filed, files, IsStore, IsCounted, HasRows, IsSameStore, IsInserted, edits_of_store, deleted_in, first_setting, one_if, setting_of, unwritten}
-use Rattle.hub_database.proofs.ListLemmas.{get_push, get_push_other, get_set, get_set_other, text_same, text_apart, count_filter}
+use Rattle.hub_database.specs.Looked.{Setting, IsWritten, NeedsRoomFor, IsStorable, stores_edit, look_at}
+use Rattle.hub_database.specs.Looked.{look_in, unless_full, outcome_of, document_after, documents_after}
+use Rattle.hub_database.specs.Looked.{entries_after, journal_after, numbers_after, rows_after}
+use Rattle.hub_database.specs.Indexed.{IsIndexed, latest_of}
+use Rattle.hub_database.specs.Store.{filed, files, IsStore, IsCounted, HasRows, IsSameStore, IsInserted}
+use Rattle.hub_database.specs.Store.{edits_of_store, deleted_in, first_setting, one_if, setting_of, unwritten}
+use Rattle.hub_index.proofs.ListLemmas.{at_place, get_push, get_push_other, get_set, get_set_other, text_same}
+use Rattle.hub_index.proofs.ListLemmas.{text_apart}
+use Rattle.hub_database.proofs.ListLemmas.{count_filter}
 use Rattle.hub_database.proofs.CountLemmas.{deleted_more, deleted_some}
 use Rattle.hub_database.proofs.NamedLemmas.{leaves_named, deleted_named}
 use Rattle.hub_database.proofs.MergeLemmas.{acceptable_in, needs_in, stores_by}
 use Rattle.hub_database.proofs.FiledLemmas.{Was, kept_of, journal_is, filed_more}
-use Rattle.hub_database.proofs.IndexedLemmas.{indexed_more}
+use Rattle.hub_database.proofs.IndexedLemmas.{indexed_edit}
 pub use Rattle.hub_revtree.proofs.BranchLemmas.{on_err}
 
--- what storing an edit leaves: the documents and the rows in order, and the journal with the edit if it is stored
-abbrev pub Leaves : ℕ → List Filed → List Entry → List ℕ → Looked → (List ℕ → Option ℕ) → List Filed → List Entry → List (ℕ × ℕ) → Type 0
-Leaves limit documents entries id l numbers' documents' entries' index' = IsFiled limit numbers' documents' entries' × (journal_of documents' entries' ≡ journal_after l id (journal_of documents entries)) × IsIndexed documents' entries' index'
+-- what storing an edit leaves: the documents and the rows in order, and the journal with the edit if it is
+-- stored
+abbrev pub Leaves : ℕ → List Filed → List Entry → List ℕ → Looked → (List ℕ → Option ℕ) → List Filed
+    → List Entry → List (ℕ × ℕ) → Type 0
+Leaves limit documents entries id l numbers' documents' entries' index' =
+    IsFiled limit numbers' documents' entries' ×
+    (journal_of documents' entries' ≡ journal_after l id (journal_of documents entries)) × IsIndexed
+    documents' entries' index'
 
 -- what is to be stored finds the journal not full
 room_in : (limit n : ℕ) (l : Looked) (e : Edit) → unless_full (nat_le limit n) l ≡ Ready e → n < limit
@@ -52,7 +64,8 @@ room_in limit n l e h = leb-false limit n (from (nat_le limit n) l h)
     from true (Ready x) h = absurd (cc)
     from false l h = refl
 
-stays : (J J' : List Edit) (id : List ℕ) → J' ≡ J → (count count' : ℕ) (was is : Bool) → was ≡ is_deleted (leaves_of J id) → is ≡ is_deleted (leaves_of J' id)
+stays : (J J' : List Edit) (id : List ℕ) → J' ≡ J → (count count' : ℕ) (was is : Bool)
+    → was ≡ is_deleted (leaves_of J id) → is ≡ is_deleted (leaves_of J' id)
     → count ≡ deleted_in J → count' + one_if was ≡ count + one_if is → count' ≡ deleted_in J'
 stays J J' id same count count' was is w i c h =
     let now : is ≡ was = i ∙ (ap (λ K. is_deleted (leaves_of K id)) same ∙ sym w) in
@@ -60,38 +73,61 @@ stays J J' id same count count' was is w i c h =
     omega (arith, h, c, all, ap one_if now)
 
 -- the count goes on to be that of the documents with a deleted winner
-counted_on : (J J' : List Edit) (id : List ℕ) (l : Looked) → J' ≡ journal_after l id J → (count count' : ℕ) (was is : Bool) → was ≡ is_deleted (leaves_of J id) → is ≡ is_deleted (leaves_of J' id)
+counted_on : (J J' : List Edit) (id : List ℕ) (l : Looked) → J' ≡ journal_after l id J
+    → (count count' : ℕ) (was is : Bool) → was ≡ is_deleted (leaves_of J id)
+    → is ≡ is_deleted (leaves_of J' id)
     → count ≡ deleted_in J → count' + one_if was ≡ count + one_if is → count' ≡ deleted_in J'
 counted_on J J' id Known same count count' was is w i c h = stays J J' id same count count' was is w i c h
-counted_on J J' id (Refused f) same count count' was is w i c h = stays J J' id same count count' was is w i c h
+counted_on J J' id (Refused f) same count count' was is w i c h =
+    stays J J' id same count count' was is w i c h
 counted_on J J' id (Ready e) same count count' was is w i c h =
     let more = deleted_more J (named id e) in
-    let now : is ≡ is_deleted (leaves_of (J ++ named id e ∷ []) id) = i ∙ ap (λ K. is_deleted (leaves_of K id)) same in
+    let now : is ≡ is_deleted (leaves_of (J ++ named id e ∷ []) id) =
+    i ∙ ap (λ K. is_deleted (leaves_of K id)) same in
     let all : deleted_in J' ≡ deleted_in (J ++ named id e ∷ []) = ap deleted_in same in
     omega (arith, h, c, more, all, ap one_if w, ap one_if now)
 
 -- where it is stored
-module _ (limit : ℕ) (numbers : List ℕ → Option ℕ) (documents : List Filed) (entries : List Entry) (st : IsFiled limit numbers documents entries) (index : List (ℕ × ℕ)) (ix : IsIndexed documents entries index) (id : List ℕ) (k : ℕ) (edits : List Edit) (was : Was numbers documents id k edits)
+module _ (limit : ℕ) (numbers : List ℕ → Option ℕ) (documents : List Filed) (entries : List Entry)
+    (st : IsFiled limit numbers documents entries) (index : List (ℕ × ℕ))
+    (ix : IsIndexed documents entries index) (id : List ℕ) (k : ℕ) (edits : List Edit)
+    (was : Was numbers documents id k edits)
     (one : edits_of edits [] ≡ edits) where
-  stores : (e : Edit) → IsStorable edits (Ready e) → length entries < limit → (numbers' : List ℕ → Option ℕ) (documents' : List Filed)
-      → slice_get documents' k ≡ Some (record { id = id; latest = length entries + 1; edits = edits ++ e ∷ [] }) → ((j : ℕ) → j ≢ k → slice_get documents' j ≡ slice_get documents j)
+  stores : (e : Edit) → IsStorable edits (Ready e) → length entries < limit
+      → (numbers' : List ℕ → Option ℕ) (documents' : List Filed)
+      → slice_get documents' k
+      ≡ Some (record { id = id; latest = length entries + 1; edits = edits ++ e ∷ [] })
+      → ((j : ℕ) → j ≢ k → slice_get documents' j ≡ slice_get documents j)
       → numbers' id ≡ Some k → ((q : List ℕ) → q ≢ id → numbers' q ≡ numbers q)
-      → ((d : Filed) → slice_get documents k ≡ Some d → length documents' ≡ length documents) → (slice_get documents k ≡ None → length documents' ≡ length documents + 1)
-      → Leaves limit documents entries id (Ready e) numbers' documents' (entries ++ record { document = k; revision = length edits } ∷ []) (moved index k (length entries + 1))
+      → ((d : Filed) → slice_get documents k ≡ Some d → length documents' ≡ length documents)
+      → (slice_get documents k ≡ None → length documents' ≡ length documents + 1)
+      → Leaves limit documents entries id (Ready e) numbers' documents'
+      (entries ++ record { document = k; revision = length edits } ∷ []) (moved index k (length entries + 1))
   stores e s room numbers' documents' at other this rest stay more =
-      let ok = acceptable_in (journal_of documents entries) id edits (kept_of limit numbers documents entries st id k edits was) one e st.legal s.0 s.1 in (
-        filed_more limit numbers documents entries st id k edits was e ok room numbers' documents' at other this rest stay more s.0,
-        journal_is limit numbers documents entries st id k edits was e ok room numbers' documents' at other this rest stay more,
-        indexed_more limit numbers documents entries index st ix id k edits was e ok room numbers' documents' at other this rest stay more,
+      let ok =
+      acceptable_in (journal_of documents entries) id edits
+      (kept_of limit numbers documents entries st id k edits was) one e st.legal s.0 s.1 in
+      let more_edits =
+      journal_is limit numbers documents entries st id k edits was e ok room numbers' documents' at other this
+      rest stay more in (
+        filed_more limit numbers documents entries st id k edits was e ok room numbers' documents' at other
+            this
+            rest stay more s.0,
+        more_edits,
+        indexed_edit limit numbers documents entries index st ix id k edits was e documents'
+            (entries ++ record { document = k; revision = length edits } ∷ []) at other more_edits,
       )
 
 -- an edit of a document that is there
-module _ (limit : ℕ) (numbers : List ℕ → Option ℕ) (documents : List Document) (entries : List Entry) (st : IsFiled limit numbers (files documents) entries) (k : ℕ) (d : Document) (at : slice_get documents k ≡ Some d) where
+module _ (limit : ℕ) (numbers : List ℕ → Option ℕ) (documents : List Document) (entries : List Entry)
+    (st : IsFiled limit numbers (files documents) entries) (k : ℕ) (d : Document)
+    (at : slice_get documents k ≡ Some d) where
   pub filed_at : slice_get (files documents) k ≡ Some (filed d)
   filed_at = slice_get-map filed documents k ∙ ap (option_map filed) at
 
   same_files : (d' : Document) → filed d' ≡ filed d → files (slice_set documents k d') ≡ files documents
-  same_files d' e = map-set_same filed documents k d' d (e ∙ ap filed (sym (get_or_from_slice_get documents k d d at)))
+  same_files d' e =
+      map-set_same filed documents k d' d (e ∙ ap filed (sym (get_or_from_slice_get documents k d d at)))
 
   pub in_range : k < length documents
   in_range = slice_get_within documents k d at
@@ -102,67 +138,136 @@ module _ (limit : ℕ) (numbers : List ℕ → Option ℕ) (documents : List Doc
   -- a document has no more edits than the journal
   pub few_edits : length d.tree.edits ≤ length entries
   few_edits =
-      let same : length (edits_of (journal_of (files documents) entries) d.id) ≡ length (map (named d.id) d.tree.edits) = ap length kept_at in
-      omega (arith, same, length-map d.tree.edits (named d.id), count_filter (λ (e : Edit). bytes_eq e.id d.id) (journal_of (files documents) entries), length-map entries (edit_at (files documents)))
+      let same : length (edits_of (journal_of (files documents) entries) d.id)
+      ≡ length (map (named d.id) d.tree.edits) =
+      ap length kept_at in
+      omega (
+        arith,
+        same,
+        length-map d.tree.edits (named d.id),
+        count_filter (λ (e : Edit). bytes_eq e.id d.id) (journal_of (files documents) entries),
+        length-map entries (edit_at (files documents)),
+      )
 
   -- its winner is deleted where the tree's is
-  pub mark_at : IsRevTree d.tree.edits → is_deleted (leaves_of d.tree.edits []) ≡ is_deleted (leaves_of (journal_of (files documents) entries) d.id)
-  mark_at tree = sym (ap is_deleted (leaves_named (journal_of (files documents) entries) d.id d.tree.edits kept_at tree.one) ∙ deleted_named d.id (leaves_of d.tree.edits []))
+  pub mark_at : IsRevTree d.tree.edits
+      → is_deleted (leaves_of d.tree.edits [])
+      ≡ is_deleted (leaves_of (journal_of (files documents) entries) d.id)
+  mark_at tree =
+      sym
+      (ap is_deleted (leaves_named (journal_of (files documents) entries) d.id d.tree.edits kept_at tree.one)
+      ∙ deleted_named d.id (leaves_of d.tree.edits []))
 
   -- so it is counted
-  pub mark_counted : IsRevTree d.tree.edits → (count : ℕ) → count ≡ deleted_in (journal_of (files documents) entries) → one_if (is_deleted (leaves_of d.tree.edits [])) ≤ count
-  mark_counted tree count c = omega (arith, c, ap one_if (mark_at tree), deleted_some (journal_of (files documents) entries) d.id)
+  pub mark_counted : IsRevTree d.tree.edits → (count : ℕ)
+      → count ≡ deleted_in (journal_of (files documents) entries)
+      → one_if (is_deleted (leaves_of d.tree.edits [])) ≤ count
+  mark_counted tree count c =
+      omega (arith, c, ap one_if (mark_at tree), deleted_some (journal_of (files documents) entries) d.id)
 
-  pub unchanged : (index index' : List (ℕ × ℕ)) → IsIndexed (files documents) entries index → (d' : Document) (entries' : List Entry) → filed d' ≡ filed d → entries' ≡ entries → index' ≡ index
-      → IsFiled limit numbers (files (slice_set documents k d')) entries' × (journal_of (files (slice_set documents k d')) entries' ≡ journal_of (files documents) entries) × IsIndexed (files (slice_set documents k d')) entries' index'
+  pub unchanged : (index index' : List (ℕ × ℕ)) → IsIndexed (files documents) entries index
+      → (d' : Document) (entries' : List Entry) → filed d' ≡ filed d → entries' ≡ entries → index' ≡ index
+      → IsFiled limit numbers (files (slice_set documents k d')) entries'
+      × (journal_of (files (slice_set documents k d')) entries' ≡ journal_of (files documents) entries)
+      × IsIndexed (files (slice_set documents k d')) entries' index'
   unchanged index index' ix d' entries' e es is = rw (same_files d' e, es, is) (st, refl, ix)
 
   -- what takes memory on its tree takes it in the journal
-  pub needs_at : (id : List ℕ) → numbers id ≡ Some k → IsRevTree d.tree.edits → (edit : Incoming) → NeedsRoomFor d.tree.edits [] edit → NeedsRoomFor (journal_of (files documents) entries) id edit
+  pub needs_at : (id : List ℕ) → numbers id ≡ Some k → IsRevTree d.tree.edits → (edit : Incoming)
+      → NeedsRoomFor d.tree.edits [] edit → NeedsRoomFor (journal_of (files documents) entries) id edit
   needs_at id there tree edit n =
       let f = st.found id k there in
       let this : d.id ≡ id = ap (λ (z : Filed). z.id) (same_Some (filed d) f.0 (sym filed_at ∙ f.1)) ∙ f.2 in
-      subst (λ i. NeedsRoomFor (journal_of (files documents) entries) i edit) this (needs_in (journal_of (files documents) entries) d.id d.tree.edits kept_at tree.one edit.origin edit.deleted edit.body st.legal n)
+      subst (λ i. NeedsRoomFor (journal_of (files documents) entries) i edit) this
+      (needs_in (journal_of (files documents) entries) d.id d.tree.edits kept_at tree.one edit.origin
+      edit.deleted edit.body st.legal n)
 
-  leaves_so : (index index' : List (ℕ × ℕ)) → IsIndexed (files documents) entries index → (tree : IsRevTree d.tree.edits) (l : Looked) (room : (e : Edit) → l ≡ Ready e → length entries < limit) (d' : Document) (entries' : List Entry)
-      → IsStorable d.tree.edits l → filed d' ≡ document_after l (setting_of k d entries index) → entries' ≡ entries_after l (setting_of k d entries index) → index' ≡ rows_after l (setting_of k d entries index)
-      → Leaves limit (files documents) entries d.id l numbers (files (slice_set documents k d')) entries' index'
+  leaves_so : (index index' : List (ℕ × ℕ)) → IsIndexed (files documents) entries index
+      → (tree : IsRevTree d.tree.edits) (l : Looked)
+      (room : (e : Edit) → l ≡ Ready e → length entries < limit)
+      (d' : Document) (entries' : List Entry)
+      → IsStorable d.tree.edits l → filed d' ≡ document_after l (setting_of k d entries index)
+      → entries' ≡ entries_after l (setting_of k d entries index)
+      → index' ≡ rows_after l (setting_of k d entries index)
+      → Leaves limit (files documents) entries d.id l numbers (files (slice_set documents k d')) entries'
+      index'
   leaves_so index index' ix tree (Ready x) room d' entries' s e es is =
       let within : k < length documents = slice_get_within documents k d at in
-      let now : slice_get (files (slice_set documents k d')) k ≡ Some (filed d') = slice_get-map filed (slice_set documents k d') k ∙ ap (option_map filed) (get_set documents k d' within) in
-      rw (es, is) (stores limit numbers (files documents) entries st index ix d.id k d.tree.edits (inl (st.own k (filed d) filed_at, (filed d, filed_at, refl))) tree.one x s (room x refl) numbers (files (slice_set documents k d'))
+      let now : slice_get (files (slice_set documents k d')) k ≡ Some (filed d') =
+      slice_get-map filed (slice_set documents k d') k ∙ ap (option_map filed) (get_set documents k d' within) in
+      rw (es, is) (stores limit numbers (files documents) entries st index ix d.id k d.tree.edits
+      (inl (st.own k (filed d) filed_at, (filed d, filed_at, refl))) tree.one x s (room x refl) numbers
+      (files (slice_set documents k d'))
       (now ∙ ap Some e)
-      (λ j n. slice_get-map filed (slice_set documents k d') j ∙ (ap (option_map filed) (get_set_other documents k d' j n) ∙ sym (slice_get-map filed documents j)))
+      (λ j n. slice_get-map filed (slice_set documents k d') j
+      ∙ (ap (option_map filed) (get_set_other documents k d' j n) ∙ sym (slice_get-map filed documents j)))
       (st.own k (filed d) filed_at) (λ q n. refl)
-      (λ f g. let l : length (files (slice_set documents k d')) ≡ length (slice_set documents k d') = length-map (slice_set documents k d') filed in omega (arith, l, length-set documents k d', length-map documents filed))
+      (λ f g. let l : length (files (slice_set documents k d')) ≡ length (slice_set documents k d') =
+      length-map (slice_set documents k d') filed in
+      omega (arith, l, length-set documents k d', length-map documents filed))
       (λ g. absurd (none-some (filed d) (sym g ∙ filed_at))))
-  leaves_so index index' ix tree Known room d' entries' s e es is = rw (same_files d' e, es, is) (st, refl, ix)
-  leaves_so index index' ix tree (Refused fault) room d' entries' s e es is = rw (same_files d' e, es, is) (st, refl, ix)
+  leaves_so index index' ix tree Known room d' entries' s e es is =
+      rw (same_files d' e, es, is) (st, refl, ix)
+  leaves_so index index' ix tree (Refused fault) room d' entries' s e es is =
+      rw (same_files d' e, es, is) (st, refl, ix)
 
   -- what storing it leaves
-  pub extended : (index index' : List (ℕ × ℕ)) → IsIndexed (files documents) entries index → (id : List ℕ) → numbers id ≡ Some k → IsRevTree d.tree.edits → (edit : Incoming) (d' : Document) (entries' : List Entry) (o : Outcome Revision)
-      → IsWritten (look_in limit (setting_of k d entries index) edit) (setting_of k d entries index) (setting_of k d' entries' index') o → IsRevTree d'.tree.edits
-      → (count count' : ℕ) → count ≡ deleted_in (journal_of (files documents) entries) → count' + one_if (is_deleted (leaves_of d.tree.edits [])) ≡ count + one_if (is_deleted (leaves_of d'.tree.edits []))
+  pub extended : (index index' : List (ℕ × ℕ)) → IsIndexed (files documents) entries index → (id : List ℕ)
+      → numbers id ≡ Some k → IsRevTree d.tree.edits
+      → (edit : Incoming) (d' : Document) (entries' : List Entry) (o : Outcome Revision)
+      → IsWritten (look_in limit (setting_of k d entries index) edit) (setting_of k d entries index)
+      (setting_of k d' entries' index') o → IsRevTree d'.tree.edits
+      → (count count' : ℕ) → count ≡ deleted_in (journal_of (files documents) entries)
+      → count' + one_if (is_deleted (leaves_of d.tree.edits []))
+      ≡ count + one_if (is_deleted (leaves_of d'.tree.edits []))
       → IsFiled limit numbers (files (slice_set documents k d')) entries'
-      × (stores_edit limit (journal_of (files documents) entries) id edit ≡ record { outcome = o; journal = journal_of (files (slice_set documents k d')) entries' })
+      × (stores_edit limit (journal_of (files documents) entries) id edit
+      ≡ record { outcome = o; journal = journal_of (files (slice_set documents k d')) entries' })
       × (count' ≡ deleted_in (journal_of (files (slice_set documents k d')) entries'))
       × IsIndexed (files (slice_set documents k d')) entries' index'
   extended index index' ix id there tree edit d' entries' o x tree' count count' c h =
       let l : Looked = unless_full (nat_le limit (length entries)) (look_at d.id d.tree.edits edit) in
-      let left = leaves_so index index' ix tree l (λ e r. room_in limit (length entries) (look_at d.id d.tree.edits edit) e r) d' entries' x.storable x.document x.entries x.rows in
-      let full : nat_le limit (length (journal_of (files documents) entries)) ≡ nat_le limit (length entries) = ap (nat_le limit) (length-map entries (edit_at (files documents))) in
+      let left =
+      leaves_so index index' ix tree l
+      (λ e r. room_in limit (length entries) (look_at d.id d.tree.edits edit) e r) d' entries' x.storable
+      x.document x.entries x.rows in
+      let full : nat_le limit (length (journal_of (files documents) entries))
+      ≡ nat_le limit (length entries) =
+      ap (nat_le limit) (length-map entries (edit_at (files documents))) in
       let f = st.found id k there in
       let this : d.id ≡ id = ap (λ (z : Filed). z.id) (same_Some (filed d) f.0 (sym filed_at ∙ f.1)) ∙ f.2 in
-      let said = stores_by (journal_of (files documents) entries) d.id d.tree.edits kept_at tree.one limit (nat_le limit (length entries)) full edit in
-      let answers : stores_edit limit (journal_of (files documents) entries) d.id edit ≡ record { outcome = o; journal = journal_of (files (slice_set documents k d')) entries' } = said ∙ (ap (λ (a : Outcome Revision). record { outcome = a; journal = journal_after l d.id (journal_of (files documents) entries) }) (sym x.answer) ∙ ap (λ (J : List Edit). record { outcome = o; journal = J }) (sym left.1)) in
-      let now : slice_get (files (slice_set documents k d')) k ≡ Some (filed d') = slice_get-map filed (slice_set documents k d') k ∙ ap (option_map filed) (get_set documents k d' in_range) in
+      let said =
+      stores_by (journal_of (files documents) entries) d.id d.tree.edits kept_at tree.one limit
+      (nat_le limit (length entries)) full edit in
+      let answers : stores_edit limit (journal_of (files documents) entries) d.id edit
+      ≡ record { outcome = o; journal = journal_of (files (slice_set documents k d')) entries' } =
+      said
+      ∙ (ap
+      (λ (a : Outcome Revision). record { outcome = a; journal = journal_after l d.id (journal_of (files documents) entries) })
+      (sym x.answer)
+      ∙ ap (λ (J : List Edit). record { outcome = o; journal = J }) (sym left.1)) in
+      let now : slice_get (files (slice_set documents k d')) k ≡ Some (filed d') =
+      slice_get-map filed (slice_set documents k d') k
+      ∙ ap (option_map filed) (get_set documents k d' in_range) in
       let named_now : d'.id ≡ d.id = id_stays l (setting_of k d entries index) (filed d') x.document in
-      let kept_now : edits_of (journal_of (files (slice_set documents k d')) entries') d'.id ≡ map (named d'.id) d'.tree.edits = left.0.kept k (filed d') now in
-      let mark_now : is_deleted (leaves_of d'.tree.edits []) ≡ is_deleted (leaves_of (journal_of (files (slice_set documents k d')) entries') d.id) =
-      sym (ap is_deleted (leaves_named (journal_of (files (slice_set documents k d')) entries') d'.id d'.tree.edits kept_now tree'.one) ∙ deleted_named d'.id (leaves_of d'.tree.edits [])) ∙ ap (λ (i : List ℕ). is_deleted (leaves_of (journal_of (files (slice_set documents k d')) entries') i)) named_now in (
+      let kept_now : edits_of (journal_of (files (slice_set documents k d')) entries') d'.id
+      ≡ map (named d'.id) d'.tree.edits =
+      left.0.kept k (filed d') now in
+      let mark_now : is_deleted (leaves_of d'.tree.edits [])
+      ≡ is_deleted (leaves_of (journal_of (files (slice_set documents k d')) entries') d.id) =
+      sym
+      (ap is_deleted
+      (leaves_named (journal_of (files (slice_set documents k d')) entries') d'.id d'.tree.edits kept_now
+      tree'.one)
+      ∙ deleted_named d'.id (leaves_of d'.tree.edits []))
+      ∙ ap (λ (i : List ℕ). is_deleted (leaves_of (journal_of (files (slice_set documents k d')) entries') i))
+      named_now in (
         left.0,
         subst (λ i. stores_edit limit (journal_of (files documents) entries) i edit ≡ record { outcome = o; journal = journal_of (files (slice_set documents k d')) entries' }) this answers,
-        counted_on (journal_of (files documents) entries) (journal_of (files (slice_set documents k d')) entries') d.id l left.1 count count' (is_deleted (leaves_of d.tree.edits [])) (is_deleted (leaves_of d'.tree.edits [])) (mark_at tree) mark_now c h,
+        counted_on (journal_of (files documents) entries)
+            (journal_of (files (slice_set documents k d')) entries')
+            d.id l left.1 count count' (is_deleted (leaves_of d.tree.edits []))
+            (is_deleted (leaves_of d'.tree.edits [])) (mark_at tree) mark_now c h,
         left.2,
       )
     where
@@ -172,106 +277,228 @@ module _ (limit : ℕ) (numbers : List ℕ → Option ℕ) (documents : List Doc
       id_stays (Ready x) s g e = ap (λ (z : Filed). z.id) e
 
 -- the first edit of a document
-module _ (old : Store) (st : IsStore old) (ix : HasRows old) (id : List ℕ) (absent : get_by_text old.numbers id ≡ None) where
-  inserted : (l : Looked) (room : (e : Edit) → l ≡ Ready e → length old.journal.items < old.limits.journal) (numbers' : List ℕ → Option ℕ) (documents' : List Document) (entries' : List Entry) (index' : List (ℕ × ℕ))
-      → IsStorable [] l → files documents' ≡ documents_after l (first_setting id old) (files old.documents.items) → entries' ≡ entries_after l (first_setting id old)
-      → ((q : List ℕ) → numbers' q ≡ numbers_after l id (length old.documents.items) (get_by_text old.numbers) q) → index' ≡ rows_after l (first_setting id old)
-      → Leaves old.limits.journal (files old.documents.items) old.journal.items id l numbers' (files documents') entries' index'
+module _ (old : Store) (st : IsStore old) (ix : HasRows old) (id : List ℕ)
+    (absent : get_by_text old.numbers id ≡ None) where
+  inserted : (l : Looked) (room : (e : Edit) → l ≡ Ready e → length old.journal.items < old.limits.journal)
+      (numbers' : List ℕ → Option ℕ) (documents' : List Document) (entries' : List Entry)
+      (index' : List (ℕ × ℕ))
+      → IsStorable [] l
+      → files documents' ≡ documents_after l (first_setting id old) (files old.documents.items)
+      → entries' ≡ entries_after l (first_setting id old)
+      → ((q : List ℕ) → numbers' q ≡ numbers_after l id (length old.documents.items) (get_by_text old.numbers) q)
+      → index' ≡ rows_after l (first_setting id old)
+      → Leaves old.limits.journal (files old.documents.items) old.journal.items id l numbers'
+      (files documents') entries' index'
   inserted l room numbers' documents' entries' index' s fs es ns is = rw (fs, es, is) (at l s room ns)
     where
       many_files : length (files old.documents.items) ≡ length old.documents.items
       many_files = length-map old.documents.items filed
 
       past : slice_get (files old.documents.items) (length old.documents.items) ≡ None
-      past = slice_get_past (files old.documents.items) (length old.documents.items) (omega (arith, many_files))
+      past =
+          slice_get_past (files old.documents.items) (length old.documents.items) (omega (arith, many_files))
 
-      at : (l : Looked) → IsStorable [] l → ((e : Edit) → l ≡ Ready e → length old.journal.items < old.limits.journal) → ((q : List ℕ) → numbers' q ≡ numbers_after l id (length old.documents.items) (get_by_text old.numbers) q)
-          → Leaves old.limits.journal (files old.documents.items) old.journal.items id l numbers' (documents_after l (first_setting id old) (files old.documents.items)) (entries_after l (first_setting id old)) (rows_after l (first_setting id old))
+      at : (l : Looked) → IsStorable [] l
+          → ((e : Edit) → l ≡ Ready e → length old.journal.items < old.limits.journal)
+          → ((q : List ℕ) → numbers' q ≡ numbers_after l id (length old.documents.items) (get_by_text old.numbers) q)
+          → Leaves old.limits.journal (files old.documents.items) old.journal.items id l numbers'
+          (documents_after l (first_setting id old) (files old.documents.items))
+          (entries_after l (first_setting id old)) (rows_after l (first_setting id old))
       at (Ready e) s room ns =
           let new : Filed = record { id = id; latest = length old.journal.items + 1; edits = e ∷ [] } in
-          stores old.limits.journal (get_by_text old.numbers) (files old.documents.items) old.journal.items st old.index ix id (length old.documents.items) [] (inr (absent, past, refl)) refl e s (room e refl) numbers' (files old.documents.items ++ new ∷ [])
+          stores old.limits.journal (get_by_text old.numbers) (files old.documents.items) old.journal.items st
+          old.index ix id (length old.documents.items) [] (inr (absent, past, refl)) refl e s (room e refl)
+          numbers' (files old.documents.items ++ new ∷ [])
           (subst (λ n. slice_get (files old.documents.items ++ new ∷ []) n ≡ Some new) many_files (get_push (files old.documents.items) new))
           (λ j n. get_push_other (files old.documents.items) new j (λ e. n (e ∙ many_files)))
           (ns id ∙ ap (λ b. if b then Some (length old.documents.items) else get_by_text old.numbers id) (text_same id id refl))
           (λ q n. ns q ∙ ap (λ b. if b then Some (length old.documents.items) else get_by_text old.numbers q) (text_apart id q (λ e. n (sym e))))
           (λ d g. absurd (none-some d (sym past ∙ g))) (λ g. length_push (files old.documents.items) new)
-      at Known s room ns = let same : numbers' ≡ get_by_text old.numbers = λ i q. ns q i in (subst (λ f. IsFiled old.limits.journal f (files old.documents.items) old.journal.items) (sym same) st, refl, ix)
-      at (Refused fault) s room ns = let same : numbers' ≡ get_by_text old.numbers = λ i q. ns q i in (subst (λ f. IsFiled old.limits.journal f (files old.documents.items) old.journal.items) (sym same) st, refl, ix)
+      at Known s room ns =
+          let same : numbers' ≡ get_by_text old.numbers = λ i q. ns q i in
+          (subst (λ f. IsFiled old.limits.journal f (files old.documents.items) old.journal.items) (sym same) st, refl, ix)
+      at (Refused fault) s room ns =
+          let same : numbers' ≡ get_by_text old.numbers = λ i q. ns q i in
+          (subst (λ f. IsFiled old.limits.journal f (files old.documents.items) old.journal.items) (sym same) st, refl, ix)
 
 -- the count after it
-first_counted : (J J' : List Edit) (id : List ℕ) (l : Looked) (s : Setting) (count count' : ℕ) → s.document ≡ unwritten id → J' ≡ journal_after l id J → edits_of J id ≡ [] → IsStorable [] l → count ≡ deleted_in J
+first_counted : (J J' : List Edit) (id : List ℕ) (l : Looked) (s : Setting) (count count' : ℕ)
+    → s.document ≡ unwritten id → J' ≡ journal_after l id J → edits_of J id ≡ [] → IsStorable [] l
+    → count ≡ deleted_in J
     → count' ≡ count + one_if (is_deleted (leaves_of (document_after l s).edits [])) → count' ≡ deleted_in J'
-first_counted J J' id Known s count count' first same none storable c h = omega (arith, h, c, ap deleted_in same, ap (λ (z : Filed). one_if (is_deleted (leaves_of z.edits []))) first)
-first_counted J J' id (Refused f) s count count' first same none storable c h = omega (arith, h, c, ap deleted_in same, ap (λ (z : Filed). one_if (is_deleted (leaves_of z.edits []))) first)
+first_counted J J' id Known s count count' first same none storable c h =
+    omega (
+      arith,
+      h,
+      c,
+      ap deleted_in same,
+      ap (λ (z : Filed). one_if (is_deleted (leaves_of z.edits []))) first,
+    )
+first_counted J J' id (Refused f) s count count' first same none storable c h =
+    omega (
+      arith,
+      h,
+      c,
+      ap deleted_in same,
+      ap (λ (z : Filed). one_if (is_deleted (leaves_of z.edits []))) first,
+    )
 first_counted J J' id (Ready e) s count count' first same none storable c h =
-    let one : edits_of (e ∷ []) [] ≡ e ∷ [] = ap (λ b. if b then (e ∷ []) else []) (text_same e.id [] storable.0) in
-    let kept : edits_of (J ++ named id e ∷ []) id ≡ map (named id) (e ∷ []) = filter-append (λ (f : Edit). bytes_eq f.id id) J (named id e ∷ []) ∙ (ap (λ es. es ++ (if bytes_eq id id then (named id e ∷ []) else [])) none ∙ ap (λ b. if b then (named id e ∷ []) else []) (text_same id id refl)) in
-    let now : is_deleted (leaves_of (e ∷ []) []) ≡ is_deleted (leaves_of (J ++ named id e ∷ []) id) = sym (ap is_deleted (leaves_named (J ++ named id e ∷ []) id (e ∷ []) kept one) ∙ deleted_named id (leaves_of (e ∷ []) [])) in
-    let before : false ≡ is_deleted (leaves_of J id) = sym (ap (λ es. is_deleted (best_first (leaves_among es es))) none) in
-    let only : one_if (is_deleted (leaves_of (s.document.edits ++ e ∷ []) [])) ≡ one_if (is_deleted (leaves_of (e ∷ []) [])) = ap (λ (z : Filed). one_if (is_deleted (leaves_of (z.edits ++ e ∷ []) []))) first in
-    counted_on J J' id (Ready e) same count count' false (is_deleted (leaves_of (e ∷ []) [])) before (now ∙ ap (λ K. is_deleted (leaves_of K id)) (sym same)) c (omega (arith, h, only))
+    let one : edits_of (e ∷ []) [] ≡ e ∷ [] =
+    ap (λ b. if b then (e ∷ []) else []) (text_same e.id [] storable.0) in
+    let kept : edits_of (J ++ named id e ∷ []) id ≡ map (named id) (e ∷ []) =
+    filter-append (λ (f : Edit). bytes_eq f.id id) J (named id e ∷ [])
+    ∙ (ap (λ es. es ++ (if bytes_eq id id then (named id e ∷ []) else [])) none
+    ∙ ap (λ b. if b then (named id e ∷ []) else []) (text_same id id refl)) in
+    let now : is_deleted (leaves_of (e ∷ []) []) ≡ is_deleted (leaves_of (J ++ named id e ∷ []) id) =
+    sym
+    (ap is_deleted (leaves_named (J ++ named id e ∷ []) id (e ∷ []) kept one)
+    ∙ deleted_named id (leaves_of (e ∷ []) [])) in
+    let before : false ≡ is_deleted (leaves_of J id) =
+    sym (ap (λ es. is_deleted (best_first (leaves_among es es))) none) in
+    let only : one_if (is_deleted (leaves_of (s.document.edits ++ e ∷ []) []))
+    ≡ one_if (is_deleted (leaves_of (e ∷ []) [])) =
+    ap (λ (z : Filed). one_if (is_deleted (leaves_of (z.edits ++ e ∷ []) []))) first in
+    counted_on J J' id (Ready e) same count count' false (is_deleted (leaves_of (e ∷ []) [])) before
+    (now ∙ ap (λ K. is_deleted (leaves_of K id)) (sym same)) c (omega (arith, h, only))
 
 -- what a new document brings, one by one
-pub first_stored : (id : List ℕ) (edit : Incoming) (old new : Store) (none d : Filed) (look : Looked) (e : Edit) (r : Revision) (number : ℕ)
-    → none ≡ unwritten id → look ≡ unless_full (nat_le old.limits.journal (length old.journal.items)) (look_at none.id none.edits edit) → look ≡ Ready e → IsStorable none.edits look → head_of e ≡ Some r
-    → d ≡ record { id = none.id; latest = length old.journal.items + 1; edits = none.edits ++ e ∷ [] } → number ≡ length old.documents.items
-    → files new.documents.items ≡ files old.documents.items ++ d ∷ [] → new.journal.items ≡ old.journal.items ++ record { document = number; revision = length none.edits } ∷ []
+pub first_stored : (id : List ℕ) (edit : Incoming) (old new : Store) (none d : Filed) (look : Looked)
+    (e : Edit) (r : Revision) (number : ℕ)
+    → none ≡ unwritten id
+    → look
+    ≡ unless_full (nat_le old.limits.journal (length old.journal.items)) (look_at none.id none.edits edit)
+    → look ≡ Ready e → IsStorable none.edits look → head_of e ≡ Some r
+    → d ≡ record { id = none.id; latest = length old.journal.items + 1; edits = none.edits ++ e ∷ [] }
+    → number ≡ length old.documents.items
+    → files new.documents.items ≡ files old.documents.items ++ d ∷ []
+    → new.journal.items ≡ old.journal.items ++ record { document = number; revision = length none.edits } ∷ []
     → ((q : List ℕ) → get_by_text new.numbers q ≡ update bytes_eq (get_by_text old.numbers) id (Some number) q)
-    → new.deleted ≡ old.deleted + one_if (is_deleted (leaves_of d.edits [])) → new.index ≡ moved old.index number (length old.journal.items + 1)
+    → new.deleted ≡ old.deleted + one_if (is_deleted (leaves_of d.edits []))
+    → new.index ≡ moved old.index number (length old.journal.items + 1)
     → IsInserted id (look_in old.limits.journal (first_setting id old) edit) old new (outcome.Stored r)
-first_stored id edit old new none d look e r number first looked ready storable head now place fs js ns count rows =
+first_stored id edit old new none d look e r number first looked ready storable head now place fs js ns count
+    rows =
     let s : Setting = first_setting id old in
-    let is : look_in old.limits.journal s edit ≡ Ready e = sym (ap (λ (z : Filed). unless_full (nat_le old.limits.journal (length old.journal.items)) (look_at z.id z.edits edit)) first) ∙ (sym looked ∙ ready) in
-    let filed_now : d ≡ document_after (Ready e) s = now ∙ ap (λ (z : Filed). record { id = z.id; latest = length old.journal.items + 1; edits = z.edits ++ e ∷ [] }) first in
+    let is : look_in old.limits.journal s edit ≡ Ready e =
+    sym
+    (ap
+    (λ (z : Filed). unless_full (nat_le old.limits.journal (length old.journal.items)) (look_at z.id z.edits edit))
+    first)
+    ∙ (sym looked ∙ ready) in
+    let filed_now : d ≡ document_after (Ready e) s =
+    now
+    ∙ ap
+    (λ (z : Filed). record { id = z.id; latest = length old.journal.items + 1; edits = z.edits ++ e ∷ [] })
+    first in
     record {
-      answer = sym (ap outcome_of is ∙ ap (λ o. outcome.Stored (unwrap_or o (record { generation = 0; hash = [] }))) head);
-      files = fs ∙ (ap (λ x. files old.documents.items ++ x ∷ []) filed_now ∙ sym (ap (λ k. documents_after k s (files old.documents.items)) is));
-      entries = js ∙ (ap (λ n. old.journal.items ++ record { document = n; revision = length none.edits } ∷ []) place
+      answer =
+          sym
+          (ap outcome_of is
+          ∙ ap (λ o. outcome.Stored (unwrap_or o (record { generation = 0; hash = [] }))) head);
+      files =
+          fs
+          ∙ (ap (λ x. files old.documents.items ++ x ∷ []) filed_now
+          ∙ sym (ap (λ k. documents_after k s (files old.documents.items)) is));
+      entries =
+          js
+          ∙ (ap (λ n. old.journal.items ++ record { document = n; revision = length none.edits } ∷ []) place
           ∙ (ap (λ (z : Filed). old.journal.items ++ record { document = length old.documents.items; revision = length z.edits } ∷ []) first
           ∙ sym (ap (λ k. entries_after k s) is)));
-      rows = rows ∙ (ap (λ n. moved old.index n (length old.journal.items + 1)) place ∙ sym (ap (λ k. rows_after k s) is));
-      numbers = λ q. ns q ∙ (ap (λ n. update bytes_eq (get_by_text old.numbers) id (Some n) q) place ∙ sym (ap (λ k. numbers_after k id (length old.documents.items) (get_by_text old.numbers) q) is));
-      deleted = count ∙ (ap (λ (z : Filed). old.deleted + one_if (is_deleted (leaves_of z.edits []))) filed_now ∙ sym (ap (λ k. old.deleted + one_if (is_deleted (leaves_of (document_after k s).edits []))) is));
-      storable = subst (IsStorable []) (ready ∙ sym is) (subst (λ (z : Filed). IsStorable z.edits look) first storable);
+      rows =
+          rows
+          ∙ (ap (λ n. moved old.index n (length old.journal.items + 1)) place
+          ∙ sym (ap (λ k. rows_after k s) is));
+      numbers =
+          λ q. ns q
+          ∙ (ap (λ n. update bytes_eq (get_by_text old.numbers) id (Some n) q) place
+          ∙ sym (ap (λ k. numbers_after k id (length old.documents.items) (get_by_text old.numbers) q) is));
+      deleted =
+          count
+          ∙ (ap (λ (z : Filed). old.deleted + one_if (is_deleted (leaves_of z.edits []))) filed_now
+          ∙ sym (ap (λ k. old.deleted + one_if (is_deleted (leaves_of (document_after k s).edits []))) is));
+      storable =
+          subst (IsStorable []) (ready ∙ sym is)
+          (subst (λ (z : Filed). IsStorable z.edits look) first storable);
     }
 
 -- what storing it leaves
-pub inserted_so : (old new : Store) → IsStore old → IsCounted old → HasRows old → (id : List ℕ) → get_by_text old.numbers id ≡ None → (edit : Incoming) (o : Outcome Revision)
-    → IsInserted id (look_in old.limits.journal (first_setting id old) edit) old new o → new.limits ≡ old.limits
-    → IsStore new × (stores_edit old.limits.journal (edits_of_store old) id edit ≡ record { outcome = o; journal = edits_of_store new }) × IsCounted new × HasRows new
+pub inserted_so : (old new : Store) → IsStore old → IsCounted old → HasRows old → (id : List ℕ)
+    → get_by_text old.numbers id ≡ None → (edit : Incoming) (o : Outcome Revision)
+    → IsInserted id (look_in old.limits.journal (first_setting id old) edit) old new o
+    → new.limits ≡ old.limits
+    → IsStore new
+    ×
+    (stores_edit old.limits.journal (edits_of_store old) id edit ≡ record { outcome = o; journal = edits_of_store new })
+    × IsCounted new × HasRows new
 inserted_so old new st counted ix id absent edit o x stay =
-    let l : Looked = unless_full (nat_le old.limits.journal (length old.journal.items)) (look_at id [] edit) in
-    let left = inserted old st ix id absent l (λ e r. room_in old.limits.journal (length old.journal.items) (look_at id [] edit) e r) (get_by_text new.numbers) new.documents.items new.journal.items new.index x.storable x.files x.entries x.numbers x.rows in
+    let l : Looked =
+    unless_full (nat_le old.limits.journal (length old.journal.items)) (look_at id [] edit) in
+    let left =
+    inserted old st ix id absent l
+    (λ e r. room_in old.limits.journal (length old.journal.items) (look_at id [] edit) e r)
+    (get_by_text new.numbers) new.documents.items new.journal.items new.index x.storable x.files x.entries
+    x.numbers x.rows in
     let none : edits_of (edits_of_store old) id ≡ [] = st.others id absent in
-    let full : nat_le old.limits.journal (length (edits_of_store old)) ≡ nat_le old.limits.journal (length old.journal.items) = ap (nat_le old.limits.journal) (length-map old.journal.items (edit_at (files old.documents.items))) in
-    let said = stores_by (edits_of_store old) id [] none refl old.limits.journal (nat_le old.limits.journal (length old.journal.items)) full edit in (
+    let full : nat_le old.limits.journal (length (edits_of_store old))
+    ≡ nat_le old.limits.journal (length old.journal.items) =
+    ap (nat_le old.limits.journal) (length-map old.journal.items (edit_at (files old.documents.items))) in
+    let said =
+    stores_by (edits_of_store old) id [] none refl old.limits.journal
+    (nat_le old.limits.journal (length old.journal.items)) full edit in (
       rw stay left.0,
-      said ∙ (ap (λ (a : Outcome Revision). record { outcome = a; journal = journal_after l id (edits_of_store old) }) (sym x.answer) ∙ ap (λ (J : List Edit). record { outcome = o; journal = J }) (sym left.1)),
-      first_counted (edits_of_store old) (edits_of_store new) id l (first_setting id old) old.deleted new.deleted refl left.1 none x.storable counted x.deleted,
+      said
+          ∙ (ap (λ (a : Outcome Revision). record { outcome = a; journal = journal_after l id (edits_of_store old) })
+          (sym x.answer)
+          ∙ ap (λ (J : List Edit). record { outcome = o; journal = J }) (sym left.1)),
+      first_counted (edits_of_store old) (edits_of_store new) id l (first_setting id old) old.deleted
+          new.deleted
+          refl left.1 none x.storable counted x.deleted,
       left.2,
     )
 
 -- a call that changed nothing
-pub same_store : (old new : Store) → IsStore old → IsCounted old → HasRows old → IsSameStore old new → new.limits ≡ old.limits → IsStore new × IsCounted new × (edits_of_store new ≡ edits_of_store old) × HasRows new
+pub same_store : (old new : Store) → IsStore old → IsCounted old → HasRows old → IsSameStore old new
+    → new.limits ≡ old.limits
+    → IsStore new × IsCounted new × (edits_of_store new ≡ edits_of_store old) × HasRows new
 same_store old new st counted ix w stay =
-    let same : get_by_text new.numbers ≡ get_by_text old.numbers = λ i q. w.numbers q i in
-    (rw (stay, same, w.documents, w.journal) st, rw (w.deleted, w.documents, w.journal) counted, rw (w.documents, w.journal) refl, rw (w.documents, w.journal, w.index) ix)
+    let same : get_by_text new.numbers ≡ get_by_text old.numbers = λ i q. w.numbers q i in (
+      rw (stay, same, w.documents, w.journal) st,
+      rw (w.deleted, w.documents, w.journal) counted,
+      rw (w.documents, w.journal) refl,
+      rw (w.documents, w.journal, w.index) ix,
+    )
 
 -- what the call leaves
-pub inserted_all : (old new : Store) → IsStore old → IsCounted old → HasRows old → (id : List ℕ) → get_by_text old.numbers id ≡ None → (edit : Incoming) (result : Result (Outcome Revision) AllocError)
-    → IfOk result (IsInserted id (look_in old.limits.journal (first_setting id old) edit) old new) → OnErr result (IsSameStore old new) → new.limits ≡ old.limits
-    → IsStore new × IfOk result (λ o. stores_edit old.limits.journal (edits_of_store old) id edit ≡ record { outcome = o; journal = edits_of_store new }) × IsCounted new × HasRows new
-inserted_all old new st counted ix id absent edit (Ok o) x w stay = let left = inserted_so old new st counted ix id absent edit o x stay in (left.0, left.1, left.2, left.3)
-inserted_all old new st counted ix id absent edit (Err e) x w stay = let left = same_store old new st counted ix w stay in (left.0, tt, left.1, left.3)
-
-pub get_at : {A : Type 0} (xs : List A) (k : ℕ) (d : A) → k < length xs → d ≡ get_or xs k d → slice_get xs k ≡ Some d
-get_at [] k d h e = absurd (omega arith)
-get_at (x ∷ xs) zero d h e = ap Some (sym e)
-get_at (x ∷ xs) (suc k) d h e = get_at xs k d (omega arith) e
+pub inserted_all : (old new : Store) → IsStore old → IsCounted old → HasRows old → (id : List ℕ)
+    → get_by_text old.numbers id ≡ None → (edit : Incoming) (result : Result (Outcome Revision) AllocError)
+    → IfOk result (IsInserted id (look_in old.limits.journal (first_setting id old) edit) old new)
+    → OnErr result (IsSameStore old new) → new.limits ≡ old.limits
+    → IsStore new
+    × IfOk result
+    (λ o. stores_edit old.limits.journal (edits_of_store old) id edit ≡ record { outcome = o; journal = edits_of_store new })
+    × IsCounted new × HasRows new
+inserted_all old new st counted ix id absent edit (Ok o) x w stay =
+    let left = inserted_so old new st counted ix id absent edit o x stay in (left.0, left.1, left.2, left.3)
+inserted_all old new st counted ix id absent edit (Err e) x w stay =
+    let left = same_store old new st counted ix w stay in (left.0, tt, left.1, left.3)
 
 -- a number that is found is that of a document
-pub number_below : (limit : ℕ) (numbers : List ℕ → Option ℕ) (documents : List Document) (entries : List Entry) → IsFiled limit numbers (files documents) entries → (id : List ℕ) (k : ℕ) → numbers id ≡ Some k → k < length documents
-number_below limit numbers documents entries st id k there = let f = st.found id k there in omega (arith, slice_get_within (files documents) k f.0 f.1, length-map documents filed)
+pub number_below : (limit : ℕ) (numbers : List ℕ → Option ℕ) (documents : List Document)
+    (entries : List Entry) → IsFiled limit numbers (files documents) entries → (id : List ℕ) (k : ℕ)
+    → numbers id ≡ Some k → k < length documents
+number_below limit numbers documents entries st id k there =
+    let f = st.found id k there in
+    omega (arith, slice_get_within (files documents) k f.0 f.1, length-map documents filed)
+
+-- and the document is there
+pub document_there : (store : Store) → IsStore store → (id : List ℕ) (k : ℕ)
+    → get_by_text store.numbers id ≡ Some k
+    → (d : Document) → d ≡ get_or store.documents.items k d → slice_get store.documents.items k ≡ Some d
+document_there store st id k there d is =
+    let numbers = get_by_text store.numbers in
+    let low =
+    number_below store.limits.journal numbers store.documents.items store.journal.items st id k there in
+    at_place store.documents.items k d low is
 
 -- what follows from what holds of an error
 pub err_then : {T E P Q : Type 0} (result : Result T E) → (P → Q) → OnErr result P → OnErr result Q
@@ -279,17 +506,16 @@ err_then (Ok x) f p = tt
 err_then (Err e) f p = f p
 
 -- what takes memory of a new document takes it in the journal
-pub needs_first : (store : Store) → IsStore store → (id : List ℕ) → get_by_text store.numbers id ≡ None → (edit : Incoming) → NeedsRoomFor [] [] edit → NeedsRoomFor (edits_of_store store) id edit
-needs_first store st id absent edit n = needs_in (edits_of_store store) id [] (st.others id absent) refl edit.origin edit.deleted edit.body st.legal n
+pub needs_first : (store : Store) → IsStore store → (id : List ℕ) → get_by_text store.numbers id ≡ None
+    → (edit : Incoming) → NeedsRoomFor [] [] edit → NeedsRoomFor (edits_of_store store) id edit
+needs_first store st id absent edit n =
+    needs_in (edits_of_store store) id [] (st.others id absent) refl edit.origin edit.deleted edit.body
+    st.legal n
 
 -- a number past the documents has no row
 pub no_row : (store : Store) → HasRows store → seq_of (length store.documents.items) store.index ≡ None
-no_row store ix = ix.none (length store.documents.items) (slice_get_past (files store.documents.items) (length store.documents.items) (omega (arith, length-map store.documents.items filed)))
-
--- a number that was given and taken back
-pub taken_back : {X : Type 0} (f g h : List ℕ → Option X) (id : List ℕ) (v : Option X) → ((q : List ℕ) → g q ≡ update bytes_eq f id v q) → ((q : List ℕ) → h q ≡ update bytes_eq g id None q) → f id ≡ None → (q : List ℕ) → h q ≡ f q
-taken_back f g h id v given taken none q = taken q ∙ from (same_text id q)
-  where
-    from : (id ≡ q) ⊎ (id ≢ q) → update bytes_eq g id None q ≡ f q
-    from (inl e) = ap (λ b. if b then None else g q) (text_same id q e) ∙ (sym none ∙ ap f e)
-    from (inr n) = ap (λ b. if b then None else g q) (text_apart id q n) ∙ (given q ∙ ap (λ b. if b then v else f q) (text_apart id q n))
+no_row store ix =
+    let n = length store.documents.items in
+    let many : length (files store.documents.items) ≡ n = length-map store.documents.items filed in
+    ix.none n
+    (ap (option_map latest_of) (slice_get_past (files store.documents.items) n (omega (arith, many))))

@@ -97,8 +97,8 @@ impl Rows<'_> {
 impl Contents {
     /// The current rows that pass, the greatest sequence first, in one answer. Only `since`,
     /// `limit`, `style`, `include_docs` and `filter` are looked at. It costs a step in the index for
-    /// each row from the end to the last that is shown, what each shown row costs, and the count of
-    /// the rows below it.
+    /// each row from the end to the last that is shown, what each shown row costs, and two counts of
+    /// rows, of which each is a step for each page of the index above its place.
     pub fn changes_descending(&self, params: &FeedParams) -> Result<Descending, AllocError>
         ensures ok { IfOk result (λ answer. answer ≡ descending self.now.journal (params_of params.now)) }
         ensures memory { OnErr result (¬ ((descending self.now.journal (params_of params.now)).rows ≡ [])) }

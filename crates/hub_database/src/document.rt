@@ -13,7 +13,7 @@ ghost use Rattle.hub_database.specs.declared.document.Origin.TheVariants.{Elsewh
 
 use crate::entry::Entry;
 use hub_document::{Body, DocId, Path, RevId};
-use hub_index::{SeqIndex, TreeIndex};
+use hub_index::{PageIndex, SeqIndex};
 use hub_model::{Fault, Outcome};
 use hub_revtree::{EditFault, MergeFault, Ready, RevTree};
 use std::alloc::{AllocError, Global};
@@ -203,7 +203,7 @@ impl Document {
     pub(crate) fn extend(
         &mut self,
         journal: &mut Vec<Entry>,
-        index: &mut TreeIndex,
+        index: &mut PageIndex,
         number: u32,
         limit: u64,
         edit: Incoming,

@@ -13,7 +13,7 @@ ghost use Rattle.hub_database.specs.Store.{IsStore, IsCounted, HasRows, IsSameSt
 use crate::document::{Document, Incoming, Looked, Origin, look};
 use crate::entry::Entry;
 use hub_document::{Doc, DocId, Limits, RevId};
-use hub_index::{SeqIndex, TreeIndex};
+use hub_index::{PageIndex, SeqIndex};
 use hub_model::{Fault, Outcome};
 use std::alloc::{AllocError, Global};
 use std::collections::BTreeMap;
@@ -25,7 +25,7 @@ pub(crate) struct Store {
     pub(crate) numbers: BTreeMap<String, u32>,
     pub(crate) journal: Vec<Entry>,
     /// The documents' numbers by the sequences of their latest edits.
-    pub(crate) index: TreeIndex,
+    pub(crate) index: PageIndex,
     /// How many documents have a deleted winner.
     pub(crate) deleted: u64,
     pub(crate) limits: Limits,
@@ -51,7 +51,7 @@ fn recounted(count: u64, was: bool, is: bool) -> u64
 // Takes in a new document: its number by its id, and its row. An error leaves both as they were.
 fn enter(
     numbers: &mut BTreeMap<String, u32>,
-    index: &mut TreeIndex,
+    index: &mut PageIndex,
     id: &DocId,
     key: String,
     number: u32,
@@ -88,7 +88,7 @@ impl Store {
             documents: Vec::new(alloc),
             numbers: BTreeMap::new(alloc),
             journal: Vec::new(alloc),
-            index: TreeIndex::new(alloc),
+            index: PageIndex::new(alloc),
             deleted: 0,
             limits,
             alloc,

@@ -6,8 +6,6 @@ mod hub;
 mod hub_db;
 mod name;
 mod names;
-#[cfg(test)]
-mod tests;
 
 pub use fault::HubFault;
 pub use hub::{Hub, Written};

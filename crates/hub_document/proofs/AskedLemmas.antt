@@ -8,7 +8,6 @@ use Rattle.serde_json.specs.View.{view, members_view}
 use Rattle.serde_json.specs.declared.value.Value.{Value}
 use Rattle.hub_document.specs.Asking.{in_front, revs_in, asked_of}
 use Rattle.hub_document.specs.Read.{or_fault}
-use Rattle.hub_document.specs.declared.doc.DocFault.{DocFault}
 use Rattle.hub_document.specs.declared.doc.DocFault.TheVariants.{BadRev}
 
 -- one or more are asked for

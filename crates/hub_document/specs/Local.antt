@@ -1,6 +1,6 @@
 -- Local documents, which are not replicated (CouchDB API reference, local documents; that `_rev` is not
 -- looked at is own).
-use Rattle.std.specs.Prelude.{◌≡◌, ◌≤◌, ℕ, List, length, codes, Bool, true, false, not, ◌&&◌, ◌==◌, nat_lt}
+use Rattle.std.specs.Prelude.{◌≡◌, ◌≤◌, ℕ, List, length, codes, Bool, true, false, not, ◌&&◌, ◌==◌, nat_lt, if◌then◌else◌}
 use Rattle.std.specs.Prelude.{Option, Some, None, option_map, unwrap_or, Result, Ok}
 use Rattle.std.specs.List.{starts_with}
 use Rattle.std.specs.Str.{bytes_eq}
@@ -23,6 +23,10 @@ is_local_id s = starts_with (λ x y. x == y) s (codes "_local/") && nat_lt 7 (le
 pub record IsLocalId (s : List ℕ) : Type 0 where
   pub local : is_local_id s ≡ true
   pub short : length s ≤ 512
+
+-- the text, where it is such an id
+abbrev pub short_local_id : List ℕ → Option (List ℕ)
+short_local_id s = if is_local_id s && not (nat_lt 512 (length s)) then Some s else None
 
 -- an `_id` is absent, or this one
 abbrev pub is_named_so : List ℕ → Option Data → Bool

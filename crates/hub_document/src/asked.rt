@@ -39,6 +39,15 @@ impl Asked {
         Ok(Asked { id, revs })
     }
 
+    /// A copy. It costs the length of the id and of the revisions.
+    pub fn copy(&self, alloc: Global) -> Result<Asked, AllocError>
+        ensures { IfOk result (λ copy. copy ≡ self.now) }
+    {
+        let id = String::from_str(alloc, self.id.as_str())?;
+        let revs = self.revs.copy(alloc)?;
+        Ok(Asked { id, revs })
+    }
+
     /// What an object of arrays of revisions asks for, in the byte order of its keys. A value of
     /// another shape is `NotObject`, then a text that is no revision is `BadRev`. It costs the
     /// value's size. A fault is found without memory, and nothing that is asked takes none.

@@ -1,6 +1,6 @@
 //! The ids of documents.
 
-ghost use Rattle.std.specs.Prelude.{◌≡◌, true, codes, IfOk, IfErr, IfSome, IsSome, option_map};
+ghost use Rattle.std.specs.Prelude.{◌≡◌, true, codes, IfOk, IfErr, IfSome, IsSome, option_map, string_bytes};
 ghost use Rattle.serde_json.specs.View.{view};
 ghost use Rattle.serde_json.specs.Find.{get};
 ghost use Rattle.hub_document.specs.Local.{is_named_so as is_named_as};
@@ -58,6 +58,13 @@ impl DocId {
         ensures good { IsDocId self.now }
     {
         self.text.as_str()
+    }
+
+    /// The text itself. It takes no memory.
+    pub fn into_string(self) -> String
+        ensures { string_bytes result ≡ self }
+    {
+        self.text
     }
 
     /// A copy. It costs the id's length.

@@ -2,8 +2,6 @@
 #![tactic(auto)]
 
 mod asked;
-#[cfg(test)]
-mod asked_tests;
 mod body;
 mod change_row;
 mod doc;
@@ -20,8 +18,6 @@ mod put;
 mod read;
 mod revision;
 mod revisions;
-#[cfg(test)]
-mod tests;
 mod text;
 mod update_row;
 mod write;

@@ -1,9 +1,9 @@
 //! Local documents.
 
-ghost use Rattle.std.specs.Prelude.{◌≡◌, ◌⊎◌, ◌++◌, length, take, IfOk, IfErr, IsOk, OnOk, OnErr, Ok, Err, string_bytes};
+ghost use Rattle.std.specs.Prelude.{◌≡◌, ◌⊎◌, ◌++◌, length, take, IfOk, IfErr, IsOk, IsSome, OnOk, OnErr, Ok, Err, string_bytes};
 ghost use Rattle.hub_document.specs.DocText.{local_text};
 ghost use Rattle.serde_json.specs.View.{view, members_view};
-ghost use Rattle.hub_document.specs.Local.{IsLocalId, is_local_id as is_local, local_of, local_in};
+ghost use Rattle.hub_document.specs.Local.{IsLocalId, is_local_id as is_local, short_local_id, local_of, local_in};
 
 use crate::body::{Body, body_of};
 use crate::doc::DocFault;
@@ -35,6 +35,19 @@ impl Model for LocalId {
 }
 
 impl LocalId {
+    /// The id that a text is; None where no local document can have it. It costs the text's length,
+    /// and takes memory only for an id.
+    pub fn read(alloc: Global, text: &str) -> Result<Option<LocalId>, AllocError>
+        ensures value { IfOk result (λ o. o ≡ short_local_id text.now) }
+        ensures memory { IfErr result (λ _. IsSome (short_local_id text.now)) }
+    {
+        if !is_local_id(text) || text.len() > 512 {
+            return Ok(None);
+        }
+        let id = LocalId::copied(alloc, text)?;
+        Ok(Some(id))
+    }
+
     fn copied(alloc: Global, text: &str) -> Result<LocalId, AllocError>
         requires { IsLocalId text.now }
         ensures { IfOk result (λ i. i ≡ text.now) }

@@ -1,10 +1,8 @@
 -- The feeds that something keeps: how they change, and that they stay behind the last edit.
-use Rattle.std.proofs.Common.{◌≡◌, ℕ, suc, ◌+◌, ◌<◌, ◌≤◌, List, [], ◌∷◌, ◌++◌, length, Bool, true, false, not, refl, subst, arith, find, map, nat_eq, Contains, AllPairs, IfSome}
+use Rattle.std.proofs.Common.{◌≡◌, ℕ, suc, ◌<◌, ◌≤◌, List, [], ◌∷◌, ◌++◌, Bool, true, false, not, refl, subst, arith, find, map, nat_eq, Contains, AllPairs, IfSome}
 use Rattle.std.specs.Prelude.{IfOk, OnErr, Result, Ok, Err, Option, Some, None, slice_set, get_or, position, ◌&&◌, if◌then◌else◌}
-use Rattle.std.specs.List.{All}
 use Rattle.std.proofs.lemmas.List.Elements.{All-map, All-filter, All-push}
 use Rattle.std.proofs.lemmas.List.Kept.{AllPairs-cons}
-use Rattle.std.proofs.lemmas.List.Quantifiers.{all_pairs_push}
 use Rattle.hub_model.specs.Current.{Current}
 use Rattle.hub_model.specs.Entries.{changed, without, AreRising}
 use Rattle.hub_model.specs.Feed.{Feed, Params, Status, Open, Ending, Ended, Finished, Due, DueRow, DueEnd, DueNothing, DueGone, begin, due, due_at, due_open, is_in_reach, is_open, waits, expire, end, bound_of, bound_after, after_due, after_nothing, since_of}

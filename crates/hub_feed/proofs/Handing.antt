@@ -1,45 +1,42 @@
 -- How a list that fits a feed goes on fitting it, of what is followed by its edits.
 use Rattle.std.proofs.Common.{◌≡◌, List, [], ◌∷◌, ◌++◌, length, refl}
 use Rattle.std.specs.Prelude.{Some, true}
-use Rattle.hub_model.specs.Feed.{Feed, Params, DueNothing, after_due, after_nothing, beat_due, begin, expire}
+use Rattle.hub_model.specs.Feed.{Feed, DueNothing, after_due, after_nothing, beat_due, expire}
 use Rattle.hub_model.specs.Hand.{due_in, due_item}
 use Rattle.hub_model.specs.Journal.{Edit}
 use Rattle.hub_model.specs.RowKind.{RowKind}
 use Rattle.hub_model.specs.declared.feeds.Item.{Item}
 use Rattle.hub_model.specs.declared.feeds.Item.TheVariants.{Beat}
-use Rattle.hub_model.proofs.Fitting.{fits_begin, fits_beat, fits_expire, fits_handed, fits_nothing}
+use Rattle.hub_model.proofs.Fitting.{fits_beat, fits_expire, fits_handed, fits_nothing}
 use Rattle.hub_feed.specs.Handing.{IsFitting, IsRightFor}
 
-module _ {R : Type 0} (kind : RowKind R) (allowed : List Edit → Type 0) (J : List Edit) where
-  -- what fits when a feed is opened
-  pub fitting_begin : allowed J → (params : Params) → IsFitting kind allowed J (begin params (length J)) []
-  fitting_begin l params = record { legal = l; fits = fits_begin kind J params }
+module _ {R : Type 0} (kind : RowKind R) (allowed : List Edit → Type 0) (J : List Edit)
+    (f : Feed) (items : List (Item R)) (fitting : IsFitting kind allowed J f items) where
+  -- what fits is right
+  pub fitting_right : IsRightFor kind allowed f.params f.since items
+  fitting_right = record {
+    edits = J;
+    legal = fitting.legal;
+    feed = f;
+    asks = refl;
+    begins = refl;
+    right = fitting.fits.right;
+  }
 
-  module _ (f : Feed) (items : List (Item R)) (fitting : IsFitting kind allowed J f items) where
-    -- what fits is right
-    pub fitting_right : IsRightFor kind allowed f.params f.since items
-    fitting_right = record {
-      edits = J;
-      legal = fitting.legal;
-      feed = f;
-      asks = refl;
-      begins = refl;
-      right = fitting.fits.right;
-    }
+  -- behind the item that is due
+  pub fitting_handed : (item : Item R) → due_item kind J f ≡ Some item
+      → IsFitting kind allowed J (after_due f (due_in J f) (length J)) (items ++ item ∷ [])
+  fitting_handed item due =
+      record { legal = fitting.legal; fits = fits_handed kind J f items item due fitting.fits }
 
-    -- behind the item that is due
-    pub fitting_handed : (item : Item R) → due_item kind J f ≡ Some item
-        → IsFitting kind allowed J (after_due f (due_in J f) (length J)) (items ++ item ∷ [])
-    fitting_handed item due = record { legal = fitting.legal; fits = fits_handed kind J f items item due fitting.fits }
+  -- behind nothing to hand
+  pub fitting_nothing : due_in J f ≡ DueNothing → IsFitting kind allowed J (after_nothing f (length J)) items
+  fitting_nothing due = record { legal = fitting.legal; fits = fits_nothing kind J f items due fitting.fits }
 
-    -- behind nothing to hand
-    pub fitting_nothing : due_in J f ≡ DueNothing → IsFitting kind allowed J (after_nothing f (length J)) items
-    fitting_nothing due = record { legal = fitting.legal; fits = fits_nothing kind J f items due fitting.fits }
+  -- behind a heartbeat
+  pub fitting_beat : beat_due f ≡ true → IsFitting kind allowed J f (items ++ Beat ∷ [])
+  fitting_beat due = record { legal = fitting.legal; fits = fits_beat kind J f items due fitting.fits }
 
-    -- behind a heartbeat
-    pub fitting_beat : beat_due f ≡ true → IsFitting kind allowed J f (items ++ Beat ∷ [])
-    fitting_beat due = record { legal = fitting.legal; fits = fits_beat kind J f items due fitting.fits }
-
-    -- and once its time is over
-    pub fitting_expired : IsFitting kind allowed J (expire f) items
-    fitting_expired = record { legal = fitting.legal; fits = fits_expire kind J f items fitting.fits }
+  -- and once its time is over
+  pub fitting_expired : IsFitting kind allowed J (expire f) items
+  fitting_expired = record { legal = fitting.legal; fits = fits_expire kind J f items fitting.fits }

@@ -1,6 +1,6 @@
 -- The feeds that something keeps, by their numbers (own; feeds by CouchDB API reference, _changes and
 -- _db_updates).
-use Rattle.std.specs.Prelude.{ℕ, ◌<◌, ◌≤◌, List, map, Bool, false, IfSome}
+use Rattle.std.specs.Prelude.{ℕ, ◌<◌, ◌≤◌, List, Bool, false, IfSome}
 use Rattle.std.specs.List.{All}
 use Rattle.hub_model.specs.Current.{Current}
 use Rattle.hub_model.specs.Entries.{AreRising}

@@ -123,7 +123,7 @@ module _ (rows found : List (ℕ × ℕ)) (place : ℕ) (is : found ≡ entries_
 
 -- the first row above a place, where it is not above the bound
 module _ (place bound : ℕ) where
-  within : (rows : List (ℕ × ℕ)) (r : ℕ × ℕ) → find (λ (r : ℕ × ℕ). nat_lt place r.0) rows ≡ Some r → r.0 ≤ bound → next_after rows place (Some bound) ≡ Some r
+  pub within : (rows : List (ℕ × ℕ)) (r : ℕ × ℕ) → find (λ (r : ℕ × ℕ). nat_lt place r.0) rows ≡ Some r → r.0 ≤ bound → next_after rows place (Some bound) ≡ Some r
   within [] r e l = absurd (none-some r e)
   within (x ∷ rows) r e l =
       elim (cases_Bool (nat_lt place x.0)) [
@@ -134,7 +134,7 @@ module _ (place bound : ℕ) where
       upto : (r : ℕ × ℕ) → Some x ≡ Some r → r.0 ≤ bound → x.0 ≤ bound
       upto r q l = subst (λ (z : ℕ × ℕ). z.0 ≤ bound) (sym (same_Some x r q)) l
 
-  beyond : (rows : List (ℕ × ℕ)) (r : ℕ × ℕ) → AllPairs (λ (a b : ℕ × ℕ). a.0 < b.0) rows → find (λ (r : ℕ × ℕ). nat_lt place r.0) rows ≡ Some r → bound < r.0 → next_after rows place (Some bound) ≡ None
+  pub beyond : (rows : List (ℕ × ℕ)) (r : ℕ × ℕ) → AllPairs (λ (a b : ℕ × ℕ). a.0 < b.0) rows → find (λ (r : ℕ × ℕ). nat_lt place r.0) rows ≡ Some r → bound < r.0 → next_after rows place (Some bound) ≡ None
   beyond [] r rising e l = refl
   beyond (x ∷ rows) r rising e l =
       elim (cases_Bool (nat_lt place x.0)) [
@@ -151,7 +151,7 @@ module _ (place bound : ℕ) where
       later : (r : ℕ × ℕ) → Some x ≡ Some r → bound < r.0 → All (λ (z : ℕ × ℕ). bound < z.0) rows
       later r q l k d m = omega (arith, first r q l, of_head (λ (a b : ℕ × ℕ). a.0 < b.0) x rows rising k d m)
 
-nothing : (rows : List (ℕ × ℕ)) (place : ℕ) (bound : Option ℕ) → find (λ (r : ℕ × ℕ). nat_lt place r.0) rows ≡ None → next_after rows place bound ≡ None
+pub nothing : (rows : List (ℕ × ℕ)) (place : ℕ) (bound : Option ℕ) → find (λ (r : ℕ × ℕ). nat_lt place r.0) rows ≡ None → next_after rows place bound ≡ None
 nothing rows place None e = e
 nothing [] place (Some bound) e = refl
 nothing (x ∷ rows) place (Some bound) e =
@@ -179,11 +179,11 @@ module _ (rows found : List (ℕ × ℕ)) (place : ℕ) (is : found ≡ entries_
   counted = ap length (is ∙ above place rows) ∙ length-filter (λ (r : ℕ × ℕ). nat_lt place r.0) rows
 
 -- a row above all goes to the end
-pub insert_last : (rows : List (ℕ × ℕ)) (seq document : ℕ) → All (λ (r : ℕ × ℕ). r.0 < seq) rows → insert_entry nat_cmp rows seq document ≡ rows ++ (seq, document) ∷ []
+pub insert_last : {X : Type 0} (rows : List (ℕ × X)) (seq : ℕ) (document : X) → All (λ (r : ℕ × X). r.0 < seq) rows → insert_entry nat_cmp rows seq document ≡ rows ++ (seq, document) ∷ []
 insert_last [] seq document all = refl
 insert_last (x ∷ rows) seq document all =
     ap (λ o. match_ordering o ((seq, document) ∷ x ∷ rows) ((x.0, document) ∷ rows) (x ∷ insert_entry nat_cmp rows seq document)) (sym (nat_cmp_is seq x.0 Greater (all 0 x (omega arith))))
-    ∙ ap (λ l. x ∷ l) (insert_last rows seq document (All-tail (λ (r : ℕ × ℕ). r.0 < seq) x rows all))
+    ∙ ap (λ l. x ∷ l) (insert_last rows seq document (All-tail (λ r. r.0 < seq) x rows all))
 
 module _ (document : ℕ) where
   -- whether a row is of another document
@@ -202,7 +202,7 @@ module _ (document : ℕ) where
   pub moved_new : (rows : List (ℕ × ℕ)) (seq : ℕ) → seq_of document rows ≡ None → rows ++ (seq, document) ∷ [] ≡ moved rows document seq
   moved_new rows seq e = ap (λ l. l ++ (seq, document) ∷ []) (sym (filter_keeps is_other rows (none_of rows e)))
 
-  seq_has : (P : ℕ → Type 0) (rows : List (ℕ × ℕ)) (old : ℕ) → All (λ (r : ℕ × ℕ). P r.0) rows → seq_of document rows ≡ Some old → P old
+  pub seq_has : (P : ℕ → Type 0) (rows : List (ℕ × ℕ)) (old : ℕ) → All (λ (r : ℕ × ℕ). P r.0) rows → seq_of document rows ≡ Some old → P old
   seq_has P [] old all e = absurd (none-some old e)
   seq_has P (x ∷ rows) old all e =
       elim (cases_Bool (nat_eq x.1 document)) [

@@ -1,17 +1,19 @@
 -- The rows of an index that are the current ones of edits: with one edit more, and what is read of them.
-use Rattle.std.proofs.Common.{◌≡◌, ◌≢◌, ℕ, zero, suc, ◌+◌, ◌<◌, ◌≤◌, List, [], ◌∷◌, ◌++◌, length, get_or, ◌-◌, Bool, true, false, not, ◌&&◌, ap, refl, sym, ◌∙◌, subst, arith, inl, inr, ◌⊎◌, nat_eq, nat_lt, find, filter, map, reverse, Contains}
-use Rattle.std.specs.Prelude.{Option, Some, None, slice_get, option_map, count_by, if◌then◌else◌}
+use Rattle.std.proofs.Common.{◌≡◌, ◌≢◌, ℕ, zero, suc, ◌+◌, ◌<◌, ◌≤◌, List, [], ◌∷◌, ◌++◌, length, Contains}
+use Rattle.std.proofs.Common.{Bool, true, false, not, ◌&&◌, ap, refl, sym, ◌∙◌, subst, arith, inl, inr, ◌⊎◌}
+use Rattle.std.proofs.Common.{nat_eq, nat_lt, find, filter, map, reverse}
+use Rattle.std.specs.Prelude.{Option, Some, None, slice_get, option_map, if◌then◌else◌}
 use Rattle.std.specs.List.{All}
 use Rattle.std.specs.Str.{bytes_eq}
-use Rattle.std.proofs.lemmas.Bool.{cases_Bool, both_ways, eqb-true, eq-eqb}
-use Rattle.std.proofs.lemmas.List.{map-append, reverse-append, length-reverse, get_or-reverse}
-use Rattle.std.proofs.lemmas.List.Elements.{All-nil, All-cons, All-tail, All-contains_itself}
-use Rattle.std.proofs.lemmas.List.Sums.{sum_by-cons}
+use Rattle.std.proofs.lemmas.Bool.{both_ways, eqb-true, eq-eqb}
+use Rattle.std.proofs.lemmas.List.{map-append}
+use Rattle.std.proofs.lemmas.List.Elements.{All-contains_itself}
 use Rattle.std.proofs.lemmas.Option.{same_Some, none-some}
-use Rattle.std.proofs.lemmas.Slice.Eq.{bytes_eq-Decides}
 use Rattle.hub_index.specs.Rows.{seq_of, moved, next_after, last_before, count_after}
 use Rattle.hub_index.specs.Rows as index_rows
 use Rattle.hub_index.specs.Indexed.{IsIndexed, id_in, row_in}
+use Rattle.hub_index.proofs.ListLemmas.{text_same, text_apart, number_apart, at_place, contains_reverse}
+use Rattle.hub_index.proofs.ListLemmas.{filter_shown, all_shown, map_reverse, find_map, count_map}
 use Rattle.hub_model.specs.Journal.{Edit}
 use Rattle.hub_model.specs.Current.{Current, current, current_from, pending}
 use Rattle.hub_model.specs.Feed.{is_within}
@@ -19,91 +21,58 @@ use Rattle.hub_model.proofs.Lists.{same_number}
 use Rattle.hub_model.proofs.Rows.{current_push, current_within, from_cases}
 use Rattle.hub_model.proofs.Shown.{find_is}
 
-text_same : (a b : List ℕ) → a ≡ b → bytes_eq a b ≡ true
-text_same a b e = (bytes_eq-Decides a b).1 e
-
-text_apart : (a b : List ℕ) → a ≢ b → bytes_eq a b ≡ false
-text_apart a b n = elim (cases_Bool (bytes_eq a b)) [ inl t ↦ absurd (n ((bytes_eq-Decides a b).0 t)) | inr t ↦ t ]
-
-number_apart : (m n : ℕ) → m ≢ n → nat_eq m n ≡ false
-number_apart m n h = elim (cases_Bool (nat_eq m n)) [ inl t ↦ absurd (h (eqb-true m n t)) | inr t ↦ t ]
+-- the key that is found among rows, the first of which has this number or another
+abbrev first_key : ℕ → ℕ × ℕ → List (ℕ × ℕ) → Bool → Option ℕ
+first_key k x rows b =
+    option_map (λ (z : ℕ × ℕ). z.0) (if b then Some x else find (λ (z : ℕ × ℕ). nat_eq z.1 k) rows)
 
 -- what a number has no key for is no row's number
-none_key : (rows : List (ℕ × ℕ)) (k : ℕ) → seq_of k rows ≡ None → (i : ℕ) (r : ℕ × ℕ) → slice_get rows i ≡ Some r → nat_eq r.1 k ≡ false
+none_key : (rows : List (ℕ × ℕ)) (k : ℕ) → seq_of k rows ≡ None
+    → (i : ℕ) (r : ℕ × ℕ) → slice_get rows i ≡ Some r → nat_eq r.1 k ≡ false
 none_key [] k e i r g = absurd (none-some r g)
 none_key (x ∷ rows) k e i r g = from (none_key rows k) (nat_eq x.1 k) refl e i g
   where
-    from : (seq_of k rows ≡ None → (i : ℕ) (r : ℕ × ℕ) → slice_get rows i ≡ Some r → nat_eq r.1 k ≡ false) → (b : Bool) → nat_eq x.1 k ≡ b → option_map (λ (z : ℕ × ℕ). z.0) (if b then Some x else find (λ (z : ℕ × ℕ). nat_eq z.1 k) rows) ≡ None → (i : ℕ) → slice_get (x ∷ rows) i ≡ Some r → nat_eq r.1 k ≡ false
+    from : (seq_of k rows ≡ None → (i : ℕ) (r : ℕ × ℕ) → slice_get rows i ≡ Some r → nat_eq r.1 k ≡ false)
+        → (b : Bool) → nat_eq x.1 k ≡ b → first_key k x rows b ≡ None
+        → (i : ℕ) → slice_get (x ∷ rows) i ≡ Some r → nat_eq r.1 k ≡ false
     from rest true t e i g = absurd (none-some x.0 (sym e))
     from rest false t e zero g = subst (λ (z : ℕ × ℕ). nat_eq z.1 k ≡ false) (same_Some x r g) t
     from rest false t e (suc i) g = rest e i r g
 
+-- and among the rows of the other numbers, with one of this number behind them
+abbrev kept_key : ℕ → ℕ → ℕ → ℕ × ℕ → List (ℕ × ℕ) → Bool → Option ℕ
+kept_key j k n x rows b =
+    let others : List (ℕ × ℕ) = filter (λ (z : ℕ × ℕ). not (nat_eq z.1 k)) rows in
+    seq_of j ((if not b then (x ∷ others) else others) ++ (n, k) ∷ [])
+
 -- the key of a number that is moved
-pub moved_here : (rows : List (ℕ × ℕ)) (k n : ℕ) → seq_of k (moved rows k n) ≡ Some n
+moved_here : (rows : List (ℕ × ℕ)) (k n : ℕ) → seq_of k (moved rows k n) ≡ Some n
 moved_here [] k n = rw (eq-eqb k k refl) refl
 moved_here (x ∷ rows) k n = from (moved_here rows k n) (nat_eq x.1 k) refl
   where
-    from : seq_of k (moved rows k n) ≡ Some n → (b : Bool) → nat_eq x.1 k ≡ b → option_map (λ (z : ℕ × ℕ). z.0) (find (λ (z : ℕ × ℕ). nat_eq z.1 k) ((if not b then (x ∷ filter (λ (z : ℕ × ℕ). not (nat_eq z.1 k)) rows) else filter (λ (z : ℕ × ℕ). not (nat_eq z.1 k)) rows) ++ (n, k) ∷ [])) ≡ Some n
+    from : seq_of k (moved rows k n) ≡ Some n → (b : Bool) → nat_eq x.1 k ≡ b
+        → kept_key k k n x rows b ≡ Some n
     from rest true t = rest
-    from rest false t = ap (λ b. option_map (λ (z : ℕ × ℕ). z.0) (if b then Some x else find (λ (z : ℕ × ℕ). nat_eq z.1 k) (moved rows k n))) t ∙ rest
+    from rest false t = ap (first_key k x (moved rows k n)) t ∙ rest
 
 -- and of another
-pub moved_other : (rows : List (ℕ × ℕ)) (k n j : ℕ) → j ≢ k → seq_of j (moved rows k n) ≡ seq_of j rows
+moved_other : (rows : List (ℕ × ℕ)) (k n j : ℕ) → j ≢ k → seq_of j (moved rows k n) ≡ seq_of j rows
 moved_other [] k n j h = rw (number_apart k j (λ e. h (sym e))) refl
 moved_other (x ∷ rows) k n j h = from (moved_other rows k n j h) (nat_eq x.1 k) refl
   where
-    from : seq_of j (moved rows k n) ≡ seq_of j rows → (b : Bool) → nat_eq x.1 k ≡ b → option_map (λ (z : ℕ × ℕ). z.0) (find (λ (z : ℕ × ℕ). nat_eq z.1 j) ((if not b then (x ∷ filter (λ (z : ℕ × ℕ). not (nat_eq z.1 k)) rows) else filter (λ (z : ℕ × ℕ). not (nat_eq z.1 k)) rows) ++ (n, k) ∷ []))
-        ≡ option_map (λ (z : ℕ × ℕ). z.0) (if nat_eq x.1 j then Some x else find (λ (z : ℕ × ℕ). nat_eq z.1 j) rows)
-    from rest true t = rest ∙ sym (ap (λ b. option_map (λ (z : ℕ × ℕ). z.0) (if b then Some x else find (λ (z : ℕ × ℕ). nat_eq z.1 j) rows)) (number_apart x.1 j (λ e. h (sym e ∙ eqb-true x.1 k t))))
+    from : seq_of j (moved rows k n) ≡ seq_of j rows → (b : Bool) → nat_eq x.1 k ≡ b
+        → kept_key j k n x rows b ≡ first_key j x rows (nat_eq x.1 j)
+    from rest true t =
+        rest ∙ sym (ap (first_key j x rows) (number_apart x.1 j (λ e. h (sym e ∙ eqb-true x.1 k t))))
     from rest false t = here (nat_eq x.1 j)
       where
-        here : (b : Bool) → option_map (λ (z : ℕ × ℕ). z.0) (if b then Some x else find (λ (z : ℕ × ℕ). nat_eq z.1 j) (moved rows k n)) ≡ option_map (λ (z : ℕ × ℕ). z.0) (if b then Some x else find (λ (z : ℕ × ℕ). nat_eq z.1 j) rows)
+        here : (b : Bool) → first_key j x (moved rows k n) b ≡ first_key j x rows b
         here true = refl
         here false = rest
 
--- a filter of what is shown, where what is left is shown as before
-pub filter_shown : {A B : Type 0} (f g : A → B) (p : A → Bool) (q : B → Bool) (xs : List A) → ((i : ℕ) (x : A) → slice_get xs i ≡ Some x → (p x ≡ q (f x)) × (p x ≡ true → g x ≡ f x)) → map g (filter p xs) ≡ filter q (map f xs)
-filter_shown f g p q [] h = refl
-filter_shown f g p q (x ∷ xs) h = from (filter_shown f g p q xs (λ i y e. h (suc i) y e)) (p x) refl ∙ ap (λ b. if b then (f x ∷ filter q (map f xs)) else filter q (map f xs)) (h zero x refl).0
-  where
-    from : map g (filter p xs) ≡ filter q (map f xs) → (b : Bool) → p x ≡ b → map g (if b then (x ∷ filter p xs) else filter p xs) ≡ (if b then (f x ∷ filter q (map f xs)) else filter q (map f xs))
-    from rest true t = ap (λ y. y ∷ map g (filter p xs)) ((h zero x refl).1 t) ∙ ap (λ ys. f x ∷ ys) rest
-    from rest false t = rest
-
--- what holds of all that is shown
-all_shown : {A B : Type 0} (P : B → Type 0) (f : A → B) (xs : List A) → All P (map f xs) → All (λ x. P (f x)) xs
-all_shown P f [] all = All-nil (λ x. P (f x))
-all_shown P f (x ∷ xs) all = All-cons (λ x. P (f x)) x xs (all 0 (f x) (omega arith)) (all_shown P f xs (All-tail P (f x) (map f xs) all))
-
-module _ {A B : Type 0} (p : B → Bool) (f : A → B) where
-  -- what is found among what is shown
-  find_map : (xs : List A) → find p (map f xs) ≡ option_map f (find (λ x. p (f x)) xs)
-  find_map [] = refl
-  find_map (x ∷ xs) = from (p (f x)) (find_map xs)
-    where
-      from : (b : Bool) → find p (map f xs) ≡ option_map f (find (λ x. p (f x)) xs) → (if b then Some (f x) else find p (map f xs)) ≡ option_map f (if b then Some x else find (λ x. p (f x)) xs)
-      from true h = refl
-      from false h = h
-
-  -- and how many pass
-  count_map : (xs : List A) → count_by p (map f xs) ≡ count_by (λ x. p (f x)) xs
-  count_map [] = refl
-  count_map (x ∷ xs) = sum_by-cons (λ y. if p y then 1 else 0) (f x) (map f xs) ∙ (ap (λ n. (if p (f x) then 1 else 0) + n) (count_map xs) ∙ sym (sum_by-cons (λ y. if p (f y) then 1 else 0) x xs))
-
-map_reverse : {A B : Type 0} (f : A → B) (xs : List A) → map f (reverse xs) ≡ reverse (map f xs)
-map_reverse f [] = refl
-map_reverse f (x ∷ xs) = ap (map f) (reverse-append (x ∷ []) xs) ∙ (map-append f (reverse xs) (x ∷ []) ∙ (ap (λ ys. ys ++ f x ∷ []) (map_reverse f xs) ∙ sym (reverse-append (f x ∷ []) (map f xs))))
-
-contains_reverse : {A : Type 0} (xs : List A) (x : A) → Contains (reverse xs) x → Contains xs x
-contains_reverse xs x (k, l, e) = let low : k < length xs = omega (arith, l, length-reverse xs) in (length xs - 1 - k, omega arith, sym (get_or-reverse xs k x low) ∙ e)
-
-at_place : {A : Type 0} (xs : List A) (k : ℕ) (d : A) → k < length xs → d ≡ get_or xs k d → slice_get xs k ≡ Some d
-at_place [] k d h e = absurd (omega arith)
-at_place (x ∷ xs) zero d h e = ap Some (sym e)
-at_place (x ∷ xs) (suc k) d h e = at_place xs k d (omega arith) e
-
 -- the edit of a current row
-current_edit_from : (n : ℕ) (J : List Edit) (c : Current) → Contains (current_from n J) c → (i : ℕ) → c.seq ≡ n + i → (e : Edit) × (slice_get J i ≡ Some e) × (e.id ≡ c.id)
+current_edit_from : (n : ℕ) (J : List Edit) (c : Current) → Contains (current_from n J) c
+    → (i : ℕ) → c.seq ≡ n + i → (e : Edit) × (slice_get J i ≡ Some e) × (e.id ≡ c.id)
 current_edit_from n [] c h i s = absurd (let w = current_within n [] c h in omega arith)
 current_edit_from n (e ∷ later) c h zero s =
     elim (from_cases n e later c h) [
@@ -116,15 +85,18 @@ current_edit_from n (e ∷ later) c h (suc i) s =
       | inr q ↦ current_edit_from (n + 1) later c q i (omega arith)
     ]
 
-pub current_edit : (J : List Edit) (c : Current) → Contains (current J) c → (i : ℕ) → c.seq ≡ i + 1 → (e : Edit) × (slice_get J i ≡ Some e) × (e.id ≡ c.id)
+pub current_edit : (J : List Edit) (c : Current) → Contains (current J) c
+    → (i : ℕ) → c.seq ≡ i + 1 → (e : Edit) × (slice_get J i ≡ Some e) × (e.id ≡ c.id)
 current_edit J c h i s = current_edit_from 1 J c h i (omega (arith, s))
 
 -- a current row lies at an edit
-pub row_lies : (J : List Edit) (seq : ℕ) → ((c : Current) × Contains (current J) c × (c.seq ≡ seq)) → (1 ≤ seq) × (seq ≤ length J)
+pub row_lies : (J : List Edit) (seq : ℕ) → ((c : Current) × Contains (current J) c × (c.seq ≡ seq))
+    → (1 ≤ seq) × (seq ≤ length J)
 row_lies J seq (c, h, s) = let w = current_within 1 J c h in (omega (arith, w.0, s), omega (arith, w.1, s))
 
 -- a place and a bound are looked at by the index and by a feed alike
-within_same : (bound : Option ℕ) (place seq : ℕ) → index_rows.is_within place bound seq ≡ (nat_lt place seq && is_within bound seq)
+within_same : (bound : Option ℕ) (place seq : ℕ)
+    → index_rows.is_within place bound seq ≡ (nat_lt place seq && is_within bound seq)
 within_same None place seq = sym (and_true (nat_lt place seq))
   where
     and_true : (b : Bool) → (b && true) ≡ b
@@ -132,21 +104,27 @@ within_same None place seq = sym (and_true (nat_lt place seq))
     and_true false = refl
 within_same (Some b) place seq = refl
 
-module _ (ids : ℕ → Option (List ℕ × ℕ)) (J : List Edit) (index : List (ℕ × ℕ)) (ix : IsIndexed ids J index) where
+module _ (ids : ℕ → Option (List ℕ × ℕ)) (J : List Edit) (index : List (ℕ × ℕ))
+    (ix : IsIndexed ids J index) where
   -- a row's number has an id
-  pub row_known : (i : ℕ) (r : ℕ × ℕ) → slice_get index i ≡ Some r → (p : List ℕ × ℕ) × (ids r.1 ≡ Some p)
+  row_known : (i : ℕ) (r : ℕ × ℕ) → slice_get index i ≡ Some r → (p : List ℕ × ℕ) × (ids r.1 ≡ Some p)
   row_known i r g = from (ids r.1) refl
     where
       from : (o : Option (List ℕ × ℕ)) → ids r.1 ≡ o → (p : List ℕ × ℕ) × (ids r.1 ≡ Some p)
-      from None e = absurd (both_ways (nat_eq r.1 r.1) (none_key index r.1 (ix.none r.1 e) i r g) (eq-eqb r.1 r.1 refl))
+      from None e =
+          absurd (both_ways (nat_eq r.1 r.1) (none_key index r.1 (ix.none r.1 e) i r g) (eq-eqb r.1 r.1 refl))
       from (Some p) e = (p, e)
 
   -- and its sequence is that of an edit
   pub rows_within : All (λ (r : ℕ × ℕ). r.0 < length J + 1) index
-  rows_within = all_shown (λ (c : Current). c.seq < length J + 1) (row_in ids) index (subst (All (λ (c : Current). c.seq < length J + 1)) (sym ix.rows) within)
+  rows_within = all_shown low (row_in ids) index (subst (All low) (sym ix.rows) within)
     where
-      within : All (λ (c : Current). c.seq < length J + 1) (current J)
-      within k d l = let w = current_within 1 J _ (All-contains_itself (current J) k d l) in omega (arith, w.1)
+      low : Current → Type 0
+      low c = c.seq < length J + 1
+
+      within : All low (current J)
+      within k d l =
+          let w = current_within 1 J _ (All-contains_itself (current J) k d l) in omega (arith, w.1)
 
   row_at : (r : ℕ × ℕ) → Contains index r → (p : List ℕ × ℕ) × (ids r.1 ≡ Some p)
   row_at r c = row_known c.0 r (at_place index c.0 r c.1 (sym c.2))
@@ -155,24 +133,33 @@ module _ (ids : ℕ → Option (List ℕ × ℕ)) (J : List Edit) (index : List 
   row_shown : (r : ℕ × ℕ) (p : List ℕ × ℕ) → ids r.1 ≡ Some p → row_in ids r ≡ record { seq = r.0; id = p.0 }
   row_shown r p is = ap (λ (o : Option (List ℕ × ℕ)). record { seq = r.0; id = id_in o }) is
 
-  next_is : (place : ℕ) (bound : Option ℕ) → find (λ (c : Current). nat_lt place c.seq && is_within bound c.seq) (current J) ≡ option_map (row_in ids) (next_after index place bound)
+  next_is : (place : ℕ) (bound : Option ℕ)
+      → find (λ (c : Current). nat_lt place c.seq && is_within bound c.seq) (current J)
+      ≡ option_map (row_in ids) (next_after index place bound)
   next_is place bound =
       ap (find (λ (c : Current). nat_lt place c.seq && is_within bound c.seq)) (sym ix.rows)
       ∙ (find_map (λ (c : Current). nat_lt place c.seq && is_within bound c.seq) (row_in ids) index
-      ∙ ap (λ (p : ℕ → Bool). option_map (row_in ids) (find (λ (r : ℕ × ℕ). p r.0) index)) (λ i n. sym (within_same bound place n) i))
+      ∙ ap (λ (p : ℕ → Bool). option_map (row_in ids) (find (λ (r : ℕ × ℕ). p r.0) index))
+      (λ i n. sym (within_same bound place n) i))
 
   -- the next row is of a number that has an id, and is the next current row
   module _ (place : ℕ) (bound : Option ℕ) (r : ℕ × ℕ) (is : Some r ≡ next_after index place bound) where
     pub next_known : (p : List ℕ × ℕ) × (ids r.1 ≡ Some p)
     next_known = row_at r (find_is (λ (z : ℕ × ℕ). index_rows.is_within place bound z.0) index r (sym is)).1
 
-    pub next_found : (p : List ℕ × ℕ) → ids r.1 ≡ Some p → Some (record { seq = r.0; id = p.0 }) ≡ find (λ (c : Current). nat_lt place c.seq && is_within bound c.seq) (current J)
-    next_found p at = sym (ap Some (row_shown r p at)) ∙ (ap (option_map (row_in ids)) is ∙ sym (next_is place bound))
+    pub next_found : (p : List ℕ × ℕ) → ids r.1 ≡ Some p
+        → Some (record { seq = r.0; id = p.0 })
+        ≡ find (λ (c : Current). nat_lt place c.seq && is_within bound c.seq) (current J)
+    next_found p at =
+        sym (ap Some (row_shown r p at)) ∙ (ap (option_map (row_in ids)) is ∙ sym (next_is place bound))
 
-  pub next_nothing : (place : ℕ) (bound : Option ℕ) → None ≡ next_after index place bound → None ≡ find (λ (c : Current). nat_lt place c.seq && is_within bound c.seq) (current J)
+  pub next_nothing : (place : ℕ) (bound : Option ℕ) → None ≡ next_after index place bound
+      → None ≡ find (λ (c : Current). nat_lt place c.seq && is_within bound c.seq) (current J)
   next_nothing place bound is = ap (option_map (row_in ids)) is ∙ sym (next_is place bound)
 
-  last_is : (place : ℕ) → find (λ (c : Current). nat_lt c.seq place) (reverse (current J)) ≡ option_map (row_in ids) (last_before index place)
+  last_is : (place : ℕ)
+      → find (λ (c : Current). nat_lt c.seq place) (reverse (current J))
+      ≡ option_map (row_in ids) (last_before index place)
   last_is place =
       ap (λ cs. find (λ (c : Current). nat_lt c.seq place) (reverse cs)) (sym ix.rows)
       ∙ (ap (find (λ (c : Current). nat_lt c.seq place)) (sym (map_reverse (row_in ids) index))
@@ -181,44 +168,68 @@ module _ (ids : ℕ → Option (List ℕ × ℕ)) (J : List Edit) (index : List 
   -- and so is the last one
   module _ (place : ℕ) (r : ℕ × ℕ) (is : Some r ≡ last_before index place) where
     pub last_known : (p : List ℕ × ℕ) × (ids r.1 ≡ Some p)
-    last_known = row_at r (contains_reverse index r (find_is (λ (z : ℕ × ℕ). nat_lt z.0 place) (reverse index) r (sym is)).1)
+    last_known =
+        let found = find_is (λ (z : ℕ × ℕ). nat_lt z.0 place) (reverse index) r (sym is) in
+        row_at r (contains_reverse index r found.1)
 
-    pub last_found : (p : List ℕ × ℕ) → ids r.1 ≡ Some p → Some (record { seq = r.0; id = p.0 }) ≡ find (λ (c : Current). nat_lt c.seq place) (reverse (current J))
-    last_found p at = sym (ap Some (row_shown r p at)) ∙ (ap (option_map (row_in ids)) is ∙ sym (last_is place))
+    pub last_found : (p : List ℕ × ℕ) → ids r.1 ≡ Some p
+        → Some (record { seq = r.0; id = p.0 })
+        ≡ find (λ (c : Current). nat_lt c.seq place) (reverse (current J))
+    last_found p at =
+        sym (ap Some (row_shown r p at)) ∙ (ap (option_map (row_in ids)) is ∙ sym (last_is place))
 
-  pub last_nothing : (place : ℕ) → None ≡ last_before index place → None ≡ find (λ (c : Current). nat_lt c.seq place) (reverse (current J))
+  pub last_nothing : (place : ℕ) → None ≡ last_before index place
+      → None ≡ find (λ (c : Current). nat_lt c.seq place) (reverse (current J))
   last_nothing place is = ap (option_map (row_in ids)) is ∙ sym (last_is place)
 
   -- how many rows lie above a place
   pub count_is : (place : ℕ) → count_after index place ≡ pending (current J) place
-  count_is place = sym (count_map (λ (c : Current). nat_lt place c.seq) (row_in ids) index) ∙ ap (λ cs. pending cs place) ix.rows
+  count_is place =
+      sym (count_map (λ (c : Current). nat_lt place c.seq) (row_in ids) index)
+      ∙ ap (λ cs. pending cs place) ix.rows
 
   -- one more edit, of the id of this number, which had this id or none
   module _ (e : Edit) (k seq : ℕ) (last : seq ≡ length J + 1)
-      (own : (p : List ℕ × ℕ) → ids k ≡ Some p → p.0 ≡ e.id) (apart : (j : ℕ) (p : List ℕ × ℕ) → ids j ≡ Some p → j ≢ k → p.0 ≢ e.id)
-      (ids' : ℕ → Option (List ℕ × ℕ)) (at : ids' k ≡ Some (e.id, seq)) (other : (j : ℕ) → j ≢ k → ids' j ≡ ids j) where
-    others_shown : (i : ℕ) (r : ℕ × ℕ) → slice_get index i ≡ Some r → (not (nat_eq r.1 k) ≡ not (bytes_eq (row_in ids r).id e.id)) × (not (nat_eq r.1 k) ≡ true → row_in ids' r ≡ row_in ids r)
+      (own : (p : List ℕ × ℕ) → ids k ≡ Some p → p.0 ≡ e.id)
+      (apart : (j : ℕ) (p : List ℕ × ℕ) → ids j ≡ Some p → j ≢ k → p.0 ≢ e.id)
+      (ids' : ℕ → Option (List ℕ × ℕ)) (at : ids' k ≡ Some (e.id, seq))
+      (other : (j : ℕ) → j ≢ k → ids' j ≡ ids j) where
+    -- the rows that the move keeps are those of other ids, and show as before
+    abbrev IsShownSo : ℕ × ℕ → Type 0
+    IsShownSo r =
+        (not (nat_eq r.1 k) ≡ not (bytes_eq (row_in ids r).id e.id))
+        × (not (nat_eq r.1 k) ≡ true → row_in ids' r ≡ row_in ids r)
+
+    others_shown : (i : ℕ) (r : ℕ × ℕ) → slice_get index i ≡ Some r → IsShownSo r
     others_shown i r g = from (same_number r.1 k) (row_known i r g)
       where
-        from : (r.1 ≡ k) ⊎ (r.1 ≢ k) → ((p : List ℕ × ℕ) × (ids r.1 ≡ Some p)) → (not (nat_eq r.1 k) ≡ not (bytes_eq (row_in ids r).id e.id)) × (not (nat_eq r.1 k) ≡ true → row_in ids' r ≡ row_in ids r)
+        from : (r.1 ≡ k) ⊎ (r.1 ≢ k) → ((p : List ℕ × ℕ) × (ids r.1 ≡ Some p)) → IsShownSo r
         from (inl s) (p, there) =
-            let same : bytes_eq p.0 e.id ≡ true = text_same p.0 e.id (own p (subst (λ j. ids j ≡ Some p) s there)) in (
+            let here : ids k ≡ Some p = subst (λ j. ids j ≡ Some p) s there in
+            let same : bytes_eq p.0 e.id ≡ true = text_same p.0 e.id (own p here) in (
               ap not (eq-eqb r.1 k s) ∙ sym (ap (λ o. not (bytes_eq (id_in o) e.id)) there ∙ ap not same),
               λ t. absurd (both_ways (not (nat_eq r.1 k)) (ap not (eq-eqb r.1 k s)) t),
             )
         from (inr n) (p, there) =
             let another : bytes_eq p.0 e.id ≡ false = text_apart p.0 e.id (apart r.1 p there n) in (
-              ap not (number_apart r.1 k n) ∙ sym (ap (λ o. not (bytes_eq (id_in o) e.id)) there ∙ ap not another),
+              ap not (number_apart r.1 k n)
+                  ∙ sym (ap (λ o. not (bytes_eq (id_in o) e.id)) there ∙ ap not another),
               λ t. ap (λ (o : Option (List ℕ × ℕ)). record { seq = r.0; id = id_in o }) (other r.1 n),
             )
+
+    -- the current rows but that of the id, and then one of it
+    abbrev renewed : List Current → Current → List Current
+    renewed cs c = filter (λ (z : Current). not (bytes_eq z.id e.id)) cs ++ c ∷ []
 
     rows_more : map (row_in ids') (moved index k seq) ≡ current (J ++ e ∷ [])
     rows_more =
         map-append (row_in ids') (filter (λ (r : ℕ × ℕ). not (nat_eq r.1 k)) index) ((seq, k) ∷ [])
-        ∙ (ap (λ cs. cs ++ row_in ids' (seq, k) ∷ []) (filter_shown (row_in ids) (row_in ids') (λ (r : ℕ × ℕ). not (nat_eq r.1 k)) (λ (c : Current). not (bytes_eq c.id e.id)) index others_shown)
-        ∙ (ap (λ cs. filter (λ (c : Current). not (bytes_eq c.id e.id)) cs ++ row_in ids' (seq, k) ∷ []) ix.rows
-        ∙ (ap (λ (o : Option (List ℕ × ℕ)). filter (λ (c : Current). not (bytes_eq c.id e.id)) (current J) ++ record { seq = seq; id = id_in o } ∷ []) at
-        ∙ (ap (λ (n : ℕ). filter (λ (c : Current). not (bytes_eq c.id e.id)) (current J) ++ record { seq = n; id = e.id } ∷ []) (omega (arith, last))
+        ∙ (ap (λ cs. cs ++ row_in ids' (seq, k) ∷ [])
+        (filter_shown (row_in ids) (row_in ids') (λ (r : ℕ × ℕ). not (nat_eq r.1 k))
+        (λ (c : Current). not (bytes_eq c.id e.id)) index others_shown)
+        ∙ (ap (λ cs. renewed cs (row_in ids' (seq, k))) ix.rows
+        ∙ (ap (λ (o : Option (List ℕ × ℕ)). renewed (current J) (record { seq = seq; id = id_in o })) at
+        ∙ (ap (λ (n : ℕ). renewed (current J) (record { seq = n; id = e.id })) (omega (arith, last))
         ∙ sym (current_push 1 J e)))))
 
     -- the rows go on to be the current ones
@@ -230,7 +241,9 @@ module _ (ids : ℕ → Option (List ℕ × ℕ)) (J : List Edit) (index : List 
           where
             from : (j ≡ k) ⊎ (j ≢ k) → seq_of j (moved index k seq) ≡ Some p.1
             from (inl s) =
-                let latest : seq ≡ p.1 = ap (λ (z : List ℕ × ℕ). z.1) (same_Some (e.id, seq) p (sym at ∙ subst (λ i. ids' i ≡ Some p) s g)) in
+                let here : ids' k ≡ Some p = subst (λ i. ids' i ≡ Some p) s g in
+                let same : (e.id, seq) ≡ p = same_Some (e.id, seq) p (sym at ∙ here) in
+                let latest : seq ≡ p.1 = ap (λ (z : List ℕ × ℕ). z.1) same in
                 ap (λ i. seq_of i (moved index k seq)) s ∙ (moved_here index k seq ∙ ap Some latest)
             from (inr n) = moved_other index k seq j n ∙ ix.key j p (sym (other j n) ∙ g)
 
@@ -238,9 +251,6 @@ module _ (ids : ℕ → Option (List ℕ × ℕ)) (J : List Edit) (index : List 
         none' j g = from (same_number j k)
           where
             from : (j ≡ k) ⊎ (j ≢ k) → seq_of j (moved index k seq) ≡ None
-            from (inl s) = absurd (none-some (e.id, seq) (sym g ∙ subst (λ i. ids' i ≡ Some (e.id, seq)) (sym s) at))
+            from (inl s) =
+                absurd (none-some (e.id, seq) (sym g ∙ subst (λ i. ids' i ≡ Some (e.id, seq)) (sym s) at))
             from (inr n) = moved_other index k seq j n ∙ ix.none j (sym (other j n) ∙ g)
-
--- no row, of no edits
-pub indexed_none : (ids : ℕ → Option (List ℕ × ℕ)) → ((k : ℕ) → ids k ≡ None) → IsIndexed ids [] []
-indexed_none ids none = record { rows = refl; key = λ k p e. absurd (none-some p (sym (none k) ∙ e)); none = λ k e. refl }

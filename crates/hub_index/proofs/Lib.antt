@@ -1,2 +1,5 @@
+pub mod ListLemmas
 pub mod IndexLemmas
 pub mod IndexedLemmas
+pub mod PageLemmas
+pub mod SlotLemmas

@@ -1,11 +1,11 @@
 //! Rows that move, and what is read of them.
 
-ghost use Rattle.std.specs.Prelude.{◌≡◌, ◌<◌, ◌≤◌, OnOk};
+ghost use Rattle.std.specs.Prelude.{◌≡◌, ◌<◌, ◌≤◌, [], OnOk};
 ghost use Rattle.std.specs.List.{All};
 ghost use Rattle.hub_index.specs.Rows.{seq_of, moved};
 
 use crate::{SeqIndex, TreeIndex};
-use std::alloc::{AllocError, Global};
+use std::alloc::AllocError;
 use std::test::Fail;
 
 // The first row of any index, and the last.
@@ -17,19 +17,21 @@ fn last_row<I: SeqIndex>(index: &I) -> Option<(u64, u32)> {
     index.last_before(u64::MAX)
 }
 
-// Documents 7, 8 and 9 at the sequences 1, 2 and 3, of which the first was then moved to 4.
-fn four_moves(alloc: Global) -> Result<TreeIndex, AllocError> {
-    let mut index = TreeIndex::new(alloc);
+// Documents 7, 8 and 9 at the sequences 1, 2 and 3, of which the first is then moved to 4.
+pub(crate) fn four_moves<I: SeqIndex>(index: &mut I) -> Result<(), AllocError>
+    requires { I.rows index.old ≡ [] }
+{
     index.move_to(7, None, 1)?;
     index.move_to(8, None, 2)?;
     index.move_to(9, None, 3)?;
     index.move_to(7, Some(1), 4)?;
-    Ok(index)
+    Ok(())
 }
 
 #[test]
 fn rows_come_in_order(rt: HostRuntime) -> Result<(), Fail> {
-    let index = four_moves(rt.alloc())?;
+    let mut index = TreeIndex::new(rt.alloc());
+    four_moves(&mut index)?;
     assert_eq!(rt; first_row(&index), Some((2, 8)));
     for (place, wanted) in [
         (0u64, Some((2u64, 8u32))),
@@ -46,7 +48,8 @@ fn rows_come_in_order(rt: HostRuntime) -> Result<(), Fail> {
 
 #[test]
 fn bounds_end_the_rows(rt: HostRuntime) -> Result<(), Fail> {
-    let index = four_moves(rt.alloc())?;
+    let mut index = TreeIndex::new(rt.alloc());
+    four_moves(&mut index)?;
     for (place, bound, wanted) in [
         (2u64, 3u64, Some((3u64, 9u32))),
         (2, 2, None),
@@ -71,7 +74,8 @@ fn bounds_end_the_rows(rt: HostRuntime) -> Result<(), Fail> {
 
 #[test]
 fn rows_come_from_the_end(rt: HostRuntime) -> Result<(), Fail> {
-    let index = four_moves(rt.alloc())?;
+    let mut index = TreeIndex::new(rt.alloc());
+    four_moves(&mut index)?;
     assert_eq!(rt; last_row(&index), Some((4, 7)));
     for (place, wanted) in [
         (0u64, None),
@@ -89,7 +93,8 @@ fn rows_come_from_the_end(rt: HostRuntime) -> Result<(), Fail> {
 
 #[test]
 fn rows_above_are_counted(rt: HostRuntime) -> Result<(), Fail> {
-    let index = four_moves(rt.alloc())?;
+    let mut index = TreeIndex::new(rt.alloc());
+    four_moves(&mut index)?;
     for (place, wanted) in [(0u64, 3u64), (1, 3), (2, 2), (3, 1), (4, 0), (u64::MAX, 0)] {
         assert_eq!(rt; index.count_after(place), wanted, "after {place}");
     }
@@ -107,7 +112,7 @@ fn an_empty_index_has_no_row(rt: HostRuntime) -> Result<(), Fail> {
 }
 
 // The sequence of a document in a plain list of rows.
-fn seq_in(plain: &[(u64, u32)], document: u32) -> Option<u64>
+pub(crate) fn seq_in(plain: &[(u64, u32)], document: u32) -> Option<u64>
     ensures { result ≡ seq_of document plain.now }
 {
     plain.iter().find(|row| row.1 == document).map(|row| row.0)
@@ -123,16 +128,17 @@ fn move_in(plain: &mut Vec<(u64, u32)>, document: u32, new: u64) -> Result<(), A
 }
 
 // Moves a document in an index, and in a plain list of the same rows.
-fn move_both(
-    index: &mut TreeIndex,
+pub(crate) fn move_both<I: SeqIndex>(
+    index: &mut I,
     plain: &mut Vec<(u64, u32)>,
     document: u32,
     new: u64,
 ) -> Result<(), AllocError>
-    requires same { index.old ≡ plain.old.items }
+    requires same { I.rows index.old ≡ plain.old.items }
     requires positive { 0 < new }
     requires above { All (λ r. r.0 < new) plain.old.items }
-    ensures same { OnOk result (index.new ≡ plain.new.items) }
+    ensures same { OnOk result (I.rows index.new ≡ plain.new.items) }
+    ensures moved { OnOk result (plain.new.items ≡ moved plain.old.items document new) }
     ensures upto { OnOk result (All (λ r. r.0 ≤ new) plain.new.items) }
 {
     let old = seq_in(plain.as_slice(), document);
@@ -142,7 +148,7 @@ fn move_both(
 }
 
 // Whether an index answers at the place as a plain list, which rises, does.
-fn answers_as(index: &TreeIndex, plain: &[(u64, u32)], place: u64, bound: u64) -> bool {
+fn answers_as<I: SeqIndex>(index: &I, plain: &[(u64, u32)], place: u64, bound: u64) -> bool {
     let first = plain.iter().find(|row| row.0 > place).copied();
     let within = first.filter(|row| row.0 <= bound);
     let above = plain.iter().filter(|row| row.0 > place).count() as u64;

@@ -16,7 +16,7 @@ use Rattle.hub_model.specs.declared.feeds.Item.{Item}
 use Rattle.hub_model.specs.declared.feeds.Item.TheVariants.{Row, Beat, End}
 use Rattle.hub_model.specs.Feed.{Status, Open, Ending, Ended, Finished, Feed, Due, DueRow, DueEnd, DueNothing, DueGone, since_of, bound_of, due, is_in_reach, bound_after, after_due, after_row, after_end, after_nothing, is_open, is_over, waits}
 use Rattle.hub_model.specs.Filter.{passes}
-use Rattle.hub_model.specs.FeedLaws.{OpenedFits, GrownFits, HandedFits, WaitingFits, BeatFits, ExpiredFits, EndedFits, FinishedFits}
+use Rattle.hub_model.specs.FeedLaws.{OpenedFits, GrownFits, HandedFits, WaitingFits, BeatFits, ExpiredFits, EndedFits, FinishedFits, LimitedEnds}
 use Rattle.hub_model.specs.Hand.{due_in, item_of}
 use Rattle.hub_model.specs.Journal.{Edit}
 use Rattle.hub_model.specs.RightlyHanded.{is_end, EndsAt, IsAsked, RightlyHanded, Fits, rows_of}
@@ -209,3 +209,12 @@ module _ {R : Type 0} (kind : RowKind R) where
 
   pub fits_finish : FinishedFits kind
   fits_finish J f items h = fits_status J f items Finished (λ t. cc) (λ t. refl) h
+
+-- a feed that has handed as many rows as it may
+below_limit : (limit : ℕ) (o : Option ℕ) (rows : ℕ) → o ≡ Some limit → IfSome o (λ limit. rows < max 1 limit) → rows < max 1 limit
+below_limit limit o rows p h = subst (λ z. IfSome z (λ limit. rows < max 1 limit)) p h
+
+pub limited_ends : {R : Type 0} (kind : RowKind R) → LimitedEnds kind
+limited_ends kind J f items limit is full h e =
+    let few = below_limit limit f.params.limit f.rows is (h.fewer e) in
+    let counted = h.counted in omega (arith, few, full, counted)

@@ -1,5 +1,5 @@
 -- What storing does is what the relation allows, and leaves a legal journal legal.
-use Rattle.std.proofs.Common.{◌≡◌, ℕ, ◌+◌, List, [], ◌∷◌, ◌++◌, length, Bool, true, false, ◌⊎◌, inl, inr, sym, ◌∙◌, ap, subst, refl, ⊎_elim, arith}
+use Rattle.std.proofs.Common.{◌≡◌, ℕ, suc, ◌+◌, List, [], ◌∷◌, ◌++◌, length, Bool, true, false, ◌⊎◌, inl, inr, sym, ◌∙◌, ap, subst, refl, ⊎_elim, arith}
 use Rattle.std.specs.Prelude.{Contains, Option, Some, None, nat_le, if◌then◌else◌, unwrap_or, slice_get}
 use Rattle.std.proofs.lemmas.Bool.{cases_Bool, both_ways, leb-true, leb-false}
 use Rattle.std.proofs.lemmas.List.Elements.{Contains-push_cases}
@@ -48,6 +48,10 @@ pub merges_legal : (limit : ℕ) (J : List Edit) (e : Edit) → IsLegal J → Is
 merges_legal limit J e h = takes_legal limit J e _ _ (merges_takes limit J e h) h
 
 -- storing one replicated edit after the other
+pub merges_answer_each : (limit : ℕ) (J es : List Edit) → length (merges_all limit J es).outcomes ≡ length es
+merges_answer_each limit J [] = refl
+merges_answer_each limit J (e ∷ es) = ap (λ n. suc n) (merges_answer_each limit (merges limit J e).journal es)
+
 pub merges_all_take : (limit : ℕ) (J es : List Edit) → IsLegal J → TakesAll limit J es (merges_all limit J es).outcomes (merges_all limit J es).journal
 merges_all_take limit J [] h = refl
 merges_all_take limit J (e ∷ es) h = ((merges limit J e).journal, merges_takes limit J e h, merges_all_take limit (merges limit J e).journal es (merges_legal limit J e h))

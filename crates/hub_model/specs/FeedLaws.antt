@@ -1,14 +1,14 @@
 -- How a list that fits a feed goes on fitting it, of rows of any kind (CouchDB API reference, _changes and
 -- _db_updates).
-use Rattle.std.specs.Prelude.{◌≡◌, List, [], ◌∷◌, ◌++◌, length, true, Some}
+use Rattle.std.specs.Prelude.{◌≡◌, ◌≤◌, ℕ, List, [], ◌∷◌, ◌++◌, length, max, true, Some}
 use Rattle.hub_model.specs.Journal.{Edit}
-use Rattle.hub_model.specs.Feed.{Params, Feed, DueNothing, begin, after_due, after_nothing, beat_due, expire}
+use Rattle.hub_model.specs.Feed.{Params, Feed, Open, DueNothing, begin, after_due, after_nothing, beat_due, expire}
 use Rattle.hub_model.specs.Feed.{end, finish}
 use Rattle.hub_model.specs.Hand.{due_in, due_item}
 use Rattle.hub_model.specs.RowKind.{RowKind}
 use Rattle.hub_model.specs.declared.feeds.Item.{Item}
 use Rattle.hub_model.specs.declared.feeds.Item.TheVariants.{Beat}
-use Rattle.hub_model.specs.RightlyHanded.{Fits}
+use Rattle.hub_model.specs.RightlyHanded.{Fits, rows_of}
 
 module _ {R : Type 0} (kind : RowKind R) where
   -- a feed that is opened has handed nothing
@@ -53,3 +53,10 @@ module _ {R : Type 0} (kind : RowKind R) where
   abbrev pub FinishedFits : Type 0
   FinishedFits =
       (J : List Edit) (f : Feed) (items : List (Item R)) → Fits kind J f items → Fits kind J (finish f) items
+
+  -- a feed that has handed as many rows as it may is not open: with a limit of 3, after the third row nothing but
+  -- its End is left to hand
+  abbrev pub LimitedEnds : Type 0
+  LimitedEnds =
+      (J : List Edit) (f : Feed) (items : List (Item R)) (limit : ℕ) → f.params.limit ≡ Some limit
+      → max 1 limit ≤ length (rows_of items) → Fits kind J f items → ¬ (f.status ≡ Open)

@@ -3,8 +3,8 @@
 //! contract of a function that does nothing.
 #![tactic(auto)]
 
-ghost use Rattle.hub_model.specs.Laws.{KnownIsTested, HistoryIsTested, AcceptableIsTested, LeavesAreListed, LeavesHaveEdits, WinnerIsFirst, LineIsWalk, ShownIsRight, NoneIsShown, RowsAreCurrent, RowsRise, MergesTake, MergesTakeAll, MergesStayLegal, DraftsStayLegal, DraftsExtend, DraftsTake, KnownHasLeaf, MissingIsUnknown};
-ghost use Rattle.hub_model.specs.FeedLaws.{OpenedFits, GrownFits, HandedFits, WaitingFits, BeatFits, ExpiredFits, EndedFits, FinishedFits};
+ghost use Rattle.hub_model.specs.Laws.{KnownIsTested, HistoryIsTested, AcceptableIsTested, LeavesAreListed, LeavesHaveEdits, WinnerIsFirst, LineIsWalk, ShownIsRight, NoneIsShown, RowsAreCurrent, RowsRise, MergesTake, MergesTakeAll, MergesAnswerEach, MergesStayLegal, DraftsStayLegal, DraftsExtend, DraftsTake, KnownHasLeaf, MissingIsUnknown};
+ghost use Rattle.hub_model.specs.FeedLaws.{OpenedFits, GrownFits, HandedFits, WaitingFits, BeatFits, ExpiredFits, EndedFits, FinishedFits, LimitedEnds};
 ghost use Rattle.hub_model.specs.RowKind.{change_rows, update_rows};
 ghost use Rattle.hub_model.specs.Updates.{NotesReadBack};
 ghost use Rattle.hub_model.specs.WorkedFeeds.{FallsAfterTwo, FallsAfterAll, FallsOnce, UpdatesAgain};
@@ -54,6 +54,7 @@ pub fn current_rows()
 pub fn storing()
     ensures one { MergesTake }
     ensures all { MergesTakeAll }
+    ensures each { MergesAnswerEach }
     ensures merged { MergesStayLegal }
     ensures drafted { DraftsStayLegal }
     ensures extended { DraftsExtend }
@@ -71,6 +72,7 @@ pub fn feeds_fit()
     ensures expired { ExpiredFits change_rows × ExpiredFits update_rows }
     ensures ended { EndedFits change_rows × EndedFits update_rows }
     ensures finished { FinishedFits change_rows × FinishedFits update_rows }
+    ensures limited { LimitedEnds change_rows × LimitedEnds update_rows }
 {}
 
 /// A note of the log of updates is read again from the id of the edit that it is taken for.

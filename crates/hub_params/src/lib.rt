@@ -9,8 +9,6 @@ mod feed_texts;
 mod feed_values;
 mod listed_ids;
 mod query;
-#[cfg(test)]
-mod tests;
 
 pub use doc_params::DocParams;
 pub use feed_fault::ParamFault;

@@ -4,5 +4,5 @@ mod MemberLemmas
 mod ReadLemmas
 mod TextLemmas
 mod Utf8Lemmas
-mod ValueLemmas
+pub mod ValueLemmas
 mod WrittenLemmas

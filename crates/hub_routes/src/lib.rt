@@ -5,8 +5,6 @@ mod kind;
 mod path;
 mod route;
 mod routes;
-#[cfg(test)]
-mod routes_tests;
 mod samples;
 mod service;
 

@@ -1,5 +1,8 @@
 //! A connection over a socket.
 
+ghost use Rattle.std.specs.Prelude.{◌↔◌, IsTrue};
+ghost use Rattle.hub_server.specs.Sockets.{IsEndedHere};
+
 use crate::pumps::ByThreads;
 use hub_databases::Hub;
 use hub_http::{Requests, Tally};
@@ -40,7 +43,9 @@ fn see_off(mut stream: &TcpStream) -> io::Result<()> {
 }
 
 /// Whether the client may still send to a connection that closed for this reason, and read.
-fn is_left_open(closing: Closing) -> bool {
+fn is_left_open(closing: Closing) -> bool
+    ensures { IsTrue result ↔ IsEndedHere closing }
+{
     matches!(
         closing,
         Closing::Requested | Closing::Fault(_) | Closing::Cut

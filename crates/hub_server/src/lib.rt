@@ -8,8 +8,6 @@ mod orders;
 mod pumps;
 mod server;
 mod starter;
-#[cfg(test)]
-mod tests;
 
 pub use clock::Uptime;
 pub use orders::PumpThread;

@@ -1,5 +1,9 @@
 //! The server.
 
+ghost use Rattle.std.specs.Prelude.{◌↔◌, IfErr, IsTrue};
+ghost use Rattle.std.specs.IoError.{error_kind};
+ghost use Rattle.hub_server.specs.Sockets.{IsPassing};
+
 use crate::alive::Alive;
 use crate::connection::answer_socket;
 use crate::orders::Orders;
@@ -143,15 +147,19 @@ where
 
 /// Whether the next connection may be accepted in spite of this error: the call was interrupted, or the
 /// client had gone before it was accepted.
-fn is_passing(error: &io::Error) -> bool {
+fn is_passing(error: &io::Error) -> bool
+    ensures { IsTrue result ↔ IsPassing (error_kind error.now) }
+{
     matches!(
         error.kind(),
         ErrorKind::Interrupted | ErrorKind::ConnectionAborted
     )
 }
 
-/// The next connection.
-fn accept(listener: &TcpListener) -> io::Result<TcpStream> {
+/// The next connection. An error is one in spite of which none may be accepted.
+fn accept(listener: &TcpListener) -> io::Result<TcpStream>
+    ensures { IfErr result (λ e. ¬ IsPassing (error_kind e)) }
+{
     for stream in listener.incoming() {
         match stream {
             Err(error) if is_passing(&error) => {}

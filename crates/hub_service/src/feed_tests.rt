@@ -1,12 +1,10 @@
-//! The hub over bytes: feeds of changes.
+//! The hub over bytes: feeds of changes, one at a time.
 
 use crate::connection::Connection;
 use crate::pumping::ByTurns;
-use crate::session_tests::Answer::{Bad, Created, Feed, Found, Head};
+use crate::session_tests::Answer::{Feed, Head};
 use crate::session_tests::Ask::{Batch, Body, Line};
-use crate::session_tests::{
-    Exchange, MAKE, STORED, answers, asks, assert_answered, assert_session,
-};
+use crate::session_tests::{Exchange, MAKE, STORED, answers, asks, assert_session};
 use hub_databases::Hub;
 use hub_document::Limits;
 use hub_http::{Output, Requests, Tally};
@@ -258,81 +256,6 @@ const DOCUMENTS: &[Exchange] = &[
 #[test]
 fn rows_bring_documents(rt: HostRuntime) -> Result<(), Fail> {
     assert_feeds(&rt, rt.alloc(), DOCUMENTS)
-}
-
-const PUT: &[Exchange] = &[
-    MAKE,
-    (
-        Body("PUT /d/a", r#"{"v":7}"#),
-        Created(r#"{"ok":true,"id":"a","rev":"1-91e3da135d1d0593e6703385cf55957a"}"#),
-    ),
-    (
-        Line("GET /d/_changes?include_docs=true"),
-        Feed(
-            &[concat!(
-                r#"{"seq":1,"id":"a","changes":[{"rev":"1-91e3da135d1d0593e6703385cf55957a"}],"#,
-                r#""doc":{"_id":"a","_rev":"1-91e3da135d1d0593e6703385cf55957a","v":7}}"#
-            )],
-            1,
-            0,
-        ),
-    ),
-    (
-        Line("GET /d/a"),
-        Found(r#"{"_id":"a","_rev":"1-91e3da135d1d0593e6703385cf55957a","v":7}"#),
-    ),
-];
-
-/// A document that was put is shown with the revision that was made for it, and got so.
-#[test]
-fn a_put_document_is_shown(rt: HostRuntime) -> Result<(), Fail> {
-    assert_answered(&rt, rt.alloc(), PUT)
-}
-
-const REFUSALS: &[Exchange] = &[
-    MAKE,
-    (
-        Body("GET /d/_changes?since=x&limit=x", ""),
-        Bad("bad since"),
-    ),
-    (
-        Body("GET /d/_changes?since=18446744073709551616", ""),
-        Bad("bad since"),
-    ),
-    (
-        Body("GET /d/_changes?limit=-1&style=x", ""),
-        Bad("bad limit"),
-    ),
-    (Body("GET /d/_changes?style=x&feed=x", ""), Bad("bad style")),
-    (Body("GET /d/_changes?feed=x&filter=x", ""), Bad("bad feed")),
-    (
-        Body("GET /d/_changes?filter=x&heartbeat=x", ""),
-        Bad("bad filter"),
-    ),
-    (
-        Body("GET /d/_changes?filter=_doc_ids", ""),
-        Bad("bad doc_ids"),
-    ),
-    (
-        Body("POST /d/_changes?filter=_doc_ids", "[]"),
-        Bad("bad doc_ids"),
-    ),
-    (
-        Body("GET /d/_changes?heartbeat=0&descending=x", ""),
-        Bad("bad heartbeat"),
-    ),
-    (
-        Body("GET /d/_changes?descending=true&feed=continuous", ""),
-        Bad("descending needs feed=normal"),
-    ),
-    (Body("GET /d/_changes?descending=x", ""), Bad("bad flag")),
-    (Body("GET /d/_changes?include_docs=1", ""), Bad("bad flag")),
-];
-
-/// Each fault of a query or a body has its refusal, the first of them.
-#[test]
-fn refused_feeds(rt: HostRuntime) -> Result<(), Fail> {
-    assert_answered(&rt, rt.alloc(), REFUSALS)
 }
 
 const HEADS: &[Exchange] = &[

@@ -8,8 +8,6 @@ mod database;
 #[cfg(test)]
 mod database_tests;
 mod diff;
-#[cfg(test)]
-mod document_tests;
 mod documents;
 #[cfg(test)]
 mod feed_tests;

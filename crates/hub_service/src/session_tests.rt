@@ -1,6 +1,7 @@
-//! Sessions as tables: what a client sends, and what the hub answers.
+//! Sessions as tables: what a client sends, and what the hub answers. Most exchanges over one connection are not
+//! here: they are the stored run of the program (`crates/changes_hub/stdin` and `stdout`).
 
-use crate::session_tests::Answer::{Created, Refused, Replies};
+use crate::session_tests::Answer::{Created, Replies};
 use crate::stream::answer_stream;
 use hub_document::Limits;
 use hub_http::{Requests, Tally};
@@ -19,10 +20,6 @@ pub(crate) enum Ask {
     Body(&'static str, &'static str),
     /// A batch of documents that another database made.
     Batch(&'static [&'static str]),
-    /// A batch of documents whose revisions are to be made.
-    Edits(&'static [&'static str]),
-    /// A request line with so many letters in its middle, and an empty object.
-    LongLine(&'static str, usize, &'static str),
     /// A batch of one document `x`, whose history has so many revisions.
     LongHistory(u16),
     /// Other bytes.
@@ -40,12 +37,6 @@ pub(crate) enum Answer {
     Replies(&'static [&'static str]),
     /// The rows of a feed, its last sequence and how many are pending: a chunk for each row.
     Feed(&'static [&'static str], u64, u64),
-    /// The rows of a continuous feed, its last sequence and how many are pending: a chunk for each row.
-    Lines(&'static [&'static str], u64, u64),
-    /// The rows of a feed of the log of updates, and its last sequence: a chunk for each row.
-    Updates(&'static [&'static str], u64),
-    /// 400, with this reason.
-    Bad(&'static str),
     /// A refusal: its status, its error and its reason.
     Refused(&'static str, &'static str, &'static str),
     /// The head alone of an answer with this status and so long a body.
@@ -61,44 +52,11 @@ pub(crate) enum Answer {
 /// A request and its answer.
 pub(crate) type Exchange = (Ask, Answer);
 
-/// A database was made.
-pub(crate) const MADE: Answer = Created(r#"{"ok":true}"#);
-
 /// The database `d` is made.
-pub(crate) const MAKE: Exchange = (Ask::Line("PUT /d"), MADE);
+pub(crate) const MAKE: Exchange = (Ask::Line("PUT /d"), Created(r#"{"ok":true}"#));
 
 /// Each document of a batch was stored.
 pub(crate) const STORED: Answer = Replies(&[]);
-
-pub(crate) const CONFLICT: Answer = Refused(
-    "409 Conflict",
-    "conflict",
-    "Document update conflict.",
-);
-
-pub(crate) const MISSING: Answer = Refused("404 Not Found", "not_found", "missing");
-
-pub(crate) const DELETED: Answer = Refused("404 Not Found", "not_found", "deleted");
-
-pub(crate) const NO_DATABASE: Answer = Refused(
-    "404 Not Found",
-    "not_found",
-    "Database does not exist.",
-);
-
-pub(crate) const BAD_NAME: Answer = Refused("400 Bad Request", "illegal_database_name", "bad name");
-
-pub(crate) const BAD_METHOD: Answer = Refused(
-    "405 Method Not Allowed",
-    "method_not_allowed",
-    "method not allowed",
-);
-
-pub(crate) const FILE_EXISTS: Answer = Refused(
-    "412 Precondition Failed",
-    "file_exists",
-    "The database could not be created, the file already exists.",
-);
 
 /// A text, so many times.
 fn push_times(out: &mut String, text: &str, count: usize) -> Result<(), AllocError> {
@@ -134,26 +92,12 @@ fn push_body(alloc: Global, out: &mut String, line: &str, body: &str) -> Result<
     out.push_str(text.as_str())
 }
 
-/// A batch of documents, with what stands behind them.
-fn push_batch(alloc: Global, out: &mut String, docs: &[&str], end: &str) -> Result<(), AllocError> {
+/// A batch of documents that another database made.
+fn push_batch(alloc: Global, out: &mut String, docs: &[&str]) -> Result<(), AllocError> {
     let mut body = String::from_str(alloc, r#"{"docs":["#)?;
     push_list(&mut body, docs)?;
-    body.push_str(end)?;
+    body.push_str(r#"],"new_edits":false}"#)?;
     push_body(alloc, out, "POST /d/_bulk_docs", body.as_str())
-}
-
-/// A request line with so many letters in its middle, and an empty object.
-fn push_long_line(
-    alloc: Global,
-    out: &mut String,
-    before: &str,
-    count: usize,
-    after: &str,
-) -> Result<(), AllocError> {
-    let mut line = String::from_str(alloc, before)?;
-    push_times(&mut line, "a", count)?;
-    line.push_str(after)?;
-    push_body(alloc, out, line.as_str(), "{}")
 }
 
 /// A batch of one document, whose history has so many revisions.
@@ -171,9 +115,7 @@ fn push_ask(alloc: Global, out: &mut String, ask: Ask) -> Result<(), AllocError>
     match ask {
         Ask::Line(line) => push_line(out, line),
         Ask::Body(line, body) => push_body(alloc, out, line, body),
-        Ask::Batch(docs) => push_batch(alloc, out, docs, r#"],"new_edits":false}"#),
-        Ask::Edits(docs) => push_batch(alloc, out, docs, "]}"),
-        Ask::LongLine(before, count, after) => push_long_line(alloc, out, before, count, after),
+        Ask::Batch(docs) => push_batch(alloc, out, docs),
         Ask::LongHistory(count) => push_long_history(alloc, out, count),
         Ask::Bytes(text) => out.push_str(text),
     }
@@ -295,45 +237,6 @@ fn push_feed(
     out.push_str(LAST_CHUNK)
 }
 
-/// The rows of a feed of the log of updates and its end.
-fn push_updates(
-    alloc: Global,
-    out: &mut String,
-    rows: &[&str],
-    last_seq: u64,
-) -> Result<(), AllocError> {
-    out.push_str(HEAD)?;
-    out.push_str(BEFORE_ROWS)?;
-    push_rows(alloc, out, rows)?;
-    let end = format!(in alloc; "\n],\n\"last_seq\":{last_seq}}}\n")?;
-    push_chunk(alloc, out, end.as_str())?;
-    out.push_str(LAST_CHUNK)
-}
-
-/// A line for each row.
-fn push_lines(alloc: Global, out: &mut String, rows: &[&str]) -> Result<(), AllocError> {
-    for row in rows {
-        let text = format!(in alloc; "{row}\n")?;
-        push_chunk(alloc, out, text.as_str())?;
-    }
-    Ok(())
-}
-
-/// The rows of a continuous feed and its end.
-fn push_continuous(
-    alloc: Global,
-    out: &mut String,
-    rows: &[&str],
-    last_seq: u64,
-    pending: u64,
-) -> Result<(), AllocError> {
-    out.push_str(HEAD)?;
-    push_lines(alloc, out, rows)?;
-    let end = format!(in alloc; "{{\"last_seq\":{last_seq},\"pending\":{pending}}}\n")?;
-    push_chunk(alloc, out, end.as_str())?;
-    out.push_str(LAST_CHUNK)
-}
-
 /// What the hub answers.
 fn push_answer(alloc: Global, out: &mut String, answer: Answer) -> Result<(), AllocError> {
     match answer {
@@ -341,11 +244,6 @@ fn push_answer(alloc: Global, out: &mut String, answer: Answer) -> Result<(), Al
         Answer::Created(body) => push_whole(alloc, out, "201 Created", body),
         Answer::Replies(replies) => push_replies(alloc, out, replies),
         Answer::Feed(rows, last_seq, pending) => push_feed(alloc, out, rows, last_seq, pending),
-        Answer::Lines(rows, last_seq, pending) => {
-            push_continuous(alloc, out, rows, last_seq, pending)
-        }
-        Answer::Updates(rows, last_seq) => push_updates(alloc, out, rows, last_seq),
-        Answer::Bad(reason) => push_refused(alloc, out, "400 Bad Request", "bad_request", reason),
         Answer::Refused(status, error, reason) => push_refused(alloc, out, status, error, reason),
         Answer::Head(status, len) => push_head_alone(alloc, out, status, len),
         Answer::Last(status, body) => push_last(alloc, out, status, body),
@@ -407,40 +305,6 @@ pub(crate) fn is_session<N: Wait>(
     )
 }
 
-/// Whether an exchange is had between the making of two databases, `d` before it.
-fn is_answered_between<N: Wait>(
-    rt: &N,
-    alloc: Global,
-    exchange: Exchange,
-) -> Result<bool, AllocError> {
-    let session = [MAKE, exchange, (Ask::Line("PUT /f"), MADE)];
-    is_session(rt, alloc, &session, Limits::full(), Closing::Finished)
-}
-
-/// How many of these exchanges are had, each in a session of its own, before the first that is not.
-fn answered_count<N: Wait>(
-    rt: &N,
-    alloc: Global,
-    exchanges: &[Exchange],
-) -> Result<usize, AllocError> {
-    for (number, exchange) in exchanges.iter().enumerate() {
-        if !is_answered_between(rt, alloc, *exchange)? {
-            return Ok(number);
-        }
-    }
-    Ok(exchanges.len())
-}
-
-/// Asserts that each of these exchanges is had between the making of two databases, `d` before it.
-pub(crate) fn assert_each<N: Abort + Wait>(
-    rt: &N,
-    alloc: Global,
-    exchanges: &[Exchange],
-) -> Result<(), Fail> {
-    assert_eq!(rt; answered_count(rt, alloc, exchanges)?, exchanges.len());
-    Ok(())
-}
-
 /// Asserts that a session within these limits has these exchanges, and closes for this reason.
 pub(crate) fn assert_session<N: Abort + Wait>(
     rt: &N,
@@ -451,13 +315,4 @@ pub(crate) fn assert_session<N: Abort + Wait>(
 ) -> Result<(), Fail> {
     assert!(rt; is_session(rt, alloc, exchanges, limits, end)?);
     Ok(())
-}
-
-/// Asserts that a session has these exchanges, to the end of what the client sends.
-pub(crate) fn assert_answered<N: Abort + Wait>(
-    rt: &N,
-    alloc: Global,
-    exchanges: &[Exchange],
-) -> Result<(), Fail> {
-    assert_session(rt, alloc, exchanges, Limits::full(), Closing::Finished)
 }

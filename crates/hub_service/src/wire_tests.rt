@@ -2,9 +2,7 @@
 
 use crate::session_tests::Answer::{Feed, Nothing, Written};
 use crate::session_tests::Ask::{Batch, Bytes, Line};
-use crate::session_tests::{
-    Exchange, MAKE, STORED, answers, asks, assert_answered, assert_session,
-};
+use crate::session_tests::{Exchange, MAKE, STORED, answers, asks, assert_session};
 use crate::stream::answer_stream;
 use hub_document::Limits;
 use hub_http::{HttpFault, Requests, Tally};
@@ -212,88 +210,6 @@ fn heads_that_end(rt: HostRuntime) -> Result<(), Fail> {
     let count = cut_count(&rt, rt.alloc(), HEAD.as_bytes())?;
     assert_eq!(rt; count, HEAD.len());
     Ok(())
-}
-
-const MODES: &[Exchange] = &[
-    MAKE,
-    (
-        Batch(&[r#"{"_id":"a","_rev":"1-a"}"#, r#"{"_id":"b","_rev":"1-b"}"#]),
-        STORED,
-    ),
-    (
-        Line("GET /d/_changes?feed=continuous"),
-        Written(concat!(
-            "HTTP/1.1 200 OK\r\nContent-Type: application/json\r\nTransfer-Encoding: chunked\r\n\r\n",
-            "2d\r\n",
-            r#"{"seq":1,"id":"a","changes":[{"rev":"1-a"}]}"#,
-            "\n\r\n",
-            "2d\r\n",
-            r#"{"seq":2,"id":"b","changes":[{"rev":"1-b"}]}"#,
-            "\n\r\n",
-            "1b\r\n{\"last_seq\":2,\"pending\":0}\n\r\n",
-            "0\r\n\r\n"
-        )),
-    ),
-    (
-        Line("GET /d/_changes?feed=longpoll&since=1"),
-        Written(concat!(
-            "HTTP/1.1 200 OK\r\nContent-Type: application/json\r\nTransfer-Encoding: chunked\r\n\r\n",
-            "d\r\n{\"results\":[\n\r\n",
-            "2c\r\n",
-            r#"{"seq":2,"id":"b","changes":[{"rev":"1-b"}]}"#,
-            "\r\n",
-            "1e\r\n\n],\n\"last_seq\":2,\"pending\":0}\n\r\n",
-            "0\r\n\r\n"
-        )),
-    ),
-    (
-        Line("GET /d/_changes?feed=longpoll&since=2"),
-        Written(concat!(
-            "HTTP/1.1 200 OK\r\nContent-Type: application/json\r\nTransfer-Encoding: chunked\r\n\r\n",
-            "d\r\n{\"results\":[\n\r\n",
-            "1e\r\n\n],\n\"last_seq\":2,\"pending\":0}\n\r\n",
-            "0\r\n\r\n"
-        )),
-    ),
-];
-
-/// A continuous feed has no chunk at its head, and ends as a longpoll feed does where nothing is due.
-#[test]
-fn chunks_by_mode(rt: HostRuntime) -> Result<(), Fail> {
-    assert_answered(&rt, rt.alloc(), MODES)
-}
-
-const LONGPOLL: &[Exchange] = &[
-    MAKE,
-    (
-        Batch(&[
-            r#"{"_id":"a","_rev":"1-a"}"#,
-            r#"{"_id":"b","_rev":"1-b"}"#,
-            r#"{"_id":"c","_rev":"1-c"}"#,
-            r#"{"_id":"e","_rev":"1-e"}"#,
-            r#"{"_id":"f","_rev":"1-f"}"#,
-        ]),
-        STORED,
-    ),
-    (
-        Line("GET /d/_changes?feed=longpoll&filter=_design"),
-        Feed(&[], 5, 0),
-    ),
-    (Batch(&[r#"{"_id":"_design/x","_rev":"1-x"}"#]), STORED),
-    (
-        Line("GET /d/_changes?feed=longpoll&filter=_design"),
-        Feed(
-            &[r#"{"seq":6,"id":"_design/x","changes":[{"rev":"1-x"}]}"#],
-            6,
-            0,
-        ),
-    ),
-];
-
-/// A longpoll feed of which no row passes ends at the last row that it looked at.
-#[test]
-fn a_longpoll_feed_of_designs(rt: HostRuntime) -> Result<(), Fail> {
-    assert_answered(&rt, rt.alloc(), LONGPOLL)
 }
 
 const CLOSING_FEED: &[Exchange] = &[

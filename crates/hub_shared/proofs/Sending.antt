@@ -19,7 +19,7 @@ use Rattle.hub_lane.specs.Ends.{behind_push, new_sender}
 use Rattle.hub_shared.specs.Label.{Label, label_of}
 use Rattle.hub_shared.specs.Locked.{FeedSender, IsSenderOf, IsServed, AreSendersOf}
 use Rattle.hub_shared.specs.Senders.{sends, MaySend}
-use Rattle.hub_shared.proofs.Serving.{feed_of, sender_of, moves, sender_sends, sender_comes, sender_goes, stays_served}
+use Rattle.hub_shared.proofs.Serving.{sender_of, moves, sender_sends, sender_comes, sender_goes, stays_served}
 
 -- a step keeps what a feed was asked for, and where it began
 step_keeps : (f : Feed) (d : Due) (len : ℕ) → ((after_due f d len).params ≡ f.params) × ((after_due f d len).since ≡ f.since)
@@ -173,10 +173,6 @@ module _ {S R : Type 0} (hosted : S → Hosted R) (with_hosted : S → Hosted R 
         let h = hosted s in
         let feeds = without id h.feeds in
         seen s feeds h.next_feed (without id senders) (sender_goes (fits s) (fits (moved s feeds h.next_feed)) (stays s (with_feeds h feeds h.next_feed)) id h (with_feeds h feeds h.next_feed) (λ q n. other_without id q n h.feeds) senders refl d (own_without id h.feeds))
-
-    -- the sender that goes is that of the feed
-    pub sender_is_right : (x : FeedSender R) → entry_in id senders ≡ Some x → (f : Feed) × (entry_in id (hosted s).feeds ≡ Some f) × IsSenderOf (fits s) f x
-    sender_is_right x holds = feed_of (fits s) (entry_in id (hosted s).feeds) (entry_in id senders) x holds (d.each id)
 
   -- the label of a feed that begins now allows that nothing was sent
   pub nothing_allowed : (s : S) (params : FeedParams) → ((p : Params) → fits s (begin p (hosted s).length) []) → Allows (label_of params (hosted s).length) []

@@ -68,14 +68,7 @@ module _ {R : Type 0} (old_fits new_fits : Feed → List (Item R) → Type 0) (k
 
 -- of what is served
 module _ {R : Type 0} (fits : Feed → List (Item R) → Type 0) where
-  -- a sender is that of a feed
-  pub feed_of : (o : Option Feed) (s : Option (FeedSender R)) (x : FeedSender R) → s ≡ Some x → IsServed fits o s → (f : Feed) × (o ≡ Some f) × IsSenderOf fits f x
-  feed_of None None x is i = absurd (none-some x is)
-  feed_of None (Some s) x is i = absurd i
-  feed_of (Some f) None x is i = absurd i
-  feed_of (Some f) (Some s) x is i = (f, refl, subst (IsSenderOf fits f) (same_Some s x is) i)
-
-  -- and a feed has a sender
+  -- a feed has a sender
   pub sender_of : (o : Option Feed) (s : Option (FeedSender R)) (f : Feed) → o ≡ Some f → IsServed fits o s → (x : FeedSender R) × (s ≡ Some x) × IsSenderOf fits f x
   sender_of None None f is i = absurd (none-some f is)
   sender_of None (Some s) f is i = absurd i

@@ -7,8 +7,6 @@ mod locked;
 mod note;
 mod receipt;
 mod senders;
-#[cfg(test)]
-mod tests;
 mod write;
 
 pub use label::FeedLabel;

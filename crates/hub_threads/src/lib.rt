@@ -9,14 +9,10 @@ mod gate;
 mod guarded;
 mod handle;
 mod host;
-#[cfg(test)]
-mod ledger_tests;
 mod pumping;
 mod question;
 mod served;
 mod signals;
-#[cfg(test)]
-mod tests;
 mod times;
 mod updates;
 

@@ -1,11 +1,13 @@
 -- The rows of a log, by its pairs and its index.
-use Rattle.std.proofs.Common.{◌≡◌, ℕ, ◌+◌, ◌<◌, List, length, ap, sym, ◌∙◌, arith, find, get_or, Contains, ◌&&◌, nat_lt, Bool}
+use Rattle.std.proofs.Common.{◌≡◌, ℕ, ◌+◌, ◌<◌, List, length, ap, sym, ◌∙◌, arith, find, get_or, Contains}
+use Rattle.std.proofs.Common.{◌&&◌, nat_lt, Bool}
 use Rattle.std.specs.Prelude.{Option, Some, option_map, slice_get, string_bytes}
 use Rattle.std.proofs.lemmas.List.{length-map}
 use Rattle.std.proofs.lemmas.Option.{same_Some, slice_get-map, slice_get_within}
 use Rattle.hub_index.specs.Indexed.{id_in}
 use Rattle.hub_index.specs.Rows.{next_after}
 use Rattle.hub_index.proofs.IndexedLemmas.{current_edit, next_found, next_known}
+use Rattle.hub_index.proofs.ListLemmas.{at_place}
 use Rattle.hub_model.specs.Current.{Current, current}
 use Rattle.hub_model.specs.Feed.{is_within}
 use Rattle.hub_model.specs.Journal.{Edit}
@@ -14,22 +16,32 @@ use Rattle.hub_model.specs.declared.feeds.Style.{Style}
 use Rattle.hub_model.specs.declared.updates.UpdateKind.{UpdateKind}
 use Rattle.hub_updates.specs.declared.log.Pair.{Pair}
 use Rattle.hub_updates.specs.Kept.{IsKept, ids_of, note_at, notes_of, pair_of}
-use Rattle.hub_updates.proofs.KeptLemmas.{at_place}
 
-module _ (numbers : List ℕ → Option ℕ) (pairs : List Pair) (entries : List ℕ) (index : List (ℕ × ℕ)) (kept : IsKept numbers (ids_of pairs) entries index) where
+module _ (numbers : List ℕ → Option ℕ) (pairs : List Pair) (entries : List ℕ) (index : List (ℕ × ℕ))
+    (kept : IsKept numbers (ids_of pairs) entries index) where
   pair_low : (k : ℕ) (p : List ℕ × ℕ) → slice_get (ids_of pairs) k ≡ Some p → k < length pairs
   pair_low k p e = omega (arith, slice_get_within (ids_of pairs) k p e, length-map pairs pair_of)
 
-  pair_there : (k : ℕ) (p : Pair) → k < length pairs → p ≡ get_or pairs k p → slice_get (ids_of pairs) k ≡ Some (pair_of p)
+  pair_there : (k : ℕ) (p : Pair) → k < length pairs → p ≡ get_or pairs k p
+      → slice_get (ids_of pairs) k ≡ Some (pair_of p)
   pair_there k p low is = slice_get-map pair_of pairs k ∙ ap (option_map pair_of) (at_place pairs k p low is)
 
   -- the next row, which is of a pair that is there
   module _ (place : ℕ) (bound : Option ℕ) (r : ℕ × ℕ) (is : Some r ≡ next_after index place bound) where
     pub next_low : r.1 < length pairs
-    next_low = let w = next_known (slice_get (ids_of pairs)) (edits_of_log (notes_of (ids_of pairs) entries)) index kept.rows place bound r is in pair_low r.1 w.0 w.1
+    next_low =
+        let w =
+        next_known (slice_get (ids_of pairs)) (edits_of_log (notes_of (ids_of pairs) entries)) index kept.rows
+        place bound r is in
+        pair_low r.1 w.0 w.1
 
-    pub next_shown : (p : Pair) → p ≡ get_or pairs r.1 p → Some (record { seq = r.0; id = string_bytes p.id }) ≡ find (λ (c : Current). nat_lt place c.seq && is_within bound c.seq) (current (edits_of_log (notes_of (ids_of pairs) entries)))
-    next_shown p at = next_found (slice_get (ids_of pairs)) (edits_of_log (notes_of (ids_of pairs) entries)) index kept.rows place bound r is (pair_of p) (pair_there r.1 p next_low at)
+    pub next_shown : (p : Pair) → p ≡ get_or pairs r.1 p
+        → Some (record { seq = r.0; id = string_bytes p.id })
+        ≡ find (λ (c : Current). nat_lt place c.seq && is_within bound c.seq)
+        (current (edits_of_log (notes_of (ids_of pairs) entries)))
+    next_shown p at =
+        next_found (slice_get (ids_of pairs)) (edits_of_log (notes_of (ids_of pairs) entries)) index kept.rows
+        place bound r is (pair_of p) (pair_there r.1 p next_low at)
 
   -- the note at a place, which is of a pair that is there
   module _ (i x : ℕ) (low : i < length entries) (is : x ≡ get_or entries i x) where
@@ -41,26 +53,44 @@ module _ (numbers : List ℕ → Option ℕ) (pairs : List Pair) (entries : List
       pub entry_read : id_of (note_of (string_bytes p.id)) ≡ string_bytes p.id
       entry_read = kept.read x (pair_of p) (pair_there x p entry_low at)
 
-      entry_edit : slice_get (edits_of_log (notes_of (ids_of pairs) entries)) i ≡ Some (edit_of (note_of (string_bytes p.id)))
+      entry_edit : slice_get (edits_of_log (notes_of (ids_of pairs) entries)) i
+          ≡ Some (edit_of (note_of (string_bytes p.id)))
       entry_edit =
           slice_get-map edit_of (notes_of (ids_of pairs) entries) i
-          ∙ (ap (option_map edit_of) (slice_get-map (note_at (ids_of pairs)) entries i ∙ ap (option_map (note_at (ids_of pairs))) (at_place entries i x low is))
+          ∙ (ap (option_map edit_of)
+          (slice_get-map (note_at (ids_of pairs)) entries i
+          ∙ ap (option_map (note_at (ids_of pairs))) (at_place entries i x low is))
           ∙ ap (λ o. Some (edit_of (note_of (id_in o)))) (pair_there x p entry_low at))
 
       -- and is that of the current row, if there is one
-      entry_id : (c : Current) → Contains (current (edits_of_log (notes_of (ids_of pairs) entries))) c → c.seq ≡ i + 1 → string_bytes p.id ≡ c.id
+      entry_id : (c : Current) → Contains (current (edits_of_log (notes_of (ids_of pairs) entries))) c
+          → c.seq ≡ i + 1 → string_bytes p.id ≡ c.id
       entry_id c h s =
           let own = current_edit (edits_of_log (notes_of (ids_of pairs) entries)) c h i s in
-          sym entry_read ∙ (ap (λ (e : Edit). e.id) (same_Some (edit_of (note_of (string_bytes p.id))) own.0 (sym entry_edit ∙ own.1)) ∙ own.2)
+          sym entry_read
+          ∙ (ap (λ (e : Edit). e.id)
+          (same_Some (edit_of (note_of (string_bytes p.id))) own.0 (sym entry_edit ∙ own.1))
+          ∙ own.2)
 
       -- so the row is shown with its kind and its name
-      pub entry_row : (kind : UpdateKind) (name : List ℕ) (seq seen : ℕ) (style : Style) (include_docs : Bool) → kind ≡ (note_of (string_bytes p.id)).kind → name ≡ (note_of (string_bytes p.id)).name → seq ≡ i + 1 → seen ≡ length entries
-          → (c : Current) → Contains (current (edits_of_log (notes_of (ids_of pairs) entries))) c → c.seq ≡ seq
-          → record { db_name = name; kind = kind; seq = seq; seen = seen } ≡ update_row_of (edits_of_log (notes_of (ids_of pairs) entries)) style include_docs c
+      pub entry_row : (kind : UpdateKind) (name : List ℕ) (seq seen : ℕ) (style : Style) (include_docs : Bool)
+          → kind ≡ (note_of (string_bytes p.id)).kind → name ≡ (note_of (string_bytes p.id)).name
+          → seq ≡ i + 1 → seen ≡ length entries
+          → (c : Current) → Contains (current (edits_of_log (notes_of (ids_of pairs) entries))) c
+          → c.seq ≡ seq
+          → record { db_name = name; kind = kind; seq = seq; seen = seen }
+          ≡ update_row_of (edits_of_log (notes_of (ids_of pairs) entries)) style include_docs c
       entry_row kind name seq seen style include_docs kinds names here all c h e =
           let same : note_of (string_bytes p.id) ≡ note_of c.id = ap note_of (entry_id c h (e ∙ here)) in
-          let many : seen ≡ length (edits_of_log (notes_of (ids_of pairs) entries)) = omega (arith, all, length-map (notes_of (ids_of pairs) entries) edit_of, length-map entries (note_at (ids_of pairs))) in
-          let shown : UpdateKind → List ℕ → ℕ → ℕ → UpdateRow = λ k n s m. record { db_name = n; kind = k; seq = s; seen = m } in
+          let many : seen ≡ length (edits_of_log (notes_of (ids_of pairs) entries)) =
+          omega (
+            arith,
+            all,
+            length-map (notes_of (ids_of pairs) entries) edit_of,
+            length-map entries (note_at (ids_of pairs)),
+          ) in
+          let shown : UpdateKind → List ℕ → ℕ → ℕ → UpdateRow =
+          λ k n s m. record { db_name = n; kind = k; seq = s; seen = m } in
           ap (λ k. shown k name seq seen) (kinds ∙ ap (λ (n : Note). n.kind) same)
           ∙ (ap (λ n. shown (note_of c.id).kind n seq seen) (names ∙ ap (λ (n : Note). n.name) same)
           ∙ (ap (λ s. shown (note_of c.id).kind (note_of c.id).name s seen) (sym e)

@@ -10,7 +10,7 @@ ghost use Rattle.hub_model.specs.Updates.{id_of, letter_of};
 ghost use Rattle.hub_updates.specs.Kept.{ids_of, raised};
 
 use crate::notice::Notice;
-use hub_index::{SeqIndex, TreeIndex};
+use hub_index::{PageIndex, SeqIndex};
 use hub_model::UpdateKind;
 use std::alloc::{AllocError, Global};
 use std::collections::BTreeMap;
@@ -35,7 +35,7 @@ pub(crate) struct Log {
     /// The pairs' numbers by their ids.
     pub(crate) numbers: BTreeMap<String, u32>,
     /// The pairs' numbers by the sequences of their latest notes.
-    pub(crate) index: TreeIndex,
+    pub(crate) index: PageIndex,
     pub(crate) alloc: Global,
 }
 
@@ -83,7 +83,7 @@ fn number_of(numbers: &BTreeMap<String, u32>, id: &str) -> Option<u32>
 // Moves the row of a pair that is there to a new sequence. An error leaves all as it was.
 fn raise(
     pairs: &mut Vec<Pair>,
-    index: &mut TreeIndex,
+    index: &mut PageIndex,
     number: u32,
     seq: u64,
 ) -> Result<(), AllocError>
@@ -105,7 +105,7 @@ fn raise(
 // Takes in the id of a new pair, and its row. An error leaves both as they were.
 fn enter(
     numbers: &mut BTreeMap<String, u32>,
-    index: &mut TreeIndex,
+    index: &mut PageIndex,
     id: &str,
     key: String,
     number: u32,
@@ -135,7 +135,7 @@ fn enter(
 fn add(
     pairs: &mut Vec<Pair>,
     numbers: &mut BTreeMap<String, u32>,
-    index: &mut TreeIndex,
+    index: &mut PageIndex,
     alloc: Global,
     id: String,
     seq: u64,
@@ -171,7 +171,7 @@ impl Log {
             notes: Vec::new(alloc),
             pairs: Vec::new(alloc),
             numbers: BTreeMap::new(alloc),
-            index: TreeIndex::new(alloc),
+            index: PageIndex::new(alloc),
             alloc,
         }
     }

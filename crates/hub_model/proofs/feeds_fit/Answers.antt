@@ -1,4 +1,4 @@
-use Rattle.hub_model.proofs.Fitting.{fits_begin, fits_grows, fits_handed, fits_nothing, fits_beat, fits_expire, fits_close, fits_finish}
+use Rattle.hub_model.proofs.Fitting.{fits_begin, fits_grows, fits_handed, fits_nothing, fits_beat, fits_expire, fits_close, fits_finish, limited_ends}
 use Rattle.hub_model.specs.RowKind.{change_rows, update_rows}
 use Rattle.hub_model.proofs.feeds_fit.Goals as goal
 
@@ -25,3 +25,6 @@ returns-clause-ended c = (fits_close change_rows, fits_close update_rows)
 
 pub returns-clause-finished : goal.returns-clause-finished
 returns-clause-finished c = (fits_finish change_rows, fits_finish update_rows)
+
+pub returns-clause-limited : goal.returns-clause-limited
+returns-clause-limited c = (limited_ends change_rows, limited_ends update_rows)

@@ -4,7 +4,7 @@ use Rattle.std.specs.Str.{bytes_eq}
 use Rattle.std.specs.BTreeMap.{get_by_text}
 use Rattle.std.specs.String.{string_bytes}
 use Rattle.std.proofs.lemmas.Map.Text.{btree_map_updates_text}
-use Rattle.hub_updates.proofs.KeptLemmas.{taken_back}
+use Rattle.hub_index.proofs.ListLemmas.{taken_back}
 use Rattle.hub_updates.proofs.log.enter.Goals as goal
 
 pub returns-clause-numbers : goal.returns-clause-numbers

@@ -1,9 +1,12 @@
 use Rattle.std.proofs.Common.{arith, sym, ◌∙◌}
-use Rattle.hub_database.proofs.RowLemmas.{last_low, last_found, last_nothing}
+use Rattle.hub_index.proofs.IndexedLemmas.{last_nothing}
+use Rattle.hub_database.specs.Indexed.{latest_at}
+use Rattle.hub_database.specs.Store.{edits_of_store, files}
+use Rattle.hub_database.proofs.RowLemmas.{last_low, last_shown}
 use Rattle.hub_database.proofs.rows.Rows.last_before.Goals as goal
 
 pub returns-in_default : goal.returns-in_default
-returns-in_default c = rw (sym c.self.view_is) (last_nothing c.self.inside.store.now.documents.items c.self.inside.store.now.journal.items c.self.inside.store.now.index c.self.invariant.1 c.args.place (sym c.in_default.is ∙ c.last_before.ensures.last))
+returns-in_default c = rw (sym c.self.view_is) (last_nothing (latest_at (files c.self.inside.store.now.documents.items)) (edits_of_store c.self.inside.store.now) c.self.inside.store.now.index c.self.invariant.1 c.args.place (sym c.in_default.is ∙ c.last_before.ensures.last))
 
 pub index-document-requires : goal.index-document-requires
 index-document-requires c = omega (arith, last_low c.self.inside.store.now.documents.items c.self.inside.store.now.journal.items c.self.inside.store.now.index c.self.invariant.1 c.args.place (c.in-Some.seq, c.in-Some.number) c.in-Some.ensures.last, c.self.inside.store.now.documents.ok.0)
@@ -11,4 +14,4 @@ index-document-requires c = omega (arith, last_low c.self.inside.store.now.docum
 pub returns : goal.returns
 returns c =
     rw (sym c.self.view_is, c.as_str.ensures.value)
-    (last_found c.self.inside.store.now.documents.items c.self.inside.store.now.journal.items c.self.inside.store.now.index c.self.invariant.1 c.args.place (c.in-Some.seq, c.in-Some.number) c.in-Some.ensures.last c.index-document.result.now c.index-document.ensures)
+    (last_shown c.self.inside.store.now.documents.items c.self.inside.store.now.journal.items c.self.inside.store.now.index c.self.invariant.1 c.args.place (c.in-Some.seq, c.in-Some.number) c.in-Some.ensures.last c.index-document.result.now c.index-document.ensures)

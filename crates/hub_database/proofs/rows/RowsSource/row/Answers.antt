@@ -2,12 +2,13 @@ use Rattle.std.proofs.Common.{◌≡◌, ◌∙◌, ◌-◌, List, length, arith
 use Rattle.std.specs.Prelude.{IfOk}
 use Rattle.std.specs.BTreeMap.{get_by_text}
 use Rattle.std.proofs.lemmas.List.{length-map}
+use Rattle.hub_index.proofs.IndexedLemmas.{row_lies}
 use Rattle.hub_model.specs.Current.{Current, current}
 use Rattle.hub_model.specs.Journal.{Edit}
 use Rattle.hub_model.specs.Row.{row_of}
 use Rattle.hub_database.specs.Filed.{edit_at}
 use Rattle.hub_database.specs.Store.{files, edits_of_store}
-use Rattle.hub_database.proofs.RowLemmas.{row_lies, entry_low, row_answer}
+use Rattle.hub_database.proofs.RowLemmas.{entry_low, row_answer}
 use Rattle.hub_database.proofs.rows.RowsSource.row.Goals as goal
 
 pub overflow_sub-seq : goal.overflow_sub-seq

@@ -1,0 +1,19 @@
+//! Databases, as their users see them.
+#![tactic(auto)]
+
+#[cfg(test)]
+mod deletion_tests;
+#[cfg(test)]
+mod feed_tests;
+#[cfg(test)]
+mod host_tests;
+#[cfg(test)]
+mod local_tests;
+#[cfg(test)]
+mod made_tests;
+#[cfg(test)]
+mod read_tests;
+#[cfg(test)]
+mod tests;
+#[cfg(test)]
+mod waiting_tests;

@@ -1,0 +1,532 @@
+//! What a database shows of its documents.
+
+use crate::feed_tests::{are_revs, asked};
+use crate::read_tests::ReadStep::{All, Descending, Diff, Entry, Get, Listed, Winner};
+use crate::read_tests::Shown::{Absent, Deleted, Found, Unknown};
+use crate::tests::Step::{Batch, Read};
+use crate::tests::{Step, all_are, assert_steps};
+use hub_database::{DbFault, DbState, Descending as Falling, Diff as Difference, Lookup, OpenRev};
+use hub_document::{Asked, ChangeRow, Doc, OpenRevs, RevId, Revisions};
+use hub_model::Outcome::Stored;
+use std::alloc::{AllocError, Global};
+
+/// What is asked of the documents, and its answer.
+pub(crate) enum ReadStep {
+    /// The winner of a document, and whether it is deleted.
+    Winner(&'static str, Option<(&'static str, bool)>),
+    /// A document, with its history or without.
+    Get(&'static str, bool, Result<Shown, DbFault>),
+    /// The leaves of a document, with their histories or without.
+    All(&'static str, bool, Result<&'static [Shown], DbFault>),
+    /// These revisions of a document, with their histories or without.
+    Listed(&'static str, &'static [&'static str], bool, &'static [Shown]),
+    /// What documents miss of these revisions.
+    Diff(&'static [Wanted], Result<&'static [Missed], DbFault>),
+    /// The edit of a sequence: its document, its revision and its text.
+    Entry(u64, Option<(&'static str, &'static str, &'static str)>),
+    /// The answer to a descending feed: the sequences of its rows, its last one and how many rows
+    /// are pending.
+    Descending(&'static str, Result<(&'static [u64], u64, u64), DbFault>),
+}
+
+/// What is shown of a document or a revision.
+pub(crate) enum Shown {
+    Unknown,
+    Deleted,
+    /// This revision is missing.
+    Absent(&'static str),
+    /// The document, as it is written.
+    Found(&'static str),
+}
+
+/// Revisions of a document that are asked for.
+pub(crate) struct Wanted {
+    id: &'static str,
+    revs: &'static [&'static str],
+}
+
+/// What a document misses of the revisions that are asked for.
+pub(crate) struct Missed {
+    id: &'static str,
+    missing: &'static [&'static str],
+    ancestors: &'static [&'static str],
+}
+
+// Whether this is the winner of a document, with its mark.
+fn wins(state: &DbState, id: &str, answer: Option<(&str, bool)>) -> bool {
+    match (state.winner(id), answer) {
+        (Some(winner), Some((text, deleted))) => {
+            RevId::read(text) == Some(winner.rev) && winner.deleted == deleted
+        }
+        (None, None) => true,
+        _ => false,
+    }
+}
+
+// Whether a document is written so.
+fn is_written(alloc: Global, doc: &Doc, text: &str) -> bool {
+    let mut out = Vec::new(alloc);
+    let written = doc.write(&mut out);
+    written.is_ok() && out.as_slice() == text.as_bytes()
+}
+
+// Whether this is shown of a document.
+fn is_shown(alloc: Global, found: &Lookup, shown: &Shown) -> bool {
+    match (found, shown) {
+        (Lookup::Found(doc), Found(text)) => is_written(alloc, doc, text),
+        (Lookup::Deleted, Deleted) | (Lookup::Unknown, Unknown) => true,
+        _ => false,
+    }
+}
+
+// Whether an answer to a look for a document is this.
+fn is_got(alloc: Global, found: &Result<Lookup, DbFault>, answer: &Result<Shown, DbFault>) -> bool {
+    match (found, answer) {
+        (Ok(found), Ok(shown)) => is_shown(alloc, found, shown),
+        (Err(fault), Err(other)) => fault == other,
+        _ => false,
+    }
+}
+
+// Whether asking for a document has this answer.
+fn gets(
+    alloc: Global,
+    state: &DbState,
+    id: &str,
+    revs: bool,
+    answer: &Result<Shown, DbFault>,
+) -> bool {
+    let found = state.get(id, revs);
+    is_got(alloc, &found, answer)
+}
+
+// Whether this is shown of a revision.
+fn is_opened(alloc: Global, found: &OpenRev, shown: &Shown) -> bool {
+    match (found, shown) {
+        (OpenRev::Found(doc), Found(text)) => is_written(alloc, doc, text),
+        (OpenRev::Missing(rev), Absent(text)) => RevId::read(text) == Some(*rev),
+        _ => false,
+    }
+}
+
+// Whether an answer to a look for revisions is this.
+fn are_opened(
+    alloc: Global,
+    found: &Result<Vec<OpenRev>, DbFault>,
+    answer: Result<&[Shown], DbFault>,
+) -> bool {
+    match (found, answer) {
+        (Ok(found), Ok(shown)) => all_are(found.as_slice(), shown, |open, shown| {
+            is_opened(alloc, open, shown)
+        }),
+        (Err(fault), Err(other)) => *fault == other,
+        _ => false,
+    }
+}
+
+// Whether asking for revisions of a document has this answer.
+fn opens(
+    alloc: Global,
+    state: &DbState,
+    id: &str,
+    which: &OpenRevs,
+    revs: bool,
+    answer: Result<&[Shown], DbFault>,
+) -> bool {
+    let found = state.open_revs(id, which, revs);
+    are_opened(alloc, &found, answer)
+}
+
+// Whether asking for the leaves of a document has this answer.
+fn opens_all(
+    alloc: Global,
+    state: &DbState,
+    id: &str,
+    revs: bool,
+    answer: Result<&[Shown], DbFault>,
+) -> bool {
+    opens(alloc, state, id, &OpenRevs::All, revs, answer)
+}
+
+// The revisions that the texts are; None where one is none.
+fn revisions(alloc: Global, texts: &[&str]) -> Option<Revisions> {
+    let mut list = Vec::new(alloc);
+    for text in texts {
+        list.push(RevId::read(text)?).ok()?;
+    }
+    Some(Revisions::new(list))
+}
+
+// Whether these are shown of listed revisions of a document.
+fn lists(
+    alloc: Global,
+    state: &DbState,
+    id: &str,
+    texts: &[&str],
+    revs: bool,
+    shown: &[Shown],
+) -> bool {
+    match revisions(alloc, texts) {
+        Some(listed) => opens(alloc, state, id, &OpenRevs::Listed(listed), revs, Ok(shown)),
+        None => false,
+    }
+}
+
+// What is asked of a document.
+fn asked_of(alloc: Global, wanted: &Wanted) -> Option<Asked> {
+    let revs = revisions(alloc, wanted.revs)?;
+    let id = String::from_str(alloc, wanted.id).ok()?;
+    Some(Asked { id, revs })
+}
+
+// What is asked of documents.
+fn all_asked(alloc: Global, wanted: &[Wanted]) -> Option<Vec<Asked>> {
+    let mut list = Vec::new(alloc);
+    for wanted in wanted {
+        list.push(asked_of(alloc, wanted)?).ok()?;
+    }
+    Some(list)
+}
+
+// Whether a document misses this.
+fn misses(diff: &Difference, missed: &Missed) -> bool {
+    diff.id.as_str() == missed.id
+        && are_revs(diff.missing.as_slice(), missed.missing)
+        && are_revs(diff.possible_ancestors.as_slice(), missed.ancestors)
+}
+
+// Whether an answer to what documents miss is this.
+fn all_miss(found: &Result<Vec<Difference>, DbFault>, answer: Result<&[Missed], DbFault>) -> bool {
+    match (found, answer) {
+        (Ok(found), Ok(missed)) => all_are(found.as_slice(), missed, misses),
+        (Err(fault), Err(other)) => *fault == other,
+        _ => false,
+    }
+}
+
+// Whether asking what documents miss has this answer.
+fn differs(
+    alloc: Global,
+    state: &DbState,
+    wanted: &[Wanted],
+    answer: Result<&[Missed], DbFault>,
+) -> bool {
+    match all_asked(alloc, wanted) {
+        Some(list) => {
+            let found = state.revs_diff(list);
+            all_miss(&found, answer)
+        }
+        None => false,
+    }
+}
+
+// Whether the edit of a sequence is of this document and revision; where there is none, None.
+fn is_named(state: &DbState, seq: u64, name: Option<(&str, &str)>) -> bool {
+    match (state.entry(seq), name) {
+        (Some((found, head)), Some((id, text))) => found == id && RevId::read(text) == Some(head),
+        (None, None) => true,
+        _ => false,
+    }
+}
+
+// Whether the document of an edit is written so; where there is none, None.
+fn is_edit(alloc: Global, found: &Option<Doc>, text: Option<&str>) -> bool {
+    match (found, text) {
+        (Some(doc), Some(text)) => is_written(alloc, doc, text),
+        (None, None) => true,
+        _ => false,
+    }
+}
+
+// Whether the edit of a sequence is written so; where there is none, None.
+fn has_edit(alloc: Global, state: &DbState, seq: u64, text: Option<&str>) -> bool {
+    match state.entry_doc(seq) {
+        Ok(found) => is_edit(alloc, &found, text),
+        Err(AllocError) => false,
+    }
+}
+
+// Whether a row is of this sequence.
+fn is_at(row: &ChangeRow, seq: &u64) -> bool {
+    row.seq == *seq
+}
+
+// Whether descending rows have these sequences, this last one and this count.
+fn is_falling(found: &Falling, (seqs, last_seq, pending): (&[u64], u64, u64)) -> bool {
+    all_are(found.rows.as_slice(), seqs, is_at)
+        && found.last_seq == last_seq
+        && found.pending == pending
+}
+
+// Whether an answer to a descending feed is this.
+fn are_falling(
+    found: &Result<Falling, DbFault>,
+    answer: Result<(&[u64], u64, u64), DbFault>,
+) -> bool {
+    match (found, answer) {
+        (Ok(found), Ok(rows)) => is_falling(found, rows),
+        (Err(fault), Err(other)) => *fault == other,
+        _ => false,
+    }
+}
+
+// Whether asking for descending rows has this answer.
+fn falls(
+    alloc: Global,
+    state: &DbState,
+    query: &str,
+    answer: Result<(&[u64], u64, u64), DbFault>,
+) -> bool {
+    match asked(alloc, query) {
+        Some(params) => {
+            let found = state.changes_descending(&params);
+            are_falling(&found, answer)
+        }
+        None => false,
+    }
+}
+
+// Whether the edit of a sequence has this answer.
+fn has_entry(alloc: Global, state: &DbState, seq: u64, answer: Option<(&str, &str, &str)>) -> bool {
+    match answer {
+        Some((id, rev, text)) => {
+            is_named(state, seq, Some((id, rev))) && has_edit(alloc, state, seq, Some(text))
+        }
+        None => is_named(state, seq, None) && has_edit(alloc, state, seq, None),
+    }
+}
+
+/// Whether a step has its answer.
+pub(crate) fn read_holds(alloc: Global, state: &DbState, step: &ReadStep) -> bool {
+    match step {
+        Winner(id, answer) => wins(state, id, *answer),
+        Get(id, revs, answer) => gets(alloc, state, id, *revs, answer),
+        All(id, revs, answer) => opens_all(alloc, state, id, *revs, *answer),
+        Listed(id, texts, revs, shown) => lists(alloc, state, id, texts, *revs, shown),
+        Diff(wanted, answer) => differs(alloc, state, wanted, *answer),
+        Entry(seq, answer) => has_entry(alloc, state, *seq, *answer),
+        Descending(query, answer) => falls(alloc, state, query, *answer),
+    }
+}
+
+// Two edits of a document, and another document between them.
+const PLAIN: Step = Batch(
+    &[
+        r#"{"_id":"a","_rev":"1-a","v":1}"#,
+        r#"{"_id":"b","_rev":"1-b","v":2}"#,
+        r#"{"_id":"a","_revisions":{"start":2,"ids":["c","a"]},"v":3}"#,
+    ],
+    &[Stored("1-a"), Stored("1-b"), Stored("2-c")],
+);
+
+// A document with two leaves and a deleted one above them, whose parent came inside its history
+// alone; and a deleted document.
+const CONFLICTS: Step = Batch(
+    &[
+        r#"{"_id":"a","_rev":"1-a","v":1}"#,
+        r#"{"_id":"a","_revisions":{"start":2,"ids":["c","a"]},"v":2}"#,
+        r#"{"_id":"a","_deleted":true,"_revisions":{"start":3,"ids":["f","e","a"]}}"#,
+        r#"{"_id":"a","_revisions":{"start":2,"ids":["d","a"]},"v":4}"#,
+        r#"{"_id":"b","_deleted":true,"_rev":"1-b"}"#,
+    ],
+    &[
+        Stored("1-a"),
+        Stored("2-c"),
+        Stored("3-f"),
+        Stored("2-d"),
+        Stored("1-b"),
+    ],
+);
+
+const WINNERS: &[Step] = &[
+    CONFLICTS,
+    Read(Winner("a", Some(("2-d", false)))),
+    Read(Winner("b", Some(("1-b", true)))),
+    Read(Winner("z", None)),
+    Read(Winner("", None)),
+];
+
+#[test]
+fn winners(rt: HostRuntime) {
+    assert_steps(&rt, rt.alloc(), WINNERS);
+}
+
+const DOCUMENTS: &[Step] = &[
+    CONFLICTS,
+    Read(Get("a", false, Ok(Found(r#"{"_id":"a","_rev":"2-d","v":4}"#)))),
+    Read(Get(
+        "a",
+        true,
+        Ok(Found(r#"{"_id":"a","_rev":"2-d","_revisions":{"start":2,"ids":["d","a"]},"v":4}"#)),
+    )),
+    Read(Get("b", false, Ok(Deleted))),
+    Read(Get("b", true, Ok(Deleted))),
+    Read(Get("z", false, Ok(Unknown))),
+    Read(Get("z", true, Ok(Unknown))),
+];
+
+#[test]
+fn documents(rt: HostRuntime) {
+    assert_steps(&rt, rt.alloc(), DOCUMENTS);
+}
+
+// Revisions of which one is unknown, and one stands twice.
+const TWICE: &[&str] = &["1-a", "2-c", "9-z", "2-c"];
+
+const ABSENT: &[Shown] = &[Absent("1-a"), Absent("2-c"), Absent("9-z"), Absent("2-c")];
+
+const LISTED: &[Step] = &[
+    PLAIN,
+    Read(Listed(
+        "a",
+        TWICE,
+        true,
+        &[
+            Found(r#"{"_id":"a","_rev":"1-a","_revisions":{"start":1,"ids":["a"]},"v":1}"#),
+            Found(r#"{"_id":"a","_rev":"2-c","_revisions":{"start":2,"ids":["c","a"]},"v":3}"#),
+            Absent("9-z"),
+            Found(r#"{"_id":"a","_rev":"2-c","_revisions":{"start":2,"ids":["c","a"]},"v":3}"#),
+        ],
+    )),
+    Read(Listed(
+        "a",
+        TWICE,
+        false,
+        &[
+            Found(r#"{"_id":"a","_rev":"1-a","v":1}"#),
+            Found(r#"{"_id":"a","_rev":"2-c","v":3}"#),
+            Absent("9-z"),
+            Found(r#"{"_id":"a","_rev":"2-c","v":3}"#),
+        ],
+    )),
+    Read(Listed("b", TWICE, true, ABSENT)),
+    Read(Listed("z", TWICE, true, ABSENT)),
+];
+
+#[test]
+fn listed_revisions(rt: HostRuntime) {
+    assert_steps(&rt, rt.alloc(), LISTED);
+}
+
+const LEAVES: &[Step] = &[
+    CONFLICTS,
+    Read(All(
+        "a",
+        false,
+        Ok(&[
+            Found(r#"{"_id":"a","_rev":"2-d","v":4}"#),
+            Found(r#"{"_id":"a","_rev":"2-c","v":2}"#),
+            Found(r#"{"_id":"a","_rev":"3-f","_deleted":true}"#),
+        ]),
+    )),
+    Read(All(
+        "b",
+        true,
+        Ok(&[Found(
+            r#"{"_id":"b","_rev":"1-b","_deleted":true,"_revisions":{"start":1,"ids":["b"]}}"#,
+        )]),
+    )),
+    Read(All("z", true, Ok(&[]))),
+];
+
+#[test]
+fn all_leaves(rt: HostRuntime) {
+    assert_steps(&rt, rt.alloc(), LEAVES);
+}
+
+// The deleted leaf's history, whose middle has no members.
+const HISTORY: &[Step] = &[
+    CONFLICTS,
+    Read(Listed(
+        "a",
+        &["3-f", "2-e", "1-a"],
+        true,
+        &[
+            Found(
+                r#"{"_id":"a","_rev":"3-f","_deleted":true,"_revisions":{"start":3,"ids":["f","e","a"]}}"#,
+            ),
+            Absent("2-e"),
+            Found(r#"{"_id":"a","_rev":"1-a","_revisions":{"start":1,"ids":["a"]},"v":1}"#),
+        ],
+    )),
+];
+
+#[test]
+fn an_ancestor_without_members(rt: HostRuntime) {
+    assert_steps(&rt, rt.alloc(), HISTORY);
+}
+
+const DIFFERENCES: &[Step] = &[
+    PLAIN,
+    Read(Diff(
+        &[
+            Wanted {
+                id: "a",
+                revs: &["1-a", "2-d", "3-e"],
+            },
+            Wanted {
+                id: "b",
+                revs: &["1-b"],
+            },
+            Wanted { id: "y", revs: &[] },
+            Wanted {
+                id: "z",
+                revs: &["1-q"],
+            },
+        ],
+        Ok(&[
+            Missed {
+                id: "a",
+                missing: &["2-d", "3-e"],
+                ancestors: &["2-c"],
+            },
+            Missed {
+                id: "z",
+                missing: &["1-q"],
+                ancestors: &[],
+            },
+        ]),
+    )),
+    Read(Diff(&[], Ok(&[]))),
+];
+
+#[test]
+fn differences(rt: HostRuntime) {
+    assert_steps(&rt, rt.alloc(), DIFFERENCES);
+}
+
+const ENTRIES: &[Step] = &[
+    PLAIN,
+    Read(Entry(0, None)),
+    Read(Entry(
+        1,
+        Some((
+            "a",
+            "1-a",
+            r#"{"_id":"a","_rev":"1-a","_revisions":{"start":1,"ids":["a"]},"v":1}"#,
+        )),
+    )),
+    Read(Entry(
+        2,
+        Some((
+            "b",
+            "1-b",
+            r#"{"_id":"b","_rev":"1-b","_revisions":{"start":1,"ids":["b"]},"v":2}"#,
+        )),
+    )),
+    Read(Entry(
+        3,
+        Some((
+            "a",
+            "2-c",
+            r#"{"_id":"a","_rev":"2-c","_revisions":{"start":2,"ids":["c","a"]},"v":3}"#,
+        )),
+    )),
+    Read(Entry(4, None)),
+    Read(Entry(u64::MAX, None)),
+];
+
+#[test]
+fn entries(rt: HostRuntime) {
+    assert_steps(&rt, rt.alloc(), ENTRIES);
+}

@@ -1,0 +1,302 @@
+//! Databases as tables: what is done to one, and what it answers. Writes and their replies.
+
+use crate::feed_tests::FeedStep::{Finish, Hands, Open};
+use crate::feed_tests::Handed::{End, Whole};
+use crate::feed_tests::{FIRST, FeedStep, Handed, SECOND, ShownRow, feed_holds};
+use crate::host_tests::host_holds;
+use crate::local_tests::{LocalStep, local_holds};
+use crate::read_tests::{ReadStep, read_holds};
+use crate::tests::Step::{Batch, Feed, Seq};
+use hub_database::{Batch as Written, DbFault, DbState, Info};
+use hub_document::{Doc, Limits, RevId};
+use hub_feed::FeedHost;
+use hub_model::Fault;
+use hub_model::Outcome::{self, Known, Refused, Stored};
+use std::alloc::{AllocError, Global};
+use std::process::Abort;
+
+/// A step on a database, and its answer. Revisions are written as in documents.
+pub(crate) enum Step {
+    /// A batch of documents that another database made, and what each is told.
+    Batch(&'static [&'static str], &'static [Outcome<&'static str>]),
+    /// A batch of documents whose revisions are made here, and what each is told.
+    Edits(&'static [&'static str], &'static [Outcome<&'static str>]),
+    /// A batch of one document `a` that another database made, with 65,535 revisions `x`, which is
+    /// the longest history that there is.
+    LongHistory(Outcome<&'static str>),
+    /// A document whose revision is made here, and that revision.
+    Make(&'static str, Result<&'static str, DbFault>),
+    /// How many documents there are, how many deleted ones, and how many edits.
+    Counts(Result<(u64, u64, u64), DbFault>),
+    /// How many edits there are.
+    Seq(u64),
+    /// How many edits there are for a host of feeds.
+    Length(u64),
+    /// The database is deleted.
+    Delete(Result<(), DbFault>),
+    /// Whether the database is deleted.
+    IsDeleted(bool),
+    /// A step on its feeds.
+    Feed(FeedStep),
+    /// A step on its feeds as those of any host.
+    Hosted(FeedStep),
+    /// A step on its local documents.
+    Local(LocalStep),
+    /// What it shows of its documents.
+    Read(ReadStep),
+}
+
+/// What each call tells whose database is deleted.
+pub(crate) const DELETED: DbFault = DbFault::Refused(Fault::Deleted);
+
+/// Whether each of these is as wanted, and there are as many.
+pub(crate) fn all_are<T, W, F: Fn(&T, &W) -> bool>(found: &[T], wanted: &[W], is: F) -> bool
+    requires { F.IsAlwaysCallable is }
+{
+    let mut at = 0usize;
+    for found in found {
+        let Some(wanted) = wanted.get(at) else {
+            return false;
+        };
+        if !is(found, wanted) {
+            return false;
+        }
+        at = at.saturating_add(1);
+    }
+    at == wanted.len()
+}
+
+// The documents that the texts are; None where one is none.
+fn docs(alloc: Global, texts: &[&str], new_edits: bool) -> Option<Vec<Doc>> {
+    let mut docs = Vec::new(alloc);
+    for text in texts {
+        docs.try_reserve(1).ok()?;
+        docs.push_reserved(Doc::read(alloc, text.as_bytes(), new_edits).ok()?);
+    }
+    Some(docs)
+}
+
+// Whether a document was told so.
+fn is_told(reply: &Outcome<RevId>, told: &Outcome<&str>) -> bool {
+    match (*reply, *told) {
+        (Stored(rev), Stored(text)) => RevId::read(text) == Some(rev),
+        (Refused(fault), Refused(other)) => fault == other,
+        (Known, Known) => true,
+        _ => false,
+    }
+}
+
+// Whether the documents of a whole batch were told so.
+fn are_told(batch: &Written, told: &[Outcome<&str>]) -> bool {
+    !batch.stopped && all_are(batch.replies.as_slice(), told, is_told)
+}
+
+// Whether the documents of a batch are told so.
+fn tells(
+    alloc: Global,
+    state: &mut DbState,
+    texts: &[&str],
+    new_edits: bool,
+    told: &[Outcome<&str>],
+) -> bool {
+    let Some(docs) = docs(alloc, texts, new_edits) else {
+        return false;
+    };
+    match state.write_edits(docs, new_edits) {
+        Ok(batch) => are_told(&batch, told),
+        Err(_) => false,
+    }
+}
+
+// A document `a` whose history has 65,535 revisions `x`.
+fn long_history(alloc: Global) -> Result<String, AllocError> {
+    let mut text = String::from_str(
+        alloc,
+        r#"{"_id":"a","_revisions":{"start":65535,"ids":["x""#,
+    )?;
+    for _ in 1..65535 {
+        text.push_str(r#","x""#)?;
+    }
+    text.push_str("]}}")?;
+    Ok(text)
+}
+
+// Whether the document with the longest history is told so.
+fn tells_long(alloc: Global, state: &mut DbState, told: Outcome<&str>) -> bool {
+    match long_history(alloc) {
+        Ok(text) => tells(alloc, state, &[text.as_str()], false, &[told]),
+        Err(AllocError) => false,
+    }
+}
+
+// Whether an edit is made with this answer.
+fn makes(alloc: Global, state: &mut DbState, text: &str, answer: Result<&str, DbFault>) -> bool {
+    let Ok(doc) = Doc::read(alloc, text.as_bytes(), true) else {
+        return false;
+    };
+    match (state.write_one(doc), answer) {
+        (Ok(rev), Ok(text)) => RevId::read(text) == Some(rev),
+        (Err(fault), Err(other)) => fault == other,
+        _ => false,
+    }
+}
+
+// Whether these are the counts of a database.
+fn has_counts(state: &DbState, answer: Result<(u64, u64, u64), DbFault>) -> bool {
+    let counts = match answer {
+        Ok((doc_count, doc_del_count, update_seq)) => Ok(Info {
+            doc_count,
+            doc_del_count,
+            update_seq,
+        }),
+        Err(fault) => Err(fault),
+    };
+    state.info() == counts
+}
+
+// Whether a step has its answer. Want of memory is another answer.
+fn holds(alloc: Global, state: &mut DbState, step: &Step) -> bool {
+    match step {
+        Step::Batch(texts, told) => tells(alloc, state, texts, false, told),
+        Step::Edits(texts, told) => tells(alloc, state, texts, true, told),
+        Step::LongHistory(told) => tells_long(alloc, state, *told),
+        Step::Make(text, answer) => makes(alloc, state, text, *answer),
+        Step::Counts(answer) => has_counts(state, *answer),
+        Step::Seq(seq) => state.update_seq() == *seq,
+        Step::Length(length) => FeedHost::length(state) == *length,
+        Step::Delete(answer) => state.delete() == *answer,
+        Step::IsDeleted(answer) => state.is_deleted() == *answer,
+        Step::Feed(step) => feed_holds(alloc, state, step),
+        Step::Hosted(step) => host_holds(alloc, state, step),
+        Step::Local(step) => local_holds(alloc, state, step),
+        Step::Read(step) => read_holds(alloc, state, step),
+    }
+}
+
+// How many steps have their answers, before the first that has another.
+fn count_held(alloc: Global, state: &mut DbState, steps: &[Step]) -> usize {
+    let mut count = 0usize;
+    for step in steps {
+        if !holds(alloc, state, step) {
+            return count;
+        }
+        count = count.saturating_add(1);
+    }
+    count
+}
+
+// That count in a new database within these limits.
+fn count_within(alloc: Global, limits: Limits, steps: &[Step]) -> usize {
+    let mut state = DbState::new(alloc, limits);
+    count_held(alloc, &mut state, steps)
+}
+
+/// Asserts that these steps, one at least, have their answers in a new database within these limits.
+/// Where one has another, the count that the assertion shows is its place.
+pub(crate) fn assert_within(rt: &impl Abort, alloc: Global, limits: Limits, steps: &[Step]) {
+    let count = count_within(alloc, limits, steps);
+    assert_eq!(rt; count, steps.len());
+    assert!(rt; count > 0);
+}
+
+/// Asserts that these steps, one at least, have their answers in a new database.
+pub(crate) fn assert_steps(rt: &impl Abort, alloc: Global, steps: &[Step]) {
+    assert_within(rt, alloc, Limits::full(), steps);
+}
+
+/// Limits within which a database has one edit.
+pub(crate) fn one_edit() -> Limits {
+    let mut limits = Limits::full();
+    limits.journal = 1;
+    limits
+}
+
+const A: &str = r#"{"_id":"a","_rev":"1-a"}"#;
+
+const B: &str = r#"{"_id":"b","_rev":"1-b"}"#;
+
+const NEWER: &str = r#"{"_id":"a","_revisions":{"start":2,"ids":["c","a"]}}"#;
+
+const TREE: &str = r#"{"_id":"b","_revisions":{"start":2,"ids":["y","x"]}}"#;
+
+const OTHER: &str = r#"{"_id":"b","_revisions":{"start":3,"ids":["w","y","q"]}}"#;
+
+// Rows, by their document and their sequence.
+
+const A1: Handed = Whole(ShownRow {
+    seq: 1,
+    id: "a",
+    revs: &["1-a"],
+    deleted: false,
+    members: None,
+});
+
+const B2: Handed = Whole(ShownRow {
+    seq: 2,
+    id: "b",
+    revs: &["1-b"],
+    deleted: false,
+    members: None,
+});
+
+const A3: Handed = Whole(ShownRow {
+    seq: 3,
+    id: "a",
+    revs: &["2-c"],
+    deleted: false,
+    members: None,
+});
+
+const LATEST: &[Step] = &[
+    Batch(&[A, B], &[Stored("1-a"), Stored("1-b")]),
+    Feed(Open("", Ok(FIRST))),
+    Feed(Hands(FIRST, &[A1, B2, End(2, 0)])),
+    Feed(Finish(FIRST)),
+    Batch(&[NEWER], &[Stored("2-c")]),
+    Feed(Open("", Ok(SECOND))),
+    Feed(Hands(SECOND, &[B2, A3, End(3, 0)])),
+];
+
+#[test]
+fn rows_follow_the_latest_edits(rt: HostRuntime) {
+    assert_steps(&rt, rt.alloc(), LATEST);
+}
+
+const KNOWN: &[Step] = &[
+    Batch(
+        &[A, B, NEWER],
+        &[Stored("1-a"), Stored("1-b"), Stored("2-c")],
+    ),
+    Batch(&[A, B], &[Known, Known]),
+    Seq(3),
+];
+
+#[test]
+fn known_edits_get_no_new_sequence(rt: HostRuntime) {
+    assert_steps(&rt, rt.alloc(), KNOWN);
+}
+
+const BESIDE: &[Step] = &[
+    Batch(&[TREE], &[Stored("2-y")]),
+    Batch(
+        &[A, OTHER, NEWER],
+        &[Stored("1-a"), Refused(Fault::Contradicts), Stored("2-c")],
+    ),
+    Seq(3),
+];
+
+#[test]
+fn refused_documents_stop_no_others(rt: HostRuntime) {
+    assert_steps(&rt, rt.alloc(), BESIDE);
+}
+
+const FULL: &[Step] = &[
+    Batch(&[A, B], &[Stored("1-a"), Refused(Fault::SequenceFull)]),
+    Batch(&[NEWER, A], &[Refused(Fault::SequenceFull), Known]),
+    Seq(1),
+];
+
+#[test]
+fn a_full_journal_takes_no_more(rt: HostRuntime) {
+    assert_within(&rt, rt.alloc(), one_edit(), FULL);
+}

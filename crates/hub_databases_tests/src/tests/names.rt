@@ -1,0 +1,164 @@
+//! Which names have databases, and what the calls on them refuse.
+
+use crate::tests::names::Call::{Create, Find, List, Remove};
+use crate::tests::{FIRST, created, found, hub, write};
+use hub_databases::{Hub, HubDb, HubFault};
+use hub_document::Limits;
+use hub_model::{Fault, Outcome};
+use hub_threads::{Answer, Question};
+use hub_updates::NoteFault;
+use std::sync::Wait;
+use std::test::Fail;
+
+// A call on the names of a hub, and its answer.
+enum Call {
+    Create(&'static str, Result<(), HubFault>),
+    Find(&'static str, Result<(), HubFault>),
+    Remove(&'static str, Result<(), HubFault>),
+    // The names that there are.
+    List(&'static [&'static str]),
+}
+
+// Whether a hub lists these names.
+fn lists<R: Wait>(rt: &R, hub: &Hub, names: &[&str]) -> bool {
+    let Ok(list) = hub.list(rt) else {
+        return false;
+    };
+    list.len() == names.len()
+        && list
+            .iter()
+            .zip(names.iter())
+            .all(|(one, other)| one.as_str() == *other)
+}
+
+// Whether a name is found, and the database found has it.
+fn finds<R: Wait>(rt: &R, hub: &Hub, name: &str) -> Result<(), HubFault> {
+    let db = hub.find(rt, name)?;
+    if db.name() != name {
+        return Err(HubFault::Absent);
+    }
+    Ok(())
+}
+
+// Whether a call has its answer.
+fn answers<R: Wait>(rt: &R, hub: &Hub, call: &Call) -> bool {
+    match call {
+        Create(name, answer) => hub.create(rt, name) == *answer,
+        Find(name, answer) => finds(rt, hub, name) == *answer,
+        Remove(name, answer) => hub.remove(rt, name) == *answer,
+        List(names) => lists(rt, hub, *names),
+    }
+}
+
+// How many calls have their answers, before the first that has another.
+fn count<R: Wait>(rt: &R, hub: &Hub, calls: &[Call]) -> usize {
+    for (number, call) in calls.iter().enumerate() {
+        if !answers(rt, hub, call) {
+            return number;
+        }
+    }
+    calls.len()
+}
+
+const TWO: &[Call] = &[
+    List(&[]),
+    Create("", Err(HubFault::BadName)),
+    Create("B", Err(HubFault::BadName)),
+    Find("B", Err(HubFault::BadName)),
+    Remove("B", Err(HubFault::BadName)),
+    Find("b", Err(HubFault::Absent)),
+    Remove("b", Err(HubFault::Absent)),
+    Create("b", Ok(())),
+    Find("b", Ok(())),
+    Create("b", Err(HubFault::Exists)),
+    Create("a/$(1)+_-", Ok(())),
+    List(&["a/$(1)+_-", "b"]),
+    Create("B", Err(HubFault::BadName)),
+    Create("b", Err(HubFault::Exists)),
+    Create("c", Err(HubFault::TooMany)),
+    Find("c", Err(HubFault::Absent)),
+    Remove("b", Ok(())),
+    Remove("b", Err(HubFault::Absent)),
+    Create("c", Ok(())),
+    List(&["a/$(1)+_-", "c"]),
+];
+
+#[test]
+fn names_are_refused_in_order(rt: HostRuntime) -> Result<(), Fail> {
+    let mut limits = Limits::full();
+    limits.databases = 2;
+    let hub = Hub::new(rt.alloc(), limits)?;
+    assert_eq!(rt; count(&rt, &hub, TWO), TWO.len());
+    Ok(())
+}
+
+const ONE: &[Call] = &[
+    Create("a", Ok(())),
+    Create("a", Err(HubFault::Exists)),
+    Create("b", Err(HubFault::SequenceFull)),
+    Find("b", Err(HubFault::Absent)),
+    Remove("a", Err(HubFault::SequenceFull)),
+    Find("a", Ok(())),
+    List(&["a"]),
+];
+
+// How many edits a database has.
+fn edits<R: Wait>(rt: &R, db: &HubDb) -> Result<u64, Fail> {
+    match db.handle()?.read(rt, Question::Info)? {
+        Answer::Info(info) => Ok(info.update_seq),
+        _ => Err(Fail::new("another answer")),
+    }
+}
+
+// Where the log is full, what it has no note of is not done; but an edit stands.
+#[test]
+fn a_full_log_refuses_what_it_would_note(rt: HostRuntime) -> Result<(), Fail> {
+    let mut limits = Limits::full();
+    limits.journal = 1;
+    let hub = Hub::new(rt.alloc(), limits)?;
+    assert_eq!(rt; count(&rt, &hub, ONE), ONE.len());
+    let db = found(&rt, &hub, "a")?;
+    let written = write(&rt, rt.alloc(), &hub, &db, FIRST)?;
+    assert_eq!(rt; written.lapsed, Some(NoteFault::SequenceFull));
+    let receipts = written.accepted.receipts.as_slice();
+    assert_eq!(rt; receipts.len(), 1);
+    assert_eq!(rt; receipts.first().map(|receipt| receipt.seq), Some(1));
+    assert_eq!(rt; edits(&rt, &db)?, 1);
+    Ok(())
+}
+
+const UNORDERED: &[Call] = &[
+    Create("b", Ok(())),
+    Create("a_", Ok(())),
+    Create("ab", Ok(())),
+    Create("a-", Ok(())),
+    Create("a", Ok(())),
+    Create("a0", Ok(())),
+    List(&["a", "a-", "a0", "a_", "ab", "b"]),
+];
+
+#[test]
+fn names_are_listed_in_byte_order(rt: HostRuntime) -> Result<(), Fail> {
+    let hub = hub(rt.alloc())?;
+    assert_eq!(rt; count(&rt, &hub, UNORDERED), UNORDERED.len());
+    Ok(())
+}
+
+// What was found before goes on with its database, and a new one under the same name is another.
+#[test]
+fn a_removed_database_refuses_writes(rt: HostRuntime) -> Result<(), Fail> {
+    let hub = hub(rt.alloc())?;
+    let old = created(&rt, &hub, "a")?;
+    assert_eq!(rt; hub.remove(&rt, "a"), Ok(()));
+    let new = created(&rt, &hub, "a")?;
+    let written = write(&rt, rt.alloc(), &hub, &old, FIRST)?;
+    let replies = written.accepted.replies.as_slice();
+    assert_eq!(rt; replies.len(), 1);
+    assert_eq!(rt;
+        replies.first().copied(),
+        Some(Outcome::Refused(Fault::Deleted))
+    );
+    assert!(rt; written.accepted.receipts.is_empty() && written.lapsed.is_none());
+    assert_eq!(rt; edits(&rt, &new)?, 0);
+    Ok(())
+}

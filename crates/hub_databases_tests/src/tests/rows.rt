@@ -1,0 +1,158 @@
+//! What feeds of the log of updates show, and what a feed of a database shows that is removed.
+
+use crate::tests::rows::Told::{End, Row};
+use crate::tests::{FIRST, Open, created, found, hub, params, write};
+use hub_databases::Hub;
+use hub_document::UpdateRow;
+use hub_model::Item;
+use hub_model::UpdateKind::{self, Created, Deleted, Updated};
+use hub_shared::Handed;
+use hub_threads::{Turn, UpdatesFeed, hold};
+use std::alloc::Global;
+use std::sync::Wait;
+use std::test::Fail;
+
+// What an item of a feed of the log is.
+#[derive(Clone, Copy, Debug, PartialEq, Eq)]
+enum Told {
+    // What happened to a database, and the sequence of the note.
+    Row(UpdateKind, &'static str, u64),
+    End(u64, u64),
+}
+
+// Whether an item is this.
+fn is_told(item: &Item<UpdateRow>, told: Told) -> bool {
+    match (item, told) {
+        (Item::Row(row), Row(kind, name, seq)) => {
+            row.kind == kind && row.db_name.as_str() == name && row.seq == seq
+        }
+        (Item::End { last_seq, pending }, End(last, rest)) => *last_seq == last && *pending == rest,
+        _ => false,
+    }
+}
+
+// A feed of the log that the query opens.
+fn open<R: Wait>(rt: &R, alloc: Global, hub: &Hub, query: &str) -> Result<UpdatesFeed, Fail> {
+    match hub.updates(rt, params(alloc, query)?) {
+        Ok(feed) => Ok(feed),
+        Err(_) => Err(Fail::new("no feed")),
+    }
+}
+
+// Whether a normal feed that the query opens shows just these.
+fn shows<R: Wait>(
+    rt: &R,
+    alloc: Global,
+    hub: &Hub,
+    query: &str,
+    told: &[Told],
+) -> Result<bool, Fail> {
+    let mut feed = open(rt, alloc, hub, query)?;
+    if hub.hold_updates(rt, feed.id(), Turn::Hand, &Open)? != Handed::End {
+        return Ok(false);
+    }
+    for one in told {
+        match feed.take(rt) {
+            Some(item) if is_told(&item, *one) => {}
+            _ => return Ok(false),
+        }
+    }
+    Ok(feed.finish(rt).take(rt).is_none())
+}
+
+// A hub of whose database d this was noted: created, updated, deleted, created again.
+fn noted<R: Wait>(rt: &R, alloc: Global) -> Result<Hub, Fail> {
+    let hub = hub(alloc)?;
+    let db = created(rt, &hub, "d")?;
+    let _written = write(rt, alloc, &hub, &db, FIRST)?;
+    Ok(hub)
+}
+
+#[test]
+fn the_log_has_a_row_for_each_kind(rt: HostRuntime) -> Result<(), Fail> {
+    let alloc = rt.alloc();
+    let hub = noted(&rt, alloc)?;
+    assert_eq!(rt; hub.remove(&rt, "d"), Ok(()));
+    let first = [
+        Row(Created, "d", 1),
+        Row(Updated, "d", 2),
+        Row(Deleted, "d", 3),
+        End(3, 0),
+    ];
+    assert!(rt; shows(&rt, alloc, &hub, "", &first)?);
+    let _db = created(&rt, &hub, "d")?;
+    let again = [
+        Row(Updated, "d", 2),
+        Row(Deleted, "d", 3),
+        Row(Created, "d", 4),
+        End(4, 0),
+    ];
+    assert!(rt; shows(&rt, alloc, &hub, "", &again)?);
+    Ok(())
+}
+
+// What was stored already is no edit.
+#[test]
+fn known_documents_are_not_noted(rt: HostRuntime) -> Result<(), Fail> {
+    let alloc = rt.alloc();
+    let hub = noted(&rt, alloc)?;
+    let written = write(&rt, alloc, &hub, &found(&rt, &hub, "d")?, FIRST)?;
+    assert!(rt; written.accepted.receipts.is_empty() && written.lapsed.is_none());
+    let told = [Row(Created, "d", 1), Row(Updated, "d", 2), End(2, 0)];
+    assert!(rt; shows(&rt, alloc, &hub, "", &told)?);
+    Ok(())
+}
+
+// Each row has the name of its database, and parameters that mean something only of documents change
+// nothing.
+#[test]
+fn a_feed_of_the_log_shows_every_database(rt: HostRuntime) -> Result<(), Fail> {
+    let alloc = rt.alloc();
+    let hub = noted(&rt, alloc)?;
+    let _db = created(&rt, &hub, "e")?;
+    let told = [
+        Row(Created, "d", 1),
+        Row(Updated, "d", 2),
+        Row(Created, "e", 3),
+        End(3, 0),
+    ];
+    for query in [
+        "",
+        "filter=_design",
+        "filter=_doc_ids&doc_ids=%5B%22a%22%5D",
+        "style=all_docs&include_docs=true&descending=true",
+    ] {
+        assert!(rt; shows(&rt, alloc, &hub, query, &told)?, "with {query}");
+    }
+    let limited = [Row(Updated, "d", 2), End(2, 1)];
+    assert!(rt; shows(&rt, alloc, &hub, "since=1&limit=1", &limited)?);
+    Ok(())
+}
+
+// A feed that follows a database ends where the database did.
+#[test]
+fn a_feed_of_a_removed_database_ends(rt: HostRuntime) -> Result<(), Fail> {
+    let alloc = rt.alloc();
+    let hub = noted(&rt, alloc)?;
+    let db = found(&rt, &hub, "d")?;
+    let Ok(mut feed) = db
+        .handle()?
+        .open_feed(&rt, params(alloc, "feed=continuous&since=now")?)
+    else {
+        return Err(Fail::new("no feed"));
+    };
+    assert_eq!(rt;
+        hold(&rt, db.db(), feed.id(), Turn::Hand, &Open)?,
+        Handed::Nothing
+    );
+    assert_eq!(rt; hub.remove(&rt, "d"), Ok(()));
+    assert_eq!(rt;
+        hold(&rt, db.db(), feed.id(), Turn::Hand, &Open)?,
+        Handed::End
+    );
+    let Some(Item::End { last_seq, .. }) = feed.take(&rt) else {
+        return Err(Fail::new("no end"));
+    };
+    assert_eq!(rt; last_seq, 1);
+    Ok(())
+}

@@ -1,0 +1,111 @@
+//! What texts and values ask for, and the faults in them.
+
+use hub_document::DocFault::{BadRev, NotObject};
+use hub_document::{Asked, DocFault, OpenRevs, Revisions, read_value};
+use std::alloc::Global;
+use std::test::Fail;
+
+// The texts of revisions, each with a blank behind it.
+fn add_texts(out: &mut Vec<u8>, revs: &Revisions) -> Result<(), Fail> {
+    for rev in revs.as_slice() {
+        rev.print(out)?;
+        out.push(b' ')?;
+    }
+    Ok(())
+}
+
+// What a text asks for: `all`, the revisions, or `-` for a fault.
+fn open_revs(alloc: Global, text: &str) -> Result<Vec<u8>, Fail> {
+    let mut out = Vec::new(alloc);
+    match OpenRevs::read(alloc, text)? {
+        None => out.push(b'-')?,
+        Some(OpenRevs::All) => out.extend_from_slice(b"all")?,
+        Some(OpenRevs::Listed(revs)) => add_texts(&mut out, &revs)?,
+    }
+    Ok(out)
+}
+
+#[test]
+fn revisions_of_one_document(rt: HostRuntime) -> Result<(), Fail> {
+    let cases = [
+        ("all", "all"),
+        (r#"["1-a","2-c","9-z"]"#, "1-a 2-c 9-z "),
+        (r#"["2-a","2-a"]"#, "2-a 2-a "),
+        (" [ \"1-\\u0061\" ] ", "1-a "),
+        ("[]", ""),
+        ("", "-"),
+        ("[", "-"),
+        ("All", "-"),
+        ("\"all\"", "-"),
+        ("{}", "-"),
+        (r#"["all"]"#, "-"),
+        (r#"["1-a",2]"#, "-"),
+        (r#"["1-a",["2-b"]]"#, "-"),
+        (r#"["1-a","0-b"]"#, "-"),
+        (r#"["x","1-a"]"#, "-"),
+    ];
+    for (text, expected) in cases {
+        let found = open_revs(rt.alloc(), text)?;
+        assert_eq!(rt; found.as_slice(), expected.as_bytes(), "{text}");
+    }
+    Ok(())
+}
+
+fn asked(alloc: Global, text: &str) -> Result<Vec<Asked>, DocFault> {
+    let value = read_value(alloc, text.as_bytes())?;
+    Asked::read_all(alloc, &value)
+}
+
+// What a text asks for: ids, each with its revisions in brackets.
+fn shown(alloc: Global, text: &str) -> Result<Vec<u8>, Fail> {
+    let mut out = Vec::new(alloc);
+    for one in asked(alloc, text)? {
+        let one = one.copy(alloc)?;
+        out.extend_from_slice(one.id.as_bytes())?;
+        out.push(b'[')?;
+        add_texts(&mut out, &one.revs)?;
+        out.push(b']')?;
+    }
+    Ok(out)
+}
+
+#[test]
+fn revisions_of_documents(rt: HostRuntime) -> Result<(), Fail> {
+    let cases = [
+        ("{}", ""),
+        (r#"{"a":["1-a","2-d"],"b":[]}"#, "a[1-a 2-d ]b[]"),
+        (r#"{"b":["1-b"],"":[],"a":["1-a"]}"#, "[]a[1-a ]b[1-b ]"),
+        (r#"{"a":["1-a"],"b":[],"a":["2-c"]}"#, "a[2-c ]b[]"),
+        (r#"{"_local/x":["1-a"],"_y":[]}"#, "_local/x[1-a ]_y[]"),
+        (r#"{"a":["2-c","1-a","2-c"]}"#, "a[2-c 1-a 2-c ]"),
+    ];
+    for (text, expected) in cases {
+        let found = shown(rt.alloc(), text)?;
+        assert_eq!(rt; found.as_slice(), expected.as_bytes(), "{text}");
+    }
+    Ok(())
+}
+
+#[test]
+fn faults_in_order(rt: HostRuntime) -> Result<(), Fail> {
+    let cases = [
+        ("[]", NotObject),
+        ("null", NotObject),
+        (r#"{"a":1}"#, NotObject),
+        (r#"{"a":"1-a"}"#, NotObject),
+        (r#"{"a":{}}"#, NotObject),
+        (r#"{"a":["1-a",2]}"#, NotObject),
+        (r#"{"a":["x"],"b":1}"#, NotObject),
+        (r#"{"a":["x",1]}"#, NotObject),
+        (r#"{"a":["1-a"],"b":["x"],"c":[null]}"#, NotObject),
+        (r#"{"a":["x"]}"#, BadRev),
+        (r#"{"a":["1-a","0-a"],"b":[]}"#, BadRev),
+        (r#"{"a":["x"],"b":["1-a"]}"#, BadRev),
+        (r#"{"a":[""]}"#, BadRev),
+    ];
+    for (text, expected) in cases {
+        let found = asked(rt.alloc(), text).err();
+        assert_eq!(rt; found, Some(expected), "{text}");
+    }
+    Ok(())
+}

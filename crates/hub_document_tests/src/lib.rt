@@ -1,0 +1,7 @@
+//! Documents, revisions and texts, as their users see them.
+#![tactic(auto)]
+
+#[cfg(test)]
+mod asked_tests;
+#[cfg(test)]
+mod tests;

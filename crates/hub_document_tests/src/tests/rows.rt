@@ -1,0 +1,65 @@
+use hub_document::{Body, ChangeRow, Doc, RevId, Revisions};
+use std::alloc::Global;
+use std::test::Fail;
+
+// What a row of a and its revisions 1-x and 1-b writes of the document with these members.
+fn written(alloc: Global, deleted: bool, body: &Body) -> Result<Vec<u8>, Fail> {
+    let doc = Doc::read(alloc, br#"{"_id":"a","_rev":"1-x"}"#, true)?;
+    let mut revisions = Vec::new(alloc);
+    for rev in [doc.rev, RevId::read("1-b")] {
+        if let Some(rev) = rev {
+            revisions.push(rev)?;
+        }
+    }
+    let row = ChangeRow {
+        seq: 1,
+        id: doc.id,
+        changes: Revisions::new(revisions),
+        deleted,
+        doc: None,
+        seen: 1,
+    };
+    let mut out = Vec::from_slice(alloc, b" ")?;
+    row.write_doc(&mut out, body)?;
+    Ok(out)
+}
+
+#[test]
+fn a_copy_of_a_row(rt: HostRuntime) -> Result<(), Fail> {
+    let alloc = rt.alloc();
+    let doc = Doc::read(alloc, br#"{"_id":"a","v":7}"#, true)?;
+    let row = ChangeRow {
+        seq: 3,
+        id: doc.id,
+        changes: Revisions::new(Vec::new(alloc)),
+        deleted: true,
+        doc: Some(doc.body),
+        seen: 4,
+    };
+    let copy = row.copy(alloc)?;
+    assert_eq!(rt;
+        (copy.seq, copy.id.as_str(), copy.deleted, copy.seen),
+        (3, "a", true, 4)
+    );
+    assert!(rt; copy.changes.as_slice().is_empty());
+    let body = copy.doc.as_ref().map(Body::as_bytes);
+    assert_eq!(rt; body, Some(br#"{"v":7}"#.as_slice()));
+    Ok(())
+}
+
+#[test]
+fn documents_of_rows(rt: HostRuntime) -> Result<(), Fail> {
+    let alloc = rt.alloc();
+    let doc = Doc::read(alloc, br#"{"_id":"b","v":7}"#, true)?;
+    let here = written(alloc, false, &doc.body)?;
+    let deleted = written(alloc, true, &Body::empty(alloc)?)?;
+    assert_eq!(rt;
+        here.as_slice(),
+        br#" {"_id":"a","_rev":"1-x","v":7}"#.as_slice()
+    );
+    assert_eq!(rt;
+        deleted.as_slice(),
+        br#" {"_id":"a","_rev":"1-x","_deleted":true}"#.as_slice()
+    );
+    Ok(())
+}

@@ -1,0 +1,38 @@
+//! Tables of cases: a case a line, and bars between its parts.
+
+use hub_document::{Doc, DocFault, RevId};
+
+/// What stands before the first bar and what stands behind it.
+pub fn parts(line: &str) -> (&str, &str) {
+    line.split_once(" | ").unwrap_or((line, ""))
+}
+
+/// The name of a fault, or `none`.
+pub fn fault_name(fault: Option<DocFault>) -> &'static str {
+    match fault {
+        None => "none",
+        Some(DocFault::NoMemory) => "NoMemory",
+        Some(DocFault::NotJson) => "NotJson",
+        Some(DocFault::NotObject) => "NotObject",
+        Some(DocFault::BadNumber) => "BadNumber",
+        Some(DocFault::BadId) => "BadId",
+        Some(DocFault::BadRev) => "BadRev",
+        Some(DocFault::BadRevisions) => "BadRevisions",
+        Some(DocFault::BadMember) => "BadMember",
+        Some(DocFault::TooLong) => "TooLong",
+    }
+}
+
+/// Whether the document is this: `ID | REV | MARKS | BODY`, where REV is empty for no revision, and
+/// MARKS are `deleted` and `path`.
+pub fn is_shown(doc: &Doc, expected: &str) -> bool {
+    let (id, rest) = parts(expected);
+    let (rev, rest) = parts(rest);
+    let (marks, body) = parts(rest);
+    doc.id.as_str() == id
+        && doc.rev.is_none() == rev.is_empty()
+        && doc.rev == RevId::read(rev)
+        && doc.deleted == marks.contains("deleted")
+        && doc.path.is_some() == marks.contains("path")
+        && doc.body.as_bytes() == body.as_bytes()
+}

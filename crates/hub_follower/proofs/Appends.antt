@@ -1,0 +1,6 @@
+-- Texts that are appended one behind the other.
+use Rattle.std.proofs.Common.{◌≡◌, ◌∙◌, ℕ, List, ◌++◌, ap, append_assoc}
+
+-- the last text, from one step earlier on
+pub more : (end p o b r : List ℕ) → end ≡ p ++ r → p ≡ o ++ b → end ≡ o ++ (b ++ r)
+more end p o b r e q = e ∙ (ap (λ z. z ++ r) q ∙ append_assoc o b r)

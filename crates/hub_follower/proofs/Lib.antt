@@ -1,0 +1,12 @@
+pub mod Opening
+pub mod Telling
+pub mod Walking
+pub mod Served
+pub mod ExactRuns
+pub mod ReadBack
+pub mod Listing
+pub mod Appends
+pub mod Happening
+pub mod Rebuilding
+pub mod Deciding
+pub mod ChangesReplies

@@ -1,0 +1,20 @@
+use Rattle.std.proofs.Common.{◌∙◌, ap, sym, subst, map}
+use Rattle.std.specs.Prelude.{All}
+use Rattle.hub_model.specs.Missing.{Asked}
+use Rattle.hub_model.specs.Walk.{shown}
+use Rattle.hub_follower.specs.Views.{found_edit, FoundHasPath}
+use Rattle.hub_follower.proofs.Served.{opened_shown, opened_paths}
+use Rattle.hub_follower.proofs.serving.opened.Goals as goal
+
+pub returns-in-Ok-open_revs-clause-ok : goal.returns-in-Ok-open_revs-clause-ok
+returns-in-Ok-open_revs-clause-ok c =
+    let J = c.args.db.now.journal in
+    let id = c.as_str.result.now in
+    let named = c.as_str.ensures.value ∙ ap (λ (z : Asked). z.id) c.asked.view_is in
+    let listed = c.in-Ok.ensures.value ∙ ap (λ (z : Asked). z.revs) c.asked.view_is in
+    ap (λ z. map found_edit z) c.in-Ok-open_revs.ensures.ok.1 ∙ (opened_shown J id c.in-Ok.revs
+    ∙ (ap (λ z. map (shown J z) c.in-Ok.revs) named ∙ ap (λ z. map (shown J c.args.asked.now.id) z) listed))
+
+pub returns-in-Ok-open_revs-clause-paths : goal.returns-in-Ok-open_revs-clause-paths
+returns-in-Ok-open_revs-clause-paths c =
+    subst (λ z. All FoundHasPath z) (sym c.in-Ok-open_revs.ensures.ok.1) (opened_paths c.args.db.now.journal c.as_str.result.now c.in-Ok.revs)

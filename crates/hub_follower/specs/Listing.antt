@@ -1,0 +1,37 @@
+-- The changes of a journal above a sequence, in one list (own).
+use Rattle.std.specs.Prelude.{◌≡◌, ◌≤◌, ◌<◌, ℕ, List, length, map, take, reverse, filter, get_or, nat_lt, ◌&&◌, false, None}
+use Rattle.hub_model.specs.Current.{Current, current}
+use Rattle.hub_model.specs.Feed.{Params}
+use Rattle.hub_model.specs.Filter.{passes, Everything}
+use Rattle.hub_model.specs.Journal.{Edit}
+use Rattle.hub_model.specs.Row.{ChangeRow, row_of}
+use Rattle.hub_model.specs.declared.feeds.Mode.TheVariants.{Normal}
+use Rattle.hub_model.specs.declared.feeds.Since.TheVariants.{From}
+use Rattle.hub_model.specs.declared.feeds.Style.TheVariants.{AllDocs}
+
+-- the current rows above a sequence
+abbrev pub rows_above : List Edit → ℕ → List Current
+rows_above J since = filter (λ c. nat_lt since c.seq && passes Everything c.id) (current J)
+
+-- as they are shown with every leaf
+abbrev pub all_above : List Edit → ℕ → List ChangeRow
+all_above J since = map (row_of J AllDocs false) (rows_above J since)
+
+-- what is asked for them all
+abbrev pub listing_params : ℕ → Params
+listing_params since =
+    record {
+      mode = Normal;
+      since = From since;
+      limit = None;
+      style = AllDocs;
+      include_docs = false;
+      filter = Everything;
+      heartbeat = false;
+    }
+
+-- these are all rows of the list, and the other sequence, where it has 100 at most; else the first 100, and
+-- the sequence of the last of them
+pub record AreFirst (all : List ChangeRow) (len : ℕ) (rows : List ChangeRow) (last : ℕ) : Type 0 where
+  pub short : length all ≤ 100 → (rows ≡ all) × (last ≡ len)
+  pub long : 100 < length all → (rows ≡ take 100 all) × ((d : ChangeRow) → last ≡ (get_or all 99 d).seq)

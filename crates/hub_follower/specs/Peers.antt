@@ -1,0 +1,132 @@
+-- A follower over its peers, by what each says of its own calls (own).
+use Rattle.std.specs.Prelude.{◌≡◌, ◌⊎◌, ◌<◌, ◌-◌, ◌+◌, ◌^◌, ℕ, length, Bool, false, List, [], ◌∷◌, Some, None, Ok}
+use Rattle.hub_follow_model.specs.Follower as follow
+use Rattle.hub_follow_model.specs.World as world
+use Rattle.hub_database.specs.declared.batch.DbFault.{DbFault}
+use Rattle.hub_database.specs.declared.batch.DbFault.TheVariants as db_fault
+use Rattle.hub_follower.specs.declared.fault.FollowFault.{FollowFault}
+use Rattle.hub_follower.specs.declared.fault.FollowFault.TheVariants as told
+use Rattle.hub_follower.specs.declared.peer.CallFault.{CallFault}
+use Rattle.hub_follower.specs.declared.peer.CallFault.TheVariants as call_fault
+
+-- a count rose, or stands at its last value
+abbrev pub Rose : ℕ → ℕ → Type 0
+Rose old new = (old < new) ⊎ (new ≡ 2 ^ 64 - 1)
+
+-- a call tells a fault of the peer only where its count of faults rose so
+abbrev pub IsCountedFault : CallFault → ℕ → ℕ → Type 0
+IsCountedFault call_fault.Peer old new = Rose old new
+IsCountedFault call_fault.NoMemory old new = Unit {0}
+
+-- a call's fault is told so
+abbrev pub IsCallFault : CallFault → FollowFault → Type 0
+IsCallFault call_fault.Peer f = f ≡ told.Peer
+IsCallFault call_fault.NoMemory f = f ≡ told.NoMemory
+
+-- a database's fault is told so: a refusal of a whole call is the peer's fault
+abbrev pub IsDbFault : DbFault → CallFault → Type 0
+IsDbFault db_fault.NoMemory f = f ≡ call_fault.NoMemory
+IsDbFault (db_fault.Refused refusal) f = f ≡ call_fault.Peer
+
+-- why a call of the follower fails that has an answer: no peer is at fault, and the logs' id is a good one
+abbrev pub IsOwnFault : FollowFault → Type 0
+IsOwnFault told.Peer = ⊥
+IsOwnFault told.BadLogId = ⊥
+IsOwnFault e = Unit {0}
+
+-- a follower with a good id tells a fault of a peer only where that peer's count rose so; of one peer
+abbrev pub IsCountedOf : FollowFault → ℕ → ℕ → Type 0
+IsCountedOf told.Peer old new = Rose old new
+IsCountedOf told.BadLogId old new = ⊥
+IsCountedOf e old new = Unit {0}
+
+-- and of two
+abbrev pub IsCountedOfBoth : FollowFault → (s s' t t' : ℕ) → Type 0
+IsCountedOfBoth told.Peer s s' t t' = Rose s s' ⊎ Rose t t'
+IsCountedOfBoth told.BadLogId s s' t t' = ⊥
+IsCountedOfBoth e s s' t t' = Unit {0}
+
+-- whose call it is
+abbrev pub side_of : follow.Call → follow.Side
+side_of (follow.LocalGet side) = side
+side_of (follow.Changes since) = follow.Source
+side_of (follow.RevsDiff asked) = follow.Target
+side_of (follow.OpenRevs id revs) = follow.Source
+side_of (follow.Merge docs) = follow.Target
+side_of (follow.LocalPut side log) = side
+
+-- what its calls may answer, of a peer whose states are these
+abbrev pub Gives : Type 0 → Type 1
+Gives S = S → follow.Call → follow.Answer → S → Type 0
+
+-- and how they may fail
+abbrev pub Fails : Type 0 → Type 1
+Fails S = S → follow.Call → S → Type 0
+
+-- the peer at this side answers the call so, and the other one stays
+abbrev pub ServesAt : {S T : Type 0} → Gives S → Gives T → follow.Side → follow.Call → follow.Answer → S → T → S → T → Type 0
+ServesAt gives_s gives_t follow.Source call answer s t s' t' = gives_s s call answer s' × (t' ≡ t)
+ServesAt gives_s gives_t follow.Target call answer s t s' t' = (s' ≡ s) × gives_t t call answer t'
+
+-- the peer that the call names answers it so
+abbrev pub Serves : {S T : Type 0} → Gives S → Gives T → follow.Call → follow.Answer → S → T → S → T → Type 0
+Serves gives_s gives_t call answer s t s' t' = ServesAt gives_s gives_t (side_of call) call answer s t s' t'
+
+-- the peer at this side fails so, or is not asked; the other one stays
+abbrev pub LosesAt : {S T : Type 0} → Fails S → Fails T → follow.Side → follow.Call → S → T → S → T → Type 0
+LosesAt loses_s loses_t follow.Source call s t s' t' = ((s' ≡ s) ⊎ loses_s s call s') × (t' ≡ t)
+LosesAt loses_s loses_t follow.Target call s t s' t' = (s' ≡ s) × ((t' ≡ t) ⊎ loses_t t call t')
+
+-- the call fails so
+abbrev pub Loses : {S T : Type 0} → Fails S → Fails T → follow.Call → S → T → S → T → Type 0
+Loses loses_s loses_t call s t s' t' = LosesAt loses_s loses_t (side_of call) call s t s' t'
+
+-- the owed call is answered, and its answer taken
+abbrev pub Steps : {S T : Type 0} → Gives S → Gives T → follow.Follower → S → T → follow.Follower → S → T → Type 0
+Steps gives_s gives_t core s t core' s' t' = (call : follow.Call) × (answer : follow.Answer) × (follow.next_call core ≡ Some call) × Serves gives_s gives_t call answer s t s' t' × (follow.answer_result core answer ≡ Ok core')
+
+-- the owed call fails, or its answer is dropped: what is left of the follower is what its failing leaves
+abbrev pub FailsSo : {S T : Type 0} → Gives S → Gives T → Fails S → Fails T → follow.Follower → S → T → follow.Follower → S → T → Type 0
+FailsSo gives_s gives_t loses_s loses_t core s t core' s' t' = (call : follow.Call) × (follow.next_call core ≡ Some call) × (core' ≡ follow.after_failure core) × (((answer : follow.Answer) × Serves gives_s gives_t call answer s t s' t') ⊎ Loses loses_s loses_t call s t s' t')
+
+-- one step after another
+abbrev pub Walks : {S T : Type 0} → Gives S → Gives T → List (follow.Follower × S × T) → follow.Follower → S → T → follow.Follower → S → T → Type 0
+Walks gives_s gives_t [] core s t core' s' t' = (core' ≡ core) × (s' ≡ s) × (t' ≡ t)
+Walks gives_s gives_t (p ∷ between) core s t core' s' t' = Steps gives_s gives_t core s t p.0 p.1 p.2 × Walks gives_s gives_t between p.0 p.1 p.2 core' s' t'
+
+-- calls are made and their answers taken, until none is owed
+abbrev pub IsWalk : {S T : Type 0} → Gives S → Gives T → follow.Follower → S → T → follow.Follower → S → T → Type 0
+IsWalk {S} {T} gives_s gives_t core s t core' s' t' = (between : List (follow.Follower × S × T)) × Walks gives_s gives_t between core s t core' s' t' × (follow.next_call core' ≡ None)
+
+-- from one follower and its peers calls were made and answers taken up to another: while it owes a call its place is the first one's
+pub record Reaches {S T : Type 0} (gives_s : Gives S) (gives_t : Gives T) (core : follow.Follower) (s : S) (t : T) (core' : follow.Follower) (s' : S) (t' : T) : Type 0 where
+  pub walk : (between : List (follow.Follower × S × T)) × Walks gives_s gives_t between core s t core' s' t'
+  pub place : (follow.next_call core' ≡ None) ⊎ (world.place_of core' ≡ world.place_of core)
+
+-- the changes were asked for and compared, so that it is known how many calls are owed
+abbrev pub HasCountedCalls : follow.Follower → Type 0
+HasCountedCalls (follow.Busy s follow.Listing) = ⊥
+HasCountedCalls (follow.Busy s (follow.Comparison asked last)) = ⊥
+HasCountedCalls core = Unit {0}
+
+-- the changes were asked for
+abbrev pub IsPastAsking : follow.Follower → Type 0
+IsPastAsking (follow.Busy s follow.Listing) = ⊥
+IsPastAsking core = Unit {0}
+
+-- how many
+abbrev pub calls_left : follow.Follower → ℕ
+calls_left follow.Down = 0
+calls_left (follow.SourceStart name) = 2
+calls_left (follow.TargetStart name source) = 1
+calls_left (follow.Ready s) = 0
+calls_left (follow.Busy s follow.Listing) = 0
+calls_left (follow.Busy s (follow.Comparison asked last)) = 0
+calls_left (follow.Busy s (follow.Retrieval next later got last)) = length later + 2
+calls_left (follow.Busy s (follow.Storage got last)) = 1
+calls_left (follow.Busy s follow.SourceCheckpoint) = 2
+calls_left (follow.Busy s follow.TargetCheckpoint) = 1
+
+-- no call was made only where none was owed, and all stayed
+abbrev pub Idles : {S T : Type 0} → Bool → follow.Follower → S → T → follow.Follower → S → T → Type 0
+Idles made core s t core' s' t' = made ≡ false → (follow.next_call core ≡ None) × (core' ≡ core) × (s' ≡ s) × (t' ≡ t)

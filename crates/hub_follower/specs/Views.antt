@@ -1,0 +1,108 @@
+-- What the follower's values stand for (own).
+use Rattle.std.specs.Prelude.{◌≡◌, map, true, All, Option, Some, None, Result, Err, string_bytes, is_some}
+use Rattle.hub_model.specs.Journal.{Edit, head_of}
+use Rattle.hub_database.specs.Edits.{edit_of}
+use Rattle.hub_database.specs.declared.answers.OpenRev.{OpenRev}
+use Rattle.hub_database.specs.declared.answers.OpenRev.TheVariants.{Found, Missing}
+use Rattle.hub_document.specs.declared.doc.Doc.{Doc}
+use Rattle.hub_follow_model.specs.Follower as follow
+use Rattle.hub_follower.specs.declared.fault.FollowFault.{FollowFault}
+use Rattle.hub_follower.specs.declared.fault.FollowFault.TheVariants as told
+use Rattle.hub_follower.specs.declared.phase.Phase.{Phase}
+use Rattle.hub_follower.specs.declared.phase.Phase.TheVariants.{Listing, Comparison, Retrieval, Storage}
+use Rattle.hub_follower.specs.declared.phase.Phase.TheVariants.{SourceCheckpoint, TargetCheckpoint}
+use Rattle.hub_follower.specs.declared.phase.Next.{Next}
+use Rattle.hub_follower.specs.declared.phase.Next.TheVariants as goes
+use Rattle.hub_follower.specs.declared.machine.State.{State}
+use Rattle.hub_follower.specs.declared.machine.State.TheVariants.{Down, SourceStart, TargetStart, Ready, Busy}
+use Rattle.hub_follower.specs.declared.call.Call.{Call}
+use Rattle.hub_follower.specs.declared.call.Call.TheVariants as asks
+use Rattle.hub_follower.specs.declared.call.Answer.{Answer}
+use Rattle.hub_follower.specs.declared.call.Answer.TheVariants as says
+
+-- what a round or a checkpoint is at
+abbrev pub phase_of : Phase → follow.Phase
+phase_of Listing = follow.Listing
+phase_of (Comparison asked last) = follow.Comparison asked.items last
+phase_of (Retrieval next later got last) = follow.Retrieval next later.items (map edit_of got.items) last
+phase_of (Storage got last) = follow.Storage (map edit_of got.items) last
+phase_of SourceCheckpoint = follow.SourceCheckpoint
+phase_of TargetCheckpoint = follow.TargetCheckpoint
+
+-- how far the follower is
+abbrev pub follower_of : State → follow.Follower
+follower_of Down = follow.Down
+follower_of (SourceStart session_id) = follow.SourceStart (string_bytes session_id)
+follower_of (TargetStart session_id source) = follow.TargetStart (string_bytes session_id) source
+follower_of (Ready session) = follow.Ready session
+follower_of (Busy session phase) = follow.Busy session (phase_of phase)
+
+-- the follower of a session that goes on so
+abbrev pub follower_behind : follow.Session → Next → follow.Follower
+follower_behind s goes.Ready = follow.Ready s
+follower_behind s (goes.ReadyAt last) = follow.ready_at s last
+follower_behind s (goes.Busy phase) = follow.Busy s (phase_of phase)
+
+-- a revision that was asked for, as an edit where it is there
+abbrev pub found_edit : OpenRev → Option Edit
+found_edit (Found doc) = Some (edit_of doc)
+found_edit (Missing r) = None
+
+-- what a peer answers
+abbrev pub answer_of : Answer → follow.Answer
+answer_of (says.Log log) = follow.LogAnswer log
+answer_of (says.Changes rows last) = follow.ChangesAnswer rows.items last
+answer_of (says.RevsDiff diffs) = follow.RevsDiffAnswer diffs.items
+answer_of (says.OpenRevs found) = follow.OpenRevsAnswer (map found_edit found.items)
+answer_of (says.Merge replies) = follow.MergeAnswer replies
+answer_of says.Put = follow.PutAnswer
+
+-- what a peer is asked
+abbrev pub call_of : Call → follow.Call
+call_of asks.GetSource = follow.LocalGet follow.Source
+call_of asks.GetTarget = follow.LocalGet follow.Target
+call_of (asks.Changes since) = follow.Changes since
+call_of (asks.RevsDiff asked) = follow.RevsDiff asked.now
+call_of (asks.OpenRevs asked) = follow.OpenRevs asked.now.id asked.now.revs
+call_of (asks.Merge docs) = follow.Merge (map edit_of docs.now)
+call_of (asks.PutSource s) =
+    follow.LocalPut follow.Source (follow.checkpoint_log s.now s.now.source_history)
+call_of (asks.PutTarget s) =
+    follow.LocalPut follow.Target (follow.checkpoint_log s.now s.now.target_history)
+
+-- the document has its history
+abbrev pub HasPath : Doc → Type 0
+HasPath doc = is_some doc.path ≡ true
+
+-- a revision that was found has its history
+abbrev pub FoundHasPath : OpenRev → Type 0
+FoundHasPath (Found doc) = HasPath doc
+FoundHasPath (Missing r) = Unit {0}
+
+-- the revisions of such an answer have their histories
+abbrev pub AnswerHasPaths : Answer → Type 0
+AnswerHasPaths (says.OpenRevs found) = All FoundHasPath found.items
+AnswerHasPaths answer = Unit {0}
+
+-- the documents in hand have their histories
+abbrev pub PhaseHasPaths : Phase → Type 0
+PhaseHasPaths (Retrieval next later got last) = All HasPath got.items
+PhaseHasPaths (Storage got last) = All HasPath got.items
+PhaseHasPaths phase = Unit {0}
+
+abbrev pub NextHasPaths : Next → Type 0
+NextHasPaths (goes.Busy phase) = PhaseHasPaths phase
+NextHasPaths next = Unit {0}
+
+abbrev pub StateHasPaths : State → Type 0
+StateHasPaths (Busy session phase) = PhaseHasPaths phase
+StateHasPaths state = Unit {0}
+
+-- the fault is the one of this outcome, the document by its id and head; memory may run out in any
+abbrev pub IsFaultOf : {A : Type 0} → FollowFault → Result A follow.Fault → Type 0
+IsFaultOf told.NoMemory outcome = Unit {0}
+IsFaultOf told.BadLogId outcome = ⊥
+IsFaultOf told.Peer outcome = outcome ≡ Err follow.PeerFault
+IsFaultOf (told.Refused id rev refusal) outcome =
+    (e : Edit) × (outcome ≡ Err (follow.RefusedDocument e refusal)) × (e.id ≡ id) × (head_of e ≡ Some rev)
+IsFaultOf (told.Lost id rev) outcome = outcome ≡ Err (follow.MissingRevision (string_bytes id) rev)

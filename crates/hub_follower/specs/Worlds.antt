@@ -1,0 +1,85 @@
+-- The world of two databases in one thread's hands (own).
+use Rattle.std.specs.Prelude.{◌≡◌, ◌≤◌, ℕ, List, length, map, Option, Some, None}
+use Rattle.hub_model.specs.Journal.{Edit}
+use Rattle.hub_model.specs.RightlyHanded.{ChangeItem}
+use Rattle.hub_model.specs.Row.{ChangeRow}
+use Rattle.hub_database.specs.Edits.{edit_of}
+use Rattle.hub_follow_model.specs.ChangesFeed.{IsChangesAnswer}
+use Rattle.hub_follow_model.specs.Follower as follow
+use Rattle.hub_follow_model.specs.ReplicationLog.{ReplicationLog}
+use Rattle.hub_follow_model.specs.World as world
+use Rattle.hub_follower.specs.Views.{answer_of, AnswerHasPaths}
+use Rattle.hub_follower.specs.declared.call.Answer.{Answer}
+use Rattle.std.specs.Prelude.{string_bytes}
+use Rattle.hub_follower.specs.declared.world.FollowEvent.{FollowEvent}
+use Rattle.hub_follower.specs.declared.world.FollowEvent.TheVariants as event
+
+-- two databases' journals, and the replication log at each
+pub record Pair : Type 0 where
+  pub limit : ℕ  -- how many edits each journal takes
+  pub source : List Edit
+  pub target : List Edit
+  pub source_log : Option ReplicationLog
+  pub target_log : Option ReplicationLog
+
+-- with these sessions and this follower they are a world
+abbrev pub world_of : Pair → List (List ℕ) → follow.Follower → world.World
+world_of p sessions follower =
+    record {
+      limit = p.limit;
+      source = p.source;
+      target = p.target;
+      source_log = p.source_log;
+      target_log = p.target_log;
+      sessions = sessions;
+      follower = follower;
+    }
+
+-- changes are asked for above a sequence that the source has
+abbrev pub IsWithin : ℕ → follow.Call → Type 0
+IsWithin len (follow.Changes since) = since ≤ len
+IsWithin len call = Unit {0}
+
+-- so it is of the next call
+abbrev pub IsWithinNext : ℕ → Option follow.Call → Type 0
+IsWithinNext len None = Unit {0}
+IsWithinNext len (Some call) = IsWithin len call
+
+-- the place is a sequence that the source has
+abbrev pub HasPlace : world.World → Type 0
+HasPlace w = (c : ℕ) → world.place_of w.follower ≡ Some c → c ≤ length w.source
+
+-- the next call was answered so; without one nothing changed
+abbrev pub HasAnswered : world.World → Option follow.Call → Option Answer → world.World → Type 0
+HasAnswered w None None new = new ≡ w
+HasAnswered w None (Some answer) new = ⊥
+HasAnswered w (Some call) None new = ⊥
+HasAnswered w (Some call) (Some answer) new = world.IsAnswered w call (answer_of answer) new × AnswerHasPaths answer
+
+-- the sequence above which changes are asked for next, where they are
+abbrev pub changes_asked : Option follow.Call → Option ℕ
+changes_asked None = None
+changes_asked (Some (follow.LocalGet side)) = None
+changes_asked (Some (follow.Changes since)) = Some since
+changes_asked (Some (follow.RevsDiff asked)) = None
+changes_asked (Some (follow.OpenRevs id revs)) = None
+changes_asked (Some (follow.Merge docs)) = None
+changes_asked (Some (follow.LocalPut side log)) = None
+
+-- these items are such an answer
+abbrev pub IsAnswerOf : List Edit → ℕ → List ChangeItem → Answer → Type 0
+IsAnswerOf J since items answer =
+    (rows : List ChangeRow) × (last : ℕ) × IsChangesAnswer J since items rows last
+    × (answer_of answer ≡ follow.ChangesAnswer rows last)
+
+-- an event
+abbrev pub event_of : FollowEvent → world.Event
+event_of (event.Write docs) = world.Write (map edit_of docs.items)
+event_of (event.Start session_id) = world.Start (string_bytes session_id)
+event_of event.Round = world.Round
+event_of event.Checkpoint = world.Checkpoint
+event_of event.Answer = world.Reply
+event_of (event.Changes items) = world.ChangesReply items.items
+event_of event.LostBefore = world.LossBefore
+event_of event.LostAfter = world.LossAfter
+event_of event.Restart = world.Restart

@@ -1,0 +1,28 @@
+//! Copies of what a follower lends to its peers.
+
+ghost use Rattle.std.specs.Prelude.{◌≡◌, IfOk};
+
+use hub_document::{Asked, Doc};
+use std::alloc::{AllocError, Global};
+
+/// A copy of the questions. It costs their lengths.
+pub(crate) fn copy_asked(alloc: Global, asked: &[Asked]) -> Result<Vec<Asked>, AllocError>
+    ensures { IfOk result (λ copies. copies.items ≡ asked.now) }
+{
+    let mut copies = Vec::new(alloc);
+    for one in asked {
+        copies.push(one.copy(alloc)?)?;
+    }
+    Ok(copies)
+}
+
+/// A copy of the documents. It costs their lengths.
+pub(crate) fn copy_docs(alloc: Global, docs: &[Doc]) -> Result<Vec<Doc>, AllocError>
+    ensures { IfOk result (λ copies. copies.items ≡ docs.now) }
+{
+    let mut copies = Vec::new(alloc);
+    for doc in docs {
+        copies.push(doc.copy(alloc)?)?;
+    }
+    Ok(copies)
+}

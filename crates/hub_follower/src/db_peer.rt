@@ -1,0 +1,307 @@
+//! Databases that threads share, as a follower's peers.
+
+ghost use Rattle.std.specs.Prelude.{◌≡◌, ◌≤◌, true, map, length, All, IfOk, IfErr, OnOk};
+ghost use Rattle.hub_follow_model.specs.Follower as follow;
+ghost use Rattle.hub_database.specs.Edits.{edit_of};
+ghost use Rattle.hub_follower.specs.Peers.{IsCountedFault};
+ghost use Rattle.hub_follower.specs.Shared.{IsShared, IsQuestionFor};
+ghost use Rattle.hub_follower.specs.Views.{found_edit, FoundHasPath};
+
+use crate::copies::{copy_asked, copy_docs};
+use crate::log::Log;
+use crate::peer::{CallFault, Changes, Peer};
+use hub_database::{Diff, OpenRev, Replies};
+use hub_document::{Asked, ChangeRow, Doc, DocFault, LocalDoc, OpenRevs};
+use hub_feed::OpenFault;
+use hub_filter::Filter;
+use hub_model::{Item, Mode, Since, Style};
+use hub_params::FeedParams;
+use hub_threads::{Answer, Feed, Gate, Handle, Plain, Point, Question, Turn};
+use std::alloc::{AllocError, Global};
+use std::sync::Wait;
+
+// How many rows a follower asks for.
+const ROWS: u64 = 100;
+
+// A gate that holds nobody.
+#[derive(Drop)]
+struct Open;
+
+impl Gate for Open {
+    fn pass(&self, _point: Point) {}
+}
+
+// What a follower asks of a feed: every leaf of the documents above a sequence.
+fn params_after(since: u64) -> FeedParams {
+    FeedParams {
+        mode: Mode::Normal,
+        since: Since::From(since),
+        limit: Some(ROWS),
+        descending: false,
+        style: Style::AllDocs,
+        include_docs: false,
+        filter: Filter::All,
+        heartbeat: None,
+        timeout: 0,
+    }
+}
+
+// Takes what a feed has handed, and says the sequence of its end where that came.
+fn take_rows<R: Wait>(
+    rt: &R,
+    feed: &mut Feed<Plain>,
+    rows: &mut Vec<ChangeRow>,
+) -> Result<Option<u64>, AllocError> {
+    for _ in 0..=ROWS {
+        match feed.take(rt) {
+            Some(Item::Row(row)) => rows.push(row)?,
+            Some(Item::End { last_seq, .. }) => return Ok(Some(last_seq)),
+            Some(Item::Beat) => {}
+            None => return Ok(None),
+        }
+    }
+    Ok(None)
+}
+
+// Hands a feed on and takes its rows by turns, up to its end. Each turn hands an item at least, so that
+// there are no more turns than rows and an end.
+fn rows_by_turns<R: Wait>(
+    rt: &R,
+    alloc: Global,
+    feed: &mut Feed<Plain>,
+) -> Result<Changes, CallFault> {
+    let mut rows = Vec::new(alloc);
+    for _ in 0..=ROWS {
+        let Ok(_handed) = feed.hold(rt, Turn::Hand, &Open) else {
+            return Err(CallFault::NoMemory);
+        };
+        match take_rows(rt, feed, &mut rows) {
+            Ok(Some(last_seq)) => return Ok(Changes { rows, last_seq }),
+            Ok(None) => {}
+            Err(_) => return Err(CallFault::NoMemory),
+        }
+    }
+    Err(CallFault::Peer)
+}
+
+// The changes above a sequence, by a feed that is finished in every case.
+fn changes_after<R: Wait>(
+    rt: &R,
+    alloc: Global,
+    handle: &mut Handle<Plain>,
+    since: u64,
+) -> Result<Changes, CallFault> {
+    let mut feed = match handle.open_feed(rt, params_after(since)) {
+        Ok(feed) => feed,
+        Err(OpenFault::NoMemory) => return Err(CallFault::NoMemory),
+        Err(_) => return Err(CallFault::Peer),
+    };
+    let changes = rows_by_turns(rt, alloc, &mut feed);
+    drop(feed.finish(rt));
+    changes
+}
+
+// What is missing of these revisions.
+fn diffs_of<R: Wait>(
+    rt: &R,
+    alloc: Global,
+    handle: &mut Handle<Plain>,
+    asked: &[Asked],
+) -> Result<Vec<Diff>, CallFault>
+    ensures { IfOk result (λ diffs.
+        IsShared (follow.RevsDiff asked.now) (follow.RevsDiffAnswer diffs.items)) }
+{
+    let Ok(asked) = copy_asked(alloc, asked) else {
+        return Err(CallFault::NoMemory);
+    };
+    match handle.read(rt, Question::RevsDiff(asked)) {
+        Ok(Answer::RevsDiff(diffs)) => Ok(diffs),
+        Ok(_) => Err(CallFault::Peer),
+        Err(fault) => Err(CallFault::from(fault)),
+    }
+}
+
+// The question for these revisions of a document, with their histories.
+fn question_of(alloc: Global, asked: &Asked) -> Result<Question, AllocError>
+    ensures { IfOk result (λ question. IsQuestionFor asked.now question) }
+{
+    let Asked { id, revs } = asked.copy(alloc)?;
+    Ok(Question::OpenRevs {
+        id,
+        which: OpenRevs::Listed(revs),
+        revs: true,
+    })
+}
+
+// These revisions of a document, with their histories.
+fn documents_of<R: Wait>(
+    rt: &R,
+    alloc: Global,
+    handle: &mut Handle<Plain>,
+    asked: &Asked,
+) -> Result<Vec<OpenRev>, CallFault>
+    ensures ok { IfOk result (λ found. IsShared (follow.OpenRevs asked.now.id asked.now.revs)
+        (follow.OpenRevsAnswer (map found_edit found.items))) }
+    ensures many { IfOk result (λ found. length found.items ≡ length asked.now.revs) }
+    ensures paths { IfOk result (λ found. All FoundHasPath found.items) }
+{
+    let Ok(question) = question_of(alloc, asked) else {
+        return Err(CallFault::NoMemory);
+    };
+    match handle.read(rt, question) {
+        Ok(Answer::OpenRevs(found)) => Ok(found),
+        Ok(_) => Err(CallFault::Peer),
+        Err(fault) => Err(CallFault::from(fault)),
+    }
+}
+
+// Stores documents with their histories.
+fn store_all<R: Wait>(
+    rt: &R,
+    alloc: Global,
+    handle: &mut Handle<Plain>,
+    docs: &[Doc],
+) -> Result<Replies, CallFault>
+    ensures ok { IfOk result (λ replies.
+        IsShared (follow.Merge (map edit_of docs.now)) (follow.MergeAnswer replies)) }
+    ensures many { IfOk result (λ replies. length replies ≡ length docs.now) }
+{
+    let Ok(copies) = copy_docs(alloc, docs) else {
+        return Err(CallFault::NoMemory);
+    };
+    match handle.write(rt, copies, false) {
+        Ok(accepted) if !accepted.stopped => Ok(accepted.replies),
+        _ => Err(CallFault::NoMemory),
+    }
+}
+
+// The replication log of this id, if there is one that can be read.
+fn log_of<R: Wait>(
+    rt: &R,
+    alloc: Global,
+    handle: &mut Handle<Plain>,
+    log_id: &str,
+) -> Result<Option<Log>, CallFault> {
+    let Ok(id) = String::from_str(alloc, log_id) else {
+        return Err(CallFault::NoMemory);
+    };
+    let found = match handle.read(rt, Question::Local { id }) {
+        Ok(Answer::Local(found)) => found,
+        Ok(_) => return Err(CallFault::Peer),
+        Err(fault) => return Err(CallFault::from(fault)),
+    };
+    let Some(local) = found else {
+        return Ok(None);
+    };
+    match Log::read(alloc, local.body.as_bytes()) {
+        Ok(log) => Ok(log),
+        Err(_) => Err(CallFault::NoMemory),
+    }
+}
+
+// The local document of a log.
+fn document_of(alloc: Global, log_id: &str, log: &Log) -> Result<LocalDoc, CallFault> {
+    let Ok(text) = log.text(alloc) else {
+        return Err(CallFault::NoMemory);
+    };
+    match LocalDoc::read(alloc, log_id, text.as_slice()) {
+        Ok(doc) => Ok(doc),
+        Err(DocFault::NoMemory) => Err(CallFault::NoMemory),
+        Err(_) => Err(CallFault::Peer),
+    }
+}
+
+// Keeps the replication log of this id.
+fn keep_log<R: Wait>(
+    rt: &R,
+    alloc: Global,
+    handle: &mut Handle<Plain>,
+    log_id: &str,
+    log: &Log,
+) -> Result<(), CallFault> {
+    let doc = document_of(alloc, log_id, log)?;
+    match handle.local_put(rt, doc) {
+        Ok(_count) => Ok(()),
+        Err(fault) => Err(CallFault::from(fault)),
+    }
+}
+
+/// A database that threads share, as a follower's peer, by a handle of its own. A call that the database
+/// refuses as a whole, because it was deleted, a local document was written too often or there are too
+/// many feeds, is a fault of the peer, and counted.
+#[derive(Drop)]
+pub struct DbPeer<'a, R: Wait> {
+    rt: &'a R,
+    alloc: Global,
+    handle: Handle<Plain>,
+    faults: u64,
+}
+
+impl<'a, R: Wait> DbPeer<'a, R> {
+    /// The peer of this handle, which has no fault yet. It takes no memory.
+    pub fn new(rt: &'a R, alloc: Global, handle: Handle<Plain>) -> DbPeer<'a, R> {
+        DbPeer {
+            rt,
+            alloc,
+            handle,
+            faults: 0,
+        }
+    }
+
+    // The outcome of a call, whose fault is counted.
+    fn counted<A>(&mut self, outcome: Result<A, CallFault>) -> Result<A, CallFault>
+        ensures same { result ≡ outcome }
+        ensures fault { IfErr result (λ e. IsCountedFault e self.old.faults self.new.faults) }
+        ensures counts { self.old.faults ≤ self.new.faults }
+    {
+        if let Err(CallFault::Peer) = outcome {
+            self.faults = self.faults.saturating_add(1);
+        }
+        outcome
+    }
+}
+
+impl<'a, R: Wait> Peer for DbPeer<'a, R> {
+    ghost use Rattle.hub_follower.specs.Shared.{IsShared};
+
+    // what one holding of the lock shows
+    ghost gives = { λ s call answer new. IsShared call answer };
+
+    ghost loses = { λ s call new. Unit };
+
+    ghost fault_count = { λ s. s.faults };
+
+    fn changes(&mut self, since: u64) -> Result<Changes, CallFault> {
+        let changes = changes_after(self.rt, self.alloc, &mut self.handle, since);
+        self.counted(changes)
+    }
+
+    fn revs_diff(&mut self, asked: &[Asked]) -> Result<Vec<Diff>, CallFault> {
+        let diffs = diffs_of(self.rt, self.alloc, &mut self.handle, asked);
+        self.counted(diffs)
+    }
+
+    fn open_revs(&mut self, asked: &Asked) -> Result<Vec<OpenRev>, CallFault> {
+        let found = documents_of(self.rt, self.alloc, &mut self.handle, asked);
+        self.counted(found)
+    }
+
+    fn merge(&mut self, docs: &[Doc]) -> Result<Replies, CallFault> {
+        let replies = store_all(self.rt, self.alloc, &mut self.handle, docs);
+        self.counted(replies)
+    }
+
+    fn local_get(&mut self, log_id: &str) -> Result<Option<Log>, CallFault> {
+        let log = log_of(self.rt, self.alloc, &mut self.handle, log_id);
+        self.counted(log)
+    }
+
+    fn local_put(&mut self, log_id: &str, log: &Log) -> Result<(), CallFault> {
+        let done = keep_log(self.rt, self.alloc, &mut self.handle, log_id, log);
+        self.counted(done)
+    }
+
+    fn faults(&self) -> u64 {
+        self.faults
+    }
+}

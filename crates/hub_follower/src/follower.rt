@@ -1,0 +1,207 @@
+//! A follower over its two peers.
+
+ghost use Rattle.std.specs.Prelude.{◌≡◌, ◌⊎◌, ◌≤◌, true, IfOk, IfErr, OnOk, OnErr, string_bytes};
+ghost use Rattle.hub_document.specs.Local.{IsLocalId};
+ghost use Rattle.hub_follow_model.specs.Follower as follow;
+ghost use Rattle.hub_follow_model.specs.World as world;
+ghost use Rattle.hub_follower.specs.Peers.{IsWalk, IsCountedOfBoth};
+
+use crate::driving::drive;
+use crate::fault::FollowFault;
+use crate::machine::FollowCore;
+use crate::peer::Peer;
+use hub_document::LocalId;
+use std::alloc::Global;
+
+/// What a round did.
+#[derive(Clone, Copy, Debug, PartialEq, Eq)]
+pub enum Round {
+    /// The place moved.
+    Moved,
+    /// There was nothing after the place.
+    Idle,
+}
+
+/// A follower that copies one peer into another, and has a session.
+#[derive(Debug, Drop)]
+pub struct Follower<S, T> {
+    alloc: Global,
+    source: S,
+    target: T,
+    /// The id of the replication logs at both ends.
+    log_id: LocalId,
+    core: FollowCore,
+    ghost rests: { world.is_free core ≡ true },
+}
+
+/// A session that did not begin, with the two peers.
+#[derive(Debug, Drop)]
+pub struct FailedStart<S, T> {
+    /// Why.
+    pub fault: FollowFault,
+    pub source: S,
+    pub target: T,
+}
+
+// The id of the logs, where a local document may have it.
+fn log_id_of(alloc: Global, text: &str) -> Result<LocalId, FollowFault>
+    ensures ok { IfOk result (λ id. (id ≡ text.now) × IsLocalId text.now) }
+    ensures bad { IfErr result (λ e. e ≡ FollowFault.BadLogId → ¬ IsLocalId text.now) }
+    ensures whole { ¬ IsLocalId text.now → IfErr result (λ e. e ≡ FollowFault.BadLogId) }
+    ensures err { IfErr result (λ e. (e ≡ FollowFault.BadLogId) ⊎ (e ≡ FollowFault.NoMemory)) }
+{
+    match LocalId::read(alloc, text) {
+        Ok(Some(id)) => Ok(id),
+        Ok(None) => Err(FollowFault::BadLogId),
+        Err(_) => Err(FollowFault::NoMemory),
+    }
+}
+
+// Begins a session.
+fn begin<S: Peer, T: Peer>(
+    alloc: Global,
+    core: &mut FollowCore,
+    source: &mut S,
+    target: &mut T,
+    log_id: &str,
+    session_id: &str,
+) -> Result<(), FollowFault>
+    requires { core.old ≡ follow.Down }
+    ensures walk { OnOk result (IsWalk S.gives T.gives (follow.SourceStart session_id.now)
+        source.old target.old core.new source.new target.new) }
+    ensures rests { OnOk result (world.is_free core.new ≡ true) }
+    ensures fault { IfErr result (λ e. IsCountedOfBoth e (S.fault_count source.old) (S.fault_count source.new)
+        (T.fault_count target.old) (T.fault_count target.new)) }
+{
+    let Ok(session_id) = String::from_str(alloc, session_id) else {
+        return Err(FollowFault::NoMemory);
+    };
+    core.start(session_id);
+    drive(alloc, core, source, target, log_id)
+}
+
+impl<S: Peer + Drop, T: Peer + Drop> Follower<S, T> {
+    /// A session begins where the logs of both peers agree, under an id that no session had before. The
+    /// logs are the local documents of the id `log_id`; where no local document may have it, the session
+    /// is refused as `BadLogId`. After an error the peers come back.
+    pub fn start(
+        alloc: Global,
+        source: S,
+        target: T,
+        log_id: &str,
+        session_id: &str,
+    ) -> Result<Follower<S, T>, FailedStart<S, T>>
+        ensures walk { IfOk result (λ f. IsWalk S.gives T.gives
+            (follow.SourceStart session_id.now) source target f.core f.source f.target) }
+        ensures id { IfOk result (λ f. (f.log_id ≡ log_id.now) × IsLocalId log_id.now) }
+        ensures bad_id { IfErr result (λ e. e.fault ≡ FollowFault.BadLogId → ¬ IsLocalId log_id.now) }
+        ensures no_other { ¬ IsLocalId log_id.now → IfErr result (λ e. e.fault ≡ FollowFault.BadLogId) }
+        ensures fault { IfErr result (λ e. ¬ (e.fault ≡ FollowFault.BadLogId) → IsCountedOfBoth e.fault
+            (S.fault_count source) (S.fault_count e.source)
+            (T.fault_count target) (T.fault_count e.target)) }
+    {
+        let log_id = match log_id_of(alloc, log_id) {
+            Ok(log_id) => log_id,
+            Err(fault) => {
+                return Err(FailedStart {
+                    fault,
+                    source,
+                    target,
+                });
+            }
+        };
+        let (mut source, mut target) = (source, target);
+        let mut core = FollowCore::new();
+        match begin(
+            alloc,
+            &mut core,
+            &mut source,
+            &mut target,
+            log_id.as_str(),
+            session_id,
+        ) {
+            Ok(()) => Ok(Follower {
+                alloc,
+                source,
+                target,
+                log_id,
+                core,
+            }),
+            Err(fault) => Err(FailedStart {
+                fault,
+                source,
+                target,
+            }),
+        }
+    }
+
+    /// The source's sequence up to which it has copied; None where a session did not begin. Constant
+    /// time.
+    pub fn place(&self) -> Option<u64>
+        ensures { result ≡ world.place_of self.now.core }
+    {
+        self.core.place()
+    }
+
+    /// Copies the changes above the place, 100 documents at most: it asks the target which of the listed
+    /// leaves it misses, fetches these with their histories, and stores them. `Idle` where there were
+    /// none: the place is the sequence that they end at; else the place moves there, once each fetched
+    /// document was stored or known. After an error the place stays, and the target may have some of the
+    /// fetched revisions.
+    pub fn round(&mut self) -> Result<Round, FollowFault>
+        ensures walk { OnOk result (IsWalk S.gives T.gives (world.round_start self.old.core)
+            self.old.source self.old.target self.new.core self.new.source self.new.target) }
+        ensures idle { IfOk result (λ r. r ≡ Round.Idle
+            → world.place_of self.new.core ≡ world.place_of self.old.core) }
+        ensures moved { IfOk result (λ r. r ≡ Round.Moved
+            → ¬ (world.place_of self.new.core ≡ world.place_of self.old.core)) }
+        ensures err { OnErr result (world.place_of self.new.core ≡ world.place_of self.old.core) }
+        ensures id { self.new.log_id ≡ self.old.log_id }
+        ensures fault { IfErr result (λ e. IsCountedOfBoth e
+            (S.fault_count self.old.source) (S.fault_count self.new.source)
+            (T.fault_count self.old.target) (T.fault_count self.new.target)) }
+    {
+        let place = self.core.place();
+        self.core.begin_round();
+        drive(
+            self.alloc,
+            &mut self.core,
+            &mut self.source,
+            &mut self.target,
+            self.log_id.as_str(),
+        )?;
+        if self.core.place() == place {
+            Ok(Round::Idle)
+        } else {
+            Ok(Round::Moved)
+        }
+    }
+
+    /// Records the place at the source, then at the target. After an error the log may stand at neither
+    /// end, at one, or at both.
+    pub fn checkpoint(&mut self) -> Result<(), FollowFault>
+        ensures walk { OnOk result (IsWalk S.gives T.gives (world.checkpoint_start self.old.core)
+            self.old.source self.old.target self.new.core self.new.source self.new.target) }
+        ensures err { OnErr result (world.place_of self.new.core ≡ world.place_of self.old.core) }
+        ensures id { self.new.log_id ≡ self.old.log_id }
+        ensures fault { IfErr result (λ e. IsCountedOfBoth e
+            (S.fault_count self.old.source) (S.fault_count self.new.source)
+            (T.fault_count self.old.target) (T.fault_count self.new.target)) }
+    {
+        self.core.begin_checkpoint();
+        drive(
+            self.alloc,
+            &mut self.core,
+            &mut self.source,
+            &mut self.target,
+            self.log_id.as_str(),
+        )
+    }
+
+    /// The two peers. It takes no memory.
+    pub fn into_peers(self) -> (S, T)
+        ensures { (result.0 ≡ self.source) × (result.1 ≡ self.target) }
+    {
+        (self.source, self.target)
+    }
+}

@@ -1,0 +1,233 @@
+//! Whether items are an answer to a follower that asks for changes.
+
+ghost use Rattle.std.specs.Prelude.{◌≡◌, ◌≤◌, ◌<◌, ◌&&◌, ◌↔◌, ℕ, List, [], length, nat_le, nat_lt, None, IfOk, IfSome, OnOk, OnErr, IsTrue};
+ghost use Rattle.std.specs.List.{list_all, list_any};
+ghost use Rattle.hub_model.specs.RightlyHanded.{rows_of};
+ghost use Rattle.hub_model.specs.Row.{ChangeRow as Row};
+ghost use Rattle.hub_follow_model.specs.ChangesFeed.{IsChangesAnswer};
+ghost use Rattle.hub_follower.specs.Handed.{are_listed, are_rising, end_of, has_sequence, is_after, is_shown, numbered_end, IsNumbered};
+ghost use Rattle.hub_follower.specs.Rebuilt.{IsRebuilt};
+ghost use Rattle.hub_follower.specs.Worlds.{IsAnswerOf};
+
+use crate::call::Answer;
+use crate::rebuilt::{no_edits, rebuild, rows_above};
+use crate::same_row::has_row;
+use hub_database::DbState;
+use hub_document::ChangeRow;
+use hub_model::Item;
+use std::alloc::{AllocError, Global};
+
+// How many items are 100 rows and their end.
+const ITEMS: usize = 101;
+
+// The sequence that the end names, of items that are rows and then their one end.
+fn end_of(items: &[Item<ChangeRow>]) -> Option<u64>
+    ensures { result ≡ end_of items.now }
+{
+    for (at, item) in items.iter().enumerate() {
+        match item {
+            Item::Row(_row) => {}
+            Item::Beat => return None,
+            Item::End { last_seq, .. } => {
+                if at + 1 == items.len() {
+                    return Some(*last_seq);
+                }
+                return None;
+            }
+        }
+    }
+    None
+}
+
+// Whether a row may stand behind one of this sequence and this update sequence, and reaches no further than
+// `last`.
+fn is_after(row: &ChangeRow, seq: u64, seen: u64, last: u64) -> bool
+    ensures { result ≡ is_after last seq seen row.now }
+{
+    seq < row.seq && row.seq <= last && seen <= row.seen
+}
+
+// Whether the rows rise from `since` to `last`, each made no earlier than those before it.
+fn are_rising(items: &[Item<ChangeRow>], since: u64, last: u64) -> bool
+    ensures { result ≡ are_rising last since 0 (rows_of items.now) }
+{
+    let mut seq = since;
+    let mut seen = 0;
+    for item in items {
+        let Item::Row(row) = item else {
+            continue;
+        };
+        if !is_after(row, seq, seen, last) {
+            return false;
+        }
+        seq = row.seq;
+        seen = row.seen;
+    }
+    true
+}
+
+// The sequence that the end names, where the items have the shape of an answer of a database of so many
+// edits, and its numbers rise.
+fn numbered_end(items: &[Item<ChangeRow>], since: u64, edits: u64) -> Option<u64>
+    ensures { result ≡ numbered_end edits since items.now }
+{
+    let last = end_of(items)?;
+    if items.len() <= ITEMS && since <= last && last <= edits && are_rising(items, since, last) {
+        return Some(last);
+    }
+    None
+}
+
+// Whether the row was a current one when it was made. The copy is taken to that place.
+fn is_shown(
+    alloc: Global,
+    db: &DbState,
+    copy: &mut DbState,
+    row: &ChangeRow,
+) -> Result<bool, AllocError>
+    requires { IsRebuilt db.now.journal copy.old }
+    ensures ok { IfOk result (λ shown. shown ≡ is_shown db.now.journal row.now) }
+    ensures copy { OnOk result (IsRebuilt db.now.journal copy.new) }
+    ensures memory { OnErr result (0 < length db.now.journal) }
+{
+    rebuild(alloc, db, copy, row.seen.min(db.update_seq()))?;
+    let rows = rows_above(copy, 0)?;
+    Ok(has_row(rows.as_slice(), row))
+}
+
+// Whether each row was a current one when it was made.
+fn are_shown(
+    alloc: Global,
+    db: &DbState,
+    copy: &mut DbState,
+    items: &[Item<ChangeRow>],
+) -> Result<bool, AllocError>
+    requires { IsRebuilt db.now.journal copy.old }
+    ensures ok { IfOk result (λ shown. shown ≡ list_all (is_shown db.now.journal) (rows_of items.now)) }
+    ensures copy { OnOk result (IsRebuilt db.now.journal copy.new) }
+    ensures memory { OnErr result (0 < length db.now.journal) }
+{
+    for item in items {
+        let Item::Row(row) = item else {
+            continue;
+        };
+        if !is_shown(alloc, db, copy, row)? {
+            return Ok(false);
+        }
+    }
+    Ok(true)
+}
+
+// Whether a row has this sequence.
+fn has_sequence(items: &[Item<ChangeRow>], seq: u64) -> bool
+    ensures { result ≡ has_sequence (rows_of items.now) seq }
+{
+    for item in items {
+        let Item::Row(row) = item else {
+            continue;
+        };
+        if row.seq == seq {
+            return true;
+        }
+    }
+    false
+}
+
+// Whether each of these rows that is not above `last` has its sequence among the items' rows.
+fn are_listed(rows: &[ChangeRow], last: u64, items: &[Item<ChangeRow>]) -> bool
+    ensures { result ≡ are_listed last (rows_of items.now) rows.now }
+{
+    for row in rows {
+        if row.seq <= last && !has_sequence(items, row.seq) {
+            return false;
+        }
+    }
+    true
+}
+
+// The sequence that these items end at, where they are an answer to a follower that asks for the changes above
+// `since`.
+fn answer_end(
+    alloc: Global,
+    db: &DbState,
+    since: u64,
+    items: &[Item<ChangeRow>],
+) -> Result<Option<u64>, AllocError>
+    ensures right { IfOk result (λ end. IfSome end (λ last.
+        IsChangesAnswer db.now.journal since items.now (rows_of items.now) last)) }
+    ensures wrong { IfOk result (λ end. end ≡ None → (rows : List Row) (last : ℕ)
+        → ¬ IsChangesAnswer db.now.journal since items.now rows last) }
+    ensures memory { OnErr result ((0 < length db.now.journal)
+        × IsNumbered (length db.now.journal) since items.now) }
+{
+    let last = match numbered_end(items, since, db.update_seq()) {
+        Some(last) => last,
+        None => return Ok(None),
+    };
+    let mut copy = no_edits(alloc);
+    if !are_shown(alloc, db, &mut copy, items)? {
+        return Ok(None);
+    }
+    rebuild(alloc, db, &mut copy, db.update_seq())?;
+    let rows = rows_above(&copy, since)?;
+    if are_listed(rows.as_slice(), last, items) {
+        return Ok(Some(last));
+    }
+    Ok(None)
+}
+
+/// Whether these items are an answer to a follower that asks for the changes above `since`: all that a normal
+/// feed of every leaf, with a limit of 100, may have handed by now, its end included. How many rows are pending
+/// is not looked at. Of a deleted database it is the journal that it had which decides. It costs the storing of
+/// each edit in a copy, and for each row a list of all current rows: it is meant for tests and for
+/// `FollowWorld`, not for serving.
+pub fn rightly_handed(
+    alloc: Global,
+    db: &DbState,
+    since: u64,
+    items: &[Item<ChangeRow>],
+) -> Result<bool, AllocError>
+    ensures ok { IfOk result (λ right. IsTrue right
+        ↔ ((rows : List Row) × (last : ℕ) × IsChangesAnswer db.now.journal since items.now rows last)) }
+    ensures memory { OnErr result ((0 < length db.now.journal)
+        × IsNumbered (length db.now.journal) since items.now) }
+{
+    let end = answer_end(alloc, db, since, items)?;
+    Ok(end.is_some())
+}
+
+// The rows among these items.
+fn rows_of(alloc: Global, items: Vec<Item<ChangeRow>>) -> Result<Vec<ChangeRow>, AllocError>
+    ensures { IfOk result (λ rows. rows.items ≡ rows_of items.items) }
+{
+    let mut rows = Vec::new(alloc);
+    for item in items {
+        match item {
+            Item::Row(row) => rows.push(row)?,
+            Item::Beat => {}
+            Item::End { .. } => {}
+        }
+    }
+    Ok(rows)
+}
+
+/// The answer that these items are, where the database may answer so for the changes above `since`. It costs
+/// what `rightly_handed` does.
+pub(crate) fn changes_in(
+    alloc: Global,
+    db: &DbState,
+    since: u64,
+    items: Vec<Item<ChangeRow>>,
+) -> Result<Option<Answer>, AllocError>
+    ensures right { IfOk result (λ found. IfSome found (IsAnswerOf db.now.journal since items.items)) }
+    ensures wrong { IfOk result (λ found. found ≡ None → (rows : List Row) (last : ℕ)
+        → ¬ IsChangesAnswer db.now.journal since items.items rows last) }
+{
+    let last = match answer_end(alloc, db, since, items.as_slice()) {
+        Ok(Some(last)) => last,
+        Ok(None) => return Ok(None),
+        Err(refused) => return Err(refused),
+    };
+    let rows = rows_of(alloc, items)?;
+    Ok(Some(Answer::Changes(rows, last)))
+}

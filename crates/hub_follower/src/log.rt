@@ -1,0 +1,148 @@
+//! Replication logs.
+
+ghost use Rattle.std.specs.Prelude.{◌≡◌, option_copied, string_bytes, IfOk};
+ghost use Rattle.hub_follow_model.specs.ReplicationLog as model;
+
+use std::alloc::{AllocError, Global};
+use std::marker::Model;
+
+/// What a replication log's history says of one session.
+#[derive(Debug, Drop)]
+pub struct HistoryEntry {
+    /// The session.
+    pub session_id: String,
+    /// The source's sequence that the session began after.
+    pub start_last_seq: u64,
+    /// The last one that it came to.
+    pub end_last_seq: u64,
+    /// The one that it recorded.
+    pub recorded_seq: u64,
+}
+
+impl Model for HistoryEntry {
+    ghost use Rattle.std.specs.Prelude.{string_bytes};
+    ghost use Rattle.hub_follow_model.specs.ReplicationLog as model;
+
+    ghost Value = { model.HistoryEntry };
+
+    ghost view = { λ a. record {
+      session_id = string_bytes a.session_id;
+      start_last_seq = a.start_last_seq;
+      end_last_seq = a.end_last_seq;
+      recorded_seq = a.recorded_seq;
+    } };
+}
+
+impl HistoryEntry {
+    /// The sequence that the session recorded. Constant time.
+    pub fn recorded_seq(&self) -> u64
+        ensures { result ≡ self.now.recorded_seq }
+    {
+        self.recorded_seq
+    }
+
+    /// The session. Constant time.
+    pub fn session_id(&self) -> &str
+        ensures { result.now ≡ self.now.session_id }
+    {
+        self.session_id.as_str()
+    }
+
+    /// A copy. It costs the length of the session's id.
+    pub fn copy(&self, alloc: Global) -> Result<HistoryEntry, AllocError>
+        ensures { IfOk result (λ entry. entry ≡ self.now) }
+    {
+        let session_id = String::from_str(alloc, self.session_id.as_str())?;
+        Ok(HistoryEntry {
+            session_id,
+            start_last_seq: self.start_last_seq,
+            end_last_seq: self.end_last_seq,
+            recorded_seq: self.recorded_seq,
+        })
+    }
+}
+
+/// A replication log (CouchDB Replication Protocol, retrieve replication logs).
+#[derive(Debug, Drop)]
+pub struct Log {
+    /// The last session.
+    pub session_id: String,
+    /// The source's sequence that it recorded.
+    pub source_last_seq: u64,
+    /// The sessions, newest first.
+    pub history: Vec<HistoryEntry>,
+}
+
+impl Model for Log {
+    ghost use Rattle.std.specs.Prelude.{string_bytes};
+    ghost use Rattle.hub_follow_model.specs.ReplicationLog as model;
+
+    ghost Value = { model.ReplicationLog };
+
+    ghost view = { λ a. record {
+      session_id = string_bytes a.session_id;
+      source_last_seq = a.source_last_seq;
+      history = a.history.items;
+    } };
+}
+
+impl Log {
+    /// A copy. It costs the log's length.
+    pub fn copy(&self, alloc: Global) -> Result<Log, AllocError>
+        ensures { IfOk result (λ log. log ≡ self.now) }
+    {
+        let session_id = String::from_str(alloc, self.session_id.as_str())?;
+        let mut history = Vec::new(alloc);
+        for entry in &self.history {
+            history.push(entry.copy(alloc)?)?;
+        }
+        Ok(Log {
+            session_id,
+            source_last_seq: self.source_last_seq,
+            history,
+        })
+    }
+}
+
+// What the first entry of a session records, if there is one.
+fn recorded_seq_of(session: &str, history: &[HistoryEntry]) -> Option<u64>
+    ensures { result ≡ model.recorded_seq_of session.now history.now }
+{
+    for entry in history {
+        if session.as_bytes() == entry.session_id().as_bytes() {
+            return Some(entry.recorded_seq());
+        }
+    }
+    None
+}
+
+// Of the newest session of the target's history that the source's has too, the lesser of what the two
+// record; 0 where there is none.
+fn common_session_sequence(source: &[HistoryEntry], target: &[HistoryEntry]) -> u64
+    ensures { result ≡ model.common_session_sequence source.now target.now }
+{
+    for entry in target {
+        if let Some(recorded) = recorded_seq_of(entry.session_id(), source) {
+            return recorded.min(entry.recorded_seq());
+        }
+    }
+    0
+}
+
+/// The sequence up to which the logs of source and target agree: 0 where no session is in both, or one
+/// log is absent (CouchDB Replication Protocol, compare replication logs; that the lesser of two numbers
+/// is taken is own). It takes no memory, and compares each entry of one history with each of the other.
+pub fn common_sequence(source: Option<&Log>, target: Option<&Log>) -> u64
+    ensures { result ≡ model.common_sequence (option_copied source.entry) (option_copied target.entry) }
+{
+    match (source, target) {
+        (Some(source), Some(target)) => {
+            if source.session_id.as_bytes() == target.session_id.as_bytes() {
+                source.source_last_seq.min(target.source_last_seq)
+            } else {
+                common_session_sequence(&source.history, &target.history)
+            }
+        }
+        _ => 0,
+    }
+}

@@ -1,0 +1,413 @@
+//! A follower as a machine that makes no call itself.
+
+ghost use Rattle.std.specs.Prelude.{◌≡◌, true, map, option_map, string_bytes, All, Ok, OnOk, IfOk, IfErr};
+ghost use Rattle.hub_follow_model.specs.Follower as follow;
+ghost use Rattle.hub_follow_model.specs.World as world;
+ghost use Rattle.hub_database.specs.Edits.{edit_of};
+ghost use Rattle.hub_follower.specs.Peers.{calls_left, IsOwnFault};
+ghost use Rattle.hub_follower.specs.Views.{answer_of, call_of, follower_of, phase_of, follower_behind};
+ghost use Rattle.hub_follower.specs.Views.{StateHasPaths, PhaseHasPaths, NextHasPaths, HasPath, AnswerHasPaths};
+ghost use Rattle.hub_follower.specs.Views.{IsFaultOf};
+
+use crate::call::{Answer, Call};
+use crate::fault::FollowFault;
+use crate::log::Log;
+use crate::phase::{self, Next, Phase};
+use crate::session::Session;
+use hub_document::{Asked, Doc};
+use std::alloc::Global;
+use std::collections::VecDeque;
+use std::marker::Model;
+use std::mem;
+
+/// How far a follower is.
+#[derive(Debug, Drop)]
+pub(crate) enum State {
+    /// It has no session.
+    Down,
+    /// A session of this id begins: it asks for the source's log.
+    SourceStart(String),
+    /// It asks for the target's log; the source's is this.
+    TargetStart(String, Option<Log>),
+    /// It has a session, and no phase is on.
+    Ready(Session),
+    /// It has a session, and is at this phase.
+    Busy(Session, Phase),
+}
+
+/// A follower as a machine: it says which call it owes, and takes the answer.
+#[derive(Debug, Drop)]
+pub struct FollowCore {
+    state: State,
+}
+
+impl Model for FollowCore {
+    ghost use Rattle.hub_follow_model.specs.Follower as follow;
+
+    ghost Value = { follow.Follower };
+
+    ghost use Rattle.hub_follower.specs.Views.{follower_of, StateHasPaths};
+
+    ghost view = { λ c. follower_of c.state };
+
+    ghost invariant = { λ c. StateHasPaths c.state };
+}
+
+// The answer to `changes`.
+fn changed(alloc: Global, session: &Session, answer: Answer) -> Result<Next, FollowFault>
+    ensures ok { IfOk result (λ goes. follow.phase_result session.now follow.Listing (answer_of answer)
+        ≡ Ok (follower_behind session.now goes)) }
+    ensures paths { IfOk result NextHasPaths }
+    ensures err { IfErr result (λ e.
+        IsFaultOf e (follow.phase_result session.now follow.Listing (answer_of answer))) }
+{
+    match answer {
+        Answer::Changes(rows, last) => Ok(phase::comparison_or_ready(alloc, rows, last)?),
+        Answer::Log(_log) => Err(FollowFault::Peer),
+        Answer::RevsDiff(_diffs) => Err(FollowFault::Peer),
+        Answer::OpenRevs(_found) => Err(FollowFault::Peer),
+        Answer::Merge(_replies) => Err(FollowFault::Peer),
+        Answer::Put => Err(FollowFault::Peer),
+    }
+}
+
+// The answer to `revs_diff`.
+fn missing(
+    alloc: Global,
+    session: &Session,
+    asked: Vec<Asked>,
+    last: u64,
+    answer: Answer,
+) -> Result<Next, FollowFault>
+    ensures ok { IfOk result (λ goes.
+        follow.phase_result session.now (follow.Comparison asked.items last) (answer_of answer)
+        ≡ Ok (follower_behind session.now goes)) }
+    ensures paths { IfOk result NextHasPaths }
+    ensures err { IfErr result (λ e.
+        IsFaultOf e (follow.phase_result session.now (follow.Comparison asked.items last) (answer_of answer))) }
+{
+    match answer {
+        Answer::RevsDiff(diffs) => Ok(phase::first_retrieval(alloc, diffs, last)?),
+        Answer::Log(_log) => Err(FollowFault::Peer),
+        Answer::Changes(_rows, _last) => Err(FollowFault::Peer),
+        Answer::OpenRevs(_found) => Err(FollowFault::Peer),
+        Answer::Merge(_replies) => Err(FollowFault::Peer),
+        Answer::Put => Err(FollowFault::Peer),
+    }
+}
+
+// The answer to `open_revs`.
+fn opened(
+    session: &Session,
+    wanted: Asked,
+    later: VecDeque<Asked>,
+    got: Vec<Doc>,
+    last: u64,
+    answer: Answer,
+) -> Result<Next, FollowFault>
+    requires fits { follow.IsAnswerTo (follow.OpenRevs wanted.id wanted.revs) (answer_of answer) }
+    requires brings { AnswerHasPaths answer }
+    requires paths { All HasPath got.items }
+    ensures ok { IfOk result (λ goes.
+        follow.phase_result session.now
+        (follow.Retrieval wanted later.items (map edit_of got.items) last) (answer_of answer)
+        ≡ Ok (follower_behind session.now goes)) }
+    ensures paths { IfOk result NextHasPaths }
+    ensures err { IfErr result (λ e.
+        IsFaultOf e (follow.phase_result session.now
+        (follow.Retrieval wanted later.items (map edit_of got.items) last) (answer_of answer))) }
+{
+    match answer {
+        Answer::OpenRevs(found) => match phase::documents_behind(wanted, found, got) {
+            Ok(got) => Ok(phase::retrieval_or_storage(later, got, last)),
+            Err(fault) => Err(fault),
+        },
+        Answer::Log(_log) => Err(FollowFault::Peer),
+        Answer::Changes(_rows, _last) => Err(FollowFault::Peer),
+        Answer::RevsDiff(_diffs) => Err(FollowFault::Peer),
+        Answer::Merge(_replies) => Err(FollowFault::Peer),
+        Answer::Put => Err(FollowFault::Peer),
+    }
+}
+
+// The answer to the merge.
+fn merged(session: &Session, got: Vec<Doc>, last: u64, answer: Answer) -> Result<Next, FollowFault>
+    requires fits { follow.IsAnswerTo (follow.Merge (map edit_of got.items)) (answer_of answer) }
+    requires paths { All HasPath got.items }
+    ensures ok { IfOk result (λ goes.
+        follow.phase_result session.now (follow.Storage (map edit_of got.items) last) (answer_of answer)
+        ≡ Ok (follower_behind session.now goes)) }
+    ensures paths { IfOk result NextHasPaths }
+    ensures err { IfErr result (λ e.
+        IsFaultOf e (follow.phase_result session.now
+        (follow.Storage (map edit_of got.items) last) (answer_of answer))) }
+{
+    match answer {
+        Answer::Merge(replies) => match phase::first_refusal(got, replies.as_slice()) {
+            None => Ok(Next::ReadyAt(last)),
+            Some(fault) => Err(fault),
+        },
+        Answer::Log(_log) => Err(FollowFault::Peer),
+        Answer::Changes(_rows, _last) => Err(FollowFault::Peer),
+        Answer::RevsDiff(_diffs) => Err(FollowFault::Peer),
+        Answer::OpenRevs(_found) => Err(FollowFault::Peer),
+        Answer::Put => Err(FollowFault::Peer),
+    }
+}
+
+// The answer to the log that was to be kept at the source.
+fn source_written(session: &Session, answer: Answer) -> Result<Next, FollowFault>
+    ensures ok { IfOk result (λ goes.
+        follow.phase_result session.now follow.SourceCheckpoint (answer_of answer)
+        ≡ Ok (follower_behind session.now goes)) }
+    ensures paths { IfOk result NextHasPaths }
+    ensures err { IfErr result (λ e.
+        IsFaultOf e (follow.phase_result session.now follow.SourceCheckpoint (answer_of answer))) }
+{
+    match answer {
+        Answer::Put => Ok(Next::Busy(Phase::TargetCheckpoint)),
+        Answer::Log(_log) => Err(FollowFault::Peer),
+        Answer::Changes(_rows, _last) => Err(FollowFault::Peer),
+        Answer::RevsDiff(_diffs) => Err(FollowFault::Peer),
+        Answer::OpenRevs(_found) => Err(FollowFault::Peer),
+        Answer::Merge(_replies) => Err(FollowFault::Peer),
+    }
+}
+
+// The answer to the log that was to be kept at the target.
+fn target_written(session: &Session, answer: Answer) -> Result<Next, FollowFault>
+    ensures ok { IfOk result (λ goes.
+        follow.phase_result session.now follow.TargetCheckpoint (answer_of answer)
+        ≡ Ok (follower_behind session.now goes)) }
+    ensures paths { IfOk result NextHasPaths }
+    ensures err { IfErr result (λ e.
+        IsFaultOf e (follow.phase_result session.now follow.TargetCheckpoint (answer_of answer))) }
+{
+    match answer {
+        Answer::Put => Ok(Next::Ready),
+        Answer::Log(_log) => Err(FollowFault::Peer),
+        Answer::Changes(_rows, _last) => Err(FollowFault::Peer),
+        Answer::RevsDiff(_diffs) => Err(FollowFault::Peer),
+        Answer::OpenRevs(_found) => Err(FollowFault::Peer),
+        Answer::Merge(_replies) => Err(FollowFault::Peer),
+    }
+}
+
+// The answer to the call that such phase owes. The phase is spent.
+fn answered(
+    alloc: Global,
+    session: &Session,
+    phase: Phase,
+    answer: Answer,
+) -> Result<Next, FollowFault>
+    requires fits { follow.IsAnswerTo (follow.phase_call session.now (phase_of phase)) (answer_of answer) }
+    requires brings { AnswerHasPaths answer }
+    requires paths { PhaseHasPaths phase }
+    ensures ok { IfOk result (λ goes. follow.phase_result session.now (phase_of phase) (answer_of answer)
+        ≡ Ok (follower_behind session.now goes)) }
+    ensures paths { IfOk result NextHasPaths }
+    ensures err { IfErr result (λ e.
+        IsFaultOf e (follow.phase_result session.now (phase_of phase) (answer_of answer))) }
+{
+    match phase {
+        Phase::Listing => changed(alloc, session, answer),
+        Phase::Comparison(asked, last) => missing(alloc, session, asked, last, answer),
+        Phase::Retrieval(wanted, later, got, last) => opened(
+            session, wanted, later, got, last, answer,
+        ),
+        Phase::Storage(got, last) => merged(session, got, last, answer),
+        Phase::SourceCheckpoint => source_written(session, answer),
+        Phase::TargetCheckpoint => target_written(session, answer),
+    }
+}
+
+// The session that goes on so.
+fn gone_on(session: Session, next: Next) -> State
+    requires { NextHasPaths next }
+    ensures value { follower_of result ≡ follower_behind session next }
+    ensures paths { StateHasPaths result }
+{
+    match next {
+        Next::Ready => State::Ready(session),
+        Next::ReadyAt(last) => State::Ready(session.at(last)),
+        Next::Busy(phase) => State::Busy(session, phase),
+    }
+}
+
+// What a state without its phase is.
+fn failed(state: State) -> State
+    ensures value { follower_of result ≡ follow.after_failure (follower_of state) }
+    ensures paths { StateHasPaths result }
+{
+    match state {
+        State::Ready(session) => State::Ready(session),
+        State::Busy(session, _phase) => State::Ready(session),
+        State::Down => State::Down,
+        State::SourceStart(_session_id) => State::Down,
+        State::TargetStart(_session_id, _source) => State::Down,
+    }
+}
+
+// The state after an answer, with the fault of one that fails.
+fn after(alloc: Global, state: State, answer: Answer) -> (State, Result<(), FollowFault>)
+    requires fits { follow.IsAnswerToNext (follow.next_call (follower_of state)) (answer_of answer) }
+    requires brings { AnswerHasPaths answer }
+    requires paths { StateHasPaths state }
+    ensures ok { OnOk result.1 (follow.answer_result (follower_of state) (answer_of answer)
+        ≡ Ok (follower_of result.0)) }
+    ensures err { IfErr result.1 (λ e. (follower_of result.0 ≡ follow.after_failure (follower_of state))
+        × IsFaultOf e (follow.answer_result (follower_of state) (answer_of answer))) }
+    ensures paths { StateHasPaths result.0 }
+{
+    match state {
+        State::SourceStart(session_id) => match answer {
+            Answer::Log(log) => (State::TargetStart(session_id, log), Ok(())),
+            Answer::Changes(_rows, _last) => (State::Down, Err(FollowFault::Peer)),
+            Answer::RevsDiff(_diffs) => (State::Down, Err(FollowFault::Peer)),
+            Answer::OpenRevs(_found) => (State::Down, Err(FollowFault::Peer)),
+            Answer::Merge(_replies) => (State::Down, Err(FollowFault::Peer)),
+            Answer::Put => (State::Down, Err(FollowFault::Peer)),
+        },
+        State::TargetStart(session_id, source) => match answer {
+            Answer::Log(log) => (
+                State::Ready(Session::begin(alloc, session_id, source, log)),
+                Ok(()),
+            ),
+            Answer::Changes(_rows, _last) => (State::Down, Err(FollowFault::Peer)),
+            Answer::RevsDiff(_diffs) => (State::Down, Err(FollowFault::Peer)),
+            Answer::OpenRevs(_found) => (State::Down, Err(FollowFault::Peer)),
+            Answer::Merge(_replies) => (State::Down, Err(FollowFault::Peer)),
+            Answer::Put => (State::Down, Err(FollowFault::Peer)),
+        },
+        State::Busy(session, phase) => match answered(alloc, &session, phase, answer) {
+            Ok(next) => (gone_on(session, next), Ok(())),
+            Err(fault) => (State::Ready(session), Err(fault)),
+        },
+        State::Down => (State::Down, Err(FollowFault::Peer)),
+        State::Ready(session) => (State::Ready(session), Err(FollowFault::Peer)),
+    }
+}
+
+impl FollowCore {
+    /// A follower without a session.
+    pub fn new() -> FollowCore
+        ensures { result ≡ follow.Down }
+    {
+        FollowCore { state: State::Down }
+    }
+
+    /// Whether it owes no call. Constant time.
+    pub fn is_free(&self) -> bool
+        ensures { result ≡ world.is_free self.now }
+    {
+        match &self.state {
+            State::Down | State::Ready(_) => true,
+            State::SourceStart(_) | State::TargetStart(_, _) | State::Busy(_, _) => false,
+        }
+    }
+
+    /// The source's sequence up to which it has copied, where it has a session. Constant time.
+    pub fn place(&self) -> Option<u64>
+        ensures { result ≡ world.place_of self.now }
+    {
+        match &self.state {
+            State::Ready(session) => Some(session.place()),
+            State::Busy(session, _phase) => Some(session.place()),
+            State::Down => None,
+            State::SourceStart(_session_id) => None,
+            State::TargetStart(_session_id, _source) => None,
+        }
+    }
+
+    /// How many calls it owes at most, where the changes were asked for and compared.
+    pub(crate) fn calls_left(&self) -> u64
+        ensures { result ≡ calls_left self.now }
+    {
+        match &self.state {
+            State::Down => 0,
+            State::SourceStart(_session_id) => 2,
+            State::TargetStart(_session_id, _source) => 1,
+            State::Ready(_session) => 0,
+            State::Busy(_session, Phase::Listing) => 0,
+            State::Busy(_session, Phase::Comparison(_asked, _last)) => 0,
+            State::Busy(_session, Phase::Retrieval(_next, later, _got, _last)) => later.len() as u64
+                + 2,
+            State::Busy(_session, Phase::Storage(_docs, _last)) => 1,
+            State::Busy(_session, Phase::SourceCheckpoint) => 2,
+            State::Busy(_session, Phase::TargetCheckpoint) => 1,
+        }
+    }
+
+    /// A session of this id begins: the logs are to be read.
+    pub fn start(&mut self, session_id: String)
+        requires { world.is_free self.old ≡ true }
+        ensures { self.new ≡ follow.SourceStart (string_bytes session_id) }
+    {
+        self.state = State::SourceStart(session_id);
+    }
+
+    /// A round begins, where there is a session and no call is owed.
+    pub fn begin_round(&mut self)
+        ensures { self.new ≡ world.round_start self.old }
+    {
+        self.state = match mem::replace(&mut self.state, State::Down) {
+            State::Ready(session) => State::Busy(session, Phase::Listing),
+            state => state,
+        };
+    }
+
+    /// A checkpoint begins, where there is a session and no call is owed.
+    pub fn begin_checkpoint(&mut self)
+        ensures { self.new ≡ world.checkpoint_start self.old }
+    {
+        self.state = match mem::replace(&mut self.state, State::Down) {
+            State::Ready(session) => State::Busy(session, Phase::SourceCheckpoint),
+            state => state,
+        };
+    }
+
+    /// The call that it owes, to be made of the peer that the call names.
+    pub fn next_call(&self) -> Option<Call<'_>>
+        ensures { option_map call_of result ≡ follow.next_call self.now }
+    {
+        match &self.state {
+            State::Down => None,
+            State::SourceStart(_session_id) => Some(Call::GetSource),
+            State::TargetStart(_session_id, _source) => Some(Call::GetTarget),
+            State::Ready(_session) => None,
+            State::Busy(session, Phase::Listing) => Some(Call::Changes(session.place())),
+            State::Busy(_session, Phase::Comparison(asked, _last)) => Some(Call::RevsDiff(asked)),
+            State::Busy(_session, Phase::Retrieval(next, _later, _got, _last)) => Some(
+                Call::OpenRevs(next),
+            ),
+            State::Busy(_session, Phase::Storage(docs, _last)) => Some(Call::Merge(docs)),
+            State::Busy(session, Phase::SourceCheckpoint) => Some(Call::PutSource(session)),
+            State::Busy(session, Phase::TargetCheckpoint) => Some(Call::PutTarget(session)),
+        }
+    }
+
+    /// Takes the answer to the owed call, which fits it. `Refused` comes only of an answer that
+    /// refuses that document, `Lost` only of one that misses that revision, and no other but `NoMemory`. After
+    /// an error the phase is dropped, and the place stays.
+    pub fn accept(&mut self, alloc: Global, answer: Answer) -> Result<(), FollowFault>
+        requires fits { follow.IsAnswerToNext (follow.next_call self.old) (answer_of answer) }
+        requires brings { AnswerHasPaths answer }
+        ensures ok { OnOk result (follow.answer_result self.old (answer_of answer) ≡ Ok self.new) }
+        ensures err { IfErr result (λ e. (self.new ≡ follow.after_failure self.old)
+            × IsFaultOf e (follow.answer_result self.old (answer_of answer))) }
+        ensures own { IfErr result IsOwnFault }
+    {
+        let state = mem::replace(&mut self.state, State::Down);
+        let (state, result) = after(alloc, state, answer);
+        self.state = state;
+        result
+    }
+
+    /// The owed call failed: the phase is dropped, and the place stays.
+    pub fn fail(&mut self)
+        ensures { self.new ≡ follow.after_failure self.old }
+    {
+        let state = mem::replace(&mut self.state, State::Down);
+        self.state = failed(state);
+    }
+}

@@ -1,0 +1,126 @@
+//! What a follower's peers are.
+
+ghost use Rattle.std.specs.Prelude.{◌≡◌, ◌≤◌, ℕ, map, length, All, IfOk, IfErr, OnOk};
+ghost use Rattle.hub_follow_model.specs.Follower as follow;
+ghost use Rattle.hub_database.specs.Edits.{edit_of};
+ghost use Rattle.hub_follower.specs.Peers.{IsCountedFault};
+ghost use Rattle.hub_follower.specs.Views.{found_edit, FoundHasPath};
+
+use crate::fault::FollowFault;
+use crate::log::Log;
+use hub_database::{DbFault, Diff, OpenRev, Replies};
+use hub_document::{Asked, ChangeRow, Doc};
+
+/// Why a call on a peer fails.
+#[derive(Clone, Copy, Debug, PartialEq, Eq)]
+pub enum CallFault {
+    /// The peer failed: its count of faults rose, or stands at its last value.
+    Peer,
+    /// A growth was refused.
+    NoMemory,
+}
+
+impl From<CallFault> for FollowFault {
+    ghost use Rattle.hub_follower.specs.Peers.{IsCallFault};
+
+    ghost from_gives = { IsCallFault };
+
+    fn from(fault: CallFault) -> FollowFault {
+        match fault {
+            CallFault::Peer => FollowFault::Peer,
+            CallFault::NoMemory => FollowFault::NoMemory,
+        }
+    }
+}
+
+impl From<DbFault> for CallFault {
+    ghost use Rattle.hub_follower.specs.Peers.{IsDbFault};
+
+    ghost from_gives = { IsDbFault };
+
+    fn from(fault: DbFault) -> CallFault {
+        match fault {
+            DbFault::NoMemory => CallFault::NoMemory,
+            DbFault::Refused(_) => CallFault::Peer,
+        }
+    }
+}
+
+/// Rows of changes, and the sequence up to which they show all.
+#[derive(Debug, Drop)]
+pub struct Changes {
+    pub rows: Vec<ChangeRow>,
+    pub last_seq: u64,
+}
+
+/// A database as a follower sees it (CouchDB Replication Protocol). A peer says itself what its calls may
+/// answer: `gives` is exact for one that a single thread holds, and of one behind a lock it says no more
+/// than each answer shows, since between two calls anything may be written. Its count of faults never
+/// falls, and a call tells a fault of the peer only where the count rose, or stands at 2^64 - 1.
+pub trait Peer {
+    /// From a state, a call may have this answer and leave that state.
+    ghost gives: { Self → follow.Call → follow.Answer → Self → Type 0 };
+
+    /// From a state, a call may fail and leave that state.
+    ghost loses: { Self → follow.Call → Self → Type 0 };
+
+    /// How many calls failed, 2^64 - 1 at most.
+    ghost fault_count: { Self → ℕ };
+
+    /// The changes above this sequence, of every leaf: 100 rows at most, with their end.
+    fn changes(&mut self, since: u64) -> Result<Changes, CallFault>
+        ensures ok { IfOk result (λ c.
+            gives self.old (follow.Changes since) (follow.ChangesAnswer c.rows.items c.last_seq) self.new) }
+        ensures lost { IfErr result (λ _. loses self.old (follow.Changes since) self.new) }
+        ensures fault { IfErr result (λ e. IsCountedFault e (fault_count self.old) (fault_count self.new)) }
+        ensures counts { fault_count self.old ≤ fault_count self.new };
+
+    /// Which of these revisions it misses, row by row.
+    fn revs_diff(&mut self, asked: &[Asked]) -> Result<Vec<Diff>, CallFault>
+        ensures ok { IfOk result (λ diffs.
+            gives self.old (follow.RevsDiff asked.now) (follow.RevsDiffAnswer diffs.items) self.new) }
+        ensures lost { IfErr result (λ _. loses self.old (follow.RevsDiff asked.now) self.new) }
+        ensures fault { IfErr result (λ e. IsCountedFault e (fault_count self.old) (fault_count self.new)) }
+        ensures counts { fault_count self.old ≤ fault_count self.new };
+
+    /// These revisions of a document, in this order, with their histories.
+    fn open_revs(&mut self, asked: &Asked) -> Result<Vec<OpenRev>, CallFault>
+        ensures ok { IfOk result (λ found. gives self.old (follow.OpenRevs asked.now.id asked.now.revs)
+            (follow.OpenRevsAnswer (map found_edit found.items)) self.new) }
+        ensures many { IfOk result (λ found. length found.items ≡ length asked.now.revs) }
+        ensures paths { IfOk result (λ found. All FoundHasPath found.items) }
+        ensures lost { IfErr result (λ _.
+            loses self.old (follow.OpenRevs asked.now.id asked.now.revs) self.new) }
+        ensures fault { IfErr result (λ e. IsCountedFault e (fault_count self.old) (fault_count self.new)) }
+        ensures counts { fault_count self.old ≤ fault_count self.new };
+
+    /// Stores documents with their histories, one after the other. After an error some may be stored.
+    fn merge(&mut self, docs: &[Doc]) -> Result<Replies, CallFault>
+        ensures ok { IfOk result (λ replies.
+            gives self.old (follow.Merge (map edit_of docs.now)) (follow.MergeAnswer replies) self.new) }
+        ensures many { IfOk result (λ replies. length replies ≡ length docs.now) }
+        ensures lost { IfErr result (λ _. loses self.old (follow.Merge (map edit_of docs.now)) self.new) }
+        ensures fault { IfErr result (λ e. IsCountedFault e (fault_count self.old) (fault_count self.new)) }
+        ensures counts { fault_count self.old ≤ fault_count self.new };
+
+    /// The replication log of this id, if there is one that can be read.
+    fn local_get(&mut self, log_id: &str) -> Result<Option<Log>, CallFault>
+        ensures ok { IfOk result (λ log. (side : follow.Side)
+            → gives self.old (follow.LocalGet side) (follow.LogAnswer log) self.new) }
+        ensures lost { IfErr result (λ _. (side : follow.Side) → loses self.old (follow.LocalGet side) self.new) }
+        ensures fault { IfErr result (λ e. IsCountedFault e (fault_count self.old) (fault_count self.new)) }
+        ensures counts { fault_count self.old ≤ fault_count self.new };
+
+    /// Keeps the replication log of this id. After an error it may be kept.
+    fn local_put(&mut self, log_id: &str, log: &Log) -> Result<(), CallFault>
+        ensures ok { OnOk result ((side : follow.Side)
+            → gives self.old (follow.LocalPut side log.now) follow.PutAnswer self.new) }
+        ensures lost { IfErr result (λ _. (side : follow.Side)
+            → loses self.old (follow.LocalPut side log.now) self.new) }
+        ensures fault { IfErr result (λ e. IsCountedFault e (fault_count self.old) (fault_count self.new)) }
+        ensures counts { fault_count self.old ≤ fault_count self.new };
+
+    /// How many calls failed. It stays at 2^64 - 1 once there.
+    fn faults(&self) -> u64
+        ensures { result ≡ fault_count self.now };
+}

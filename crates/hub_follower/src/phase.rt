@@ -1,0 +1,199 @@
+//! What a round or a checkpoint is at.
+
+ghost use Rattle.std.specs.Prelude.{◌≡◌, ◌++◌, ℕ, List, [], length, map, Ok, Err, IfOk, IfErr, IfSome, IfNone, Some, None, All};
+ghost use Rattle.hub_follow_model.specs.Follower as follow;
+ghost use Rattle.hub_model.specs.Journal.{Edit};
+ghost use Rattle.hub_database.specs.Edits.{edit_of};
+ghost use Rattle.hub_follower.specs.Views.{follower_behind, found_edit, IsFaultOf, HasPath, FoundHasPath, NextHasPaths};
+
+use crate::fault::FollowFault;
+use hub_database::{Diff, OpenRev};
+use hub_document::{Asked, ChangeRow, Doc, RevId};
+use hub_model::{Fault, Outcome};
+use std::alloc::{AllocError, Global};
+use std::collections::VecDeque;
+
+/// What a round or a checkpoint is at, by the call that comes next. Each sequence is the one that the
+/// round's changes end at.
+#[derive(Debug, Drop)]
+pub(crate) enum Phase {
+    Listing,
+    /// The documents that the target is asked about.
+    Comparison(Vec<Asked>, u64),
+    /// The document that is fetched, those that come later, and what was fetched.
+    Retrieval(Asked, VecDeque<Asked>, Vec<Doc>, u64),
+    /// What was fetched.
+    Storage(Vec<Doc>, u64),
+    SourceCheckpoint,
+    TargetCheckpoint,
+}
+
+/// How a session goes on.
+#[derive(Debug, Drop)]
+pub(crate) enum Next {
+    /// Its checkpoint is done.
+    Ready,
+    /// Its round is done, and this is its place.
+    ReadyAt(u64),
+    /// It goes on with this phase.
+    Busy(Phase),
+}
+
+// The documents of rows, with the leaves that they list.
+fn revisions_of_rows(alloc: Global, rows: Vec<ChangeRow>) -> Result<Vec<Asked>, AllocError>
+    ensures { IfOk result (λ asked. asked.items ≡ map follow.revisions_of_row rows.items) }
+{
+    let mut asked = Vec::new(alloc);
+    for row in rows {
+        asked.push(Asked {
+            id: row.id.into_string(),
+            revs: row.changes,
+        })?;
+    }
+    Ok(asked)
+}
+
+/// Behind the changes: their revisions are compared, or the round is over where there are none. It takes
+/// memory for the list.
+pub(crate) fn comparison_or_ready(
+    alloc: Global,
+    rows: Vec<ChangeRow>,
+    last: u64,
+) -> Result<Next, AllocError>
+    ensures paths { IfOk result NextHasPaths }
+    ensures value { IfOk result (λ goes. (s : follow.Session)
+        → follower_behind s goes ≡ follow.comparison_or_ready s (map follow.revisions_of_row rows.items) last) }
+{
+    let asked = revisions_of_rows(alloc, rows)?;
+    if asked.is_empty() {
+        return Ok(Next::ReadyAt(last));
+    }
+    Ok(Next::Busy(Phase::Comparison(asked, last)))
+}
+
+// The documents that the target misses revisions of, with these.
+fn missing_revisions(alloc: Global, diffs: Vec<Diff>) -> Result<VecDeque<Asked>, AllocError>
+    ensures { IfOk result (λ asked. asked.items ≡ map follow.missing_revisions diffs.items) }
+{
+    let mut asked = VecDeque::new(alloc);
+    for diff in diffs {
+        asked.push_back(Asked {
+            id: diff.id,
+            revs: diff.missing,
+        })?;
+    }
+    Ok(asked)
+}
+
+// Behind the last document that was fetched: all are stored, or the round is over where there are none.
+fn storage_or_ready(got: Vec<Doc>, last: u64) -> Next
+    requires { All HasPath got.items }
+    ensures paths { NextHasPaths result }
+    ensures value { (s : follow.Session)
+        → follower_behind s result ≡ follow.storage_or_ready s (map edit_of got.items) last }
+{
+    if got.is_empty() {
+        return Next::ReadyAt(last);
+    }
+    Next::Busy(Phase::Storage(got, last))
+}
+
+/// The next document that the target misses is fetched, or all are stored where there is none. It takes no
+/// memory.
+pub(crate) fn retrieval_or_storage(later: VecDeque<Asked>, got: Vec<Doc>, last: u64) -> Next
+    requires { All HasPath got.items }
+    ensures paths { NextHasPaths result }
+    ensures value { (s : follow.Session)
+        → follower_behind s result ≡ follow.retrieval_or_storage s later.items (map edit_of got.items) last }
+{
+    let mut later = later;
+    match later.pop_front() {
+        Some(next) => Next::Busy(Phase::Retrieval(next, later, got, last)),
+        None => storage_or_ready(got, last),
+    }
+}
+
+/// Behind the comparison: what is missing is fetched. It takes memory for the list.
+pub(crate) fn first_retrieval(
+    alloc: Global,
+    diffs: Vec<Diff>,
+    last: u64,
+) -> Result<Next, AllocError>
+    ensures paths { IfOk result NextHasPaths }
+    ensures value { IfOk result (λ goes. (s : follow.Session) → follower_behind s goes
+        ≡ follow.retrieval_or_storage s (map follow.missing_revisions diffs.items) [] last) }
+{
+    let later = missing_revisions(alloc, diffs)?;
+    Ok(retrieval_or_storage(later, Vec::new(alloc), last))
+}
+
+/// The documents that an answer of `open_revs` brings, behind those that were fetched before.
+pub(crate) fn documents_behind(
+    asked: Asked,
+    found: Vec<OpenRev>,
+    got: Vec<Doc>,
+) -> Result<Vec<Doc>, FollowFault>
+    requires many { length found.items ≡ length asked.revs }
+    requires paths { All HasPath got.items }
+    requires found { All FoundHasPath found.items }
+    ensures ok { IfOk result (λ docs. (es : List Edit)
+        × (follow.all_documents asked.id asked.revs (map found_edit found.items) ≡ Ok es)
+        × (map edit_of docs.items ≡ map edit_of got.items ++ es)) }
+    ensures paths { IfOk result (λ docs. All HasPath docs.items) }
+    ensures err { IfErr result (λ e.
+        IsFaultOf e (follow.all_documents asked.id asked.revs (map found_edit found.items))) }
+{
+    let mut got = got;
+    let mut at = 0;
+    for opened in found {
+        match opened {
+            OpenRev::Found(doc) => match got.push(doc) {
+                Ok(()) => {}
+                Err(_) => return Err(FollowFault::NoMemory),
+            },
+            OpenRev::Missing(_) => {
+                return Err(FollowFault::Lost {
+                    id: asked.id,
+                    rev: asked.revs.as_slice()[at],
+                });
+            }
+        }
+        at += 1;
+    }
+    Ok(got)
+}
+
+// That the target refused a document so.
+fn refusal(doc: Doc, fault: Fault) -> FollowFault
+    requires { HasPath doc }
+    ensures { IsFaultOf {A = ℕ} result (Err (follow.RefusedDocument (edit_of doc) fault)) }
+{
+    let Doc { id, path, .. } = doc;
+    match path {
+        Some(path) => FollowFault::Refused {
+            id,
+            rev: path.head(),
+            fault,
+        },
+        None => FollowFault::Peer,
+    }
+}
+
+/// Why the first document was refused that the target refused; one that it knew is no refusal.
+pub(crate) fn first_refusal(docs: Vec<Doc>, outcomes: &[Outcome<RevId>]) -> Option<FollowFault>
+    requires many { length outcomes.now ≡ length docs.items }
+    requires paths { All HasPath docs.items }
+    ensures some { IfSome result (λ e. (f : follow.Fault)
+        × (follow.first_refusal (map edit_of docs.items) outcomes.now ≡ Some f)
+        × IsFaultOf {A = ℕ} e (Err f)) }
+    ensures none { IfNone result (follow.first_refusal (map edit_of docs.items) outcomes.now ≡ None) }
+{
+    let mut at = 0;
+    for doc in docs {
+        if let Outcome::Refused(fault) = outcomes[at] {
+            return Some(refusal(doc, fault));
+        }
+        at += 1;
+    }
+    None
+}

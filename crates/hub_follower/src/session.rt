@@ -1,0 +1,137 @@
+//! A follower's session.
+
+ghost use Rattle.std.specs.Prelude.{◌≡◌, ◌++◌, take, string_bytes, IfOk};
+ghost use Rattle.hub_follow_model.specs.Follower as follow;
+ghost use Rattle.hub_follow_model.specs.ReplicationLog as logs;
+
+use crate::log::{HistoryEntry, Log, common_sequence};
+use std::alloc::{AllocError, Global};
+use std::marker::Model;
+
+/// A replication session.
+#[derive(Debug, Drop)]
+pub struct Session {
+    session_id: String,
+    /// The source's sequence that it began after.
+    start: u64,
+    /// The source's sequence up to which its rounds have copied.
+    place: u64,
+    /// What the source's log held when it began.
+    source_history: Vec<HistoryEntry>,
+    /// And the target's.
+    target_history: Vec<HistoryEntry>,
+}
+
+impl Model for Session {
+    ghost use Rattle.std.specs.Prelude.{string_bytes};
+    ghost use Rattle.hub_follow_model.specs.Follower as follow;
+
+    ghost Value = { follow.Session };
+
+    ghost view = { λ a. record {
+      session_id = string_bytes a.session_id;
+      start = a.start;
+      place = a.place;
+      source_history = a.source_history.items;
+      target_history = a.target_history.items;
+    } };
+}
+
+// The entries of a log, where there is one.
+fn history_of(alloc: Global, log: Option<Log>) -> Vec<HistoryEntry>
+    ensures { result.items ≡ logs.history_of log }
+{
+    match log {
+        Some(log) => log.history,
+        None => Vec::new(alloc),
+    }
+}
+
+/// Copies entries behind what the vector holds, so many at most.
+pub(crate) fn copy_history(
+    history: &mut Vec<HistoryEntry>,
+    alloc: Global,
+    older: &[HistoryEntry],
+    most: usize,
+) -> Result<(), AllocError>
+    ensures { IfOk result (λ _. history.new.items ≡ history.old.items ++ take most older.now) }
+{
+    for entry in &older[..most.min(older.len())] {
+        history.push(entry.copy(alloc)?)?;
+    }
+    Ok(())
+}
+
+impl Session {
+    /// The session that begins after the sequence up to which the two logs agree. It takes no memory.
+    pub(crate) fn begin(
+        alloc: Global,
+        session_id: String,
+        source: Option<Log>,
+        target: Option<Log>,
+    ) -> Session
+        ensures { result ≡ follow.new_session (string_bytes session_id) source target }
+    {
+        let start = common_sequence(source.as_ref(), target.as_ref());
+        Session {
+            session_id,
+            start,
+            place: start,
+            source_history: history_of(alloc, source),
+            target_history: history_of(alloc, target),
+        }
+    }
+
+    /// The source's sequence up to which its rounds have copied. Constant time.
+    pub fn place(&self) -> u64
+        ensures { result ≡ self.now.place }
+    {
+        self.place
+    }
+
+    /// The same session at another place.
+    pub(crate) fn at(self, place: u64) -> Session
+        ensures { result ≡ record self { place = place } }
+    {
+        Session {
+            session_id: self.session_id,
+            start: self.start,
+            place,
+            source_history: self.source_history,
+            target_history: self.target_history,
+        }
+    }
+
+    // The log that records the place before these older entries.
+    fn checkpoint_log(&self, alloc: Global, older: &[HistoryEntry]) -> Result<Log, AllocError>
+        ensures { IfOk result (λ log. log ≡ follow.checkpoint_log self.now older.now) }
+    {
+        let mut history = Vec::new(alloc);
+        history.push(HistoryEntry {
+            session_id: String::from_str(alloc, self.session_id.as_str())?,
+            start_last_seq: self.start,
+            end_last_seq: self.place,
+            recorded_seq: self.place,
+        })?;
+        copy_history(&mut history, alloc, older, 49)?;
+        Ok(Log {
+            session_id: String::from_str(alloc, self.session_id.as_str())?,
+            source_last_seq: self.place,
+            history,
+        })
+    }
+
+    /// The log that a checkpoint writes at the source: 50 entries at most. It costs its length.
+    pub fn source_log(&self, alloc: Global) -> Result<Log, AllocError>
+        ensures { IfOk result (λ log. log ≡ follow.checkpoint_log self.now self.now.source_history) }
+    {
+        self.checkpoint_log(alloc, &self.source_history)
+    }
+
+    /// The log that a checkpoint writes at the target: 50 entries at most. It costs its length.
+    pub fn target_log(&self, alloc: Global) -> Result<Log, AllocError>
+        ensures { IfOk result (λ log. log ≡ follow.checkpoint_log self.now self.now.target_history) }
+    {
+        self.checkpoint_log(alloc, &self.target_history)
+    }
+}

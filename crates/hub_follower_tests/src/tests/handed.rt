@@ -1,0 +1,275 @@
+//! Which items are an answer to a follower that asks for changes.
+
+use crate::tests::FIVE;
+use crate::tests::handed::Shown::{Beat, End, Row};
+use hub_database::DbState;
+use hub_document::{ChangeRow, Doc, DocId, Limits, RevId, Revisions};
+use hub_feed::{FeedId, Next};
+use hub_filter::Filter;
+use hub_follower::rightly_handed;
+use hub_model::{Item, Mode, Since, Style};
+use hub_params::FeedParams;
+use std::alloc::Global;
+use std::test::Fail;
+
+/// What an item shows: of a row its sequence, id, leaves and update sequence; of an end its last sequence.
+pub(crate) enum Shown {
+    Row(u64, &'static str, &'static [&'static str], u64),
+    Beat,
+    End(u64),
+}
+
+// The revisions that the texts are.
+fn revisions(alloc: Global, texts: &[&str]) -> Option<Revisions> {
+    let mut revs = Vec::new(alloc);
+    for text in texts {
+        revs.push(RevId::read(text)?).ok()?;
+    }
+    Some(Revisions::new(revs))
+}
+
+// A row that shows this. It says that it is deleted where its only leaf is 2-b, which is.
+fn row(alloc: Global, seq: u64, id: &str, revs: &[&str], seen: u64) -> Option<ChangeRow> {
+    let id = DocId::read(alloc, id).ok()??;
+    Some(ChangeRow {
+        seq,
+        id,
+        changes: revisions(alloc, revs)?,
+        deleted: revs.len() == 1 && revs[0] == "2-b",
+        doc: None,
+        seen,
+    })
+}
+
+/// Items that show this; None where memory ran out.
+pub(crate) fn items_of(alloc: Global, all: &[Shown]) -> Option<Vec<Item<ChangeRow>>> {
+    let mut items = Vec::new(alloc);
+    for shown in all {
+        let item = match shown {
+            Row(seq, id, revs, seen) => Item::Row(row(alloc, *seq, id, revs, *seen)?),
+            Beat => Item::Beat,
+            End(last_seq) => Item::End {
+                last_seq: *last_seq,
+                pending: 0,
+            },
+        };
+        items.push(item).ok()?;
+    }
+    Some(items)
+}
+
+// Stores the documents that the texts are, with their histories.
+fn write(alloc: Global, db: &mut DbState, texts: &[&str]) -> Result<(), Fail> {
+    let mut docs = Vec::new(alloc);
+    for text in texts {
+        docs.push(Doc::read(alloc, text.as_bytes(), false)?)?;
+    }
+    match db.write_edits(docs, false) {
+        Ok(batch) if !batch.stopped => Ok(()),
+        Ok(_) | Err(_) => Err(Fail::new("not stored")),
+    }
+}
+
+// A feed as a follower asks for it.
+fn open_feed(db: &mut DbState, since: u64) -> Result<FeedId, Fail> {
+    let params = FeedParams {
+        mode: Mode::Normal,
+        since: Since::From(since),
+        limit: Some(100),
+        descending: false,
+        style: Style::AllDocs,
+        include_docs: false,
+        filter: Filter::All,
+        heartbeat: None,
+        timeout: 0,
+    };
+    match db.open_feed(params) {
+        Ok(feed) => Ok(feed),
+        Err(_) => Err(Fail::new("no feed")),
+    }
+}
+
+// What a feed hands next.
+fn hand(db: &mut DbState, feed: FeedId) -> Result<Item<ChangeRow>, Fail> {
+    match db.next_item(feed)? {
+        Next::Give(item) => {
+            db.accept_item(feed, &item);
+            Ok(item)
+        }
+        Next::Nothing | Next::Gone => Err(Fail::new("nothing is due")),
+    }
+}
+
+// What a feed hands as each of these documents is stored behind one more item, and then up to its end.
+fn hand_all(
+    alloc: Global,
+    db: &mut DbState,
+    since: u64,
+    between: &[&str],
+) -> Result<Vec<Item<ChangeRow>>, Fail> {
+    let feed = open_feed(db, since)?;
+    let mut items = Vec::new(alloc);
+    for text in between {
+        items.push(hand(db, feed)?)?;
+        write(alloc, db, &[*text])?;
+    }
+    for _ in 0..101 {
+        let item = hand(db, feed)?;
+        let over = item.is_end();
+        items.push(item)?;
+        if over {
+            return Ok(items);
+        }
+    }
+    Err(Fail::new("no end"))
+}
+
+// Behind FIVE: b again, and x with one more revision on its best leaf.
+const B2: &str = r#"{"_id":"b","_revisions":{"start":2,"ids":["d","b"]}}"#;
+
+const X3: &str = r#"{"_id":"x","_revisions":{"start":3,"ids":["d","a","q"]}}"#;
+
+// Whether what a feed hands above a sequence is right, and of how many items it is.
+fn handed(alloc: Global, since: u64, between: &[&str]) -> Result<(bool, usize), Fail> {
+    let mut db = DbState::new(alloc, Limits::full());
+    write(alloc, &mut db, &FIVE)?;
+    let items = hand_all(alloc, &mut db, since, between)?;
+    let right = rightly_handed(alloc, &db, since, items.as_slice())?;
+    Ok((right, items.len()))
+}
+
+// Three documents; the last of them; none; and feeds between whose rows documents move: b while it is still to
+// come, then x, and a behind its own row.
+#[test]
+fn what_feeds_hand_is_right(rt: HostRuntime) -> Result<(), Fail> {
+    assert_eq!(rt; handed(rt.alloc(), 0, &[])?, (true, 4));
+    assert_eq!(rt; handed(rt.alloc(), 2, &[])?, (true, 2));
+    assert_eq!(rt; handed(rt.alloc(), 5, &[])?, (true, 1));
+    assert_eq!(rt; handed(rt.alloc(), 0, &[B2])?, (true, 3));
+    assert_eq!(rt; handed(rt.alloc(), 0, &[X3, B2])?, (true, 3));
+    Ok(())
+}
+
+const A: Shown = Row(1, "a", &["2-c"], 5);
+
+const B: Shown = Row(2, "b", &["1-b"], 5);
+
+const X: Shown = Row(5, "x", &["2-a", "1-z", "2-b"], 5);
+
+// Items above a sequence, and whether they are right behind FIVE.
+const CASES: &[(u64, &[Shown], bool)] = &[
+    (0, &[A, B, X, End(5)], true),
+    (1, &[B, X, End(5)], true),
+    // up to 2, and between documents that moved
+    (0, &[A, B, End(2)], true),
+    (0, &[A, B, End(4)], true),
+    // made one after the other, when x had one leaf; and that x came again
+    (
+        0,
+        &[
+            Row(1, "a", &["2-c"], 1),
+            Row(2, "b", &["1-b"], 3),
+            X,
+            End(5),
+        ],
+        true,
+    ),
+    (0, &[Row(3, "x", &["2-b"], 3), End(3)], false),
+    (2, &[Row(3, "x", &["2-b"], 3), X, End(5)], true),
+    // a row is left out, comes twice, comes too early; its document's rows in another order
+    (0, &[A, X, End(5)], false),
+    (0, &[A, B, B, X, End(5)], false),
+    (1, &[A, B, X, End(5)], false),
+    (0, &[B, A, X, End(5)], false),
+    // another revision, document or sequence; a leaf is missing; leaves in another order
+    (0, &[A, Row(2, "b", &["1-c"], 5), X, End(5)], false),
+    (0, &[A, Row(2, "c", &["1-b"], 5), X, End(5)], false),
+    (0, &[A, Row(3, "b", &["1-b"], 5), X, End(5)], false),
+    (0, &[A, B, Row(5, "x", &["2-a", "2-b"], 5), End(5)], false),
+    (
+        0,
+        &[A, B, Row(5, "x", &["1-z", "2-a", "2-b"], 5), End(5)],
+        false,
+    ),
+    // not current when it was made, made before there was such an edit, or behind the last; made earlier than
+    // the one before
+    (2, &[Row(3, "x", &["2-b"], 4), X, End(5)], false),
+    (0, &[A, Row(2, "b", &["1-b"], 1), X, End(5)], false),
+    (
+        0,
+        &[A, B, Row(5, "x", &["2-a", "1-z", "2-b"], 6), End(5)],
+        false,
+    ),
+    (0, &[A, Row(2, "b", &["1-b"], 3), X, End(5)], false),
+    // an end below a row, above the journal, below `since`, none, two, in front; a beat
+    (0, &[A, B, X, End(4)], false),
+    (0, &[A, B, X, End(6)], false),
+    (6, &[End(6)], false),
+    (5, &[End(4)], false),
+    (0, &[A, B, X], false),
+    (0, &[A, B, X, End(5), End(5)], false),
+    (0, &[End(5), A, B, X], false),
+    (0, &[A, Beat, B, X, End(5)], false),
+    (5, &[], false),
+];
+
+// The first case that is decided otherwise.
+fn first_other(alloc: Global, db: &DbState) -> Result<Option<usize>, Fail> {
+    for (at, (since, all, right)) in CASES.iter().enumerate() {
+        let Some(items) = items_of(alloc, all) else {
+            return Err(Fail::new("no items"));
+        };
+        if rightly_handed(alloc, db, *since, items.as_slice())? != *right {
+            return Ok(Some(at));
+        }
+    }
+    Ok(None)
+}
+
+#[test]
+fn cases_are_decided(rt: HostRuntime) -> Result<(), Fail> {
+    let mut db = DbState::new(rt.alloc(), Limits::full());
+    write(rt.alloc(), &mut db, &FIVE)?;
+    assert_eq!(rt; first_other(rt.alloc(), &db)?, None);
+    assert!(rt; db.delete().is_ok());
+    assert_eq!(rt; first_other(rt.alloc(), &db)?, None);
+    Ok(())
+}
+
+// The row of the only edit of a document.
+fn only_row(alloc: Global, seq: u64, id: &str) -> Result<ChangeRow, Fail> {
+    match row(alloc, seq, id, &["1-a"], seq) {
+        Some(row) => Ok(row),
+        None => Err(Fail::new("no row")),
+    }
+}
+
+// A row of each of so many documents, and their end.
+fn rows_of_many(alloc: Global, db: &mut DbState, count: u64) -> Result<Vec<Item<ChangeRow>>, Fail> {
+    let mut items = Vec::new(alloc);
+    for at in 0..count {
+        let text = format!(in alloc; r#"{{"_id":"d{at}","_rev":"1-a"}}"#)?;
+        write(alloc, db, &[text.as_str()])?;
+        let id = format!(in alloc; "d{at}")?;
+        items.push(Item::Row(only_row(alloc, at + 1, id.as_str())?))?;
+    }
+    items.push(Item::End {
+        last_seq: count,
+        pending: 0,
+    })?;
+    Ok(items)
+}
+
+// A hundred rows are an answer, and one more are none.
+#[test]
+fn a_hundred_rows_at_most(rt: HostRuntime) -> Result<(), Fail> {
+    for (count, right) in [(100, true), (101, false)] {
+        let mut db = DbState::new(rt.alloc(), Limits::full());
+        let items = rows_of_many(rt.alloc(), &mut db, count)?;
+        assert_eq!(rt;
+            rightly_handed(rt.alloc(), &db, 0, items.as_slice())?,
+            right
+        );
+    }
+    Ok(())
+}

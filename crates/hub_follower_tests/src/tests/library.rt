@@ -1,0 +1,45 @@
+//! How a user of the libraries copies one database into another.
+
+use hub_follower::{DbPeer, FollowFault, Follower, Round};
+use hub_threads::{Db, Plain};
+use std::alloc::Global;
+use std::sync::Wait;
+use std::test::Fail;
+
+// The example of README.md.
+fn copy<R: Wait>(
+    rt: &R,
+    alloc: Global,
+    source: &Db<Plain>,
+    target: &Db<Plain>,
+    session_id: &str,
+) -> Result<(), FollowFault> {
+    let source = DbPeer::new(rt, alloc, source.handle()?);
+    let target = DbPeer::new(rt, alloc, target.handle()?);
+    let log_id = "_local/copy";
+    let mut follower = match Follower::start(alloc, source, target, log_id, session_id) {
+        Ok(follower) => follower,
+        Err(failed) => return Err(failed.fault),
+    };
+    for _ in 0..1_000_000 {
+        match follower.round()? {
+            Round::Moved => follower.checkpoint()?,
+            Round::Idle => break,
+        }
+    }
+    Ok(())
+}
+
+#[test]
+fn a_database_is_copied(rt: HostRuntime) -> Result<(), Fail> {
+    let (source, target) = (
+        crate::tests::database(rt.alloc())?,
+        crate::tests::database(rt.alloc())?,
+    );
+    crate::tests::write(&rt, rt.alloc(), &source, &crate::tests::TWO)?;
+    assert!(rt; copy(&rt, rt.alloc(), &source, &target, "2026-01-01").is_ok());
+    assert_eq!(rt; crate::tests::edits(&rt, &target)?, 2);
+    assert!(rt; copy(&rt, rt.alloc(), &source, &target, "2026-01-02").is_ok());
+    assert_eq!(rt; crate::tests::edits(&rt, &target)?, 2);
+    Ok(())
+}

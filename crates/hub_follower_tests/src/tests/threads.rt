@@ -1,0 +1,126 @@
+//! A follower beside a writer.
+
+use crate::tests::{LOG, agree, database, edits};
+use hub_document::Doc;
+use hub_follower::{DbPeer, FaultPeer, FollowFault, Follower, Loss, Round};
+use hub_threads::{Db, Plain};
+use std::alloc::{AllocError, Global};
+use std::sync::Wait;
+use std::sync::atomic::{AtomicU64, Ordering};
+use std::test::Fail;
+use std::thread::{self, Threads};
+
+// How many edits the writer makes, over how many documents.
+const EDITS: u64 = 2000;
+
+const DOCUMENTS: u64 = 50;
+
+// The text of an edit: a new revision of its document, a child of it, or a conflict. Each seventh deletes.
+fn edit_text(alloc: Global, number: u64) -> Result<String, AllocError> {
+    let doc = number % DOCUMENTS;
+    let round = number / DOCUMENTS;
+    let deleted = number % 7 == 3;
+    let revisions = match round % 3 {
+        0 => format!(in alloc; r#"{{"start":1,"ids":["r{round}"]}}"#)?,
+        1 => {
+            let parent = round - 1;
+            format!(in alloc; r#"{{"start":2,"ids":["r{round}","r{parent}"]}}"#)?
+        }
+        _ => format!(in alloc; r#"{{"start":2,"ids":["r{round}","s{round}"]}}"#)?,
+    };
+    format!(in alloc; r#"{{"_id":"d{doc}","_deleted":{deleted},"_revisions":{revisions}}}"#)
+}
+
+// Makes all edits; None where one was not stored.
+fn write_all<R: Wait>(rt: &R, alloc: Global, source: &Db<Plain>, done: &AtomicU64) -> Option<()> {
+    let mut handle = source.handle().ok()?;
+    for number in 0..EDITS {
+        let text = edit_text(alloc, number).ok()?;
+        let doc = Doc::read(alloc, text.as_bytes(), false).ok()?;
+        let accepted = handle.write(rt, vec![in alloc; doc].ok()?, false).ok()?;
+        accepted.receipts.first()?;
+    }
+    done.store(1, Ordering::SeqCst);
+    Some(())
+}
+
+// One session of three rounds: whether the last round found nothing new. Each seventh answer of the target is lost,
+// and each 61st of the source, which is asked once for each document: a round asks for 50.
+fn three_rounds<R: Wait>(
+    rt: &R,
+    alloc: Global,
+    source: &Db<Plain>,
+    target: &Db<Plain>,
+    session_id: &str,
+) -> Result<bool, FollowFault> {
+    let source = DbPeer::new(rt, alloc, source.handle()?);
+    let target = DbPeer::new(rt, alloc, target.handle()?);
+    let source = FaultPeer::repeating(source, 61, Loss::After);
+    let target = FaultPeer::repeating(target, 7, Loss::After);
+    let mut follower = match Follower::start(alloc, source, target, LOG, session_id) {
+        Ok(follower) => follower,
+        Err(failed) => return Err(failed.fault),
+    };
+    let mut is_idle = false;
+    for _ in 0..3 {
+        is_idle = match follower.round() {
+            Ok(Round::Idle) => true,
+            Ok(Round::Moved) => {
+                drop(follower.checkpoint());
+                false
+            }
+            Err(FollowFault::Peer) => false,
+            Err(fault) => return Err(fault),
+        };
+    }
+    Ok(is_idle)
+}
+
+// Sessions, one after the other, until one that began behind the last edit found nothing new.
+fn follow_all<R: Wait>(
+    rt: &R,
+    alloc: Global,
+    source: &Db<Plain>,
+    target: &Db<Plain>,
+    done: &AtomicU64,
+) -> Option<()> {
+    for number in 0..u64::MAX {
+        let is_written = done.load(Ordering::SeqCst) == 1;
+        let session_id = format!(in alloc; "S{number}").ok()?;
+        let is_idle = three_rounds(rt, alloc, source, target, session_id.as_str()).ok()?;
+        if is_idle && is_written {
+            return Some(());
+        }
+        thread::yield_now();
+    }
+    None
+}
+
+// The follower beside the writer; None where one of them failed.
+fn run<R: Threads + Wait + Sync>(
+    rt: &R,
+    alloc: Global,
+    source: &Db<Plain>,
+    target: &Db<Plain>,
+) -> Option<()> {
+    let done = AtomicU64::new(0);
+    let (written, followed) = thread::join(
+        rt,
+        || write_all(rt, alloc, source, &done),
+        || follow_all(rt, alloc, source, target, &done),
+    );
+    written?;
+    followed
+}
+
+#[test]
+fn a_follower_beside_a_writer(rt: HostRuntime) -> Result<(), Fail> {
+    let (source, target) = (database(rt.alloc())?, database(rt.alloc())?);
+    assert!(rt; run(&rt, rt.alloc(), &source, &target).is_some());
+    assert_eq!(rt; edits(&rt, &source)?, EDITS);
+    for number in 0..DOCUMENTS {
+        let id = format!(in rt.alloc(); "d{number}")?;
+        assert!(rt; agree(&rt, rt.alloc(), &source, &target, &[id.as_str()])?);
+    }
+    Ok(())
+}

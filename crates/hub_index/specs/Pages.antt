@@ -1,0 +1,41 @@
+-- The rows of an index in pages (own). Page k has a slot for each of the sequences 256k + 1 to 256k + 256.
+use Rattle.std.specs.Prelude.{◌≡◌, ℕ, ◌+◌, ◌-◌, ◌*◌, ◌/◌, ◌^◌, ◌<◌, List, [], ◌∷◌, length, map, nat_eq, count_by, is_some}
+use Rattle.std.specs.Prelude.{Option, Some, None}
+use Rattle.std.specs.List.{All, flat_map}
+use Rattle.std.specs.Set.{distinct_count}
+use Rattle.hub_index.specs.Rows.{IsIndex}
+
+-- The rows of slots that stand behind one another, of which the first is that of a sequence: a slot that has a
+-- document has a row. From 513 on, the slots of document 7, none and document 9 have the rows (513, 7) and (515, 9).
+abbrev pub slot_rows : ℕ → List (Option ℕ) → List (ℕ × ℕ)
+slot_rows first [] = []
+slot_rows first (None ∷ slots) = slot_rows (first + 1) slots
+slot_rows first (Some document ∷ slots) = (first, document) ∷ slot_rows (first + 1) slots
+
+-- the rows of a page: its number, and its slots
+abbrev pub page_rows : ℕ × List (Option ℕ) → List (ℕ × ℕ)
+page_rows page = slot_rows (256 * page.0 + 1) page.1
+
+-- the rows of pages, one page behind the other
+abbrev pub rows_of : List (ℕ × List (Option ℕ)) → List (ℕ × ℕ)
+rows_of pages = flat_map page_rows pages
+
+-- a page that an index keeps: it has a row, and sequences are numbers of 64 bits
+pub record IsPage (page : ℕ × List (Option ℕ)) : Type 0 where
+  pub low : page.0 < 2 ^ 56
+  pub size : length page.1 ≡ 256
+  pub live : 0 < count_by is_some page.1
+  pub fits : All (λ (r : ℕ × ℕ). r.0 < 2 ^ 64) (page_rows page)
+
+-- pages that an index keeps
+pub record ArePages (pages : List (ℕ × List (Option ℕ))) : Type 0 where
+  pub each : All IsPage pages
+  pub index : IsIndex (rows_of pages)
+
+-- the page of a sequence: 256 is on page 0, and 257 on page 1
+abbrev pub page_of : ℕ → ℕ
+page_of seq = (seq - 1) / 256
+
+-- How many different pages rows lie on. Rows at 3, 256 and 600 lie on two, the pages 0 and 2.
+abbrev pub page_count : List (ℕ × ℕ) → ℕ
+page_count rows = distinct_count nat_eq (map (λ (r : ℕ × ℕ). page_of r.0) rows)

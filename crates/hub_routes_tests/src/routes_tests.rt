@@ -1,0 +1,327 @@
+use hub_http::{Refusal, Request};
+use hub_routes::{Call, Route, RouteFault, Routes};
+use std::alloc::{AllocError, Global};
+use std::process::Abort;
+use std::str;
+use std::test::Fail;
+
+const WITH_LENGTH: bool = true;
+
+const NO_LENGTH: bool = false;
+
+const SERVER: [(&str, &[u8], bool, &str); 31] = [
+    ("GET", b"/", NO_LENGTH, "welcome"),
+    ("GET", b"/?x", NO_LENGTH, "welcome"),
+    ("HEAD", b"/", NO_LENGTH, "method not allowed"),
+    ("PUT", b"/", NO_LENGTH, "method not allowed"),
+    ("POST", b"/", WITH_LENGTH, "method not allowed"),
+    ("get", b"/", NO_LENGTH, "method not allowed"),
+    ("GET", b"/_all_dbs", NO_LENGTH, "list"),
+    ("GET", b"/_all_dbs?x=%ff", WITH_LENGTH, "list"),
+    ("HEAD", b"/_all_dbs", NO_LENGTH, "method not allowed"),
+    ("PUT", b"/_all_dbs", NO_LENGTH, "method not allowed"),
+    ("POST", b"/_all_dbs", WITH_LENGTH, "method not allowed"),
+    ("DELETE", b"/_all_dbs", NO_LENGTH, "method not allowed"),
+    ("BREW", b"/_all_dbs", NO_LENGTH, "method not allowed"),
+    ("GET", b"/_all_dbs/", NO_LENGTH, "get _all_dbs"),
+    ("GET", b"/%5Fall_dbs", NO_LENGTH, "get _all_dbs"),
+    ("GET", b"/_db_updates", NO_LENGTH, "updates ?"),
+    (
+        "GET",
+        b"/_db_updates?since=1",
+        NO_LENGTH,
+        "updates ?since=1",
+    ),
+    (
+        "GET",
+        b"/_db_updates?since=%30&a=+?b",
+        WITH_LENGTH,
+        "updates ?since=%30&a=+?b",
+    ),
+    ("HEAD", b"/_db_updates", NO_LENGTH, "method not allowed"),
+    ("PUT", b"/_db_updates", NO_LENGTH, "method not allowed"),
+    ("POST", b"/_db_updates", WITH_LENGTH, "method not allowed"),
+    ("DELETE", b"/_db_updates", NO_LENGTH, "method not allowed"),
+    ("BREW", b"/_db_updates", NO_LENGTH, "method not allowed"),
+    ("DELETE", b"/", NO_LENGTH, "method not allowed"),
+    ("DELETE", b"//", NO_LENGTH, "missing"),
+    ("GET", b"/_db_updates/x/y", NO_LENGTH, "missing"),
+    ("PUT", b"//", NO_LENGTH, "missing"),
+    ("GET", b"//", NO_LENGTH, "missing"),
+    ("GET", b"*", NO_LENGTH, "missing"),
+    ("GET", b"", NO_LENGTH, "missing"),
+    ("BREW", b"*", NO_LENGTH, "missing"),
+];
+
+const DATABASES: [(&str, &[u8], bool, &str); 57] = [
+    ("GET", b"/d", NO_LENGTH, "get d"),
+    ("GET", b"/d/", NO_LENGTH, "get d"),
+    ("HEAD", b"/d", NO_LENGTH, "get d"),
+    ("HEAD", b"/d/?x", NO_LENGTH, "get d"),
+    ("GET", b"/a%2Fb+c", NO_LENGTH, "get a/b+c"),
+    ("PUT", b"/d", NO_LENGTH, "put d"),
+    ("PUT", b"/d/", NO_LENGTH, "put d"),
+    ("PUT", b"/d?x=1", NO_LENGTH, "put d"),
+    ("PUT", b"/a%2Fb", NO_LENGTH, "put a/b"),
+    ("PUT", b"/d%2f_changes", NO_LENGTH, "put d/_changes"),
+    ("PUT", b"/a+b", NO_LENGTH, "put a+b"),
+    ("PUT", b"/%zz", NO_LENGTH, "put %zz"),
+    ("PUT", b"/\xc3\xa9", NO_LENGTH, "put \u{e9}"),
+    ("PUT", b"/%C3%a9", NO_LENGTH, "put \u{e9}"),
+    ("PUT", b"/%ff", NO_LENGTH, "bad name"),
+    ("PUT", b"/\xff", NO_LENGTH, "bad name"),
+    ("GET", b"/%ff/", NO_LENGTH, "bad name"),
+    ("DELETE", b"/d", NO_LENGTH, "delete d"),
+    ("DELETE", b"/d/", NO_LENGTH, "delete d"),
+    ("DELETE", b"/d?x=1", NO_LENGTH, "delete d"),
+    ("DELETE", b"/a%2Fb", NO_LENGTH, "delete a/b"),
+    ("DELETE", b"/%ff", NO_LENGTH, "bad name"),
+    ("delete", b"/d", NO_LENGTH, "method not allowed"),
+    ("POST", b"/d", WITH_LENGTH, "method not allowed"),
+    ("put", b"/d", NO_LENGTH, "method not allowed"),
+    ("BREW", b"/d", NO_LENGTH, "method not allowed"),
+    ("POST", b"/%ff", WITH_LENGTH, "method not allowed"),
+    ("PUT", b"/d//", NO_LENGTH, "missing"),
+    ("POST", b"/d/_bulk_docs", WITH_LENGTH, "bulk d"),
+    ("POST", b"/a%2Fb/_bulk_docs?x", WITH_LENGTH, "bulk a/b"),
+    ("POST", b"/d/_bulk_docs", NO_LENGTH, "no Content-Length"),
+    ("POST", b"/%ff/_bulk_docs", NO_LENGTH, "bad name"),
+    ("GET", b"/%ff/_bulk_docs", NO_LENGTH, "method not allowed"),
+    ("PUT", b"/d/_bulk_docs", WITH_LENGTH, "method not allowed"),
+    ("POST", b"//_bulk_docs", WITH_LENGTH, "missing"),
+    ("POST", b"/d/_bulk_docs/", WITH_LENGTH, "missing"),
+    ("GET", b"/d/_changes", NO_LENGTH, "changes d ?"),
+    ("GET", b"/d/_changes?", NO_LENGTH, "changes d ?"),
+    (
+        "GET",
+        b"/d/_changes?since=%30&a=+?b",
+        NO_LENGTH,
+        "changes d ?since=%30&a=+?b",
+    ),
+    ("GET", b"/_e/_changes", WITH_LENGTH, "changes _e ?"),
+    ("HEAD", b"/d/_changes", NO_LENGTH, "method not allowed"),
+    ("PUT", b"/d/_changes", NO_LENGTH, "method not allowed"),
+    ("DELETE", b"/d/_changes", NO_LENGTH, "method not allowed"),
+    ("POST", b"/d/_changes", WITH_LENGTH, "changes d ?"),
+    (
+        "POST",
+        b"/d/_changes?since=1",
+        NO_LENGTH,
+        "changes d ?since=1",
+    ),
+    ("POST", b"/%ff/_changes", WITH_LENGTH, "bad name"),
+    ("GET", b"/%ff/_changes", NO_LENGTH, "bad name"),
+    ("GET", b"/d/_changes/", NO_LENGTH, "missing"),
+    ("POST", b"/d/_revs_diff", WITH_LENGTH, "diff d"),
+    ("POST", b"/d/_revs_diff", NO_LENGTH, "no Content-Length"),
+    ("POST", b"/%ff/_revs_diff", NO_LENGTH, "bad name"),
+    ("GET", b"/d/_revs_diff", NO_LENGTH, "method not allowed"),
+    ("GET", b"/d/_revs_diff/", NO_LENGTH, "missing"),
+    ("POST", b"/d/_ensure_full_commit", WITH_LENGTH, "commit d"),
+    ("POST", b"/d/_ensure_full_commit", NO_LENGTH, "commit d"),
+    ("POST", b"/%ff/_ensure_full_commit", NO_LENGTH, "bad name"),
+    (
+        "GET",
+        b"/d/_ensure_full_commit",
+        NO_LENGTH,
+        "method not allowed",
+    ),
+];
+
+const DOCUMENTS: [(&str, &[u8], bool, &str); 30] = [
+    ("GET", b"/d/a", NO_LENGTH, "get d a ?"),
+    (
+        "GET",
+        b"/d/a?rev=1-a&x=%20",
+        NO_LENGTH,
+        "get d a ?rev=1-a&x=%20",
+    ),
+    ("PUT", b"/d/a", NO_LENGTH, "put d a ?"),
+    (
+        "PUT",
+        b"/d/a?new_edits=false",
+        WITH_LENGTH,
+        "put d a ?new_edits=false",
+    ),
+    ("DELETE", b"/d/a?rev=1-a", NO_LENGTH, "delete d a ?rev=1-a"),
+    ("GET", b"/a%2Fb/c%2fd", NO_LENGTH, "get a/b c/d ?"),
+    ("GET", b"/d/a+b%20c", NO_LENGTH, "get d a+b c ?"),
+    ("PUT", b"/d/\xc3\xa9", NO_LENGTH, "put d \u{e9} ?"),
+    ("GET", b"/d/%", NO_LENGTH, "get d % ?"),
+    ("GET", b"/d/a%3fb", NO_LENGTH, "get d a?b ?"),
+    ("GET", b"/d/a_", NO_LENGTH, "get d a_ ?"),
+    ("GET", b"/d/changes", NO_LENGTH, "get d changes ?"),
+    ("HEAD", b"/d/a", NO_LENGTH, "method not allowed"),
+    ("POST", b"/d/a", WITH_LENGTH, "method not allowed"),
+    ("COPY", b"/d/a", NO_LENGTH, "method not allowed"),
+    ("delete", b"/d/a", NO_LENGTH, "method not allowed"),
+    ("GET", b"/d/a/", NO_LENGTH, "missing"),
+    ("GET", b"/d/a/b", NO_LENGTH, "missing"),
+    ("PUT", b"//a", NO_LENGTH, "missing"),
+    ("GET", b"/d/_design/a", NO_LENGTH, "get d _design/a ?"),
+    (
+        "PUT",
+        b"/d/_design/a%2Fb?x",
+        NO_LENGTH,
+        "put d _design/a/b ?x",
+    ),
+    ("DELETE", b"/d/_design/a", NO_LENGTH, "delete d _design/a ?"),
+    ("GET", b"/d/_design%2Fa", NO_LENGTH, "get d _design/a ?"),
+    (
+        "DELETE",
+        b"/d/%5fdesign%2fa",
+        NO_LENGTH,
+        "delete d _design/a ?",
+    ),
+    ("GET", b"/d/_design/_a", NO_LENGTH, "get d _design/_a ?"),
+    ("GET", b"/d/_design/%2F", NO_LENGTH, "get d _design// ?"),
+    ("HEAD", b"/d/_design/a", NO_LENGTH, "method not allowed"),
+    ("POST", b"/d/_design%2Fa", WITH_LENGTH, "method not allowed"),
+    ("GET", b"/d/_design/", NO_LENGTH, "missing"),
+    ("GET", b"/d/_design/a/b", NO_LENGTH, "missing"),
+];
+
+const LOCAL_DOCUMENTS: [(&str, &[u8], bool, &str); 12] = [
+    ("GET", b"/d/_local/a", NO_LENGTH, "get local d _local/a"),
+    (
+        "GET",
+        b"/d/_local/a%2fb?x",
+        NO_LENGTH,
+        "get local d _local/a/b",
+    ),
+    ("PUT", b"/d/_local/a", WITH_LENGTH, "put local d _local/a"),
+    ("GET", b"/d/_local%2Fa", NO_LENGTH, "get local d _local/a"),
+    ("PUT", b"/d/%5Flocal%2Fa", NO_LENGTH, "put local d _local/a"),
+    ("DELETE", b"/d/_local/a", NO_LENGTH, "method not allowed"),
+    ("DELETE", b"/d/_local%2Fa", NO_LENGTH, "method not allowed"),
+    ("HEAD", b"/d/_local/a", NO_LENGTH, "method not allowed"),
+    ("POST", b"/d/_local%2Fa", WITH_LENGTH, "method not allowed"),
+    (
+        "DELETE",
+        b"/d/_local%2F%ff",
+        NO_LENGTH,
+        "method not allowed",
+    ),
+    ("GET", b"/d/_local/", NO_LENGTH, "missing"),
+    ("GET", b"/d/_local/a/b", NO_LENGTH, "missing"),
+];
+
+const IDS: [(&str, &[u8], bool, &str); 23] = [
+    ("GET", b"/d/_a", NO_LENGTH, "bad id"),
+    ("PUT", b"/d/_", NO_LENGTH, "bad id"),
+    ("DELETE", b"/d/_design", NO_LENGTH, "bad id"),
+    ("GET", b"/d/_design%2F", NO_LENGTH, "bad id"),
+    ("GET", b"/d/_designs%2Fa", NO_LENGTH, "bad id"),
+    ("GET", b"/d/_Design%2Fa", NO_LENGTH, "bad id"),
+    ("GET", b"/d/_local", NO_LENGTH, "bad id"),
+    ("DELETE", b"/d/_local%2F", NO_LENGTH, "bad id"),
+    ("GET", b"/d/_localx", NO_LENGTH, "bad id"),
+    ("GET", b"/d/%5Fchanges", NO_LENGTH, "bad id"),
+    (
+        "POST",
+        b"/d/%5Fbulk_docs",
+        WITH_LENGTH,
+        "method not allowed",
+    ),
+    ("GET", b"/d/_all_docs", NO_LENGTH, "bad id"),
+    ("GET", b"/d/%ff", NO_LENGTH, "bad id"),
+    ("PUT", b"/d/a\xff", NO_LENGTH, "bad id"),
+    ("GET", b"/d/_design/%ff", NO_LENGTH, "bad id"),
+    ("PUT", b"/d/_local/%ff", NO_LENGTH, "bad id"),
+    ("GET", b"/d/_local%2F%ff", NO_LENGTH, "bad id"),
+    ("GET", b"/%ff/%ff", NO_LENGTH, "bad name"),
+    ("GET", b"/%ff/_a", NO_LENGTH, "bad name"),
+    ("PUT", b"/%ff/_local/%ff", NO_LENGTH, "bad name"),
+    ("POST", b"/%ff/%ff", NO_LENGTH, "method not allowed"),
+    ("POST", b"/d/%ff", NO_LENGTH, "method not allowed"),
+    ("GET", b"/%ff/a/b", NO_LENGTH, "missing"),
+];
+
+fn asking(
+    alloc: Global,
+    method: &str,
+    target: &[u8],
+    has_length: bool,
+) -> Result<Request, AllocError> {
+    Ok(Request {
+        method: Vec::from_slice(alloc, method.as_bytes())?,
+        target: Vec::from_slice(alloc, target)?,
+        has_length,
+        close: false,
+        body: Vec::new(alloc),
+    })
+}
+
+fn text(bytes: &[u8]) -> &str {
+    str::from_utf8(bytes).unwrap_or("no text")
+}
+
+fn called(alloc: Global, db: &str, call: Call) -> Result<String, AllocError> {
+    match call {
+        Call::Info => format!(in alloc; "get {db}"),
+        Call::BulkDocs => format!(in alloc; "bulk {db}"),
+        Call::Changes { query } => format!(in alloc; "changes {db} ?{}", text(query.as_slice())),
+        Call::RevsDiff => format!(in alloc; "diff {db}"),
+        Call::FullCommit => format!(in alloc; "commit {db}"),
+        Call::GetDocument { id, query } => {
+            format!(in alloc; "get {db} {id} ?{}", text(query.as_slice()))
+        }
+        Call::PutDocument { id, query } => {
+            format!(in alloc; "put {db} {id} ?{}", text(query.as_slice()))
+        }
+        Call::DeleteDocument { id, query } => {
+            format!(in alloc; "delete {db} {id} ?{}", text(query.as_slice()))
+        }
+        Call::GetLocal { id } => format!(in alloc; "get local {db} {id}"),
+        Call::PutLocal { id } => format!(in alloc; "put local {db} {id}"),
+    }
+}
+
+fn shown(alloc: Global, answer: Result<Route, RouteFault>) -> Result<String, AllocError> {
+    match answer {
+        Ok(Route::Welcome) => format!(in alloc; "welcome"),
+        Ok(Route::AllDbs) => format!(in alloc; "list"),
+        Ok(Route::DbUpdates { query }) => {
+            format!(in alloc; "updates ?{}", text(query.as_slice()))
+        }
+        Ok(Route::PutDatabase { db }) => format!(in alloc; "put {db}"),
+        Ok(Route::DeleteDatabase { db }) => format!(in alloc; "delete {db}"),
+        Ok(Route::Database { db, call }) => called(alloc, db.as_str(), call),
+        Err(fault) => format!(in alloc; "{}", Refusal::from(fault).reason()),
+    }
+}
+
+fn go(rt: &impl Abort, alloc: Global, requests: &[(&str, &[u8], bool, &str)]) -> Result<(), Fail> {
+    let routes = Routes::new(alloc)?;
+    for (method, target, has_length, want) in requests {
+        let request = asking(alloc, method, target, *has_length)?;
+        let text = shown(alloc, routes.route(alloc, &request))?;
+        assert_eq!(rt; text.as_str(), *want);
+    }
+    Ok(())
+}
+
+#[test]
+fn of_the_server(rt: HostRuntime) -> Result<(), Fail> {
+    go(&rt, rt.alloc(), &SERVER)
+}
+
+#[test]
+fn of_databases(rt: HostRuntime) -> Result<(), Fail> {
+    go(&rt, rt.alloc(), &DATABASES)
+}
+
+#[test]
+fn of_documents(rt: HostRuntime) -> Result<(), Fail> {
+    go(&rt, rt.alloc(), &DOCUMENTS)
+}
+
+#[test]
+fn of_local_documents(rt: HostRuntime) -> Result<(), Fail> {
+    go(&rt, rt.alloc(), &LOCAL_DOCUMENTS)
+}
+
+#[test]
+fn of_ids(rt: HostRuntime) -> Result<(), Fail> {
+    go(&rt, rt.alloc(), &IDS)
+}

@@ -1,0 +1,88 @@
+//! The server over sockets of this machine, as its clients see it.
+
+mod client;
+mod closes;
+mod crowds;
+mod exchanges;
+mod gates;
+mod waits;
+
+use hub_document::Limits;
+use hub_server::{Uptime, run_server};
+use hub_threads::{Gate, Point};
+use std::alloc::Global;
+use std::net::{Net, SocketAddr, TcpListener, TcpStream};
+use std::sync::Wait;
+use std::test::Fail;
+use std::thread::{self, JoinHandle, Threads};
+use std::time;
+
+/// A gate that holds nobody.
+#[derive(Drop)]
+pub(crate) struct Open;
+
+impl Gate for Open {
+    fn pass(&self, _point: Point) {}
+}
+
+/// A server in a thread of its own.
+#[derive(Drop)]
+pub(crate) struct Running {
+    pub(crate) address: SocketAddr,
+    /// Whether it served all its connections to their ends.
+    ended: JoinHandle<bool>,
+}
+
+impl Running {
+    /// Starts a server for so many connections on a free port.
+    pub(crate) fn start<R, G>(
+        rt: &R,
+        alloc: Global,
+        count: u64,
+        gate: G,
+        limits: Limits,
+    ) -> Result<Running, Fail>
+    where
+        R: Threads
+            + Wait
+            + time::Clock
+            + Net<Listener = TcpListener, Stream = TcpStream>
+            + Copy
+            + Send
+            + Sync
+            + Drop
+            + 'static,
+        G: Gate + Send + Sync + Drop + 'static,
+    {
+        let listener = TcpListener::bind(rt, "127.0.0.1:0")?;
+        let address = listener.local_addr()?;
+        let handle = *rt;
+        let clock = Uptime::new(handle)?;
+        let ended = thread::spawn(rt, move || {
+            run_server(&handle, alloc, &listener, count, gate, clock, limits).is_ok()
+        })?;
+        Ok(Running { address, ended })
+    }
+
+    /// Whether it served all its connections to their ends, which is waited for.
+    pub(crate) fn ends<R: Threads>(self, rt: &R) -> bool {
+        let Running { address: _, ended } = self;
+        ended.join(rt)
+    }
+}
+
+/// A server without a gate, within the limits of a hub that serves.
+pub(crate) fn serve<R>(rt: &R, alloc: Global, count: u64) -> Result<Running, Fail>
+where
+    R: Threads
+        + Wait
+        + time::Clock
+        + Net<Listener = TcpListener, Stream = TcpStream>
+        + Copy
+        + Send
+        + Sync
+        + Drop
+        + 'static,
+{
+    Running::start(rt, alloc, count, Open, Limits::full())
+}

@@ -1,0 +1,132 @@
+//! Requests and their answers.
+
+use crate::tests::client::Client;
+use crate::tests::serve;
+use std::test::Fail;
+
+/// How the program's stored run begins, as it is sent.
+const STORED_ASKED: &str = concat!(
+    "PUT /d HTTP/1.1\r\nHost: h\r\n\r\n",
+    "POST /d/_bulk_docs HTTP/1.1\r\nHost: h\r\nContent-Length: 78\r\n\r\n",
+    r#"{"docs":[{"_id":"a","_rev":"1-a"},{"_id":"b","_rev":"1-b"}],"new_edits":false}"#,
+    "GET /d/_changes HTTP/1.1\r\nHost: h\r\n\r\n"
+);
+
+/// How the program's stored run begins, as it is answered.
+const STORED_ANSWERED: &str = concat!(
+    "HTTP/1.1 201 Created\r\nContent-Type: application/json\r\nContent-Length: 12\r\n\r\n",
+    r#"{"ok":true}"#,
+    "\n",
+    "HTTP/1.1 201 Created\r\nContent-Type: application/json\r\nContent-Length: 3\r\n\r\n[]\n",
+    "HTTP/1.1 200 OK\r\nContent-Type: application/json\r\nTransfer-Encoding: chunked\r\n\r\n",
+    "d\r\n",
+    r#"{"results":["#,
+    "\n\r\n",
+    "2c\r\n",
+    r#"{"seq":1,"id":"a","changes":[{"rev":"1-a"}]}"#,
+    "\r\n",
+    "2e\r\n,\n",
+    r#"{"seq":2,"id":"b","changes":[{"rev":"1-b"}]}"#,
+    "\r\n",
+    "1e\r\n\n],\n",
+    r#""last_seq":2,"pending":0}"#,
+    "\n\r\n",
+    "0\r\n\r\n"
+);
+
+#[test]
+fn the_beginning_of_the_stored_run(rt: HostRuntime) -> Result<(), Fail> {
+    let server = serve(&rt, rt.alloc(), 1)?;
+    let mut client = Client::connect(&rt, rt.alloc(), server.address)?;
+    client.send(STORED_ASKED)?;
+    client.half_close()?;
+    assert_eq!(rt; client.rest()?.as_str(), STORED_ANSWERED);
+    assert!(rt; server.ends(&rt));
+    Ok(())
+}
+
+const ROW: &str = concat!(
+    "{\"results\":[\n",
+    r#"{"seq":1,"id":"a","changes":[{"rev":"1-91e3da135d1d0593e6703385cf55957a"}],"#,
+    r#""doc":{"_id":"a","_rev":"1-91e3da135d1d0593e6703385cf55957a","v":7}}"#,
+    "\n],\n\"last_seq\":1,\"pending\":0}\n"
+);
+
+/// A document that is put is shown by the feed, and found.
+#[test]
+fn a_document_that_is_put(rt: HostRuntime) -> Result<(), Fail> {
+    let server = serve(&rt, rt.alloc(), 1)?;
+    let mut client = Client::connect(&rt, rt.alloc(), server.address)?;
+    assert!(rt; client.gets("PUT /d", "", "201")?);
+    assert!(rt; client.gets("PUT /d/a", r#"{"v":7}"#, "201")?);
+    let feed = client.answered("GET /d/_changes?include_docs=true", "")?;
+    assert_eq!(rt; feed.body.as_str(), ROW);
+    let document = client.answered("GET /d/a", "")?;
+    assert_eq!(rt;
+        document.body.as_str(),
+        "{\"_id\":\"a\",\"_rev\":\"1-91e3da135d1d0593e6703385cf55957a\",\"v\":7}\n"
+    );
+    drop(client);
+    assert!(rt; server.ends(&rt));
+    Ok(())
+}
+
+/// Requests may come before earlier ones are answered.
+#[test]
+fn requests_behind_one_another(rt: HostRuntime) -> Result<(), Fail> {
+    let alloc = rt.alloc();
+    let server = serve(&rt, alloc, 1)?;
+    let mut client = Client::connect(&rt, alloc, server.address)?;
+    let mut asked = String::from_str(alloc, "PUT /d HTTP/1.1\r\n\r\n")?;
+    for number in 0..50 {
+        let text = format!(in alloc; "PUT /d/{number} HTTP/1.1\r\nContent-Length: 2\r\n\r\n{{}}")?;
+        asked.push_str(text.as_str())?;
+    }
+    client.send(asked.as_str())?;
+    for _ in 0..51 {
+        assert!(rt; client.answer()?.is("201"));
+    }
+    let info = client.answered("GET /d", "")?;
+    assert!(rt; info.body.as_str().contains("\"doc_count\":50,"));
+    drop(client);
+    assert!(rt; server.ends(&rt));
+    Ok(())
+}
+
+/// A connection that asks to be closed is, and the others go on.
+#[test]
+fn a_connection_that_asks_to_be_closed(rt: HostRuntime) -> Result<(), Fail> {
+    let server = serve(&rt, rt.alloc(), 2)?;
+    let mut first = Client::connect(&rt, rt.alloc(), server.address)?;
+    let mut second = Client::connect(&rt, rt.alloc(), server.address)?;
+    first.send("PUT /d HTTP/1.1\r\nConnection: close\r\n\r\nPUT /e HTTP/1.1\r\n\r\n")?;
+    assert!(rt; first.answer()?.is("201"));
+    assert!(rt; first.rest()?.is_empty());
+    let names = second.answered("GET /_all_dbs", "")?;
+    assert_eq!(rt; names.body.as_str(), "[\"d\"]\n");
+    drop(first);
+    drop(second);
+    assert!(rt; server.ends(&rt));
+    Ok(())
+}
+
+/// A body that is too long is refused before it was read, and the client that sends it reads the refusal.
+#[test]
+fn a_body_that_is_too_long(rt: HostRuntime) -> Result<(), Fail> {
+    let alloc = rt.alloc();
+    let server = serve(&rt, alloc, 1)?;
+    let mut client = Client::connect(&rt, alloc, server.address)?;
+    client.send("PUT /d/a HTTP/1.1\r\nContent-Length: 8388609\r\n\r\n")?;
+    let part = String::from_utf8(vec![in alloc; b'x'; 8_192]?);
+    let Ok(part) = part else {
+        return Err(Fail::new("no text"));
+    };
+    for _ in 0..1_024 {
+        client.send(part.as_str())?;
+    }
+    assert!(rt; client.answer()?.is("413"));
+    assert!(rt; client.rest()?.is_empty());
+    drop(client);
+    assert!(rt; server.ends(&rt));
+    Ok(())
+}

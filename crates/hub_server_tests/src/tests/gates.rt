@@ -1,0 +1,132 @@
+//! A connection that is held, or a database, does not hold the others.
+
+use crate::tests::Running;
+use crate::tests::client::Client;
+use hub_document::Limits;
+use hub_threads::{Gate, Point};
+use std::alloc::Global;
+use std::sync::Arc;
+use std::sync::atomic::{AtomicBool, Ordering};
+use std::test::Fail;
+use std::thread;
+use std::time::{self, Duration};
+
+/// How often a gate looks before it gives up.
+const LOOKS: u64 = 1_000;
+
+/// What a gate and its test tell each other.
+#[derive(Drop)]
+struct Scene {
+    /// Somebody stands before the gate.
+    is_held: AtomicBool,
+    /// The other connection was answered.
+    is_answered: AtomicBool,
+    /// The gate looked as often as it does, and opened.
+    gave_up: AtomicBool,
+}
+
+impl Scene {
+    /// Nothing happened yet.
+    fn new(alloc: Global) -> Result<Arc<Scene, Global>, Fail> {
+        let scene = Arc::new(
+            alloc,
+            Scene {
+                is_held: AtomicBool::new(false),
+                is_answered: AtomicBool::new(false),
+                gave_up: AtomicBool::new(false),
+            },
+        )?;
+        Ok(scene)
+    }
+}
+
+/// Holds who passes a point until another connection was answered.
+#[derive(Drop)]
+struct Held<R> {
+    rt: R,
+    held: Point,
+    scene: Arc<Scene, Global>,
+}
+
+impl<R: time::Clock> Gate for Held<R> {
+    fn pass(&self, point: Point) {
+        if point != self.held {
+            return;
+        }
+        self.scene.is_held.store(true, Ordering::SeqCst);
+        for _ in 0..LOOKS {
+            if self.scene.is_answered.load(Ordering::SeqCst) {
+                return;
+            }
+            thread::sleep(&self.rt, Duration::from_millis(5));
+        }
+        self.scene.gave_up.store(true, Ordering::SeqCst);
+    }
+}
+
+/// Waits until somebody stands before the gate; whether one came.
+fn is_held<R: time::Clock>(rt: &R, scene: &Scene) -> bool {
+    for _ in 0..LOOKS {
+        if scene.is_held.load(Ordering::SeqCst) {
+            return true;
+        }
+        thread::sleep(rt, Duration::from_millis(5));
+    }
+    false
+}
+
+#[test]
+fn a_writer_that_is_held_holds_no_other(rt: HostRuntime) -> Result<(), Fail> {
+    let alloc = rt.alloc();
+    let scene = Scene::new(alloc)?;
+    let gate = Held {
+        rt,
+        held: Point::Request(1),
+        scene: Arc::try_clone(&scene)?,
+    };
+    let server = Running::start(&rt, alloc, 2, gate, Limits::full())?;
+    let mut first = Client::connect(&rt, alloc, server.address)?;
+    let mut second = Client::connect(&rt, alloc, server.address)?;
+    assert!(rt; second.gets("PUT /d", "", "201")?);
+    first.ask("PUT /d/a", "{}")?;
+    assert!(rt; is_held(&rt, &scene));
+    assert!(rt; second.gets("PUT /d/b", "{}", "201")?);
+    scene.is_answered.store(true, Ordering::SeqCst);
+    assert!(rt; first.answer()?.is("201"));
+    assert!(rt; !scene.gave_up.load(Ordering::SeqCst));
+    drop(first);
+    drop(second);
+    assert!(rt; server.ends(&rt));
+    Ok(())
+}
+
+/// A pump is held inside the lock of `x`, and a write to `x` waits for that lock: `y` is read meanwhile.
+#[test]
+fn a_database_that_is_held_holds_no_other(rt: HostRuntime) -> Result<(), Fail> {
+    let alloc = rt.alloc();
+    let scene = Scene::new(alloc)?;
+    let gate = Held {
+        rt,
+        held: Point::PumpHolding,
+        scene: Arc::try_clone(&scene)?,
+    };
+    let server = Running::start(&rt, alloc, 3, gate, Limits::full())?;
+    let mut reader = Client::connect(&rt, alloc, server.address)?;
+    assert!(rt; reader.gets("PUT /x", "", "201")? && reader.gets("PUT /y", "", "201")?);
+    let mut follower = Client::connect(&rt, alloc, server.address)?;
+    follower.ask("GET /x/_changes", "")?;
+    assert!(rt; is_held(&rt, &scene));
+    let mut writer = Client::connect(&rt, alloc, server.address)?;
+    writer.ask("PUT /x/a", "{}")?;
+    // Long enough for the write to come to the lock.
+    thread::sleep(&rt, Duration::from_millis(200));
+    assert!(rt; reader.gets("GET /y", "", "200")?);
+    scene.is_answered.store(true, Ordering::SeqCst);
+    assert!(rt; writer.answer()?.is("201"));
+    assert!(rt; !scene.gave_up.load(Ordering::SeqCst));
+    drop(follower);
+    drop(writer);
+    drop(reader);
+    assert!(rt; server.ends(&rt));
+    Ok(())
+}

@@ -1,0 +1,336 @@
+//! Feeds of a database that lies under a lock, and what each call answers with ample memory.
+
+use hub_database::{DbFault, DbState};
+use hub_document::{ChangeRow, Doc, DocId, Limits, LocalDoc, RevId};
+use hub_feed::{FeedId, OpenFault};
+use hub_lane::Receiver;
+use hub_model::{Fault, Item};
+use hub_params::FeedParams;
+use hub_shared::{FeedLabel, Handed, Locked, Receipt, ReceiptRoom, WrongReceipt, audit_of};
+use std::alloc::Global;
+use std::sync::Wait;
+use std::test::Fail;
+
+// What is got from a lock in these tests.
+type Database = Locked<DbState>;
+
+// The end of a feed's lane that takes.
+type Taker = Receiver<FeedLabel<DbState>, Item<ChangeRow>>;
+
+// What an item is.
+#[derive(Clone, Copy, Debug, PartialEq, Eq)]
+enum Told {
+    Row(u64),
+    Beat,
+    End(u64),
+}
+
+fn seen(item: &Item<ChangeRow>) -> Told {
+    match item {
+        Item::Row(row) => Told::Row(row.seq),
+        Item::Beat => Told::Beat,
+        Item::End { last_seq, .. } => Told::End(*last_seq),
+    }
+}
+
+// The next item that was sent and not taken yet.
+fn take<R: Wait>(rt: &R, taker: &mut Taker) -> Option<Told> {
+    let item = taker.take(rt)?;
+    Some(seen(&item))
+}
+
+// Whether a case holds of a new database with lanes of two, in which one feed may stand. The
+// database stands here, so that a case owns none: what owns one is dear to prove.
+fn holds<F: FnOnce(Global, &mut Database) -> Result<bool, Fail>>(
+    alloc: Global,
+    case: F,
+) -> Result<bool, Fail>
+    requires { F.IsAlwaysCallable case }
+{
+    let mut limits = Limits::full();
+    limits.feeds = 1;
+    let mut database = Locked::new(alloc, DbState::new(alloc, limits), 2);
+    case(alloc, &mut database)
+}
+
+// The documents that the texts are.
+fn docs(alloc: Global, texts: &[&str]) -> Result<Vec<Doc>, Fail> {
+    let mut docs = Vec::new(alloc);
+    for text in texts {
+        docs.push(Doc::read(alloc, text.as_bytes(), false)?)?;
+    }
+    Ok(docs)
+}
+
+// The receipts of the documents that the texts are, which another database made.
+fn write(alloc: Global, database: &mut Database, texts: &[&str]) -> Result<Vec<Receipt>, Fail> {
+    let accepted = database.write(docs(alloc, texts)?, false)?;
+    Ok(accepted.receipts)
+}
+
+// What comes of opening a feed that the query asks for.
+fn begin(
+    alloc: Global,
+    database: &mut Database,
+    query: &str,
+) -> Result<Result<(FeedId, Taker), OpenFault>, Fail> {
+    match FeedParams::read(alloc, query.as_bytes(), b"") {
+        Ok(params) => Ok(database.begin(params)),
+        Err(_) => Err(Fail::new("no parameters")),
+    }
+}
+
+// A feed that the query opens, and its receiver.
+fn open(alloc: Global, database: &mut Database, query: &str) -> Result<(FeedId, Taker), Fail> {
+    match begin(alloc, database, query)? {
+        Ok(opened) => Ok(opened),
+        Err(_) => Err(Fail::new("no feed")),
+    }
+}
+
+const THREE: [&str; 3] = [
+    r#"{"_id":"a","_rev":"1-a"}"#,
+    r#"{"_id":"b","_rev":"1-b"}"#,
+    r#"{"_id":"c","_rev":"1-c"}"#,
+];
+
+// Whether a hand answers so.
+fn hands<R: Wait>(
+    rt: &R,
+    database: &mut Database,
+    feed: FeedId,
+    wanted: Handed,
+) -> Result<bool, Fail> {
+    Ok(database.hand(rt, feed)? == wanted)
+}
+
+// Three documents, a continuous feed and a lane of two: row 1, row 2, no room with the place at 2,
+// row 1 is taken, row 3.
+fn a_full_lane_waits<R: Wait>(
+    rt: &R,
+    alloc: Global,
+    database: &mut Database,
+) -> Result<bool, Fail> {
+    let _receipts = write(alloc, database, &THREE)?;
+    let (feed, mut taker) = open(alloc, database, "feed=continuous")?;
+    let rows = hands(rt, database, feed, Handed::Row)? && hands(rt, database, feed, Handed::Row)?;
+    let full = hands(rt, database, feed, Handed::Full)? && hands(rt, database, feed, Handed::Full)?;
+    let first = take(rt, &mut taker) == Some(Told::Row(1));
+    let third = hands(rt, database, feed, Handed::Row)?;
+    let second = take(rt, &mut taker) == Some(Told::Row(2));
+    let last = take(rt, &mut taker) == Some(Told::Row(3)) && take(rt, &mut taker).is_none();
+    let nothing = hands(rt, database, feed, Handed::Nothing)?;
+    Ok(rows && full && first && third && second && last && nothing)
+}
+
+#[test]
+fn a_feed_waits_for_room_in_its_lane(rt: HostRuntime) -> Result<(), Fail> {
+    let held = holds(
+        rt.alloc(),
+        |alloc, database| a_full_lane_waits(&rt, alloc, database),
+    )?;
+    assert!(rt; held);
+    Ok(())
+}
+
+// Whether the end comes where a feed's time is over, and the sender goes with the feed.
+fn a_feed_ends<R: Wait>(rt: &R, alloc: Global, database: &mut Database) -> Result<bool, Fail> {
+    let (feed, mut taker) = open(alloc, database, "feed=continuous")?;
+    let nothing = hands(rt, database, feed, Handed::Nothing)?;
+    database.expire(feed);
+    let end = hands(rt, database, feed, Handed::End)? && hands(rt, database, feed, Handed::Gone)?;
+    let taken = take(rt, &mut taker) == Some(Told::End(0));
+    let sender = database.finish(feed).is_some() && database.finish(feed).is_none();
+    Ok(nothing && end && taken && sender && hands(rt, database, feed, Handed::Gone)?)
+}
+
+#[test]
+fn a_feed_comes_to_its_end(rt: HostRuntime) -> Result<(), Fail> {
+    let held = holds(
+        rt.alloc(),
+        |alloc, database| a_feed_ends(&rt, alloc, database),
+    )?;
+    assert!(rt; held);
+    Ok(())
+}
+
+// Whether heartbeats come where they are asked for, until the lane is full.
+fn a_feed_beats<R: Wait>(rt: &R, alloc: Global, database: &mut Database) -> Result<bool, Fail> {
+    let (feed, mut taker) = open(alloc, database, "feed=continuous&heartbeat=1000")?;
+    let twice = database.beat(rt, feed) == Handed::Nothing
+        && database.beat(rt, feed) == Handed::Nothing;
+    let full = database.beat(rt, feed) == Handed::Full;
+    let beat = take(rt, &mut taker) == Some(Told::Beat);
+    let _sender = database.finish(feed);
+    let gone = database.beat(rt, feed) == Handed::Nothing;
+    let second = take(rt, &mut taker) == Some(Told::Beat) && take(rt, &mut taker).is_none();
+    Ok(twice && full && beat && gone && second)
+}
+
+#[test]
+fn heartbeats_fill_a_lane(rt: HostRuntime) -> Result<(), Fail> {
+    let held = holds(
+        rt.alloc(),
+        |alloc, database| a_feed_beats(&rt, alloc, database),
+    )?;
+    assert!(rt; held);
+    Ok(())
+}
+
+// Whether a receipt is of this sequence, document and generation of its revision.
+fn is_of(receipt: &Receipt, seq: u64, id: &str, generation: u16) -> bool {
+    receipt.seq == seq && receipt.id.as_str() == id && receipt.rev.generation() == generation
+}
+
+// Whether these are the receipts of the second and the third of the three documents, where the first
+// was known.
+fn are_the_rest(receipts: &[Receipt]) -> bool {
+    match receipts {
+        [b, c] => is_of(b, 2, "b", 1) && is_of(c, 3, "c", 1),
+        _ => false,
+    }
+}
+
+fn receipts_are_of_what_was_stored(alloc: Global, database: &mut Database) -> Result<bool, Fail> {
+    let one = write(alloc, database, &THREE[..1])?;
+    let rest = write(alloc, database, &THREE)?;
+    let none = write(alloc, database, &THREE)?;
+    Ok(one.len() == 1 && are_the_rest(rest.as_slice()) && none.is_empty())
+}
+
+#[test]
+fn receipts_go_on_from_the_journal(rt: HostRuntime) -> Result<(), Fail> {
+    assert!(rt; holds(rt.alloc(), receipts_are_of_what_was_stored)?);
+    Ok(())
+}
+
+// The receipts that `write` gives, in room that was made before.
+fn write_into(
+    alloc: Global,
+    database: &mut Database,
+    texts: &[&str],
+) -> Result<Vec<Receipt>, Fail> {
+    let docs = docs(alloc, texts)?;
+    let room = ReceiptRoom::of(alloc, docs.as_slice())?;
+    let accepted = database.write_into(room, docs, false)?;
+    if accepted.stopped || accepted.replies.as_slice().len() != texts.len() {
+        return Err(Fail::new("not each document has its reply"));
+    }
+    Ok(accepted.receipts)
+}
+
+fn room_takes_the_same_receipts(alloc: Global, database: &mut Database) -> Result<bool, Fail> {
+    let one = write_into(alloc, database, &THREE[..1])?;
+    let rest = write_into(alloc, database, &THREE)?;
+    let none = write_into(alloc, database, &THREE)?;
+    Ok(one.len() == 1 && are_the_rest(rest.as_slice()) && none.is_empty())
+}
+
+#[test]
+fn a_write_into_room_gives_the_same_receipts(rt: HostRuntime) -> Result<(), Fail> {
+    assert!(rt; holds(rt.alloc(), room_takes_the_same_receipts)?);
+    Ok(())
+}
+
+// Whether the receipts of writes pass an audit, and so does none.
+fn own_receipts_pass(alloc: Global, database: &mut Database) -> Result<bool, Fail> {
+    let one = write(alloc, database, &THREE[..1])?;
+    let rest = write(alloc, database, &THREE)?;
+    let none = audit_of(database.state(), &[]).is_ok();
+    let first = audit_of(database.state(), one.as_slice()).is_ok();
+    Ok(none && first && audit_of(database.state(), rest.as_slice()).is_ok())
+}
+
+#[test]
+fn receipts_of_writes_pass_an_audit(rt: HostRuntime) -> Result<(), Fail> {
+    assert!(rt; holds(rt.alloc(), own_receipts_pass)?);
+    Ok(())
+}
+
+fn receipt(alloc: Global, seq: u64, id: &str, rev: &str) -> Result<Receipt, Fail> {
+    match (DocId::read(alloc, id)?, RevId::read(rev)) {
+        (Some(id), Some(rev)) => Ok(Receipt { seq, id, rev }),
+        _ => Err(Fail::new("no receipt")),
+    }
+}
+
+// The receipts of the three documents, of which the second is this one.
+fn receipts(alloc: Global, second: Receipt) -> Result<Vec<Receipt>, Fail> {
+    let mut receipts = Vec::new(alloc);
+    receipts.push(receipt(alloc, 1, "a", "1-a")?)?;
+    receipts.push(second)?;
+    receipts.push(receipt(alloc, 3, "c", "1-c")?)?;
+    Ok(receipts)
+}
+
+// What is not the second receipt, by each of its parts: the number before, none, and above all; another
+// document; another generation, and another hash.
+const WRONG: [(u64, &str, &str); 6] = [
+    (1, "b", "1-b"),
+    (0, "b", "1-b"),
+    (4, "b", "1-b"),
+    (2, "c", "1-b"),
+    (2, "b", "2-b"),
+    (2, "b", "1-c"),
+];
+
+// Whether an audit tells the place of each wrong receipt, and passes the right one.
+fn wrong_receipts_are_told(alloc: Global, database: &mut Database) -> Result<bool, Fail> {
+    let _receipts = write(alloc, database, &THREE)?;
+    for (seq, id, rev) in WRONG {
+        let list = receipts(alloc, receipt(alloc, seq, id, rev)?)?;
+        if audit_of(database.state(), list.as_slice()) != Err(WrongReceipt { at: 1 }) {
+            return Ok(false);
+        }
+    }
+    let list = receipts(alloc, receipt(alloc, 2, "b", "1-b")?)?;
+    Ok(audit_of(database.state(), list.as_slice()).is_ok())
+}
+
+#[test]
+fn an_audit_tells_the_first_wrong_receipt(rt: HostRuntime) -> Result<(), Fail> {
+    assert!(rt; holds(rt.alloc(), wrong_receipts_are_told)?);
+    Ok(())
+}
+
+// Whether storing a local document has this answer.
+fn puts(alloc: Global, database: &mut Database, answer: Result<u64, DbFault>) -> bool {
+    match LocalDoc::read(alloc, "_local/p", b"{}") {
+        Ok(doc) => database.local_put(doc) == answer,
+        Err(_) => false,
+    }
+}
+
+fn local_documents_are_counted(alloc: Global, database: &mut Database) -> Result<bool, Fail> {
+    let twice = puts(alloc, database, Ok(1)) && puts(alloc, database, Ok(2));
+    let kept = match database.state().local_get("_local/p") {
+        Ok(Some(local)) => local.count == 2,
+        _ => false,
+    };
+    let none = database.state().update_seq() == 0;
+    database.delete()?;
+    let deleted = puts(alloc, database, Err(DbFault::Refused(Fault::Deleted)));
+    Ok(twice && kept && none && deleted)
+}
+
+#[test]
+fn local_documents_go_under_a_lock(rt: HostRuntime) -> Result<(), Fail> {
+    assert!(rt; holds(rt.alloc(), local_documents_are_counted)?);
+    Ok(())
+}
+
+// Whether the number of feeds is bounded, and none opens on a deleted database.
+fn openings_are_refused(alloc: Global, database: &mut Database) -> Result<bool, Fail> {
+    let (feed, _taker) = open(alloc, database, "since=now")?;
+    let full = begin(alloc, database, "")?.err() == Some(OpenFault::TooManyFeeds);
+    database.delete()?;
+    let deleted = begin(alloc, database, "")?.err() == Some(OpenFault::Deleted);
+    let again = database.delete() == Err(DbFault::Refused(Fault::Deleted));
+    Ok(feed.number == 0 && full && deleted && again)
+}
+
+#[test]
+fn a_feed_is_refused_with_its_reason(rt: HostRuntime) -> Result<(), Fail> {
+    assert!(rt; holds(rt.alloc(), openings_are_refused)?);
+    Ok(())
+}
