@@ -1,11 +1,10 @@
 //! Local documents, and how often they were written.
 
-use crate::local_tests::LocalStep::{Fill, Get, Put};
+use crate::local_tests::LocalStep::{Get, Put};
 use crate::tests::Step::{Counts, Local, Seq};
 use crate::tests::{Step, assert_steps};
 use hub_database::{DbFault, DbState, Local as Kept};
 use hub_document::LocalDoc;
-use hub_model::Fault;
 use std::alloc::Global;
 
 /// A step on local documents, by their ids, and its answer.
@@ -14,8 +13,6 @@ pub(crate) enum LocalStep {
     Put(&'static str, &'static str, Result<u64, DbFault>),
     /// How often one was written, and its members.
     Get(&'static str, Result<Option<(u64, &'static str)>, DbFault>),
-    /// The count of one that is stored becomes the last.
-    Fill(&'static str),
 }
 
 // Whether storing a local document has this answer.
@@ -52,23 +49,11 @@ fn keeps(state: &DbState, id: &str, answer: Result<Option<(u64, &str)>, DbFault>
     }
 }
 
-// Whether a stored local document gets the last count, to which no test can count.
-fn fill(state: &mut DbState, id: &str) -> bool {
-    match state.contents.locals.get_mut(id) {
-        Some(local) => {
-            local.count = u64::MAX;
-            true
-        }
-        None => false,
-    }
-}
-
 /// Whether a step has its answer.
 pub(crate) fn local_holds(alloc: Global, state: &mut DbState, step: &LocalStep) -> bool {
     match step {
         Put(id, text, answer) => puts(alloc, state, id, text, *answer),
         Get(id, answer) => keeps(state, id, *answer),
-        Fill(id) => fill(state, id),
     }
 }
 
@@ -97,20 +82,4 @@ const NO_EDIT: &[Step] = &[
 #[test]
 fn local_documents_are_no_edits(rt: HostRuntime) {
     assert_steps(&rt, rt.alloc(), NO_EDIT);
-}
-
-const LAST: &[Step] = &[
-    Local(Put("_local/x", "{}", Ok(1))),
-    Local(Fill("_local/x")),
-    Local(Put(
-        "_local/x",
-        r#"{"v":1}"#,
-        Err(DbFault::Refused(Fault::SequenceFull)),
-    )),
-    Local(Get("_local/x", Ok(Some((u64::MAX, "{}"))))),
-];
-
-#[test]
-fn the_last_count_is_kept(rt: HostRuntime) {
-    assert_steps(&rt, rt.alloc(), LAST);
 }
