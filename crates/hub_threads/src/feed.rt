@@ -75,6 +75,13 @@ impl<S: FeedHost, G: Pumped<S>> HostFeed<S, G> {
         self.id
     }
 
+    /// What the feed was asked for, and where it began. Constant time, and no memory.
+    pub fn label(&self) -> &FeedLabel<S>
+        ensures { result.now ≡ self.now.label }
+    {
+        self.receiver.label()
+    }
+
     /// Takes the first item that was handed and not taken yet: what was taken is the beginning of a
     /// list that is rightly handed, with the parameters and the since of the label. There is none where the
     /// lane was empty at a moment of the call: then a pump that waits for room is woken. It waits for

@@ -1,6 +1,6 @@
 -- the feed is as it was: a look that finds no item takes none
 use Rattle.std.proofs.Common.{◌≡◌}
-use Rattle.hub_server.proofs.pumps.ByThreadsPumping.next_item.Given as goal
+use Rattle.hub_server.proofs.pumps.ByThreads.next_by_pump.Given as goal
 
 abbrev pub invariant-loop : goal.invariant-loop
 invariant-loop g l =
