@@ -10,8 +10,7 @@ use Rattle.hub_model.specs.Path.{names}
 use Rattle.hub_model.specs.Journal.{Edit}
 use Rattle.hub_model.specs.Leaves.{Leaf, is_behind_head, with_leaf, leaves_among, comes_before, placed, best_first, leaves_of, revisions_of}
 use Rattle.hub_model.specs.Missing.{highest, missing, possible_ancestors}
-use Rattle.hub_revtree.specs.declared.branch.Branch.{Branch}
-use Rattle.hub_revtree.specs.Branch.{edit_of, edits_in, unnamed_in}
+use Rattle.hub_revtree.specs.Branch.{Branch, edit_of, edits_in, unnamed_in}
 use Rattle.hub_revtree.specs.Winner.{has_below}
 use Rattle.hub_revtree.proofs.BranchLemmas.{any_map}
 use Rattle.hub_revtree.proofs.TreeLemmas.{sorted_by}

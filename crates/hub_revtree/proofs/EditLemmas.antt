@@ -16,10 +16,9 @@ use Rattle.hub_model.proofs.Tests.{edits_in as edits_in_of, is_known_from, is_hi
 use Rattle.hub_model.proofs.Leaves.{leaf_law, leaf_is}
 use Rattle.hub_model.proofs.Walks.{legal_histories, walk_history, walk_steps}
 use Rattle.hub_model.proofs.Drafts.{drafts_extend}
-use Rattle.hub_revtree.specs.declared.branch.Branch.{Branch}
 use Rattle.hub_revtree.specs.declared.fault.EditFault.TheVariants.{Conflict}
 use Rattle.hub_revtree.specs.declared.leaf.Winner.{Winner}
-use Rattle.hub_revtree.specs.Branch.{edit_of, edits_in}
+use Rattle.hub_revtree.specs.Branch.{Branch, edit_of, edits_in}
 use Rattle.hub_revtree.specs.Extend.{draft, extends, extends_path, path_to}
 use Rattle.hub_revtree.specs.Tree.{IsRevTree, nameless}
 use Rattle.hub_revtree.specs.Winner.{winner_of}

@@ -6,8 +6,7 @@ use Rattle.hub_model.specs.Revision.{Revision}
 use Rattle.hub_model.specs.Path.{is_first}
 use Rattle.hub_model.specs.Journal.{Edit, edits_of}
 use Rattle.hub_model.specs.Walk.{is_head}
-use Rattle.hub_revtree.specs.declared.branch.Branch.{Branch}
-use Rattle.hub_revtree.specs.Branch.{edit_of, edits_in}
+use Rattle.hub_revtree.specs.Branch.{Branch, edit_of, edits_in}
 use Rattle.hub_revtree.proofs.TreeLemmas.{all_of_one}
 
 among : (bs : List Branch) (r : Revision) → option_map edit_of (find (λ b. is_first r b.path) bs) ≡ find (is_head r) (edits_in bs)

@@ -10,8 +10,7 @@ use Rattle.hub_model.specs.Revision.{Revision}
 use Rattle.hub_model.specs.Journal.{Edit}
 use Rattle.hub_model.specs.Leaves.{Leaf, is_behind_head, with_leaf, leaves_among, comes_before, placed, best_first, revisions_of}
 use Rattle.hub_revtree.specs.declared.leaf.Winner.{Winner}
-use Rattle.hub_revtree.specs.declared.branch.Branch.{Branch}
-use Rattle.hub_revtree.specs.Branch.{edit_of, edits_in}
+use Rattle.hub_revtree.specs.Branch.{Branch, edit_of, edits_in}
 use Rattle.hub_revtree.specs.Winner.{winner_of, better_of, is_better_than, is_above, put_in, winners_of}
 use Rattle.hub_revtree.proofs.BranchLemmas.{any_map}
 

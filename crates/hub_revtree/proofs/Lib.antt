@@ -5,3 +5,5 @@ pub mod TreeLemmas
 pub mod LineLemmas
 pub mod AncestorLemmas
 pub mod EditLemmas
+pub mod StemLemmas
+pub mod StemLooks

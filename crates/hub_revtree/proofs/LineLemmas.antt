@@ -15,8 +15,7 @@ use Rattle.hub_model.proofs.Shown.{find_is}
 use Rattle.hub_model.proofs.Walks.{legal_histories, behind_falls, behind_known, known_above, line_of_walk, walk_history}
 use Rattle.hub_model.proofs.Drafts.{walk_same}
 use Rattle.hub_document.specs.Lines.{from_on}
-use Rattle.hub_revtree.specs.declared.branch.Branch.{Branch}
-use Rattle.hub_revtree.specs.Branch.{edit_of, edits_in, unnamed_in}
+use Rattle.hub_revtree.specs.Branch.{Branch, edit_of, edits_in, unnamed_in}
 use Rattle.hub_revtree.specs.Tree.{IsRevTree}
 use Rattle.hub_revtree.specs.Extend.{path_to}
 use Rattle.hub_revtree.proofs.TreeLemmas.{known_by, all_of_one, in_tree}

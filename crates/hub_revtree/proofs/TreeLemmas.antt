@@ -18,9 +18,8 @@ use Rattle.hub_model.proofs.Leaves.{is_leaf_from}
 use Rattle.hub_model.proofs.Sorted.{winner_is}
 use Rattle.hub_model.proofs.Shown.{find_is, find_not}
 use Rattle.hub_model.proofs.Drafts.{has_leaf}
-use Rattle.hub_revtree.specs.declared.branch.Branch.{Branch}
 use Rattle.hub_revtree.specs.declared.leaf.Winner.{Winner}
-use Rattle.hub_revtree.specs.Branch.{edit_of, edits_in}
+use Rattle.hub_revtree.specs.Branch.{Branch, edit_of, edits_in}
 use Rattle.hub_revtree.specs.Tree.{HasKnownHead, IsRevTree}
 use Rattle.hub_revtree.specs.Winner.{winner_of}
 use Rattle.hub_revtree.proofs.BranchLemmas.{any_map}

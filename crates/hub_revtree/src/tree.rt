@@ -133,8 +133,7 @@ impl RevTree {
         ensures mark { IfSome result (IsMarked self.now.edits [] rev.now) }
         ensures none { IfNone result ((mark : Bool) → ¬ IsMarked self.now.edits [] rev.now mark) }
     {
-        let edit = self.branches.headed(rev)?;
-        Some(edit.deleted)
+        self.branches.headed(rev).map(|edit| edit.deleted)
     }
 
     /// The best leaf, with its mark. Each head is looked for in each edit's path.
