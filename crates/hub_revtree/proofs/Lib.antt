@@ -5,5 +5,6 @@ pub mod TreeLemmas
 pub mod LineLemmas
 pub mod AncestorLemmas
 pub mod EditLemmas
+pub mod JoinLemmas
 pub mod StemLemmas
 pub mod StemLooks
