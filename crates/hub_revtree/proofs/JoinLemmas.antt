@@ -1,6 +1,6 @@
 -- Where a path meets the stored ones: all paths of a legal journal that name a revision agree from it on.
-use Rattle.std.proofs.Common.{◌≡◌, ◌≢◌, ℕ, zero, suc, ◌+◌, ◌<◌, ◌≤◌, List, [], ◌∷◌, ◌++◌, length, drop, take, Bool, true, false, inl, inr, refl, sym, ap, ap₂, ◌∙◌, subst, append-nil, ◌&&◌, arith}
-use Rattle.std.specs.Prelude.{Option, Some, None, IfSome, IfNone, is_some, slice_get, Contains}
+use Rattle.std.proofs.Common.{◌≡◌, ◌≢◌, ℕ, zero, suc, ◌+◌, ◌-◌, ◌<◌, ◌≤◌, List, [], ◌∷◌, ◌++◌, length, drop, take, Bool, true, false, inl, inr, refl, sym, ap, ap₂, ◌∙◌, subst, append-nil, ◌&&◌, arith}
+use Rattle.std.specs.Prelude.{Option, Some, None, IfSome, IfNone, IsTrue, ◌↔◌, is_some, slice_get, Contains}
 use Rattle.std.specs.List.{list_any, list_all}
 use Rattle.std.proofs.lemmas.Bool.{cases_Bool, and_parts, and_from, both_ways, eqb-true}
 use Rattle.std.proofs.lemmas.List.{map-append, take-append-drop}
@@ -23,7 +23,8 @@ use Rattle.hub_revtree.specs.Extend.{line_to}
 use Rattle.hub_revtree.specs.Stem.{AreStems, IsWithin, branch_of, branches_of, has_revision, path_from, revisions_at}
 use Rattle.hub_revtree.specs.Tree.{nameless}
 use Rattle.hub_revtree.proofs.LineLemmas.{line_is}
-use Rattle.hub_revtree.proofs.StemLemmas.{any_at, get_front, named_in, shown_at, within_stem}
+use Rattle.hub_revtree.proofs.StemLemmas.{any_at, get_front, get_some, named_in, one_stem_more, same_truth, shown_at, stems_more, within_stem}
+use Rattle.hub_revtree.proofs.StemLooks.{rest_slice}
 use Rattle.hub_revtree.proofs.TreeLemmas.{all_of_one, in_tree, known_by}
 
 -- an element at a place
@@ -218,3 +219,57 @@ is_placed xs r None found none = sym none
 is_placed xs r (Some p) found none =
     let i = within_stem xs p (slice_get_within (revisions_at xs p.stem) p.at r found) in
     sym (any_at (λ s. names s.revisions.items r) xs p.stem i.0 i.1 (named i.0.revisions.items p.at r (rw i.1 at found)))
+
+-- a stem that brings what is new of a path
+pub record Brings (xs : List Stem) (path : List Revision) (s : Stem) : Type 0 where
+  pub falling : IsPath s.revisions.items
+  pub within : (p : Place) → s.parent ≡ Some p → IsWithin xs p
+  pub whole : (branch_of (branches_of xs) s).path ≡ path
+
+module _ (xs : List Stem) (a : AreStems xs) (legal : IsLegal (edits_in (branches_of xs))) where
+  -- whether the rest of a path is the stored one says whether it agrees with all
+  module _ (path q : List Revision) (history : IsHistory path) (again : q ≡ path) where
+    module _ (at : ℕ) (p : Place) (first : list_any (has_revision xs) (take at q) ≡ false) (within : IsWithin xs p) (same : slice_get q at ≡ slice_get (revisions_at xs p.stem) p.at) where
+      pub met_agrees : (b : Bool) → IsTrue b ↔ (take (length q - at) (drop at q) ≡ path_from (branches_of xs) (Some p)) → b ≡ list_all (λ c. agrees path c.path) (branches_of xs)
+      met_agrees b says =
+          let r = get_some (revisions_at xs p.stem) p.at within in
+          let read : slice_get path at ≡ Some r.0 = subst (λ z. slice_get z at ≡ Some r.0) again (same ∙ r.1) in
+          let new : list_any (has_revision xs) (take at path) ≡ false = subst (λ z. list_any (has_revision xs) (take at z) ≡ false) again first in
+          let rest = rest_slice path q at again in
+          same_truth b _
+          (λ t. agrees_from xs a legal path history at p r.0 new read r.1 (sym rest ∙ says.0 t))
+          (λ t. says.1 (rest ∙ agrees_only xs a legal path history at p r.0 new read r.1 t))
+
+    pub none_agrees : list_any (has_revision xs) q ≡ false → true ≡ list_all (λ c. agrees path c.path) (branches_of xs)
+    none_agrees f = sym (none_met xs a legal path history (subst (λ z. list_any (has_revision xs) z ≡ false) again f))
+
+  -- the stem of an edit that may be stored
+  module _ (path q : List Revision) (deleted : Bool) (body : List ℕ) (ok : IsAcceptable (edits_in (branches_of xs)) (nameless path deleted body)) (again : q ≡ path) (s : Stem) where
+    pub met_brings : (at : ℕ) (p : Place) → IsWithin xs p → slice_get q at ≡ slice_get (revisions_at xs p.stem) p.at → s.revisions.items ≡ take at path → s.parent ≡ Some p → Brings xs path s
+    met_brings at p within same own stands =
+        let r = get_some (revisions_at xs p.stem) p.at within in
+        let read : slice_get path at ≡ Some r.0 = subst (λ z. slice_get z at ≡ Some r.0) again (same ∙ r.1) in
+        record {
+          falling = rw own (take_falls at path (not_first xs a legal path deleted body ok at p r.0 read r.1) ok.history.falls);
+          within = λ o e. subst (IsWithin xs) (same_Some p o (sym stands ∙ e)) within;
+          whole =
+              ap₂ (λ (xs : List Revision) (ys : List Revision). xs ++ ys) own (ap (path_from (branches_of xs)) stands ∙ sym (goes_on xs a legal path deleted body ok at p r.0 read r.1))
+              ∙ take-append-drop at path;
+        }
+
+    pub new_brings : s.revisions.items ≡ path → s.parent ≡ None → Brings xs path s
+    new_brings own stands =
+        record {
+          falling = rw own ok.history.falls;
+          within = λ o e. absurd (let none : ◌≡◌ {A = Option Place} None (Some o) = sym stands ∙ e in cc);
+          whole = ap₂ (λ (xs : List Revision) (ys : List Revision). xs ++ ys) own (ap (path_from (branches_of xs)) stands) ∙ append-nil path;
+        }
+
+  pub brought_stems : (path : List Revision) (s : Stem) → Brings xs path s → AreStems (xs ++ s ∷ [])
+  brought_stems path s b = stems_more xs s a b.falling b.within
+
+  pub brought_edit : (path : List Revision) (s : Stem) → Brings xs path s → edits_in (branches_of (xs ++ s ∷ [])) ≡ edits_in (branches_of xs) ++ nameless path s.deleted s.body ∷ []
+  brought_edit path s b =
+      ap edits_in (one_stem_more xs s)
+      ∙ map-append edit_of (branches_of xs) (branch_of (branches_of xs) s ∷ [])
+      ∙ ap (λ p. edits_in (branches_of xs) ++ nameless p s.deleted s.body ∷ []) b.whole

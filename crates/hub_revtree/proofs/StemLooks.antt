@@ -10,13 +10,14 @@ use Rattle.std.proofs.lemmas.Option.{get_or_from_slice_get, same_Some, slice_get
 use Rattle.hub_model.specs.Revision.{Revision, is_same}
 use Rattle.hub_model.specs.Path.{IsPath, names, is_first}
 use Rattle.hub_model.specs.Leaves.{is_behind_head}
+use Rattle.hub_model.proofs.Shown.{find_is}
 use Rattle.hub_model.proofs.Tests.{or_left, or_right, same_is, same_self}
 use Rattle.hub_revtree.specs.declared.leaf.Winner.{Winner}
 use Rattle.hub_revtree.specs.declared.stem.Place.{Place}
 use Rattle.hub_revtree.specs.declared.stem.Stem.{Stem}
 use Rattle.hub_revtree.specs.Branch.{Branch, edit_of}
 use Rattle.hub_revtree.specs.Stem.{AreStems, IsWithin, branch_of, branches_after, branches_of, is_at, is_behind_newest, path_from, revisions_at}
-use Rattle.hub_revtree.specs.Tree.{Tip, tip_of}
+use Rattle.hub_revtree.specs.Tree.{Tip, tip, tip_of}
 use Rattle.hub_revtree.specs.Winner.{head_in}
 use Rattle.hub_revtree.proofs.StemLemmas.{any_at, any_place, as_many, get_some, rest_at, same_truth, shown_at, steps_left, within_stem}
 
@@ -238,3 +239,34 @@ line_more rest prefix behind whole tail split on =
 pub walk_sliced : (xs : List Stem) (a : AreStems xs) (o : Option Place) (p : Place) (s : Stem) (q : List Revision) → IfSome o (IsWithin xs) → o ≡ Some p → s ≡ get_or xs p.stem s → q ≡ s.revisions.items
     → path_from (branches_of xs) o ≡ take (length q - p.at) (drop p.at q) ++ path_from (branches_of xs) s.parent
 walk_sliced xs a o p s q w is item same = walk_on xs a o p s w is item ∙ ap (λ z. z ++ path_from (branches_of xs) s.parent) (sym (rest_slice s.revisions.items q p.at same))
+
+-- a stem as it is lent
+pub tip_shown : (s : Stem) (r : Revision) (deleted : Bool) (body : List ℕ) → slice_get s.revisions.items 0 ≡ Some r → deleted ≡ s.deleted → body ≡ s.body → tip r deleted body ≡ tip_in s
+tip_shown s r deleted body head mark members = rw (head, mark, members) refl
+
+pub no_edit : (xs : List Stem) → AreStems xs → (k : ℕ) → length xs ≤ k → option_map (λ b. tip_of (edit_of b)) (slice_get (branches_of xs) k) ≡ None
+no_edit xs a k past = tip_at xs a k ∙ ap (option_map tip_in) (slice_get_past xs k past)
+
+pub some_edit : (xs : List Stem) → AreStems xs → (k : ℕ) (s : Stem) (r : Revision) (deleted : Bool) (body : List ℕ) → slice_get xs k ≡ Some s → slice_get s.revisions.items 0 ≡ Some r → deleted ≡ s.deleted → body ≡ s.body
+    → Some (tip r deleted body) ≡ option_map (λ b. tip_of (edit_of b)) (slice_get (branches_of xs) k)
+some_edit xs a k s r deleted body e head mark members = ap Some (tip_shown s r deleted body head mark members) ∙ sym (tip_at xs a k ∙ ap (option_map tip_in) e)
+
+pub some_headed : (xs : List Stem) → AreStems xs → (rev : Revision) (s : Stem) (r : Revision) (deleted : Bool) (body : List ℕ) → Some s ≡ find (λ z. is_first rev z.revisions.items) xs → slice_get s.revisions.items 0 ≡ Some r → deleted ≡ s.deleted → body ≡ s.body
+    → Some (tip r deleted body) ≡ option_map (λ b. tip_of (edit_of b)) (find (λ b. is_first rev b.path) (branches_of xs))
+some_headed xs a rev s r deleted body e head mark members = ap Some (tip_shown s r deleted body head mark members) ∙ ap (option_map tip_in) e ∙ sym (headed_in rev xs a)
+
+pub none_headed : (xs : List Stem) → AreStems xs → (rev : Revision) → None ≡ find (λ z. is_first rev z.revisions.items) xs → option_map (λ b. tip_of (edit_of b)) (find (λ b. is_first rev b.path) (branches_of xs)) ≡ None
+none_headed xs a rev e = headed_in rev xs a ∙ ap (option_map tip_in) (sym e)
+
+-- a stem that is found is one
+pub found_falls : (xs : List Stem) → AreStems xs → (rev : Revision) (s : Stem) → Some s ≡ find (λ z. is_first rev z.revisions.items) xs → IsPath s.revisions.items
+found_falls xs a rev s e =
+    let i = find_is (λ (z : Stem). is_first rev z.revisions.items) xs s (sym e) in
+    a.falling i.1.0 s (slice_get_read xs _ i.1.0 s refl i.1.1 (sym i.1.2))
+
+pub read_stem : (xs : List Stem) (k : ℕ) (s : Stem) → k < length xs → s ≡ get_or xs k s → slice_get xs k ≡ Some s
+read_stem xs k s low is = slice_get_read xs _ k s refl low is
+
+-- a number of the branches is one of the stems
+pub low_stem : (xs : List Stem) (bs : List Branch) (k : ℕ) → branches_of xs ≡ bs → k < length bs → k < length xs
+low_stem xs bs k same low = let many = as_many xs in let n : length (branches_of xs) ≡ length bs = ap (λ (z : List Branch). length z) same in omega (arith, low, many, n)

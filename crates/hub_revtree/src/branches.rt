@@ -5,7 +5,7 @@ ghost use Rattle.std.specs.List.{list_any, list_all};
 ghost use Rattle.hub_model.specs.Journal.{IsAcceptable, IsLegal};
 ghost use Rattle.hub_model.specs.Leaves.{is_behind_head as stands_behind_head};
 ghost use Rattle.hub_model.specs.Missing.{highest as highest_of};
-ghost use Rattle.hub_model.specs.Path.{IsPath, agrees as agrees_with, is_first, names};
+ghost use Rattle.hub_model.specs.Path.{IsHistory, IsPath, agrees as agrees_with, is_first, names};
 ghost use Rattle.hub_revtree.specs.Winner.{head_in};
 ghost use Rattle.hub_revtree.specs.Branch.{edit_of, edits_in, unnamed_in};
 ghost use Rattle.hub_revtree.specs.Extend.{line_to};
@@ -79,7 +79,7 @@ impl Branches {
     pub(crate) fn edit(&self, at: usize) -> Option<StoredEdit<'_>>
         ensures { option_map (λ e. tip e.rev e.deleted e.body.now) result ≡ option_map (λ b. tip_of (edit_of b)) (slice_get self.now.list at) }
     {
-        let stem = self.stems.get(at)?;
+        let stem = self.stems.as_slice().get(at)?;
         Some(stored(stem))
     }
 
@@ -96,10 +96,10 @@ impl Branches {
         requires { at < length self.now.list }
         ensures { option_and_then head_in (slice_get self.now.list at) ≡ Some result }
     {
-        let stem = &self.stems[at];
+        let edit = stored(&self.stems[at]);
         Winner {
-            rev: stem.revisions[0],
-            deleted: stem.deleted,
+            rev: edit.rev,
+            deleted: edit.deleted,
         }
     }
 
@@ -132,7 +132,8 @@ impl Branches {
     /// Whether the path agrees with all stored ones. It costs a look an edit for each of the path's
     /// revisions that no path names, and the number of the others.
     pub(crate) fn agrees_with_all(&self, path: &Path) -> bool
-        requires { IsLegal (edits_in self.now.list) }
+        requires legal { IsLegal (edits_in self.now.list) }
+        requires history { IsHistory path.now }
         ensures { result ≡ list_all (λ b. agrees_with path.now b.path) self.now.list }
     {
         let stems = self.stems.as_slice();
