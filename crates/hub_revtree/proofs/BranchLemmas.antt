@@ -28,6 +28,11 @@ behind_head (y ∷ p) x r h e = from (is_same r y) (names p r) refl refl ∙ ap 
     from false true s n = rw (s, n) refl
     from false false s n = rw (s, n) refl
 
+-- and one at least
+pub some_history : (p : List Revision) → IsHistory p → 0 < length p
+some_history [] h = absurd h.falls
+some_history (x ∷ p) h = omega arith
+
 -- a path has no more revisions than its head's generation
 pub within_generation : (p : List Revision) (x : Revision) → IsHistory p → slice_get p 0 ≡ Some x → length p ≤ x.generation
 within_generation [] x h e = absurd h.falls

@@ -42,12 +42,12 @@ impl Model for Branches {
 // An edit as it is lent.
 fn stored(stem: &Stem) -> StoredEdit<'_>
     requires { IsPath stem.now.revisions.items }
-    ensures rev { slice_get stem.now.revisions.items 0 ≡ Some result.rev }
+    ensures rev { slice_get stem.now.revisions.items 0 ≡ Some result.rev.now }
     ensures deleted { result.deleted ≡ stem.now.deleted }
     ensures body { result.body.now ≡ stem.now.body }
 {
     StoredEdit {
-        rev: stem.revisions[0],
+        rev: &stem.revisions[0],
         deleted: stem.deleted,
         body: &stem.body,
     }
@@ -77,7 +77,7 @@ impl Branches {
 
     /// The edit of this number. Constant time.
     pub(crate) fn edit(&self, at: usize) -> Option<StoredEdit<'_>>
-        ensures { option_map (λ e. tip e.rev e.deleted e.body.now) result ≡ option_map (λ b. tip_of (edit_of b)) (slice_get self.now.list at) }
+        ensures { option_map (λ e. tip e.rev.now e.deleted e.body.now) result ≡ option_map (λ b. tip_of (edit_of b)) (slice_get self.now.list at) }
     {
         let stem = self.stems.as_slice().get(at)?;
         Some(stored(stem))
@@ -85,7 +85,7 @@ impl Branches {
 
     /// The edit that the revision heads. One look an edit.
     pub(crate) fn headed(&self, rev: &RevId) -> Option<StoredEdit<'_>>
-        ensures { option_map (λ e. tip e.rev e.deleted e.body.now) result ≡ option_map (λ b. tip_of (edit_of b)) (find (λ b. is_first rev.now b.path) self.now.list) }
+        ensures { option_map (λ e. tip e.rev.now e.deleted e.body.now) result ≡ option_map (λ b. tip_of (edit_of b)) (find (λ b. is_first rev.now b.path) self.now.list) }
     {
         let stem = headed(self.stems.as_slice(), rev)?;
         Some(stored(stem))
@@ -98,7 +98,7 @@ impl Branches {
     {
         let edit = stored(&self.stems[at]);
         Winner {
-            rev: edit.rev,
+            rev: *edit.rev,
             deleted: edit.deleted,
         }
     }

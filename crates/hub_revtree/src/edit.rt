@@ -1,6 +1,7 @@
 //! Edits that are made here.
 
-ghost use Rattle.std.specs.Prelude.{◌≡◌, ◌⊎◌, ◌≤◌, ◌<◌, ◌++◌, ◌∷◌, [], length, option_map, Some, None, Ok, Err, IfSome, IfOk, IfErr, OnOk};
+ghost use Rattle.std.specs.Prelude.{◌≡◌, ◌⊎◌, ◌≤◌, ◌<◌, ◌++◌, ◌∷◌, [], length, option_map, Some, None, Ok, Err, IfOk, IfErr, OnOk};
+ghost use Rattle.std.specs.Result.{result_ok};
 ghost use Rattle.hub_model.specs.Draft.{HasNextRevision, extended as extended_in, generation_of, made, parent_of};
 ghost use Rattle.hub_model.specs.Journal.{Edit, IsAcceptable, head_of};
 ghost use Rattle.hub_model.specs.Leaves.{leaves_of};
@@ -26,7 +27,7 @@ fn next_rev(
     ensures err { IfErr result (λ e. (e ≡ EditFault.NoMemory) ⊎ ((e ≡ EditFault.GenerationLimit) × (65535 ≤ generation_of parent))) }
     ensures memory { result ≡ Err EditFault.NoMemory → generation_of parent < 65535 }
 {
-    if generation(parent) == u16::MAX {
+    if generation(&parent) == u16::MAX {
         return Err(EditFault::GenerationLimit);
     }
     let rev = rev_of_edit(alloc, deleted, parent, id, body)?;
@@ -34,8 +35,8 @@ fn next_rev(
 }
 
 // The generation of a revision; 0 where there is none.
-fn generation(rev: Option<RevId>) -> u16
-    ensures { result ≡ generation_of rev }
+fn generation(rev: &Option<RevId>) -> u16
+    ensures { result ≡ generation_of rev.now }
 {
     match rev {
         Some(rev) => rev.generation(),
@@ -44,37 +45,45 @@ fn generation(rev: Option<RevId>) -> u16
 }
 
 impl RevTree {
-    // The leaf that is named, if it is one. One look an edit.
-    fn leaf(&self, rev: RevId) -> Option<Option<RevId>>
+    // The leaf that is named. One look an edit.
+    fn leaf(&self, rev: RevId) -> Result<Option<RevId>, EditFault>
         ensures tree { IsRevTree self.now.edits }
-        ensures line { option_map (line_to self.now.edits) result ≡ extended_in self.now.edits [] (leaves_of self.now.edits []) (Some rev) }
-        ensures first { IfSome result (λ older. parent_of (line_to self.now.edits older) ≡ older) }
+        ensures line { option_map (line_to self.now.edits) (result_ok result) ≡ extended_in self.now.edits [] (leaves_of self.now.edits []) (Some rev) }
+        ensures first { IfOk result (λ older. parent_of (line_to self.now.edits older) ≡ older) }
+        ensures conflict { IfErr result (λ e. e ≡ EditFault.Conflict) }
     {
-        if self.knows(&rev) && !self.branches().is_behind(&rev) {
-            Some(Some(rev))
-        } else {
-            None
+        let branches = self.branches();
+        if !self.knows(&rev) {
+            return Err(EditFault::Conflict);
         }
+        if branches.is_behind(&rev) {
+            return Err(EditFault::Conflict);
+        }
+        Ok(Some(rev))
     }
 
-    // The winner where it is deleted, nothing of a tree with no edit, and None of any other tree.
-    fn dead(&self) -> Option<Option<RevId>>
+    // The winner where it is deleted, and nothing of a tree with no edit.
+    fn dead(&self) -> Result<Option<RevId>, EditFault>
         ensures tree { IsRevTree self.now.edits }
-        ensures line { option_map (line_to self.now.edits) result ≡ extended_in self.now.edits [] (leaves_of self.now.edits []) None }
-        ensures first { IfSome result (λ older. parent_of (line_to self.now.edits older) ≡ older) }
+        ensures line { option_map (line_to self.now.edits) (result_ok result) ≡ extended_in self.now.edits [] (leaves_of self.now.edits []) None }
+        ensures first { IfOk result (λ older. parent_of (line_to self.now.edits older) ≡ older) }
+        ensures conflict { IfErr result (λ e. e ≡ EditFault.Conflict) }
     {
-        match self.best() {
-            Some(winner) if winner.deleted => Some(Some(winner.rev)),
-            Some(_) => None,
-            None => Some(None),
+        let Some(winner) = self.best() else {
+            return Ok(None);
+        };
+        if !winner.deleted {
+            return Err(EditFault::Conflict);
         }
+        Ok(Some(winner.rev))
     }
 
-    // The revision that an edit extends, or nothing; None where it has none to extend.
-    fn extended(&self, parent: Option<RevId>) -> Option<Option<RevId>>
+    // The revision that an edit extends, or nothing.
+    fn extended(&self, parent: Option<RevId>) -> Result<Option<RevId>, EditFault>
         ensures tree { IsRevTree self.now.edits }
-        ensures line { option_map (line_to self.now.edits) result ≡ extended_in self.now.edits [] (leaves_of self.now.edits []) parent }
-        ensures first { IfSome result (λ older. parent_of (line_to self.now.edits older) ≡ older) }
+        ensures line { option_map (line_to self.now.edits) (result_ok result) ≡ extended_in self.now.edits [] (leaves_of self.now.edits []) parent }
+        ensures first { IfOk result (λ older. parent_of (line_to self.now.edits older) ≡ older) }
+        ensures conflict { IfErr result (λ e. e ≡ EditFault.Conflict) }
     {
         match parent {
             Some(rev) => self.leaf(rev),
@@ -83,14 +92,14 @@ impl RevTree {
     }
 
     // The path with the revision in front of the one that it extends, in memory of its own size.
-    fn path_on(&self, alloc: Global, rev: RevId, older: Option<RevId>) -> Result<Path, AllocError>
-        requires { IsHistory (rev ∷ line_to self.now.edits older) }
-        ensures { IfOk result (λ path. path ≡ rev ∷ line_to self.now.edits older) }
+    fn path_on(&self, alloc: Global, rev: RevId, older: &Option<RevId>) -> Result<Path, AllocError>
+        requires { IsHistory (rev ∷ line_to self.now.edits older.now) }
+        ensures { IfOk result (λ path. path ≡ rev ∷ line_to self.now.edits older.now) }
     {
         let mut revisions = Vec::with_capacity(alloc, usize::from(rev.generation()))?;
         revisions.push(rev)?;
         if let Some(older) = older {
-            self.branches().append_line(&older, &mut revisions)?;
+            self.branches().append_line(older, &mut revisions)?;
         }
         Ok(Path::new(revisions))
     }
@@ -116,9 +125,7 @@ impl RevTree {
         ensures memory { result ≡ Err EditFault.NoMemory → HasNextRevision self.old.edits (draft [] parent deleted body) }
     {
         let alloc = self.allocator();
-        let Some(older) = self.extended(parent) else {
-            return Err(EditFault::Conflict);
-        };
+        let older = self.extended(parent)?;
         let rev = match next_rev(alloc, id, older, deleted, &body) {
             Ok(rev) => rev,
             Err(e) => return Err(e),
@@ -126,7 +133,7 @@ impl RevTree {
         if self.knows(&rev) {
             return Err(EditFault::Conflict);
         }
-        let path = self.path_on(alloc, rev, older)?;
+        let path = self.path_on(alloc, rev, &older)?;
         let ready = self.made_ready(path, deleted, body)?;
         Ok(ready)
     }

@@ -12,7 +12,7 @@ use hub_document::{Body, RevId};
 #[derive(Clone, Copy, Debug)]
 pub struct StoredEdit<'a> {
     /// Its revision.
-    pub rev: RevId,
+    pub rev: &'a RevId,
     /// Whether it deletes the document.
     pub deleted: bool,
     /// Its members.
@@ -22,7 +22,7 @@ pub struct StoredEdit<'a> {
 impl RevTree {
     /// The edit of this number, from 0 in the order in which they were taken. Constant time.
     pub fn edit(&self, at: usize) -> Option<StoredEdit<'_>>
-        ensures { option_map (λ e. tip e.rev e.deleted e.body.now) result ≡ option_map tip_of (slice_get self.now.edits at) }
+        ensures { option_map (λ e. tip e.rev.now e.deleted e.body.now) result ≡ option_map tip_of (slice_get self.now.edits at) }
     {
         self.branches().edit(at)
     }
@@ -30,7 +30,7 @@ impl RevTree {
     /// The edit that the revision heads; None where it heads none, as an ancestor does that came
     /// inside a history alone. One look an edit.
     pub fn headed(&self, rev: &RevId) -> Option<StoredEdit<'_>>
-        ensures { option_map (λ e. tip e.rev e.deleted e.body.now) result ≡ option_map tip_of (find (is_head rev.now) (edits_of self.now.edits [])) }
+        ensures { option_map (λ e. tip e.rev.now e.deleted e.body.now) result ≡ option_map tip_of (find (is_head rev.now) (edits_of self.now.edits [])) }
     {
         self.branches().headed(rev)
     }

@@ -57,7 +57,8 @@ impl RevTree {
     pub fn body(&self, rev: &RevId) -> Option<&Body>
         ensures { option_map (λ b. b.now) result ≡ option_map (λ e. e.body) (find (is_head rev.now) self.now.edits) }
     {
-        self.branches().headed(rev).map(|edit| edit.body)
+        let edit = self.branches().headed(rev)?;
+        Some(edit.body)
     }
 
     /// Of these revisions those that are not known, in the same order. One look an edit for each.

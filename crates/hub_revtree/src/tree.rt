@@ -133,7 +133,8 @@ impl RevTree {
         ensures mark { IfSome result (IsMarked self.now.edits [] rev.now) }
         ensures none { IfNone result ((mark : Bool) → ¬ IsMarked self.now.edits [] rev.now mark) }
     {
-        self.branches.headed(rev).map(|edit| edit.deleted)
+        let edit = self.branches.headed(rev)?;
+        Some(edit.deleted)
     }
 
     /// The best leaf, with its mark. Each head is looked for in each edit's path.
