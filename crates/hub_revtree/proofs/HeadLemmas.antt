@@ -1,6 +1,6 @@
 -- What is lent of an edit, among the branches and among the edits that they are.
 use Rattle.std.proofs.Common.{◌≡◌, ℕ, List, [], ◌∷◌, inl, inr, refl, ap, ◌∙◌, sym}
-use Rattle.std.specs.Prelude.{Option, Some, None, Bool, slice_get, find, option_map}
+use Rattle.std.specs.Prelude.{Option, Some, None, slice_get, find, option_map}
 use Rattle.std.proofs.lemmas.Bool.{cases_Bool}
 use Rattle.std.proofs.lemmas.Option.{slice_get-map}
 use Rattle.hub_model.specs.Revision.{Revision}
@@ -8,7 +8,7 @@ use Rattle.hub_model.specs.Path.{is_first}
 use Rattle.hub_model.specs.Journal.{Edit, edits_of}
 use Rattle.hub_model.specs.Walk.{is_head}
 use Rattle.hub_revtree.specs.Branch.{Branch, edit_of, edits_in}
-use Rattle.hub_revtree.specs.Tree.{Tip, tip_of}
+use Rattle.hub_revtree.specs.Tree.{tip_of}
 use Rattle.hub_revtree.proofs.TreeLemmas.{all_of_one}
 
 among : (bs : List Branch) (r : Revision) → option_map edit_of (find (λ b. is_first r b.path) bs) ≡ find (is_head r) (edits_in bs)

@@ -1,16 +1,14 @@
 -- Where a path meets the stored ones: all paths of a legal journal that name a revision agree from it on.
-use Rattle.std.proofs.Common.{◌≡◌, ◌≢◌, ℕ, zero, suc, ◌+◌, ◌-◌, ◌<◌, ◌≤◌, List, [], ◌∷◌, ◌++◌, length, drop, take, Bool, true, false, inl, inr, refl, sym, ap, ap₂, ◌∙◌, subst, append-nil, ◌&&◌, arith}
+use Rattle.std.proofs.Common.{◌≡◌, ◌≢◌, ℕ, zero, suc, ◌-◌, ◌<◌, ◌≤◌, List, [], ◌∷◌, ◌++◌, length, drop, take, Bool, true, false, inl, inr, refl, sym, ap, ap₂, ◌∙◌, subst, append-nil, arith}
 use Rattle.std.specs.Prelude.{Option, Some, None, IfSome, IfNone, IsTrue, ◌↔◌, is_some, slice_get, Contains}
 use Rattle.std.specs.List.{list_any, list_all}
-use Rattle.std.proofs.lemmas.Bool.{cases_Bool, and_parts, and_from, both_ways, eqb-true}
+use Rattle.std.proofs.lemmas.Bool.{and_parts, and_from, both_ways, eqb-true}
 use Rattle.std.proofs.lemmas.List.{map-append, take-append-drop}
 use Rattle.std.proofs.lemmas.List.Elements.{Contains-append_left, Contains-push}
 use Rattle.std.proofs.lemmas.Option.{get_or_from_slice_get, same_Some, slice_get_read, slice_get_within}
 use Rattle.hub_model.specs.Revision.{Revision}
 use Rattle.hub_model.specs.Path.{Falls, IsFirst, IsNext, IsPath, IsHistory, names, agrees, is_falling, is_full, is_history}
 use Rattle.hub_model.specs.Journal.{Edit, Edits, IsAcceptable, IsLegal, edits_of, is_known}
-use Rattle.hub_model.specs.Walk.{line_of}
-use Rattle.hub_model.proofs.Lists.{contains_here}
 use Rattle.hub_model.proofs.Legal.{legal_more, legal_sound, next_left}
 use Rattle.hub_model.proofs.Tests.{agrees_is, all_at, at_all, edits_in as edits_in_of, history_is, is_agreeing, is_history_from, is_named, known_is, or_false}
 use Rattle.hub_model.proofs.Walks.{legal_histories}

@@ -1,6 +1,6 @@
 -- What stands behind a revision stands so in each path that names it.
 use Rattle.std.proofs.Common.{◌≡◌, ℕ, ◌+◌, ◌≤◌, List, [], ◌∷◌, true, inl, inr, refl, sym, ap, ◌∙◌, subst, arith}
-use Rattle.std.specs.Prelude.{Contains, Option, Some, None, find, option_map}
+use Rattle.std.specs.Prelude.{Some}
 use Rattle.std.specs.List.{list_any}
 use Rattle.std.proofs.lemmas.Bool.{cases_Bool, and_parts, eqb-true}
 use Rattle.std.proofs.lemmas.Option.{same_Some}
@@ -10,15 +10,14 @@ use Rattle.hub_model.specs.Journal.{Edit, Edits, IsBehind, IsKnown, IsLegal, is_
 use Rattle.hub_model.specs.Missing.{missing}
 use Rattle.hub_model.specs.Walk.{IsWalk, line_of}
 use Rattle.hub_model.proofs.Legal.{legal_sound}
-use Rattle.hub_model.proofs.Tests.{same_is, names_is, edits_in as edits_in_of, known_is, is_known_from, is_history_from}
-use Rattle.hub_model.proofs.Shown.{find_is}
+use Rattle.hub_model.proofs.Tests.{same_is, names_is, known_is, is_history_from}
 use Rattle.hub_model.proofs.Walks.{legal_histories, behind_falls, behind_known, known_above, line_of_walk, walk_history}
 use Rattle.hub_model.proofs.Drafts.{walk_same}
 use Rattle.hub_document.specs.Lines.{from_on}
-use Rattle.hub_revtree.specs.Branch.{Branch, edit_of, edits_in, unnamed_in}
+use Rattle.hub_revtree.specs.Branch.{Branch, edits_in, unnamed_in}
 use Rattle.hub_revtree.specs.Tree.{IsRevTree}
 use Rattle.hub_revtree.specs.Extend.{path_to}
-use Rattle.hub_revtree.proofs.TreeLemmas.{known_by, all_of_one, in_tree}
+use Rattle.hub_revtree.proofs.TreeLemmas.{known_by}
 
 module _ (es : List Edit) (id : List ℕ) (legal : IsLegal es) where
   abbrev HasSteps : List Revision → Type 0

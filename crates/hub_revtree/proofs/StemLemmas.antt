@@ -1,21 +1,19 @@
 -- What stems show of their branches.
-use Rattle.std.proofs.Common.{◌≡◌, ℕ, zero, suc, ◌+◌, ◌<◌, ◌≤◌, List, [], ◌∷◌, ◌++◌, length, drop, take, add-one, Bool, true, false, ◌⊎◌, inl, inr, refl, sym, ap, ap₂, ◌∙◌, subst, append_assoc, append-nil, ◌||◌, not, arith}
-use Rattle.std.specs.Prelude.{Option, Some, None, slice_get, find, option_map, IfSome, is_some}
+use Rattle.std.proofs.Common.{◌≡◌, ℕ, zero, suc, ◌+◌, ◌<◌, ◌≤◌, List, [], ◌∷◌, ◌++◌, length, drop, take, add-one, Bool, true, false, ◌⊎◌, inl, inr, refl, sym, ap, ◌∙◌, subst, append_assoc, append-nil, ◌||◌, not, arith}
+use Rattle.std.specs.Prelude.{Option, Some, None, slice_get, IfSome, is_some}
 use Rattle.std.specs.List.{list_any}
-use Rattle.std.specs.Option.{option_or}
-use Rattle.std.proofs.lemmas.Bool.{cases_Bool, both_ways}
+use Rattle.std.proofs.lemmas.Bool.{cases_Bool}
 use Rattle.std.proofs.lemmas.List.{drop-append-le, length-append, take_all}
-use Rattle.std.proofs.lemmas.List.Folds.{list_any-append, find-append}
-use Rattle.std.proofs.lemmas.Option.{same_Some, slice_get_within, slice_get_past}
+use Rattle.std.proofs.lemmas.List.Folds.{list_any-append}
+use Rattle.std.proofs.lemmas.Option.{same_Some, slice_get_within}
 use Rattle.hub_model.specs.Revision.{Revision, is_same}
-use Rattle.hub_model.specs.Path.{Falls, IsPath, names, is_first}
-use Rattle.hub_model.proofs.Tests.{same_is, or_left, or_right, or_false}
+use Rattle.hub_model.specs.Path.{IsPath, names, is_first}
+use Rattle.hub_model.proofs.Tests.{or_left, or_right, or_false}
 use Rattle.hub_document.proofs.PlaceLemmas.{named}
 use Rattle.hub_revtree.specs.declared.stem.Place.{Place}
 use Rattle.hub_revtree.specs.declared.stem.Stem.{Stem}
-use Rattle.hub_revtree.specs.Branch.{Branch, edit_of}
-use Rattle.hub_revtree.specs.Stem.{AreStems, IsWithin, branch_of, branches_after, branches_of, has_revision, is_at, is_behind_newest, path_from, path_in, revisions_at, revisions_in}
-use Rattle.hub_revtree.specs.Tree.{Tip, tip_of}
+use Rattle.hub_revtree.specs.Branch.{Branch}
+use Rattle.hub_revtree.specs.Stem.{AreStems, IsWithin, branch_of, branches_after, branches_of, has_revision, path_from, path_in, revisions_in}
 use Rattle.hub_revtree.proofs.BranchLemmas.{apart}
 
 -- a revision that a path has stands behind its first one where it is another

@@ -12,11 +12,10 @@ use Rattle.hub_model.specs.Path.{IsPath, names, is_first}
 use Rattle.hub_model.specs.Leaves.{is_behind_head}
 use Rattle.hub_model.proofs.Shown.{find_is}
 use Rattle.hub_model.proofs.Tests.{or_left, or_right, same_is, same_self}
-use Rattle.hub_revtree.specs.declared.leaf.Winner.{Winner}
 use Rattle.hub_revtree.specs.declared.stem.Place.{Place}
 use Rattle.hub_revtree.specs.declared.stem.Stem.{Stem}
 use Rattle.hub_revtree.specs.Branch.{Branch, edit_of}
-use Rattle.hub_revtree.specs.Stem.{AreStems, IsWithin, branch_of, branches_after, branches_of, is_at, is_behind_newest, path_from, revisions_at}
+use Rattle.hub_revtree.specs.Stem.{AreStems, IsWithin, branch_of, branches_after, branches_of, is_at, is_behind_newest, path_from}
 use Rattle.hub_revtree.specs.Tree.{Tip, tip, tip_of}
 use Rattle.hub_revtree.specs.Winner.{head_in}
 use Rattle.hub_revtree.proofs.StemLemmas.{any_at, any_place, as_many, get_some, rest_at, same_truth, shown_at, steps_left, within_stem}

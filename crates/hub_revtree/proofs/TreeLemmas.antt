@@ -1,5 +1,5 @@
 -- What the branches of a tree show of it as a journal.
-use Rattle.std.proofs.Common.{◌≡◌, ℕ, List, [], ◌∷◌, ◌++◌, Bool, true, false, ap, refl, sym, ◌∙◌, subst, ⊎_elim, not, inl, inr}
+use Rattle.std.proofs.Common.{◌≡◌, ℕ, List, [], ◌∷◌, Bool, true, false, ap, refl, sym, ◌∙◌, subst, ⊎_elim, not, inl, inr}
 use Rattle.std.specs.Prelude.{IfSome, IfNone, Option, Some, None, slice_get, find, option_map, ◌↔◌, IsTrue, Contains}
 use Rattle.std.specs.List.{list_any, list_all}
 use Rattle.std.proofs.lemmas.Bool.{cases_Bool, and_parts, and_from, both_ways}

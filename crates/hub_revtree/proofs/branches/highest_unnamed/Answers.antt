@@ -1,6 +1,4 @@
 use Rattle.std.proofs.Common.{◌∙◌, sym}
-use Rattle.hub_model.specs.Missing.{highest}
-use Rattle.hub_revtree.specs.Branch.{unnamed_in}
 use Rattle.hub_revtree.proofs.AncestorLemmas.{highest_named, highest_unnamed}
 use Rattle.hub_revtree.proofs.branches.highest_unnamed.Goals as goal
 

@@ -1,4 +1,4 @@
-use Rattle.std.proofs.Common.{◌≡◌, ◌++◌}
+use Rattle.std.proofs.Common.{◌≡◌}
 use Rattle.std.specs.Prelude.{IfSome, ◌↔◌}
 use Rattle.hub_revtree.specs.Stem.{IsWithin, branches_of, path_from}
 use Rattle.hub_revtree.proofs.StemLemmas.{steps_left}

@@ -1,4 +1,4 @@
-use Rattle.std.proofs.Common.{◌∙◌, sym}
+use Rattle.std.proofs.Common.{sym}
 use Rattle.hub_revtree.proofs.JoinLemmas.{met_agrees, none_agrees}
 use Rattle.hub_revtree.proofs.branches.Branches.agrees_with_all.Goals as goal
 

@@ -1,4 +1,4 @@
-use Rattle.std.proofs.Common.{◌++◌, ◌∙◌, ap, sym, append-nil}
+use Rattle.std.proofs.Common.{sym, append-nil}
 use Rattle.hub_revtree.proofs.JoinLemmas.{no_line, place_line}
 use Rattle.std.proofs.lemmas.Option.{slice_get_within}
 use Rattle.hub_revtree.specs.Stem.{revisions_at}

@@ -1,4 +1,4 @@
-use Rattle.std.proofs.Common.{◌∙◌, sym}
+use Rattle.std.proofs.Common.{sym}
 use Rattle.hub_revtree.proofs.StemLooks.{no_edit, read_stem, some_edit}
 use Rattle.hub_revtree.proofs.branches.Branches.edit.Goals as goal
 

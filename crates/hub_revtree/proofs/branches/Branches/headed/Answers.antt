@@ -1,4 +1,4 @@
-use Rattle.std.proofs.Common.{◌∙◌, sym}
+use Rattle.std.proofs.Common.{sym}
 use Rattle.hub_revtree.proofs.StemLooks.{found_falls, none_headed, some_headed}
 use Rattle.hub_revtree.proofs.branches.Branches.headed.Goals as goal
 

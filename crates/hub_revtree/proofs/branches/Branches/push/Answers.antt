@@ -1,10 +1,6 @@
-use Rattle.std.proofs.Common.{◌≡◌, ◌∙◌, sym, ap, take, Vec, Global}
-use Rattle.hub_model.specs.Journal.{IsAcceptable, IsLegal}
+use Rattle.std.proofs.Common.{◌∙◌, sym, ap, take, Vec, Global}
 use Rattle.hub_model.specs.Revision.{Revision}
 use Rattle.hub_revtree.specs.declared.stem.Stem.{Stem}
-use Rattle.hub_revtree.specs.Branch.{edits_in}
-use Rattle.hub_revtree.specs.Stem.{branches_of}
-use Rattle.hub_revtree.specs.Tree.{nameless}
 use Rattle.hub_revtree.proofs.JoinLemmas.{Brings, brought_edit, brought_stems, met_brings, new_brings}
 use Rattle.hub_revtree.proofs.branches.Branches.push.Goals as goal
 use Rattle.hub_revtree.proofs.branches.Branches.push.Goals.{in-Some, in_default}

@@ -1,7 +1,5 @@
-use Rattle.std.proofs.Common.{◌*◌, ◌≤◌, ◌≡◌, length, sym, ap, arith}
-use Rattle.hub_model.specs.Journal.{Edit}
+use Rattle.std.proofs.Common.{◌*◌, ◌≤◌, length, sym, arith}
 use Rattle.hub_model.proofs.Legal.{legal_more}
-use Rattle.hub_revtree.specs.Tree.{Tree}
 use Rattle.hub_revtree.proofs.BranchLemmas.{some_history}
 use Rattle.hub_revtree.proofs.tree.RevTree.adopt.Goals as goal
 

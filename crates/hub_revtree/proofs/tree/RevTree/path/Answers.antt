@@ -1,4 +1,4 @@
-use Rattle.std.proofs.Common.{◌∙◌, Some, sym, refl, subst}
+use Rattle.std.proofs.Common.{Some, sym, refl, subst}
 use Rattle.hub_model.specs.Path.{IsHistory}
 use Rattle.hub_revtree.specs.Extend.{line_to}
 use Rattle.hub_revtree.proofs.EditLemmas.{is_new, is_taken, known_path, unknown_path}
