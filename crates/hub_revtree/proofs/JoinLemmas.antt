@@ -221,6 +221,7 @@ is_placed xs r (Some p) found none =
 -- a stem that brings what is new of a path
 pub record Brings (xs : List Stem) (path : List Revision) (s : Stem) : Type 0 where
   pub falling : IsPath s.revisions.items
+  pub fresh : list_any (has_revision xs) s.revisions.items ≡ false
   pub within : (p : Place) → s.parent ≡ Some p → IsWithin xs p
   pub whole : (branch_of (branches_of xs) s).path ≡ path
 
@@ -243,28 +244,30 @@ module _ (xs : List Stem) (a : AreStems xs) (legal : IsLegal (edits_in (branches
 
   -- the stem of an edit that may be stored
   module _ (path q : List Revision) (deleted : Bool) (body : List ℕ) (ok : IsAcceptable (edits_in (branches_of xs)) (nameless path deleted body)) (again : q ≡ path) (s : Stem) where
-    pub met_brings : (at : ℕ) (p : Place) → IsWithin xs p → slice_get q at ≡ slice_get (revisions_at xs p.stem) p.at → s.revisions.items ≡ take at path → s.parent ≡ Some p → Brings xs path s
-    met_brings at p within same own stands =
+    pub met_brings : (at : ℕ) (p : Place) → list_any (has_revision xs) (take at q) ≡ false → IsWithin xs p → slice_get q at ≡ slice_get (revisions_at xs p.stem) p.at → s.revisions.items ≡ take at path → s.parent ≡ Some p → Brings xs path s
+    met_brings at p first within same own stands =
         let r = get_some (revisions_at xs p.stem) p.at within in
         let read : slice_get path at ≡ Some r.0 = subst (λ z. slice_get z at ≡ Some r.0) again (same ∙ r.1) in
         record {
           falling = rw own (take_falls at path (not_first xs a legal path deleted body ok at p r.0 read r.1) ok.history.falls);
+          fresh = subst (λ z. list_any (has_revision xs) z ≡ false) (sym own) (subst (λ z. list_any (has_revision xs) (take at z) ≡ false) again first);
           within = λ o e. subst (IsWithin xs) (same_Some p o (sym stands ∙ e)) within;
           whole =
               ap₂ (λ (xs : List Revision) (ys : List Revision). xs ++ ys) own (ap (path_from (branches_of xs)) stands ∙ sym (goes_on xs a legal path deleted body ok at p r.0 read r.1))
               ∙ take-append-drop at path;
         }
 
-    pub new_brings : s.revisions.items ≡ path → s.parent ≡ None → Brings xs path s
-    new_brings own stands =
+    pub new_brings : list_any (has_revision xs) q ≡ false → s.revisions.items ≡ path → s.parent ≡ None → Brings xs path s
+    new_brings none own stands =
         record {
           falling = rw own ok.history.falls;
+          fresh = subst (λ z. list_any (has_revision xs) z ≡ false) (sym (own)) (subst (λ z. list_any (has_revision xs) z ≡ false) again none);
           within = λ o e. absurd (let none : ◌≡◌ {A = Option Place} None (Some o) = sym stands ∙ e in cc);
           whole = ap₂ (λ (xs : List Revision) (ys : List Revision). xs ++ ys) own (ap (path_from (branches_of xs)) stands) ∙ append-nil path;
         }
 
   pub brought_stems : (path : List Revision) (s : Stem) → Brings xs path s → AreStems (xs ++ s ∷ [])
-  brought_stems path s b = stems_more xs s a b.falling b.within
+  brought_stems path s b = stems_more xs s a b.falling b.fresh b.within
 
   pub brought_edit : (path : List Revision) (s : Stem) → Brings xs path s → edits_in (branches_of (xs ++ s ∷ [])) ≡ edits_in (branches_of xs) ++ nameless path s.deleted s.body ∷ []
   brought_edit path s b =

@@ -3,7 +3,8 @@ use Rattle.std.proofs.Common.{◌≡◌, ℕ, zero, suc, ◌+◌, ◌<◌, ◌�
 use Rattle.std.specs.Prelude.{Option, Some, None, slice_get, IfSome, is_some}
 use Rattle.std.specs.List.{list_any}
 use Rattle.std.proofs.lemmas.Bool.{cases_Bool}
-use Rattle.std.proofs.lemmas.List.{drop-append-le, length-append, take_all}
+use Rattle.std.proofs.lemmas.List.{drop-append-le, length-append, take_all, take-append-le}
+use Rattle.std.proofs.Math.Seq.{take-append_seam}
 use Rattle.std.proofs.lemmas.List.Folds.{list_any-append}
 use Rattle.std.proofs.lemmas.Option.{same_Some, slice_get_within}
 use Rattle.hub_model.specs.Revision.{Revision, is_same}
@@ -118,9 +119,10 @@ within_front xs ys p low w =
     let i = get_some xs p.stem low in
     rw i.1 (rw (get_front xs ys p.stem i.0 i.1) at w)
 
-front : (xs : List Stem) (s : Stem) → AreStems (xs ++ s ∷ []) → AreStems xs
+pub front : (xs : List Stem) (s : Stem) → AreStems (xs ++ s ∷ []) → AreStems xs
 front xs s a = record {
   falling = λ k t e. a.falling k t (get_front xs (s ∷ []) k t e);
+  fresh = λ k t e. subst (λ z. list_any (has_revision z) t.revisions.items ≡ false) (take-append-le k xs (s ∷ []) (let low = slice_get_within xs k t e in omega (arith, low))) (a.fresh k t (get_front xs (s ∷ []) k t e));
   earlier = λ k t p e q.
       let i = a.earlier k t p (get_front xs (s ∷ []) k t e) q in
       let low = slice_get_within xs k t e in
@@ -128,11 +130,15 @@ front xs s a = record {
 }
 
 -- one more
-pub stems_more : (xs : List Stem) (s : Stem) → AreStems xs → IsPath s.revisions.items → ((p : Place) → s.parent ≡ Some p → IsWithin xs p) → AreStems (xs ++ s ∷ [])
-stems_more xs s a path placed = record {
+pub stems_more : (xs : List Stem) (s : Stem) → AreStems xs → IsPath s.revisions.items → list_any (has_revision xs) s.revisions.items ≡ false → ((p : Place) → s.parent ≡ Some p → IsWithin xs p) → AreStems (xs ++ s ∷ [])
+stems_more xs s a path new placed = record {
   falling = λ k t e. elim (get_pushed xs s k t e) [
     | inl f ↦ a.falling k t f
     | inr f ↦ subst (λ (z : Stem). IsPath z.revisions.items) f.1 path
+  ];
+  fresh = λ k t e. elim (get_pushed xs s k t e) [
+    | inl f ↦ subst (λ z. list_any (has_revision z) t.revisions.items ≡ false) (sym (take-append-le k xs (s ∷ []) (let low = slice_get_within xs k t f in omega (arith, low)))) (a.fresh k t f)
+    | inr f ↦ subst (λ (z : Stem). list_any (has_revision (take k (xs ++ s ∷ []))) z.revisions.items ≡ false) f.1 (subst (λ n. list_any (has_revision (take n (xs ++ s ∷ []))) s.revisions.items ≡ false) (sym f.0) (subst (λ z. list_any (has_revision z) s.revisions.items ≡ false) (sym (take-append_seam xs (s ∷ []))) new))
   ];
   earlier = λ k t p e q. elim (get_pushed xs s k t e) [
     | inl f ↦ let i = a.earlier k t p f q in (i.0, within_more xs (s ∷ []) p i.1)
@@ -193,7 +199,7 @@ path_named [] n r h = absurd (cc)
 path_named (b ∷ bs) zero r h = or_left (names b.path r) (list_any (λ b. names b.path r) bs) h
 path_named (b ∷ bs) (suc n) r h = or_right (names b.path r) (list_any (λ b. names b.path r) bs) (path_named bs n r h)
 
-from_named : (bs : List Branch) (o : Option Place) (r : Revision) → names (path_from bs o) r ≡ true → list_any (λ b. names b.path r) bs ≡ true
+pub from_named : (bs : List Branch) (o : Option Place) (r : Revision) → names (path_from bs o) r ≡ true → list_any (λ b. names b.path r) bs ≡ true
 from_named bs None r h = absurd (cc)
 from_named bs (Some p) r h = path_named bs p.stem r (names_drop p.at (path_in (slice_get bs p.stem)) r h)
 

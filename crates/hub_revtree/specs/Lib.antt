@@ -3,3 +3,4 @@ pub mod Branch
 pub mod Stem
 pub mod Winner
 pub mod Extend
+pub mod Count

@@ -4,7 +4,7 @@
 -- and stands on place 1 of stem 0, which is 1-a. So `branches_of` these three stems has the paths 2-b 1-a, then
 -- 3-c and the first path from place 0 on, 3-c 2-b 1-a, then 3-d 2-e and the first path from place 1 on,
 -- 3-d 2-e 1-a.
-use Rattle.std.specs.Prelude.{◌≡◌, ℕ, ◌<◌, List, [], ◌∷◌, ◌++◌, length, drop, slice_get, Option, Some, None}
+use Rattle.std.specs.Prelude.{◌≡◌, ℕ, ◌<◌, List, [], ◌∷◌, ◌++◌, length, drop, take, slice_get, Option, Some, None}
 use Rattle.std.specs.Prelude.{Bool, false, ◌||◌}
 use Rattle.std.specs.List.{list_any}
 use Rattle.hub_model.specs.Revision.{Revision}
@@ -50,21 +50,24 @@ branches_after earlier (stem ∷ later) = branches_after (earlier ++ branch_of e
 abbrev pub branches_of : List Stem → List Branch
 branches_of stems = branches_after [] stems
 
+-- whether one of the stems has r
+abbrev pub has_revision : List Stem → Revision → Bool
+has_revision stems r = list_any (λ s. names s.revisions.items r) stems
+
 -- the stem of this number has a revision at this place
 abbrev pub IsWithin : List Stem → Place → Type 0
 IsWithin stems place = place.at < length (revisions_at stems place.stem)
 
--- each stem has a revision at least, and their generations fall by one; and it stands on a place of an earlier
--- one, or on nothing
+-- each stem has a revision at least, and their generations fall by one; none of them is an earlier one's; and it
+-- stands on a place of an earlier one, or on nothing
 pub record AreStems (stems : List Stem) : Type 0 where
   pub falling : (k : ℕ) (stem : Stem) → slice_get stems k ≡ Some stem → IsPath stem.revisions.items
+  pub fresh :
+    (k : ℕ) (stem : Stem) → slice_get stems k ≡ Some stem
+    → list_any (has_revision (take k stems)) stem.revisions.items ≡ false
   pub earlier :
       (k : ℕ) (stem : Stem) (place : Place) → slice_get stems k ≡ Some stem → stem.parent ≡ Some place
       → (place.stem < k) × IsWithin stems place
-
--- whether one of the stems has r
-abbrev pub has_revision : List Stem → Revision → Bool
-has_revision stems r = list_any (λ s. names s.revisions.items r) stems
 
 -- whether r is the revision at the place, if there is one
 abbrev pub is_at : List Stem → Revision → Option Place → Bool

@@ -1,6 +1,6 @@
 //! The stored edits of a document, which share what stands behind them.
 
-ghost use Rattle.std.specs.Prelude.{◌≡◌, ◌≤◌, ◌<◌, ◌++◌, ◌∷◌, Some, [], length, find, option_map, option_and_then, slice_get, IfOk, OnOk, OnErr};
+ghost use Rattle.std.specs.Prelude.{◌≡◌, ◌≤◌, ◌<◌, ◌++◌, ◌∷◌, Some, [], ◌-◌, ◌^◌, length, min, find, option_map, option_and_then, slice_get, IfOk, OnOk, OnErr};
 ghost use Rattle.std.specs.List.{list_any, list_all};
 ghost use Rattle.hub_model.specs.Journal.{IsAcceptable, IsLegal};
 ghost use Rattle.hub_model.specs.Leaves.{is_behind_head as stands_behind_head};
@@ -8,6 +8,7 @@ ghost use Rattle.hub_model.specs.Missing.{highest as highest_of};
 ghost use Rattle.hub_model.specs.Path.{IsHistory, IsPath, agrees as agrees_with, is_first, names};
 ghost use Rattle.hub_revtree.specs.Winner.{head_in};
 ghost use Rattle.hub_revtree.specs.Branch.{edit_of, edits_in, unnamed_in};
+ghost use Rattle.hub_revtree.specs.Count.{revision_count as count_of};
 ghost use Rattle.hub_revtree.specs.Extend.{line_to};
 ghost use Rattle.hub_revtree.specs.Tree.{nameless, tip, tip_of};
 
@@ -73,6 +74,17 @@ impl Branches {
         ensures { result ≡ length self.now.list }
     {
         self.stems.len()
+    }
+
+    /// How many revisions are kept, each once. One step an edit.
+    pub(crate) fn revision_count(&self) -> usize
+        ensures { result ≡ min (count_of (edits_in self.now.list)) (2 ^ 64 - 1) }
+    {
+        let mut count = 0usize;
+        for stem in &self.stems {
+            count = count.saturating_add(stem.revisions.len());
+        }
+        count
     }
 
     /// The edit of this number. Constant time.

@@ -1,9 +1,10 @@
 //! The tree of a document's revisions.
 
-ghost use Rattle.std.specs.Prelude.{Bool, ◌≡◌, ◌≤◌, ◌++◌, ◌∷◌, ◌↔◌, [], length, slice_get, IsTrue, IsSome, IsNone, IfSome, IfNone, IfOk, OnOk, OnErr, option_map, None, Some};
+ghost use Rattle.std.specs.Prelude.{Bool, ◌≡◌, ◌≤◌, ◌-◌, ◌^◌, min, ◌++◌, ◌∷◌, ◌↔◌, [], length, slice_get, IsTrue, IsSome, IsNone, IfSome, IfNone, IfOk, OnOk, OnErr, option_map, None, Some};
 ghost use Rattle.hub_model.specs.Journal.{IsKnown, IsAcceptable, head_of};
 ghost use Rattle.hub_model.specs.Leaves.{IsMarked, IsWinner, leaves_of, revisions_of};
 ghost use Rattle.hub_revtree.specs.Branch.{edits_in};
+ghost use Rattle.hub_revtree.specs.Count.{revision_count};
 ghost use Rattle.hub_revtree.specs.Tree.{HasKnownHead, IsRevTree, nameless};
 ghost use Rattle.hub_revtree.specs.Winner.{winner_of};
 
@@ -112,6 +113,14 @@ impl RevTree {
         ensures { result ≡ length self.now.edits }
     {
         self.branches.len()
+    }
+
+    /// How many different revisions the paths name: what the tree keeps, since paths share what they
+    /// have in common. One step an edit.
+    pub fn nodes(&self) -> usize
+        ensures { result ≡ min (revision_count self.now.edits) (2 ^ 64 - 1) }
+    {
+        self.branches.revision_count()
     }
 
     /// Whether there is no edit.

@@ -15,11 +15,11 @@ brings c =
     elim c.match-met.branch [
       | in-Some w ↦
           let met = rw c.as_slice.ensures.value at w.in-Some.ensures in
-          met_brings xs c.self.invariant legal c.args.path c.revisions.result.now c.args.deleted c.args.body ok c.revisions.ensures stem w.in-Some.met.at w.in-Some.met.place met.within met.same
+          met_brings xs c.self.invariant legal c.args.path c.revisions.result.now c.args.deleted c.args.body ok c.revisions.ensures stem w.in-Some.met.at w.in-Some.met.place met.new met.within met.same
           (ap (λ (v : Vec Revision Global). v.items) w.revisions-is ∙ w.shrink_to_fit.ensures.items ∙ w.truncate.ensures.items ∙ ap (take w.in-Some.met.at) c.into_revisions-revisions.ensures)
           w.parent-is
       | in_default w ↦
-          new_brings xs c.self.invariant legal c.args.path c.revisions.result.now c.args.deleted c.args.body ok c.revisions.ensures stem
+          new_brings xs c.self.invariant legal c.args.path c.revisions.result.now c.args.deleted c.args.body ok c.revisions.ensures stem (rw c.as_slice.ensures.value at w.in_default.ensures.none)
           (ap (λ (v : Vec Revision Global). v.items) w.revisions-is ∙ c.into_revisions-revisions.ensures)
           w.parent-is
     ]
