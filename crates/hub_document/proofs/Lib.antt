@@ -2,7 +2,7 @@ mod AskedLemmas
 pub mod MadeLemmas
 pub mod PartLemmas
 pub mod PathLemmas
-mod PlaceLemmas
+pub mod PlaceLemmas
 mod RevisionLemmas
 pub mod TextLemmas
 pub mod WriteLemmas

@@ -1,5 +1,5 @@
 -- In a path a revision stands at the one place that its generation tells.
-use Rattle.std.proofs.Common.{◌≡◌, ◌≢◌, ℕ, suc, zero, ◌+◌, ◌-◌, ◌<◌, ◌≤◌, List, [], ◌∷◌, length, true, false, Option, Some, None, inl, inr, arith, refl, sym, ap, ◌∙◌, subst}
+use Rattle.std.proofs.Common.{◌≡◌, ◌≢◌, ℕ, suc, zero, ◌+◌, ◌-◌, ◌<◌, ◌≤◌, List, [], ◌∷◌, length, get_or, true, false, Option, Some, None, inl, inr, arith, refl, sym, ap, ◌∙◌, subst}
 use Rattle.std.specs.Prelude.{drop, slice_get, MatchOption}
 use Rattle.std.specs.Borrow.{Bor}
 use Rattle.std.specs.List.{HoldsAt}
@@ -57,6 +57,11 @@ not_named (y ∷ p) x r k f h is n =
       | inl t ↦ absurd (let place : y.generation - r.generation ≡ k = omega (arith, is, same_generation y x (same_Some y x h)) in n (rw place at (named_at y p r f t).1))
       | inr t ↦ t
     ]
+
+-- a path has a first revision
+pub first_read : (p : List Revision) (x : Revision) → IsPath p → x ≡ get_or p 0 x → slice_get p 0 ≡ Some x
+first_read [] x f is = absurd f
+first_read (y ∷ p) x f is = ap Some (sym is)
 
 -- so where the path ends before its place
 pub past_end : (p : List Revision) (x r : Revision) (k : ℕ) → IsPath p → slice_get p 0 ≡ Some x → k ≡ x.generation - r.generation → length p ≤ k → names p r ≡ false

@@ -32,7 +32,7 @@ pub use limits::Limits;
 pub use local_doc::{LocalDoc, LocalId, write_local};
 pub use made::rev_of_edit;
 pub use open_revs::OpenRevs;
-pub use path::Path;
+pub use path::{Path, place_in};
 pub use read::read_value;
 pub use revision::{RevId, revision_texts};
 pub use revisions::Revisions;

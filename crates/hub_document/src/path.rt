@@ -2,7 +2,7 @@
 
 ghost use Rattle.std.specs.Prelude.{◌≡◌, Some, false, slice_get, IfSome, IfNone, IfOk};
 ghost use Rattle.hub_document.specs.Lines.{from_on};
-ghost use Rattle.hub_model.specs.Path.{names as names_in, behind as behind_in};
+ghost use Rattle.hub_model.specs.Path.{IsPath, names as names_in, behind as behind_in};
 
 use crate::revision::RevId;
 use std::alloc::{AllocError, Global};
@@ -25,6 +25,26 @@ impl Model for Path {
     ghost view = { λ a. a.revisions.items };
 
     ghost invariant = { λ a. IsHistory a.revisions.items };
+}
+
+/// Where the revision stands among these, of which each is the parent of the one before it. The
+/// generations fall by one, so that there is one place where it can stand. Constant time.
+pub fn place_in(revisions: &[RevId], rev: &RevId) -> Option<u16>
+    requires { IsPath revisions.now }
+    ensures found { IfSome result (λ k. slice_get revisions.now k ≡ Some rev.now) }
+    ensures absent { IfNone result (names_in revisions.now rev.now ≡ false) }
+{
+    let newest = revisions[0].generation();
+    if rev.generation() > newest {
+        return None;
+    }
+    let place = newest - rev.generation();
+    let found = revisions.get(usize::from(place))?;
+    if found.is_same(rev) {
+        Some(place)
+    } else {
+        None
+    }
 }
 
 impl Path {
@@ -53,25 +73,14 @@ impl Path {
         self.revisions.as_slice()
     }
 
-    // Where the revision stands, counted from the head. The generations fall by one, so that there
-    // is one place where it can stand.
+    // Where the revision stands, counted from the head. Constant time.
     fn place(&self, rev: &RevId) -> Option<u16>
         ensures found { IfSome result (λ k. slice_get self.now k ≡ Some rev.now) }
         ensures absent { IfNone result (names_in self.now rev.now ≡ false) }
         ensures good { IsHistory self.now }
     {
-        let revisions = self.revisions();
-        let newest = self.head().generation();
-        if rev.generation() > newest {
-            return None;
-        }
-        let place = newest - rev.generation();
-        let found = revisions.get(usize::from(place))?;
-        if found.is_same(rev) {
-            Some(place)
-        } else {
-            None
-        }
+        let _head = self.head();
+        place_in(self.revisions(), rev)
     }
 
     /// Whether the path has the revision. Constant time.
@@ -99,6 +108,13 @@ impl Path {
             Some(place) => &self.revisions()[usize::from(place)..],
             None => &[],
         }
+    }
+
+    /// The vector that holds the revisions, newest first. Constant time.
+    pub fn into_revisions(self) -> Vec<RevId>
+        ensures { result.items ≡ self }
+    {
+        self.revisions
     }
 
     /// A copy. It costs the path's length.

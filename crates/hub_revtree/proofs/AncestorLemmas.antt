@@ -1,6 +1,6 @@
 -- Leaves below a generation: they are found by the branches, and the order neither loses nor makes one.
 use Rattle.std.proofs.Common.{◌≡◌, ℕ, ◌+◌, ◌<◌, List, [], ◌∷◌, length, get_or, Bool, true, false, inl, inr, ap, ap₂, refl, sym, ◌∙◌, subst, ◌||◌, ◌&&◌, not, arith}
-use Rattle.std.specs.Prelude.{Some, slice_get, if◌then◌else◌, drop, filter, max, nat_lt}
+use Rattle.std.specs.Prelude.{Option, None, Some, option_and_then, option_map, slice_get, if◌then◌else◌, drop, take, filter, max, nat_lt}
 use Rattle.std.specs.List.{list_any}
 use Rattle.std.proofs.lemmas.Bool.{cases_Bool, lt-ltb}
 use Rattle.std.proofs.lemmas.List.{drop_more}
@@ -10,10 +10,12 @@ use Rattle.hub_model.specs.Path.{names}
 use Rattle.hub_model.specs.Journal.{Edit}
 use Rattle.hub_model.specs.Leaves.{Leaf, is_behind_head, with_leaf, leaves_among, comes_before, placed, best_first, leaves_of, revisions_of}
 use Rattle.hub_model.specs.Missing.{highest, missing, possible_ancestors}
-use Rattle.hub_revtree.specs.declared.branch.Branch.{Branch}
-use Rattle.hub_revtree.specs.Branch.{edit_of, edits_in, unnamed_in}
-use Rattle.hub_revtree.specs.Winner.{has_below}
+use Rattle.hub_revtree.specs.Branch.{Branch, edit_of, edits_in, unnamed_in}
+use Rattle.hub_revtree.specs.declared.leaf.Winner.{Winner}
+use Rattle.hub_revtree.specs.Winner.{has_below, head_in}
 use Rattle.hub_revtree.proofs.BranchLemmas.{any_map}
+use Rattle.hub_revtree.proofs.LeafLemmas.{head_there}
+use Rattle.hub_revtree.proofs.StemLemmas.{any_at, none_more}
 use Rattle.hub_revtree.proofs.TreeLemmas.{sorted_by}
 use Rattle.hub_revtree.proofs.LineLemmas.{missing_by}
 
@@ -141,3 +143,21 @@ module _ (bs : List Branch) (es : List Edit) (same : edits_in bs ≡ es) (revs :
 
   pub these_ancestors : filter (λ r. nat_lt r.generation newest) (revisions_of (leaves_of es [])) ≡ possible_ancestors es [] revs
   these_ancestors = ap (λ g. filter (λ r. nat_lt r.generation g) (revisions_of (leaves_of es []))) highest_is
+
+-- one branch by its number
+pub low_at : (g : ℕ) (all : List Branch) (at : ℕ) (leaf : Winner) → option_and_then head_in (slice_get all at) ≡ Some leaf → leaf.rev.generation < g → (behind : Bool) → behind ≡ list_any (λ c. is_behind_head leaf.rev (edit_of c)) all
+    → option_map (λ b. has_below g (with_leaf (edits_in all) (edit_of b) b.path [])) (slice_get all at) ≡ Some (not behind)
+low_at g all at leaf head low behind is =
+    let here = head_there all at leaf head in
+    rw (here.1, is) (ap Some (sym (low_head g all here.0 leaf.rev here.2 low)))
+
+-- what is found of a number
+read_at : {A : Type 0} (P : A → Bool) (o : Option A) (b : Bool) → option_map P o ≡ Some b → (x : A) × (o ≡ Some x) × (P x ≡ b)
+read_at P None b e = absurd (cc)
+read_at P (Some x) b e = (x, refl, same_Some (P x) b e)
+
+pub some_at : {A : Type 0} (P : A → Bool) (xs : List A) (k : ℕ) (b : Bool) → option_map P (slice_get xs k) ≡ Some b → b ≡ true → true ≡ list_any P xs
+some_at P xs k b e t = let i = read_at P (slice_get xs k) b e in sym (any_at P xs k i.0 i.1 (i.2 ∙ t))
+
+pub none_at : {A : Type 0} (P : A → Bool) (xs : List A) (k : ℕ) (b : Bool) → option_map P (slice_get xs k) ≡ Some b → b ≡ false → list_any P (take k xs) ≡ false → list_any P (take (k + 1) xs) ≡ false
+none_at P xs k b e f none = let i = read_at P (slice_get xs k) b e in none_more P xs k i.0 i.1 none (i.2 ∙ f)

@@ -10,10 +10,9 @@ use Rattle.hub_model.specs.Revision.{Revision, is_same}
 use Rattle.hub_model.specs.Path.{Falls, IsHistory, names}
 use Rattle.hub_model.proofs.Legal.{falls_below}
 use Rattle.hub_model.proofs.Tests.{same_is, names_is}
-use Rattle.hub_revtree.specs.declared.branch.Branch.{Branch}
-use Rattle.hub_revtree.specs.Branch.{unnamed_in}
+use Rattle.hub_revtree.specs.Branch.{Branch, unnamed_in}
 
-apart : (y : Revision) (p : List Revision) (r : Revision) → Falls y p → is_same r y ≡ true → names p r ≡ false
+pub apart : (y : Revision) (p : List Revision) (r : Revision) → Falls y p → is_same r y ≡ true → names p r ≡ false
 apart y p r f t = elim (cases_Bool (names p r)) [
   | inl n ↦ absurd (let low : r.generation < y.generation = falls_below y p r f (names_is p r n) in let same : r.generation ≡ y.generation = ap (λ (z : Revision). z.generation) (same_is r y t) in omega arith)
   | inr n ↦ n
@@ -28,6 +27,11 @@ behind_head (y ∷ p) x r h e = from (is_same r y) (names p r) refl refl ∙ ap 
     from true b s n = rw (s, apart y p r h.falls s) refl
     from false true s n = rw (s, n) refl
     from false false s n = rw (s, n) refl
+
+-- and one at least
+pub some_history : (p : List Revision) → IsHistory p → 0 < length p
+some_history [] h = absurd h.falls
+some_history (x ∷ p) h = omega arith
 
 -- a path has no more revisions than its head's generation
 pub within_generation : (p : List Revision) (x : Revision) → IsHistory p → slice_get p 0 ≡ Some x → length p ≤ x.generation

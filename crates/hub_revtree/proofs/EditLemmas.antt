@@ -1,6 +1,6 @@
 -- What an edit that is made extends, and that it is acceptable.
 use Rattle.std.proofs.Common.{◌≡◌, ℕ, ◌+◌, ◌<◌, List, [], ◌∷◌, Bool, true, false, ◌⊎◌, inl, inr, refl, sym, ap, ◌∙◌, subst, arith}
-use Rattle.std.specs.Prelude.{Contains, Option, Some, None, Ok, Err, IsTrue, ◌↔◌, not, ◌&&◌, nat_le}
+use Rattle.std.specs.Prelude.{Contains, Option, Some, None, Ok, Err, IsTrue, ◌↔◌, not, ◌&&◌, nat_le, slice_get}
 use Rattle.std.specs.List.{list_any}
 use Rattle.std.proofs.lemmas.Bool.{and_from, leb-true, both_ways, cases_Bool}
 use Rattle.std.proofs.lemmas.Option.{same_Some}
@@ -8,23 +8,22 @@ use Rattle.hub_model.specs.Revision.{Revision}
 use Rattle.hub_model.specs.Path.{IsFirst, IsNext, IsHistory, names, is_history, agrees}
 use Rattle.hub_model.specs.Journal.{Edit, IsKnown, IsBehind, IsAcceptable, edits_of, is_known, is_head_known}
 use Rattle.hub_model.specs.Leaves.{Leaf, is_behind_head, leaves_of, revisions_of}
-use Rattle.hub_model.specs.Walk.{IsWalk}
+use Rattle.hub_model.specs.Walk.{IsWalk, line_of}
 use Rattle.hub_model.specs.Draft.{Extends, extended, generation_of, made, parent_of}
 use Rattle.hub_model.proofs.Lists.{contains_here}
 use Rattle.hub_model.proofs.Legal.{legal_sound, next_left}
 use Rattle.hub_model.proofs.Tests.{edits_in as edits_in_of, is_known_from, is_history_from, is_agreeing, all_at, acceptable_is, known_is}
 use Rattle.hub_model.proofs.Leaves.{leaf_law, leaf_is}
-use Rattle.hub_model.proofs.Walks.{legal_histories, walk_history, walk_steps}
+use Rattle.hub_model.proofs.Walks.{legal_histories, line_of_walk, walk_history, walk_steps}
 use Rattle.hub_model.proofs.Drafts.{drafts_extend}
-use Rattle.hub_revtree.specs.declared.branch.Branch.{Branch}
 use Rattle.hub_revtree.specs.declared.fault.EditFault.TheVariants.{Conflict}
 use Rattle.hub_revtree.specs.declared.leaf.Winner.{Winner}
-use Rattle.hub_revtree.specs.Branch.{edit_of, edits_in}
-use Rattle.hub_revtree.specs.Extend.{draft, extends, extends_path, path_to}
+use Rattle.hub_revtree.specs.Branch.{Branch, edit_of, edits_in}
+use Rattle.hub_revtree.specs.Extend.{draft, extends, extends_path, line_to, path_to}
 use Rattle.hub_revtree.specs.Tree.{IsRevTree, nameless}
 use Rattle.hub_revtree.specs.Winner.{winner_of}
 use Rattle.hub_revtree.proofs.BranchLemmas.{any_map}
-use Rattle.hub_revtree.proofs.TreeLemmas.{all_of_one}
+use Rattle.hub_revtree.proofs.TreeLemmas.{all_of_one, wins}
 
 pub and_false : (b : Bool) → (b && false) ≡ false
 and_false true = refl
@@ -33,6 +32,10 @@ and_false false = refl
 pub and_true : (b : Bool) → (b && true) ≡ b
 and_true true = refl
 and_true false = refl
+
+pub not_false : (b : Bool) → not b ≡ false → b ≡ true
+not_false true e = refl
+not_false false e = absurd (cc)
 
 -- the path that a named revision stands for, by a slice of the branches
 module _ (bs : List Branch) (es : List Edit) (same : edits_in bs ≡ es) (r : Revision) where
@@ -49,6 +52,26 @@ module _ (bs : List Branch) (es : List Edit) (same : edits_in bs ≡ es) (r : Re
   leaf_extends t =
       let leaf : names (revisions_of (leaves_of es [])) r ≡ is_known es [] r = leaf_by ∙ (ap (λ x. is_known es [] r && not x) t ∙ and_true (is_known es [] r)) in
       rw leaf refl
+
+  pub unknown_extends : is_known es [] r ≡ false → extended es [] (leaves_of es []) (Some r) ≡ None
+  unknown_extends f =
+      let no_leaf : names (revisions_of (leaves_of es [])) r ≡ false = leaf_by ∙ ap (λ x. x && not (list_any (λ b. is_behind_head r (edit_of b)) bs)) f in
+      rw no_leaf refl
+
+-- the path of a known revision
+pub known_path : (es : List Edit) (r : Revision) → is_known es [] r ≡ true → path_to es r ≡ Some (line_to es (Some r))
+known_path es r known = rw known refl
+
+pub unknown_path : (es : List Edit) (r : Revision) → is_known es [] r ≡ false → path_to es r ≡ None
+unknown_path es r f = rw f refl
+
+-- begins with it
+pub known_first : (es : List Edit) (r : Revision) → IsRevTree es → is_known es [] r ≡ true → parent_of (line_to es (Some r)) ≡ Some r
+known_first es r tree known = rw known (first (line_of es [] r) (line_of_walk es [] tree.legal r (known_is es [] r known)).0)
+  where
+    first : (p : List Revision) → IsFirst p r → slice_get p 0 ≡ Some r
+    first [] i = absurd i
+    first (x ∷ p) i = ap Some i
 
 -- what the test of a revision's twin says
 pub is_taken : (es : List Edit) (r s : Revision) (b : Bool) → IsTrue b ↔ IsKnown es [] r → r ≡ s → b ≡ true → is_known es [] s ≡ true
@@ -71,6 +94,9 @@ dead_extends es w is dead = from (leaves_of es []) refl is
         let known = is_known_from es [] l.rev (leaf_is es [] l.rev (subst (λ z. Contains (revisions_of z) l.rev) (sym q) (contains_here l.rev (revisions_of ls)))).0 in
         let mark : l.edit.deleted ≡ true = sym (ap (λ (z : Winner). z.deleted) first) ∙ dead in
         subst (λ z. path_to es z ≡ extended es [] (l ∷ ls) None) (sym (ap (λ (z : Winner). z.rev) first)) (rw (known, mark) refl)
+
+pub dead_known : (es : List Edit) (w : Winner) → IsRevTree es → Some w ≡ winner_of (leaves_of es []) → is_known es [] w.rev ≡ true
+dead_known es w tree is = is_known_from es [] w.rev (wins es tree.legal w (sym is)).1.0
 
 -- a draft that extends this path
 module _ (es : List Edit) (tree : IsRevTree es) (id : List ℕ) (parent : Option Revision) (deleted : Bool) (body : List ℕ) (older : List Revision) (on : extended es [] (leaves_of es []) parent ≡ Some older) where

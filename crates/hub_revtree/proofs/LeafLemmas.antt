@@ -1,18 +1,16 @@
 -- The first of the leaves, one branch more at a time.
-use Rattle.std.proofs.Common.{◌≡◌, ℕ, ap₂, suc, ◌+◌, ◌≤◌, List, [], ◌∷◌, ◌++◌, length, Bool, true, false, ap, refl, sym, ◌∙◌, subst, append_assoc, inl, inr, arith}
-use Rattle.std.specs.Prelude.{Option, Some, None, slice_get, drop, if◌then◌else◌, map, insert, not, nat_lt, position, unwrap_or}
+use Rattle.std.proofs.Common.{◌≡◌, ℕ, ap₂, zero, suc, ◌+◌, ◌-◌, ◌<◌, ◌≤◌, List, [], ◌∷◌, length, Bool, true, false, ap, refl, sym, ◌∙◌, subst, inl, inr, arith}
+use Rattle.std.specs.Prelude.{Option, Some, None, option_and_then, option_map, slice_get, drop, if◌then◌else◌, map, insert, not, nat_lt, position, unwrap_or}
 use Rattle.std.specs.List.{list_any, position_or_len}
 use Rattle.std.proofs.lemmas.Bool.{cases_Bool, ltb-false}
 use Rattle.std.proofs.lemmas.List.Sums.{prefix_len-le-length}
 use Rattle.std.proofs.lemmas.Option.{same_Some}
-use Rattle.std.proofs.Math.Seq.{drop-append_seam}
 use Rattle.hub_model.specs.Revision.{Revision}
 use Rattle.hub_model.specs.Journal.{Edit}
 use Rattle.hub_model.specs.Leaves.{Leaf, is_behind_head, with_leaf, leaves_among, comes_before, placed, best_first, revisions_of}
 use Rattle.hub_revtree.specs.declared.leaf.Winner.{Winner}
-use Rattle.hub_revtree.specs.declared.branch.Branch.{Branch}
-use Rattle.hub_revtree.specs.Branch.{edit_of, edits_in}
-use Rattle.hub_revtree.specs.Winner.{winner_of, better_of, is_better_than, is_above, put_in, winners_of}
+use Rattle.hub_revtree.specs.Branch.{Branch, edit_of, edits_in}
+use Rattle.hub_revtree.specs.Winner.{winner_of, head_in, better_of, is_better_than, is_above, put_in, winners_of}
 use Rattle.hub_revtree.proofs.BranchLemmas.{any_map}
 
 abbrev one : Leaf → Winner
@@ -63,13 +61,6 @@ pub passed_by : (all some : List Branch) (branch : Branch) (r : Revision) (best 
 passed_by all some branch r None h leaf same high = one_more all some branch r h false leaf ∙ rw same refl
 passed_by all some branch r (Some w) h leaf same high = one_more all some branch r h false leaf ∙ rw (same, high) refl
 
--- going through a list from its end
-pub turn : {A : Type 0} (xs front back : List A) (x : A) → front ++ x ∷ [] ≡ back → back ++ drop (length back) xs ≡ xs → (front ++ drop (length front) xs ≡ xs) × (drop (length front) xs ≡ x ∷ drop (length back) xs)
-turn xs front back x e h =
-    let whole : front ++ (x ∷ drop (length back) xs) ≡ xs = sym (append_assoc front (x ∷ []) (drop (length back) xs)) ∙ (ap (λ z. z ++ drop (length back) xs) e ∙ h) in
-    let left : drop (length front) xs ≡ x ∷ drop (length back) xs = ap (λ z. drop (length front) z) (sym whole) ∙ drop-append_seam front (x ∷ drop (length back) xs) in
-    (ap (λ z. front ++ z) left ∙ whole, left)
-
 pub place_within : {A : Type 0} (p : A → Bool) (xs : List A) → position_or_len p xs ≤ length xs
 place_within p xs = prefix_len-le-length (λ x. not (p x)) xs
 
@@ -115,3 +106,49 @@ sorted_more all some branch r h b is = sorted_with (edits_in all) (edit_of branc
 pub revs_of : (ls : List Leaf) → map (λ w. w.rev) (winners_of ls) ≡ revisions_of ls
 revs_of [] = refl
 revs_of (l ∷ ls) = ap (λ rs. l.rev ∷ rs) (revs_of ls)
+
+-- the branch of a number, with its head
+pub head_there : (all : List Branch) (k : ℕ) (leaf : Winner) → option_and_then head_in (slice_get all k) ≡ Some leaf → (b : Branch) × (slice_get all k ≡ Some b) × (slice_get b.path 0 ≡ Some leaf.rev) × (b.deleted ≡ leaf.deleted)
+head_there all k leaf h = from (slice_get all k) refl h
+  where
+    first : (b : Branch) (r : Option Revision) → option_map (λ z. record { rev = z; deleted = b.deleted }) r ≡ Some leaf → (r ≡ Some leaf.rev) × (b.deleted ≡ leaf.deleted)
+    first b None q = absurd (cc)
+    first b (Some z) q = let same : ◌≡◌ {A = Winner} (record { rev = z; deleted = b.deleted }) leaf = same_Some _ leaf q in (ap (λ (w : Winner). Some w.rev) same, ap (λ (w : Winner). w.deleted) same)
+
+    from : (o : Option Branch) → slice_get all k ≡ o → option_and_then head_in o ≡ Some leaf → (b : Branch) × (slice_get all k ≡ Some b) × (slice_get b.path 0 ≡ Some leaf.rev) × (b.deleted ≡ leaf.deleted)
+    from None e q = absurd (cc)
+    from (Some b) e q = let f = first b (slice_get b.path 0) q in (b, e, f.0, f.1)
+
+dropped_one : (xs : List Branch) (k : ℕ) (b : Branch) → slice_get xs k ≡ Some b → drop k xs ≡ b ∷ drop (suc k) xs
+dropped_one [] k b e = absurd (cc)
+dropped_one (x ∷ xs) zero b e = ap (λ z. z ∷ xs) (same_Some x b e)
+dropped_one (x ∷ xs) (suc k) b e = dropped_one xs k b e
+
+-- going through the branches from the newest
+module _ (all : List Branch) (at : ℕ) (leaf : Winner) (some : 0 < at) (head : option_and_then head_in (slice_get all (at - 1)) ≡ Some leaf) where
+  abbrev here : (b : Branch) × (slice_get all (at - 1) ≡ Some b) × (slice_get b.path 0 ≡ Some leaf.rev) × (b.deleted ≡ leaf.deleted)
+  here = head_there all (at - 1) leaf head
+
+  one_left : drop (at - 1) all ≡ here.0 ∷ drop at all
+  one_left = let next : suc (at - 1) ≡ at = omega (arith, some) in dropped_one all (at - 1) here.0 here.1 ∙ ap (λ n. here.0 ∷ drop n all) next
+
+  as_leaf : ◌≡◌ {A = Winner} (record { rev = leaf.rev; deleted = here.0.deleted }) leaf
+  as_leaf = ap (λ d. record { rev = leaf.rev; deleted = d }) here.3
+
+  pub best_passed : (best : Option Winner) → best_of all (drop at all) ≡ best → is_better_than leaf best ≡ false → best_of all (drop (at - 1) all) ≡ best
+  best_passed best same low = ap (best_of all) one_left ∙ passed_over all (drop at all) here.0 leaf.rev best here.2 same (ap (λ w. is_better_than w best) as_leaf ∙ low)
+
+  pub best_behind : (best : Option Winner) → best_of all (drop at all) ≡ best → list_any (λ c. is_behind_head leaf.rev (edit_of c)) all ≡ true → best_of all (drop (at - 1) all) ≡ best
+  best_behind best same behind = ap (best_of all) one_left ∙ one_more all (drop at all) here.0 leaf.rev here.2 true behind ∙ same
+
+  pub best_taken : (best : Option Winner) → best_of all (drop at all) ≡ best → list_any (λ c. is_behind_head leaf.rev (edit_of c)) all ≡ false → is_better_than leaf best ≡ true → best_of all (drop (at - 1) all) ≡ Some leaf
+  best_taken best same leads high =
+      ap (best_of all) one_left ∙ passed_by all (drop at all) here.0 leaf.rev best here.2 leads same (ap (λ w. is_better_than w best) as_leaf ∙ high) ∙ ap Some as_leaf
+
+  pub sorted_behind : (ws : List Winner) → sorted_of all (drop at all) ≡ ws → list_any (λ c. is_behind_head leaf.rev (edit_of c)) all ≡ true → sorted_of all (drop (at - 1) all) ≡ ws
+  sorted_behind ws same behind = ap (sorted_of all) one_left ∙ sorted_more all (drop at all) here.0 leaf.rev here.2 true behind ∙ same
+
+  pub sorted_taken : (ws : List Winner) → sorted_of all (drop at all) ≡ ws → list_any (λ c. is_behind_head leaf.rev (edit_of c)) all ≡ false → sorted_of all (drop (at - 1) all) ≡ put_in leaf ws
+  sorted_taken ws same leads =
+      ap (sorted_of all) one_left ∙ sorted_more all (drop at all) here.0 leaf.rev here.2 false leads
+      ∙ ap (λ w. put_in w (sorted_of all (drop at all))) as_leaf ∙ ap (put_in leaf) same

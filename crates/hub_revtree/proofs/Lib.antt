@@ -5,3 +5,7 @@ pub mod TreeLemmas
 pub mod LineLemmas
 pub mod AncestorLemmas
 pub mod EditLemmas
+pub mod CountLemmas
+pub mod JoinLemmas
+pub mod StemLemmas
+pub mod StemLooks

@@ -1,6 +1,6 @@
 -- What stands behind a revision stands so in each path that names it.
 use Rattle.std.proofs.Common.{◌≡◌, ℕ, ◌+◌, ◌≤◌, List, [], ◌∷◌, true, inl, inr, refl, sym, ap, ◌∙◌, subst, arith}
-use Rattle.std.specs.Prelude.{Contains, Option, Some, None, find, option_map}
+use Rattle.std.specs.Prelude.{Some}
 use Rattle.std.specs.List.{list_any}
 use Rattle.std.proofs.lemmas.Bool.{cases_Bool, and_parts, eqb-true}
 use Rattle.std.proofs.lemmas.Option.{same_Some}
@@ -10,16 +10,14 @@ use Rattle.hub_model.specs.Journal.{Edit, Edits, IsBehind, IsKnown, IsLegal, is_
 use Rattle.hub_model.specs.Missing.{missing}
 use Rattle.hub_model.specs.Walk.{IsWalk, line_of}
 use Rattle.hub_model.proofs.Legal.{legal_sound}
-use Rattle.hub_model.proofs.Tests.{same_is, names_is, edits_in as edits_in_of, known_is, is_known_from, is_history_from}
-use Rattle.hub_model.proofs.Shown.{find_is}
+use Rattle.hub_model.proofs.Tests.{same_is, names_is, known_is, is_history_from}
 use Rattle.hub_model.proofs.Walks.{legal_histories, behind_falls, behind_known, known_above, line_of_walk, walk_history}
 use Rattle.hub_model.proofs.Drafts.{walk_same}
 use Rattle.hub_document.specs.Lines.{from_on}
-use Rattle.hub_revtree.specs.declared.branch.Branch.{Branch}
-use Rattle.hub_revtree.specs.Branch.{edit_of, edits_in, unnamed_in}
+use Rattle.hub_revtree.specs.Branch.{Branch, edits_in, unnamed_in}
 use Rattle.hub_revtree.specs.Tree.{IsRevTree}
 use Rattle.hub_revtree.specs.Extend.{path_to}
-use Rattle.hub_revtree.proofs.TreeLemmas.{known_by, all_of_one, in_tree}
+use Rattle.hub_revtree.proofs.TreeLemmas.{known_by}
 
 module _ (es : List Edit) (id : List ℕ) (legal : IsLegal es) where
   abbrev HasSteps : List Revision → Type 0
@@ -54,30 +52,7 @@ module _ (es : List Edit) (id : List ℕ) (legal : IsLegal es) where
       let v = line_of_walk es id legal r (e, own, names_is e.path r n) in
       walk_same es id (from_on r e.path) (line_of es id r) r ((legal_sound es legal).tree id) w.1 v.1 w.0 v.0
 
--- the path to a revision, taken from the first branch that names it
-pub line_by : (bs : List Branch) (r : Revision) → IsRevTree (edits_in bs) → option_map (λ b. from_on r b.path) (find (λ b. names b.path r) bs) ≡ path_to (edits_in bs) r
-line_by bs r tree = from (find (λ b. names b.path r) bs) refl
-  where
-    from : (o : Option Branch) → find (λ b. names b.path r) bs ≡ o → option_map (λ b. from_on r b.path) o ≡ path_to (edits_in bs) r
-    from None q =
-        elim (cases_Bool (is_known (edits_in bs) [] r)) [
-          | inl t ↦ absurd (none bs q (sym (known_by bs r) ∙ t))
-          | inr t ↦ rw t refl
-        ]
-      where
-        none : (bs : List Branch) → find (λ b. names b.path r) bs ≡ None → list_any (λ b. names b.path r) bs ≡ true → ⊥
-        none [] q t = absurd (cc)
-        none (b ∷ bs) q t = elim (cases_Bool (names b.path r)) [
-          | inl n ↦ absurd (let e = rw n at q in cc)
-          | inr n ↦ none bs (rw n at q) (rw n at t)
-        ]
-    from (Some b) q =
-        let i = find_is (λ (c : Branch). names c.path r) bs b q in
-        let own = edits_in_of (edits_in bs) [] (edit_of b) (subst (λ z. Contains z (edit_of b)) (sym (all_of_one bs)) (in_tree bs r bs b i.1)) in
-        let known = is_known_from (edits_in bs) [] r (edit_of b, own, names_is b.path r i.0) in
-        rw known (ap Some (line_is (edits_in bs) [] tree.legal (edit_of b) r own i.0))
-
--- which is a history
+-- the path to a known revision is a history
 pub path_history : (es : List Edit) (r : Revision) (path : List Revision) → IsRevTree es → path_to es r ≡ Some path → IsHistory path
 path_history es r path tree h = elim (cases_Bool (is_known es [] r)) [
   | inl t ↦

@@ -1,10 +1,20 @@
--- How a branch is seen (own).
-use Rattle.std.specs.Prelude.{List, [], map, filter, not}
+-- The stored edits of a document, without its id (own).
+use Rattle.std.specs.Prelude.{ℕ, List, [], map, filter, not, Bool}
 use Rattle.std.specs.List.{list_any}
 use Rattle.hub_model.specs.Revision.{Revision}
 use Rattle.hub_model.specs.Path.{names}
 use Rattle.hub_model.specs.Journal.{Edit}
-use Rattle.hub_revtree.specs.declared.branch.Branch.{Branch}
+
+-- a stored edit, its document's id left out
+pub record Branch : Type 0 where
+  pub path : List Revision
+  pub deleted : Bool
+  pub body : List ℕ
+
+-- the stored edits in the order in which they were taken, and for how many more there is memory
+pub record Storage : Type 0 where
+  pub list : List Branch
+  pub spare : ℕ
 
 -- a branch as an edit, its document's id left out
 abbrev pub edit_of : Branch → Edit

@@ -1,6 +1,6 @@
 -- What an edit that is made here becomes in a tree (CouchDB API reference, PUT and DELETE of a document).
 use Rattle.std.specs.Prelude.{ℕ, List, [], ◌∷◌, Bool, if◌then◌else◌, nat_le, Option, Some, None, Result, Ok}
-use Rattle.std.specs.Prelude.{Err}
+use Rattle.std.specs.Prelude.{Err, unwrap_or}
 use Rattle.hub_model.specs.Revision.{Revision}
 use Rattle.hub_model.specs.Journal.{Edit, is_known}
 use Rattle.hub_model.specs.Leaves.{leaves_of}
@@ -29,3 +29,8 @@ extends edits d = extends_path edits d (extended edits [] (leaves_of edits []) d
 -- a known revision and all that stands behind it
 abbrev pub path_to : List Edit → Revision → Option (List Revision)
 path_to edits r = if is_known edits [] r then Some (line_of edits [] r) else None
+
+-- the same of one that may not be named: nothing where it is not, or is not known
+abbrev pub line_to : List Edit → Option Revision → List Revision
+line_to edits None = []
+line_to edits (Some r) = unwrap_or (path_to edits r) []

@@ -1,9 +1,9 @@
 -- The tree of one document, seen as the journal of its edits (CouchDB API reference, document revisions and
 -- conflicts).
-use Rattle.std.specs.Prelude.{◌≡◌, ℕ, List, [], Bool}
+use Rattle.std.specs.Prelude.{◌≡◌, ℕ, List, [], Bool, Option, Some}
 use Rattle.hub_model.specs.Revision.{Revision}
 use Rattle.hub_model.specs.Path.{IsFirst}
-use Rattle.hub_model.specs.Journal.{Edit, IsKnown, IsLegal, edits_of}
+use Rattle.hub_model.specs.Journal.{Edit, IsKnown, IsLegal, edits_of, head_of}
 
 -- the edits of the document, its id left out, in the order in which they were taken; and how many more
 -- revisions it has memory for
@@ -20,6 +20,19 @@ pub record IsRevTree (edits : List Edit) : Type 0 where
 -- an edit whose document's id is left out
 abbrev pub nameless : List Revision → Bool → List ℕ → Edit
 nameless path deleted body = record { id = []; path = path; deleted = deleted; body = body }
+
+-- what is lent of an edit: its revision, whether it deletes the document, and its members
+pub record Tip : Type 0 where
+  pub rev : Option Revision
+  pub deleted : Bool
+  pub body : List ℕ
+
+abbrev pub tip_of : Edit → Tip
+tip_of e = record { rev = head_of e; deleted = e.deleted; body = e.body }
+
+-- that of an edit with this revision
+abbrev pub tip : Revision → Bool → List ℕ → Tip
+tip rev deleted body = record { rev = Some rev; deleted = deleted; body = body }
 
 -- the first revision of the path is known
 abbrev pub HasKnownHead : List Edit → List Revision → Type 0

@@ -1,15 +1,20 @@
 -- The first of some leaves (CouchDB API reference, document revisions and conflicts).
 use Rattle.std.specs.Prelude.{ℕ, List, [], ◌∷◌, map, insert, nat_lt, Bool, true, Option, Some, None}
-use Rattle.std.specs.Prelude.{if◌then◌else◌}
+use Rattle.std.specs.Prelude.{if◌then◌else◌, option_map, slice_get}
 use Rattle.std.specs.List.{list_any, position_or_len}
 use Rattle.std.specs.Ordering.{is_gt}
 use Rattle.hub_model.specs.Leaves.{Leaf, leaf_cmp}
+use Rattle.hub_revtree.specs.Branch.{Branch}
 use Rattle.hub_revtree.specs.declared.leaf.Winner.{Winner}
 
 -- the revision and the mark of the first of the leaves
 abbrev pub winner_of : List Leaf → Option Winner
 winner_of [] = None
 winner_of (leaf ∷ others) = Some (record { rev = leaf.rev; deleted = leaf.edit.deleted })
+
+-- the first revision of a branch with its mark, if there is one
+abbrev pub head_in : Branch → Option Winner
+head_in branch = option_map (λ r. record { rev = r; deleted = branch.deleted }) (slice_get branch.path 0)
 
 -- whether a leaf is above the best of the others, if there are any
 abbrev pub is_better_than : Winner → Option Winner → Bool

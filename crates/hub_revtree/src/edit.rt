@@ -1,94 +1,107 @@
 //! Edits that are made here.
 
-ghost use Rattle.std.specs.Prelude.{◌≡◌, ◌⊎◌, ◌≤◌, ◌<◌, ◌++◌, ◌∷◌, [], length, option_map, Some, Ok, Err, IfOk, IfErr, OnOk};
+ghost use Rattle.std.specs.Prelude.{◌≡◌, ◌⊎◌, ◌≤◌, ◌<◌, ◌++◌, ◌∷◌, [], length, option_map, Some, None, Ok, Err, IfOk, IfErr, OnOk};
+ghost use Rattle.std.specs.Result.{result_ok};
 ghost use Rattle.hub_model.specs.Draft.{HasNextRevision, extended as extended_in, generation_of, made, parent_of};
 ghost use Rattle.hub_model.specs.Journal.{Edit, IsAcceptable, head_of};
 ghost use Rattle.hub_model.specs.Leaves.{leaves_of};
 ghost use Rattle.hub_model.specs.Path.{IsHistory};
-ghost use Rattle.hub_revtree.specs.Extend.{draft, extends};
+ghost use Rattle.hub_revtree.specs.Extend.{draft, extends, line_to};
 ghost use Rattle.hub_revtree.specs.Tree.{IsRevTree};
 
-use crate::branch::is_behind;
 use crate::fault::EditFault;
 use crate::tree::{Ready, RevTree};
 use hub_document::{Body, DocId, Path, RevId, rev_of_edit};
 use std::alloc::{AllocError, Global};
 
-// The generation of the path's first revision; 0 of an empty path.
-fn generation(path: &[RevId]) -> u16
-    ensures { result ≡ generation_of (parent_of path.now) }
+// The revision of an edit on this one, or on nothing.
+fn next_rev(
+    alloc: Global,
+    id: &DocId,
+    parent: Option<RevId>,
+    deleted: bool,
+    body: &Body,
+) -> Result<RevId, EditFault>
+    ensures ok { IfOk result (λ rev. rev ≡ made (draft id.now parent deleted body.now) parent) }
+    ensures below { OnOk result (generation_of parent < 65535) }
+    ensures err { IfErr result (λ e. (e ≡ EditFault.NoMemory) ⊎ ((e ≡ EditFault.GenerationLimit) × (65535 ≤ generation_of parent))) }
+    ensures memory { result ≡ Err EditFault.NoMemory → generation_of parent < 65535 }
 {
-    match path.first() {
+    if generation(&parent) == u16::MAX {
+        return Err(EditFault::GenerationLimit);
+    }
+    let rev = rev_of_edit(alloc, deleted, parent, id, body)?;
+    Ok(rev)
+}
+
+// The generation of a revision; 0 where there is none.
+fn generation(rev: &Option<RevId>) -> u16
+    ensures { result ≡ generation_of rev.now }
+{
+    match rev {
         Some(rev) => rev.generation(),
         None => 0,
     }
 }
 
-// The revision of an edit that extends this path.
-fn next_rev(
-    alloc: Global,
-    id: &DocId,
-    older: &[RevId],
-    deleted: bool,
-    body: &Body,
-) -> Result<RevId, EditFault>
-    ensures ok { IfOk result (λ rev. rev ≡ made (draft id.now (parent_of older.now) deleted body.now) (parent_of older.now)) }
-    ensures below { OnOk result (generation_of (parent_of older.now) < 65535) }
-    ensures err { IfErr result (λ e. (e ≡ EditFault.NoMemory) ⊎ ((e ≡ EditFault.GenerationLimit) × (65535 ≤ generation_of (parent_of older.now)))) }
-    ensures memory { result ≡ Err EditFault.NoMemory → generation_of (parent_of older.now) < 65535 }
-{
-    if generation(older) == u16::MAX {
-        return Err(EditFault::GenerationLimit);
-    }
-    let parent = older.first().copied();
-    let rev = rev_of_edit(alloc, deleted, parent, id, body)?;
-    Ok(rev)
-}
-
-// The path with one revision more in front, in memory of its own size.
-fn path_on(alloc: Global, rev: RevId, older: &[RevId]) -> Result<Path, AllocError>
-    requires { IsHistory (rev ∷ older.now) }
-    ensures { IfOk result (λ path. path ≡ rev ∷ older.now) }
-{
-    let mut revisions = Vec::with_capacity(alloc, older.len() + 1)?;
-    revisions.push(rev)?;
-    revisions.extend_from_slice(older)?;
-    Ok(Path::new(revisions))
-}
-
 impl RevTree {
-    // The path of a leaf; None of another revision. One look an edit.
-    fn leaf_line(&self, rev: &RevId) -> Option<&[RevId]>
+    // The leaf that is named. One look an edit.
+    fn leaf(&self, rev: RevId) -> Result<Option<RevId>, EditFault>
         ensures tree { IsRevTree self.now.edits }
-        ensures line { option_map (λ line. line.now) result ≡ extended_in self.now.edits [] (leaves_of self.now.edits []) (Some rev.now) }
+        ensures line { option_map (line_to self.now.edits) (result_ok result) ≡ extended_in self.now.edits [] (leaves_of self.now.edits []) (Some rev) }
+        ensures first { IfOk result (λ older. parent_of (line_to self.now.edits older) ≡ older) }
+        ensures conflict { IfErr result (λ e. e ≡ EditFault.Conflict) }
     {
-        if is_behind(self.branches(), rev) {
-            return None;
+        let branches = self.branches();
+        if !self.knows(&rev) {
+            return Err(EditFault::Conflict);
         }
-        self.line(rev)
+        if branches.is_behind(&rev) {
+            return Err(EditFault::Conflict);
+        }
+        Ok(Some(rev))
     }
 
-    // The path of a deleted winner, the empty one of a tree with no edit, and None of any other tree.
-    fn dead_line(&self) -> Option<&[RevId]>
+    // The winner where it is deleted, and nothing of a tree with no edit.
+    fn dead(&self) -> Result<Option<RevId>, EditFault>
         ensures tree { IsRevTree self.now.edits }
-        ensures line { option_map (λ line. line.now) result ≡ extended_in self.now.edits [] (leaves_of self.now.edits []) None }
+        ensures line { option_map (line_to self.now.edits) (result_ok result) ≡ extended_in self.now.edits [] (leaves_of self.now.edits []) None }
+        ensures first { IfOk result (λ older. parent_of (line_to self.now.edits older) ≡ older) }
+        ensures conflict { IfErr result (λ e. e ≡ EditFault.Conflict) }
     {
-        match self.best() {
-            Some(winner) if winner.deleted => self.line(&winner.rev),
-            Some(_) => None,
-            None => Some(&[]),
+        let Some(winner) = self.best() else {
+            return Ok(None);
+        };
+        if !winner.deleted {
+            return Err(EditFault::Conflict);
         }
+        Ok(Some(winner.rev))
     }
 
-    // The path that an edit extends, the parent's in front.
-    fn extended(&self, parent: Option<RevId>) -> Option<&[RevId]>
+    // The revision that an edit extends, or nothing.
+    fn extended(&self, parent: Option<RevId>) -> Result<Option<RevId>, EditFault>
         ensures tree { IsRevTree self.now.edits }
-        ensures line { option_map (λ line. line.now) result ≡ extended_in self.now.edits [] (leaves_of self.now.edits []) parent }
+        ensures line { option_map (line_to self.now.edits) (result_ok result) ≡ extended_in self.now.edits [] (leaves_of self.now.edits []) parent }
+        ensures first { IfOk result (λ older. parent_of (line_to self.now.edits older) ≡ older) }
+        ensures conflict { IfErr result (λ e. e ≡ EditFault.Conflict) }
     {
         match parent {
-            Some(rev) => self.leaf_line(&rev),
-            None => self.dead_line(),
+            Some(rev) => self.leaf(rev),
+            None => self.dead(),
         }
+    }
+
+    // The path with the revision in front of the one that it extends, in memory of its own size.
+    fn path_on(&self, alloc: Global, rev: RevId, older: &Option<RevId>) -> Result<Path, AllocError>
+        requires { IsHistory (rev ∷ line_to self.now.edits older.now) }
+        ensures { IfOk result (λ path. path ≡ rev ∷ line_to self.now.edits older.now) }
+    {
+        let mut revisions = Vec::with_capacity(alloc, usize::from(rev.generation()))?;
+        revisions.push(rev)?;
+        if let Some(older) = older {
+            self.branches().append_line(older, &mut revisions)?;
+        }
+        Ok(Path::new(revisions))
     }
 
     /// Looks what becomes of an edit that is made here, on the leaf that is named, or, without a
@@ -112,9 +125,7 @@ impl RevTree {
         ensures memory { result ≡ Err EditFault.NoMemory → HasNextRevision self.old.edits (draft [] parent deleted body) }
     {
         let alloc = self.allocator();
-        let Some(older) = self.extended(parent) else {
-            return Err(EditFault::Conflict);
-        };
+        let older = self.extended(parent)?;
         let rev = match next_rev(alloc, id, older, deleted, &body) {
             Ok(rev) => rev,
             Err(e) => return Err(e),
@@ -122,7 +133,7 @@ impl RevTree {
         if self.knows(&rev) {
             return Err(EditFault::Conflict);
         }
-        let path = path_on(alloc, rev, older)?;
+        let path = self.path_on(alloc, rev, &older)?;
         let ready = self.made_ready(path, deleted, body)?;
         Ok(ready)
     }

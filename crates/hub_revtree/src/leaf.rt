@@ -1,13 +1,13 @@
 //! The order of leaves.
 
-ghost use Rattle.std.specs.Prelude.{◌≡◌, [], map, position, IfOk, OnOk};
+ghost use Rattle.std.specs.Prelude.{◌≡◌, ◌<◌, [], Some, length, map, option_map, position, slice_get, IfOk, OnOk};
 ghost use Rattle.std.specs.List.{list_any};
 ghost use Rattle.hub_model.specs.Revision.{revision_cmp};
 ghost use Rattle.hub_model.specs.Leaves.{leaf_cmp, leaves_among, best_first, with_leaf};
 ghost use Rattle.hub_revtree.specs.Branch.{edit_of, edits_in};
 ghost use Rattle.hub_revtree.specs.Winner.{has_below, winner_of, is_better_than, is_above, put_in, winners_of};
 
-use crate::branch::{Branch, is_behind};
+use crate::branches::Branches;
 use hub_document::RevId;
 use std::alloc::{AllocError, Global};
 use std::cmp::Ordering;
@@ -50,21 +50,19 @@ fn is_better(leaf: &Winner, best: &Option<Winner>) -> bool
     }
 }
 
-/// The best of the branches' heads that stand behind no head. The newest comes first, and a head is
-/// looked for in each branch only where it would be the best so far: so a line of edits costs one
-/// look a branch.
-pub(crate) fn best_leaf(branches: &[Branch]) -> Option<Winner>
-    ensures { result ≡ winner_of (best_first (leaves_among (edits_in branches.now) (edits_in branches.now))) }
+/// The best of the edits' revisions that stand behind no head. The newest comes first, and one is
+/// looked for in each edit only where it would be the best so far: so a line of edits costs one look an
+/// edit.
+pub(crate) fn best_leaf(branches: &Branches) -> Option<Winner>
+    ensures { result ≡ winner_of (best_first (leaves_among (edits_in branches.now.list) (edits_in branches.now.list))) }
 {
     let mut best = None;
-    for branch in branches.iter().rev() {
-        let rev = branch.path.head();
-        let deleted = branch.deleted;
-        let leaf = Winner { rev, deleted };
+    for at in (0..branches.len()).rev() {
+        let leaf = branches.head(at);
         if !is_better(&leaf, &best) {
             continue;
         }
-        if is_behind(branches, &rev) {
+        if branches.is_behind(&leaf.rev) {
             continue;
         }
         best = Some(leaf);
@@ -90,38 +88,42 @@ fn put(leaves: &mut Vec<Winner>, leaf: Winner) -> Result<(), AllocError>
     Ok(())
 }
 
-/// The branches' heads that stand behind no head, best first. Each head is looked for in each
-/// branch, and each leaf is compared with those that came before it.
-pub(crate) fn best_leaves(alloc: Global, branches: &[Branch]) -> Result<Vec<Winner>, AllocError>
-    ensures { IfOk result (λ leaves. leaves.items ≡ winners_of (best_first (leaves_among (edits_in branches.now) (edits_in branches.now)))) }
+/// The edits' revisions that stand behind no head, best first. Each is looked for in each edit, and
+/// each leaf is compared with those that came before it.
+pub(crate) fn best_leaves(alloc: Global, branches: &Branches) -> Result<Vec<Winner>, AllocError>
+    ensures { IfOk result (λ leaves. leaves.items ≡ winners_of (best_first (leaves_among (edits_in branches.now.list) (edits_in branches.now.list)))) }
 {
     let mut leaves = Vec::new(alloc);
-    for branch in branches.iter().rev() {
-        let rev = branch.path.head();
-        if is_behind(branches, &rev) {
+    for at in (0..branches.len()).rev() {
+        let leaf = branches.head(at);
+        if branches.is_behind(&leaf.rev) {
             continue;
         }
-        let deleted = branch.deleted;
-        put(&mut leaves, Winner { rev, deleted })?;
+        put(&mut leaves, leaf)?;
     }
     Ok(leaves)
 }
 
-// Whether the branch's head is a leaf, and of a generation below this one. One look a branch.
-fn is_leaf_below(branches: &[Branch], branch: &Branch, generation: u16) -> bool
-    ensures { result ≡ has_below generation (with_leaf (edits_in branches.now) (edit_of branch.now) branch.now.path []) }
+// Whether the head of the edit of this number is a leaf, and of a generation below this one. One look
+// an edit.
+fn is_leaf_below(branches: &Branches, at: usize, generation: u16) -> bool
+    requires { at < length branches.now.list }
+    ensures { option_map (λ b. has_below generation (with_leaf (edits_in branches.now.list) (edit_of b) b.path [])) (slice_get branches.now.list at) ≡ Some result }
 {
-    let rev = branch.path.head();
-    rev.generation() < generation && !is_behind(branches, &rev)
+    let head = branches.head(at);
+    head.rev.generation() < generation && !branches.is_behind(&head.rev)
 }
 
-/// Whether a leaf is of a generation below this one. Each head is looked for in each branch.
-pub(crate) fn has_leaf_below(branches: &[Branch], generation: u16) -> bool
-    ensures { result ≡ list_any (λ b. has_below generation (with_leaf (edits_in branches.now) (edit_of b) b.path [])) branches.now }
+/// Whether a leaf is of a generation below this one. Each head is looked for in each edit.
+pub(crate) fn has_leaf_below(branches: &Branches, generation: u16) -> bool
+    ensures { result ≡ list_any (λ b. has_below generation (with_leaf (edits_in branches.now.list) (edit_of b) b.path [])) branches.now.list }
 {
-    branches
-        .iter()
-        .any(|branch| is_leaf_below(branches, branch, generation))
+    for at in 0..branches.len() {
+        if is_leaf_below(branches, at, generation) {
+            return true;
+        }
+    }
+    false
 }
 
 /// The revisions of the leaves, in the same order.

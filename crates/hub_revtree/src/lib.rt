@@ -2,12 +2,14 @@
 //! them wins (CouchDB API reference, document revisions and conflicts).
 #![tactic(auto)]
 
-mod branch;
+mod branches;
 mod edit;
 mod fault;
 mod heads;
 mod leaf;
 mod look;
+mod stem;
+mod stems;
 #[cfg(test)]
 mod tests;
 mod tree;

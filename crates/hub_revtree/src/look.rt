@@ -6,9 +6,8 @@ ghost use Rattle.hub_model.specs.Leaves.{leaves_of, revisions_of};
 ghost use Rattle.hub_model.specs.Missing.{missing as missing_from, possible_ancestors as ancestors_from};
 ghost use Rattle.hub_model.specs.Walk.{is_head};
 ghost use Rattle.hub_revtree.specs.Extend.{path_to};
-ghost use Rattle.hub_revtree.specs.Tree.{IsRevTree};
 
-use crate::branch::{head_body, highest_unnamed, line_from, unnamed};
+use crate::branches::{highest_unnamed, unnamed};
 use crate::leaf::{best_leaves, has_leaf_below, revisions};
 use crate::tree::RevTree;
 use hub_document::{Body, Path, RevId, Revisions};
@@ -25,14 +24,6 @@ fn below(alloc: Global, revs: &[RevId], generation: u16) -> Result<Vec<RevId>, A
 }
 
 impl RevTree {
-    // A known revision and all that stands behind it. One look an edit.
-    pub(crate) fn line(&self, rev: &RevId) -> Option<&[RevId]>
-        ensures line { option_map (λ line. line.now) result ≡ path_to self.now.edits rev.now }
-        ensures tree { IsRevTree self.now.edits }
-    {
-        line_from(self.branches(), rev)
-    }
-
     /// The leaves, best first. Each head is looked for in each edit's path, and each leaf is compared
     /// with other leaves: at most the square of the number of edits.
     pub fn leaves(&self, alloc: Global) -> Result<Revisions, AllocError>
@@ -47,16 +38,17 @@ impl RevTree {
         Ok(Revisions::new(revs))
     }
 
-    /// A known revision and all that stands behind it; None of one that is not known. It costs a
-    /// look an edit, and the length of the path.
+    /// A known revision and all that stands behind it, in memory of its own; None of one that is not
+    /// known. It costs a look an edit, and the length of the path.
     pub fn path(&self, alloc: Global, rev: &RevId) -> Result<Option<Path>, AllocError>
         ensures ok { IfOk result (λ path. path ≡ path_to self.now.edits rev.now) }
         ensures memory { OnErr result (IsKnown self.now.edits [] rev.now) }
     {
-        let Some(line) = self.line(rev) else {
+        if !self.knows(rev) {
             return Ok(None);
-        };
-        let revisions = Vec::from_slice(alloc, line)?;
+        }
+        let mut revisions = Vec::with_capacity(alloc, usize::from(rev.generation()))?;
+        self.branches().append_line(rev, &mut revisions)?;
         Ok(Some(Path::new(revisions)))
     }
 
@@ -65,7 +57,8 @@ impl RevTree {
     pub fn body(&self, rev: &RevId) -> Option<&Body>
         ensures { option_map (λ b. b.now) result ≡ option_map (λ e. e.body) (find (is_head rev.now) self.now.edits) }
     {
-        head_body(self.branches(), rev)
+        let edit = self.branches().headed(rev)?;
+        Some(edit.body)
     }
 
     /// Of these revisions those that are not known, in the same order. One look an edit for each.

@@ -1,13 +1,14 @@
 //! The tree of a document's revisions.
 
-ghost use Rattle.std.specs.Prelude.{Bool, ◌≡◌, ◌≤◌, ◌++◌, ◌∷◌, ◌↔◌, [], length, slice_get, IsTrue, IsSome, IsNone, IfSome, IfNone, IfOk, OnOk, OnErr, option_map, None, Some};
+ghost use Rattle.std.specs.Prelude.{Bool, ◌≡◌, ◌≤◌, ◌-◌, ◌^◌, min, ◌++◌, ◌∷◌, ◌↔◌, [], length, slice_get, IsTrue, IsSome, IsNone, IfSome, IfNone, IfOk, OnOk, OnErr, option_map, None, Some};
 ghost use Rattle.hub_model.specs.Journal.{IsKnown, IsAcceptable, head_of};
 ghost use Rattle.hub_model.specs.Leaves.{IsMarked, IsWinner, leaves_of, revisions_of};
 ghost use Rattle.hub_revtree.specs.Branch.{edits_in};
+ghost use Rattle.hub_revtree.specs.Count.{revision_count};
 ghost use Rattle.hub_revtree.specs.Tree.{HasKnownHead, IsRevTree, nameless};
 ghost use Rattle.hub_revtree.specs.Winner.{winner_of};
 
-use crate::branch::{Branch, agrees_with_all, head_mark, is_named};
+use crate::branches::Branches;
 use crate::fault::{MergeFault, Merged};
 use crate::leaf::{Winner, best_leaf};
 use hub_document::{Body, Path, RevId};
@@ -18,11 +19,11 @@ use std::marker::Model;
 /// elsewhere.
 #[derive(Debug, Drop)]
 pub struct RevTree {
-    branches: Vec<Branch>,
+    branches: Branches,
 }
 
 impl Model for RevTree {
-    ghost use Rattle.std.specs.Prelude.{◌*◌, ◌-◌, vec_len, vec_capacity};
+    ghost use Rattle.std.specs.Prelude.{◌*◌};
     ghost use Rattle.hub_model.specs.Journal.{IsLegal};
     ghost use Rattle.hub_revtree.specs.Tree.{Tree};
 
@@ -30,15 +31,17 @@ impl Model for RevTree {
 
     ghost use Rattle.hub_revtree.specs.Branch.{edits_in};
 
-    ghost view = { λ a. record { edits = edits_in a.branches.items; room = 65535 * (vec_capacity a.branches - vec_len a.branches) } };
+    ghost view = { λ a. record { edits = edits_in a.branches.list; room = 65535 * a.branches.spare } };
 
-    ghost invariant = { λ a. IsLegal (edits_in a.branches.items) };
+    ghost invariant = { λ a. IsLegal (edits_in a.branches.list) };
 }
 
 /// An edit that a tree can take, and has memory for.
 #[derive(Debug, Drop)]
 pub struct Ready {
-    branch: Branch,
+    path: Path,
+    deleted: bool,
+    body: Body,
 }
 
 impl Model for Ready {
@@ -46,9 +49,9 @@ impl Model for Ready {
 
     ghost Value = { Edit };
 
-    ghost use Rattle.hub_revtree.specs.Branch.{edit_of};
+    ghost use Rattle.hub_revtree.specs.Tree.{nameless};
 
-    ghost view = { λ a. edit_of a.branch };
+    ghost view = { λ a. nameless a.path a.deleted a.body };
 }
 
 impl Ready {
@@ -56,17 +59,17 @@ impl Ready {
     pub fn rev(&self) -> RevId
         ensures { head_of self.now ≡ Some result }
     {
-        self.branch.path.head()
+        self.path.head()
     }
 }
 
 impl RevTree {
     // The stored edits.
-    pub(crate) fn branches(&self) -> &[Branch]
-        ensures edits { edits_in result.now ≡ self.now.edits }
+    pub(crate) fn branches(&self) -> &Branches
+        ensures edits { edits_in result.now.list ≡ self.now.edits }
         ensures tree { IsRevTree self.now.edits }
     {
-        self.branches.as_slice()
+        &self.branches
     }
 
     /// A tree with no edit.
@@ -74,25 +77,13 @@ impl RevTree {
         ensures { result.edits ≡ [] }
     {
         RevTree {
-            branches: Vec::new(alloc),
+            branches: Branches::new(alloc),
         }
     }
 
     // What the tree takes its memory from.
     pub(crate) fn allocator(&self) -> Global {
-        *self.branches.allocator()
-    }
-
-    // Makes room for one more edit: exactly for the first, since most documents have one.
-    fn make_room(&mut self) -> Result<(), AllocError>
-        ensures edits { self.new.edits ≡ self.old.edits }
-        ensures room { OnOk result (65535 ≤ self.new.room) }
-    {
-        if self.branches.is_empty() {
-            self.branches.try_reserve_exact(1)
-        } else {
-            self.branches.try_reserve(1)
-        }
+        self.branches.allocator()
     }
 
     // The edit, with memory for it.
@@ -109,13 +100,12 @@ impl RevTree {
         // A path has no more revisions than its head's generation, so that one place has room for it.
         let head = path.head();
         let _revisions_at_most = head.generation();
-        self.make_room()?;
-        let branch = Branch {
+        self.branches.make_room()?;
+        Ok(Ready {
             path,
             deleted,
             body,
-        };
-        Ok(Ready { branch })
+        })
     }
 
     /// How many edits there are.
@@ -125,18 +115,26 @@ impl RevTree {
         self.branches.len()
     }
 
+    /// How many different revisions the paths name: what the tree keeps, since paths share what they
+    /// have in common. One step an edit.
+    pub fn nodes(&self) -> usize
+        ensures { result ≡ min (revision_count self.now.edits) (2 ^ 64 - 1) }
+    {
+        self.branches.revision_count()
+    }
+
     /// Whether there is no edit.
     pub fn is_empty(&self) -> bool
         ensures { IsTrue result ↔ (self.now.edits ≡ []) }
     {
-        self.branches.is_empty()
+        self.branches.len() == 0
     }
 
     /// Whether a path names the revision. One look an edit.
     pub fn knows(&self, rev: &RevId) -> bool
         ensures { IsTrue result ↔ IsKnown self.now.edits [] rev.now }
     {
-        is_named(self.branches.as_slice(), rev)
+        self.branches.is_named(rev)
     }
 
     /// Whether the edit that the revision heads deletes the document. One look an edit.
@@ -144,7 +142,8 @@ impl RevTree {
         ensures mark { IfSome result (IsMarked self.now.edits [] rev.now) }
         ensures none { IfNone result ((mark : Bool) → ¬ IsMarked self.now.edits [] rev.now mark) }
     {
-        head_mark(self.branches.as_slice(), rev)
+        let edit = self.branches.headed(rev)?;
+        Some(edit.deleted)
     }
 
     /// The best leaf, with its mark. Each head is looked for in each edit's path.
@@ -152,7 +151,7 @@ impl RevTree {
         ensures best { result ≡ winner_of (leaves_of self.now.edits []) }
         ensures tree { IsRevTree self.now.edits }
     {
-        best_leaf(self.branches.as_slice())
+        best_leaf(&self.branches)
     }
 
     /// The revision of the best leaf; None of a tree with no edit. It costs what `best` does.
@@ -166,7 +165,8 @@ impl RevTree {
     }
 
     /// Looks what becomes of an edit: `None` where its revision is known, else the edit, with
-    /// memory for it. It costs the path's length times the number of edits.
+    /// memory for it. It costs a look an edit for each of the path's revisions that is not known, and
+    /// the path's length.
     pub fn look_merge(
         &mut self,
         path: Path,
@@ -183,23 +183,30 @@ impl RevTree {
         ensures memory { result ≡ Err MergeFault.NoMemory → IsAcceptable self.old.edits (nameless path deleted body) }
     {
         let head = path.head();
-        if is_named(self.branches.as_slice(), &head) {
+        if self.branches.is_named(&head) {
             return Ok(None);
         }
-        if !agrees_with_all(self.branches.as_slice(), &path) {
+        if !self.branches.agrees_with_all(&path) {
             return Err(MergeFault::Contradicts);
         }
         let ready = self.made_ready(path, deleted, body)?;
         Ok(Some(ready))
     }
 
-    /// Takes an edit that `look_merge` made ready. It takes no memory, and constant time.
+    /// Takes an edit that `look_merge` or `look_extend` made ready. It takes no memory, and gives back
+    /// that of the path's revisions which are known. It costs a look an edit for each of the others, and
+    /// the path's length.
     pub fn adopt(&mut self, ready: Ready)
         requires acceptable { IsAcceptable self.old.edits ready }
         requires room { length ready.path ≤ self.old.room }
         ensures { self.new.edits ≡ self.old.edits ++ ready ∷ [] }
     {
-        self.branches.push_reserved(ready.branch);
+        let Ready {
+            path,
+            deleted,
+            body,
+        } = ready;
+        self.branches.push(path, deleted, body);
     }
 
     /// Takes an edit, where its revision is new and its path contradicts no stored one. It costs

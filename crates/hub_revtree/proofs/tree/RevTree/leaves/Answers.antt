@@ -12,4 +12,4 @@ returns-then-is_empty-clause-ok c =
 pub returns-clause-ok : goal.returns-clause-ok
 returns-clause-ok c =
     c.new-2.ensures ∙ c.in_ok-revs.ensures ∙ ap (map (λ w. w.rev)) (c.as_slice.ensures.value ∙ c.in_ok-leaves.ensures)
-    ∙ revs_of _ ∙ ap revisions_of (sorted_by c.branches.result.now c.args.self.now.edits c.branches.ensures.edits)
+    ∙ revs_of _ ∙ ap revisions_of (sorted_by c.branches.result.now.list c.args.self.now.edits c.branches.ensures.edits)

@@ -8,7 +8,7 @@ returns-then-is_named-clause-tree c = rw (sym c.self.view_is) (rev_tree _ c.self
 pub returns-then-is_named-clause-known : goal.returns-then-is_named-clause-known
 returns-then-is_named-clause-known c =
     rw (sym c.self.view_is) (
-      λ _. head_known c.self.inside.branches.items _ c.as_slice.ensures.value c.args.path c.head-head.result c.head-head.ensures.value c.is_named.result c.is_named.ensures c.if-is_named.true,
+      λ _. head_known c.self.inside.branches.list c.args.path c.head-head.result c.head-head.ensures.value c.is_named.result c.is_named.ensures c.if-is_named.true,
       λ _. refl,
     )
 
@@ -19,8 +19,8 @@ pub returns-then-not-agrees_with_all-clause-contradicts :
     goal.returns-then-not-agrees_with_all-clause-contradicts
 returns-then-not-agrees_with_all-clause-contradicts c =
     rw (sym c.self.view_is) (λ _. (
-      head_new c.self.inside.branches.items _ c.as_slice.ensures.value c.args.path c.head-head.result c.head-head.ensures.value c.is_named.result c.is_named.ensures c.if-is_named.false,
-      contradicts c.self.inside.branches.items _ c.as_slice.ensures.value c.args.path c.head-head.result c.head-head.ensures.value c.is_named.result c.is_named.ensures _ c.as_slice-2.ensures.value c.agrees_with_all.result c.agrees_with_all.ensures c.args.deleted c.args.body c.if-not-agrees_with_all.true,
+      head_new c.self.inside.branches.list c.args.path c.head-head.result c.head-head.ensures.value c.is_named.result c.is_named.ensures c.if-is_named.false,
+      contradicts c.self.inside.branches.list c.args.path c.head-head.result c.head-head.ensures.value c.is_named.result c.is_named.ensures c.agrees_with_all.result c.agrees_with_all.ensures c.args.deleted c.args.body c.if-not-agrees_with_all.true,
     ))
 
 pub returns-in_err-ready-clause-tree : goal.returns-in_err-ready-clause-tree
@@ -28,7 +28,7 @@ returns-in_err-ready-clause-tree c = rw (c.made_ready.ensures.edits, sym c.self.
 
 pub returns-in_err-ready-clause-memory : goal.returns-in_err-ready-clause-memory
 returns-in_err-ready-clause-memory c =
-    rw (sym c.self.view_is) (λ _. acceptable c.self.inside.branches.items _ c.as_slice.ensures.value c.args.path c.head-head.result c.head-head.ensures.value c.is_named.result c.is_named.ensures _ c.as_slice-2.ensures.value c.agrees_with_all.result c.agrees_with_all.ensures c.args.deleted c.args.body c.self.invariant c.head-head.ensures.good c.if-is_named.false c.if-not-agrees_with_all.false)
+    rw (sym c.self.view_is) (λ _. acceptable c.self.inside.branches.list c.args.path c.head-head.result c.head-head.ensures.value c.is_named.result c.is_named.ensures c.agrees_with_all.result c.agrees_with_all.ensures c.args.deleted c.args.body c.self.invariant c.head-head.ensures.good c.if-is_named.false c.if-not-agrees_with_all.false)
 
 pub returns-clause-tree : goal.returns-clause-tree
 returns-clause-tree c = rw (c.made_ready.ensures.edits, sym c.self.view_is) (rev_tree _ c.self.invariant)
@@ -37,9 +37,9 @@ pub returns-clause-known : goal.returns-clause-known
 returns-clause-known c =
     rw (sym c.self.view_is) (
       λ e. absurd (cc),
-      λ k. absurd (head_new c.self.inside.branches.items _ c.as_slice.ensures.value c.args.path c.head-head.result c.head-head.ensures.value c.is_named.result c.is_named.ensures c.if-is_named.false k),
+      λ k. absurd (head_new c.self.inside.branches.list c.args.path c.head-head.result c.head-head.ensures.value c.is_named.result c.is_named.ensures c.if-is_named.false k),
     )
 
 pub returns-clause-acceptable : goal.returns-clause-acceptable
 returns-clause-acceptable c =
-    rw (c.in_ok-ready.ensures.ready, sym c.self.view_is) (acceptable c.self.inside.branches.items _ c.as_slice.ensures.value c.args.path c.head-head.result c.head-head.ensures.value c.is_named.result c.is_named.ensures _ c.as_slice-2.ensures.value c.agrees_with_all.result c.agrees_with_all.ensures c.args.deleted c.args.body c.self.invariant c.head-head.ensures.good c.if-is_named.false c.if-not-agrees_with_all.false)
+    rw (c.in_ok-ready.ensures.ready, sym c.self.view_is) (acceptable c.self.inside.branches.list c.args.path c.head-head.result c.head-head.ensures.value c.is_named.result c.is_named.ensures c.agrees_with_all.result c.agrees_with_all.ensures c.args.deleted c.args.body c.self.invariant c.head-head.ensures.good c.if-is_named.false c.if-not-agrees_with_all.false)

@@ -1,0 +1,271 @@
+-- What is looked for among stems is found among their branches.
+use Rattle.std.proofs.Common.{◌≡◌, ℕ, zero, suc, ◌+◌, ◌-◌, ◌<◌, ◌≤◌, List, [], ◌∷◌, ◌++◌, length, get_or, drop, take, Bool, true, false, inl, inr, refl, sym, ap, ◌∙◌, subst, ◌||◌, arith}
+use Rattle.std.specs.Prelude.{Option, Some, None, IfSome, slice_get, ◌↔◌, find, option_map, option_and_then}
+use Rattle.std.specs.List.{list_any}
+use Rattle.std.specs.Option.{option_or}
+use Rattle.std.proofs.lemmas.Bool.{cases_Bool, both_ways}
+use Rattle.std.proofs.lemmas.List.{drop-append-le, drop_more, length-drop, take_all}
+use Rattle.std.proofs.lemmas.List.Folds.{list_any-append, find-append}
+use Rattle.std.proofs.lemmas.Option.{get_or_from_slice_get, same_Some, slice_get_past, slice_get_read, slice_get_within}
+use Rattle.hub_model.specs.Revision.{Revision, is_same}
+use Rattle.hub_model.specs.Path.{IsPath, names, is_first}
+use Rattle.hub_model.specs.Leaves.{is_behind_head}
+use Rattle.hub_model.proofs.Shown.{find_is}
+use Rattle.hub_model.proofs.Tests.{or_left, or_right, same_is, same_self}
+use Rattle.hub_revtree.specs.declared.stem.Place.{Place}
+use Rattle.hub_revtree.specs.declared.stem.Stem.{Stem}
+use Rattle.hub_revtree.specs.Branch.{Branch, edit_of}
+use Rattle.hub_revtree.specs.Stem.{AreStems, IsWithin, branch_of, branches_after, branches_of, is_at, is_behind_newest, path_from}
+use Rattle.hub_revtree.specs.Tree.{Tip, tip, tip_of}
+use Rattle.hub_revtree.specs.Winner.{head_in}
+use Rattle.hub_revtree.proofs.StemLemmas.{any_at, any_place, as_many, get_some, rest_at, same_truth, shown_at, steps_left, within_stem}
+
+-- the first of some revisions
+first_append : (p q : List Revision) (r : Revision) → 0 < length p → is_first r (p ++ q) ≡ is_first r p
+first_append [] q r some = absurd (omega arith)
+first_append (x ∷ p) q r some = refl
+
+first_named : (p : List Revision) (r : Revision) → is_first r p ≡ true → names p r ≡ true
+first_named [] r t = absurd (cc)
+first_named (x ∷ p) r t = or_left (is_same r x) (names p r) t
+
+names_drop : (n : ℕ) (p : List Revision) (r : Revision) → names (drop n p) r ≡ true → names p r ≡ true
+names_drop zero p r h = h
+names_drop (suc n) [] r h = h
+names_drop (suc n) (x ∷ p) r h = or_right (is_same r x) (names p r) (names_drop n p r h)
+
+-- what a path's rest names behind its first revision stands behind the path's
+names_behind : (n : ℕ) (p : List Revision) (r : Revision) → names (drop n p) r ≡ true → is_first r (drop n p) ≡ false → names (drop 1 p) r ≡ true
+names_behind zero [] r h f = absurd (cc)
+names_behind zero (x ∷ p) r h f = rw f at h
+names_behind (suc n) [] r h f = absurd (cc)
+names_behind (suc n) (x ∷ p) r h f = names_drop n p r h
+
+some_path : (p : List Revision) → IsPath p → 0 < length p
+some_path [] f = absurd f
+some_path (x ∷ p) f = omega arith
+
+module _ (xs : List Stem) (a : AreStems xs) (r : Revision) where
+  -- the first revision of the path that a stem stands on
+  first_at : (o : Option Place) → ((p : Place) → o ≡ Some p → IsWithin xs p) → is_first r (path_from (branches_of xs) o) ≡ is_at xs r o
+  first_at None w = refl
+  first_at (Some p) w =
+      let i = within_stem xs p (w p refl) in
+      ap (is_first r) (rest_at xs p i.0 a i.1 (w p refl))
+      ∙ rw i.1 (first_append (drop p.at i.0.revisions.items) (path_from (branches_of xs) i.0.parent) r (omega (arith, i.2, length-drop p.at i.0.revisions.items)))
+
+  behind_parts : (s : Stem) → IsPath s.revisions.items → names (drop 1 (branch_of (branches_of xs) s).path) r ≡ (names (drop 1 s.revisions.items) r || names (path_from (branches_of xs) s.parent) r)
+  behind_parts s f =
+      ap (λ p. names p r) (drop-append-le 1 s.revisions.items (path_from (branches_of xs) s.parent) (omega (arith, some_path s.revisions.items f)))
+      ∙ list_any-append (is_same r) (drop 1 s.revisions.items) (path_from (branches_of xs) s.parent)
+
+  module _ (k : ℕ) (s : Stem) (e : slice_get xs k ≡ Some s) where
+    within : (p : Place) → s.parent ≡ Some p → IsWithin xs p
+    within p q = (a.earlier k s p e q).1
+
+    first_of : is_first r (path_from (branches_of xs) s.parent) ≡ is_at xs r s.parent
+    first_of = first_at s.parent within
+
+  from_stem : (k : ℕ) (s : Stem) → slice_get xs k ≡ Some s → is_behind_newest xs r s ≡ true → list_any (λ b. is_behind_head r (edit_of b)) (branches_of xs) ≡ true
+  from_stem k s e t = any_at (λ b. is_behind_head r (edit_of b)) (branches_of xs) k (branch_of (branches_of xs) s) (shown_at xs a k s e)
+      (behind_parts s (a.falling k s e) ∙ elim (cases_Bool (names (drop 1 s.revisions.items) r)) [
+        | inl u ↦ or_left (names (drop 1 s.revisions.items) r) (names (path_from (branches_of xs) s.parent) r) u
+        | inr u ↦ or_right (names (drop 1 s.revisions.items) r) (names (path_from (branches_of xs) s.parent) r) (first_named (path_from (branches_of xs) s.parent) r (first_of k s e ∙ (rw u at t)))
+      ])
+
+  to_stem : (n k : ℕ) (s : Stem) → k < n → slice_get xs k ≡ Some s → names (drop 1 (branch_of (branches_of xs) s).path) r ≡ true → list_any (is_behind_newest xs r) xs ≡ true
+  to_stem zero k s low e t = absurd (omega arith)
+  to_stem (suc n) k s low e t = elim (cases_Bool (names (drop 1 s.revisions.items) r)) [
+    | inl u ↦ any_at (is_behind_newest xs r) xs k s e (or_left (names (drop 1 s.revisions.items) r) (is_at xs r s.parent) u)
+    | inr u ↦ elim (cases_Bool (is_first r (path_from (branches_of xs) s.parent))) [
+        | inl v ↦ any_at (is_behind_newest xs r) xs k s e (or_right (names (drop 1 s.revisions.items) r) (is_at xs r s.parent) (sym (first_of k s e) ∙ v))
+        | inr v ↦ further (to_stem n) s.parent refl v (rw u at (sym (behind_parts s (a.falling k s e)) ∙ t))
+      ]
+  ]
+    where
+      further : ((j : ℕ) (t : Stem) → j < n → slice_get xs j ≡ Some t → names (drop 1 (branch_of (branches_of xs) t).path) r ≡ true → list_any (is_behind_newest xs r) xs ≡ true)
+          → (o : Option Place) → s.parent ≡ o → is_first r (path_from (branches_of xs) o) ≡ false → names (path_from (branches_of xs) o) r ≡ true → list_any (is_behind_newest xs r) xs ≡ true
+      further ih None q v h = absurd (cc)
+      further ih (Some p) q v h =
+          let before = a.earlier k s p e q in
+          let i = within_stem xs p before.1 in
+          ih p.stem i.0 (omega (arith, before.0, low)) i.1
+          (names_behind p.at (branch_of (branches_of xs) i.0).path r (rw (shown_at xs a p.stem i.0 i.1) at h) (rw (shown_at xs a p.stem i.0 i.1) at v))
+
+  -- a revision stands behind a head where it stands behind a stem's newest
+  pub behind_in : list_any (λ b. is_behind_head r (edit_of b)) (branches_of xs) ≡ list_any (is_behind_newest xs r) xs
+  behind_in = same_truth _ _
+      (λ t.
+        let i = any_place (λ b. is_behind_head r (edit_of b)) (branches_of xs) t in
+        let low = slice_get_within (branches_of xs) i.0 i.1 i.2 in
+        let j = get_some xs i.0 (omega (arith, low, as_many xs)) in
+        to_stem (i.0 + 1) i.0 j.0 (omega arith) j.1 (subst (λ (z : Branch). is_behind_head r (edit_of z) ≡ true) (same_branch i.1 _ (sym i.2 ∙ shown_at xs a i.0 j.0 j.1)) i.3))
+      (λ t. let i = any_place (is_behind_newest xs r) xs t in from_stem i.0 i.1 i.2 i.3)
+    where
+      same_branch : (b c : Branch) → ◌≡◌ {A = Option Branch} (Some b) (Some c) → b ≡ c
+      same_branch b c e = cc
+
+-- what is lent of a stem
+abbrev pub tip_in : Stem → Tip
+tip_in stem = record { rev = slice_get stem.revisions.items 0; deleted = stem.deleted; body = stem.body }
+
+tip_same : (bs : List Branch) (s : Stem) → IsPath s.revisions.items → tip_of (edit_of (branch_of bs s)) ≡ tip_in s
+tip_same bs s f = ap (λ (o : Option Revision). record { rev = o; deleted = s.deleted; body = s.body }) (head s.revisions.items f)
+  where
+    head : (p : List Revision) → IsPath p → slice_get (p ++ path_from bs s.parent) 0 ≡ slice_get p 0
+    head [] f = absurd f
+    head (x ∷ p) f = refl
+
+-- the branch of a number
+past : {A : Type 0} (xs : List A) (k : ℕ) → slice_get xs k ≡ None → length xs ≤ k
+past [] k e = omega arith
+past (x ∷ xs) zero e = absurd (cc)
+past (x ∷ xs) (suc k) e = omega (arith, past xs k e)
+
+pub tip_at : (xs : List Stem) → AreStems xs → (k : ℕ) → option_map (λ b. tip_of (edit_of b)) (slice_get (branches_of xs) k) ≡ option_map tip_in (slice_get xs k)
+tip_at xs a k = from (slice_get xs k) refl
+  where
+    from : (o : Option Stem) → slice_get xs k ≡ o → option_map (λ b. tip_of (edit_of b)) (slice_get (branches_of xs) k) ≡ option_map tip_in o
+    from None e = rw (slice_get_past (branches_of xs) k (omega (arith, past xs k e, as_many xs))) refl
+    from (Some s) e = rw (shown_at xs a k s e) (ap Some (tip_same (branches_of xs) s (a.falling k s e)))
+
+-- its revision and mark
+pub head_at : (xs : List Stem) → AreStems xs → (k : ℕ) (s : Stem) (r : Revision) → slice_get xs k ≡ Some s → slice_get s.revisions.items 0 ≡ Some r
+    → option_and_then head_in (slice_get (branches_of xs) k) ≡ Some (record { rev = r; deleted = s.deleted })
+head_at xs a k s r e h =
+    rw (shown_at xs a k s e) (ap (option_map (λ (z : Revision). record { rev = z; deleted = s.deleted })) (ap (λ (t : Tip). t.rev) (tip_same (branches_of xs) s (a.falling k s e)) ∙ h))
+
+-- the branch that a revision heads
+module _ (r : Revision) where
+  abbrev Falling : List Stem → Type 0
+  Falling xs = (k : ℕ) (s : Stem) → slice_get xs k ≡ Some s → IsPath s.revisions.items
+
+  abbrev found : Option Branch → Option Tip
+  found o = option_map (λ b. tip_of (edit_of b)) o
+
+  or_nothing : (o : Option Tip) → o ≡ option_or o None
+  or_nothing None = refl
+  or_nothing (Some t) = refl
+
+  seam : (o : Option Branch) (b : Branch) (s : Stem) (rest : Option Stem) (t : Bool) → is_first r b.path ≡ t → is_first r s.revisions.items ≡ t → tip_of (edit_of b) ≡ tip_in s
+      → option_or (found (option_or o (find (λ c. is_first r c.path) (b ∷ [])))) (option_map tip_in rest) ≡ option_or (found o) (option_map tip_in (option_or (find (λ z. is_first r z.revisions.items) (s ∷ [])) rest))
+  seam (Some c) b s rest t u v same = refl
+  seam None b s rest true u v same = rw (u, v) (ap Some same)
+  seam None b s rest false u v same = rw (u, v) refl
+
+  is_head_of : (bs : List Branch) (s : Stem) → IsPath s.revisions.items → is_first r (branch_of bs s).path ≡ is_first r s.revisions.items
+  is_head_of bs s f = first_append s.revisions.items (path_from bs s.parent) r (some_path s.revisions.items f)
+
+  headed_after : (bs : List Branch) (xs : List Stem) → Falling xs
+      → found (find (λ b. is_first r b.path) (branches_after bs xs)) ≡ option_or (found (find (λ b. is_first r b.path) bs)) (option_map tip_in (find (λ s. is_first r s.revisions.items) xs))
+  headed_after bs [] f = or_nothing (found (find (λ b. is_first r b.path) bs))
+  headed_after bs (x ∷ xs) f =
+      headed_after (bs ++ branch_of bs x ∷ []) xs (λ k s e. f (suc k) s e)
+      ∙ ap (λ o. option_or (found o) (option_map tip_in (find (λ s. is_first r s.revisions.items) xs))) (find-append (λ b. is_first r b.path) bs (branch_of bs x ∷ []))
+      ∙ seam (find (λ b. is_first r b.path) bs) (branch_of bs x) x (find (λ s. is_first r s.revisions.items) xs) (is_first r x.revisions.items) (is_head_of bs x (f 0 x refl)) refl (tip_same bs x (f 0 x refl))
+      ∙ ap (λ o. option_or (found (find (λ b. is_first r b.path) bs)) (option_map tip_in o)) (sym (find-append (λ s. is_first r s.revisions.items) (x ∷ []) xs))
+
+  pub headed_in : (xs : List Stem) → AreStems xs → found (find (λ b. is_first r b.path) (branches_of xs)) ≡ option_map tip_in (find (λ s. is_first r s.revisions.items) xs)
+  headed_in xs a = headed_after [] xs a.falling
+
+-- the revision that is read at a place
+first_drop : (p : List Revision) (k : ℕ) (r x : Revision) → slice_get p k ≡ Some x → is_first r (drop k p) ≡ is_same r x
+first_drop [] k r x e = absurd (cc)
+first_drop (y ∷ p) zero r x e = ap (is_same r) (same_Some y x e)
+first_drop (y ∷ p) (suc k) r x e = first_drop p k r x e
+
+pub is_at_read : (xs : List Stem) (r : Revision) (o : Option Place) (p : Place) (s : Stem) (x : Revision) → IfSome o (IsWithin xs) → o ≡ Some p → x ≡ get_or (get_or xs p.stem s).revisions.items p.at x → is_same r x ≡ is_at xs r o
+is_at_read xs r o p s x w is read =
+    let i = within_stem xs p (rw is at w) in
+    let stem : get_or xs p.stem s ≡ i.0 = get_or_from_slice_get xs p.stem i.0 s i.1 in
+    rw (is, i.1) (sym (first_drop i.0.revisions.items p.at r x (slice_get_read i.0.revisions.items _ p.at x refl i.2 (rw stem at read))))
+
+-- what is behind a prefix, a revision more at a time
+module _ (rest others prefix tail : List Revision) (k : ℕ) (rev first : Revision) (low : k < length prefix) (item : rev ≡ get_or prefix k rev) (split : rest ≡ first ∷ others) where
+  next_one : drop k prefix ++ tail ≡ rev ∷ (drop (k + 1) prefix ++ tail)
+  next_one = ap (λ z. z ++ tail) (drop_more prefix k rev low ∙ ap (λ s. s ∷ drop (k + 1) prefix) (sym item))
+
+  pub prefix_more : (b : Bool) → b ≡ is_same first rev → b ≡ true → (rest ≡ drop k prefix ++ tail) ↔ (others ≡ drop (k + 1) prefix ++ tail)
+  prefix_more b is t = let same : first ≡ rev = same_is first rev (sym is ∙ t) in let next = next_one in (λ e. (cc), λ e. (cc))
+
+  pub prefix_other : (b : Bool) → b ≡ is_same first rev → b ≡ false → ¬ (rest ≡ drop k prefix ++ tail)
+  prefix_other b is f = λ e. let next = next_one in let same : first ≡ rev = (cc) in both_ways b f (is ∙ subst (λ z. is_same first z ≡ true) same (same_self first))
+
+-- a walk goes from a place to where its stem stands
+module _ (xs : List Stem) (a : AreStems xs) (o : Option Place) (p : Place) (s : Stem) (w : IfSome o (IsWithin xs)) (is : o ≡ Some p) (item : s ≡ get_or xs p.stem s) where
+  at_place : IsWithin xs p
+  at_place = rw is at w
+
+  stem_there : slice_get xs p.stem ≡ Some s
+  stem_there = let i = within_stem xs p at_place in i.1 ∙ ap Some (sym (item ∙ get_or_from_slice_get xs p.stem i.0 s i.1))
+
+  pub walk_low : p.stem < length xs
+  walk_low = slice_get_within xs p.stem s stem_there
+
+  pub walk_within : p.at < length s.revisions.items
+  walk_within = rw stem_there at at_place
+
+  pub walk_on : path_from (branches_of xs) o ≡ drop p.at s.revisions.items ++ path_from (branches_of xs) s.parent
+  walk_on = ap (path_from (branches_of xs)) is ∙ rest_at xs p s a stem_there at_place
+
+  pub walk_next : IfSome s.parent (IsWithin xs)
+  walk_next = from s.parent refl
+    where
+      from : (q : Option Place) → s.parent ≡ q → IfSome q (IsWithin xs)
+      from None e = tt
+      from (Some q) e = (a.earlier p.stem s q stem_there e).1
+
+  pub walk_ends : steps_left s.parent < steps_left o
+  walk_ends = rw is (from s.parent refl)
+    where
+      from : (q : Option Place) → s.parent ≡ q → steps_left q < p.stem + 1
+      from None e = omega arith
+      from (Some q) e = let low = (a.earlier p.stem s q stem_there e).0 in omega (arith, low)
+
+-- what a slice from a place on is
+pub rest_slice : (p q : List Revision) (k : ℕ) → q ≡ p → take (length q - k) (drop k q) ≡ drop k p
+rest_slice p q k same = take_all (length q - k) (drop k q) (omega (arith, length-drop k q)) ∙ ap (drop k) same
+
+-- and what is left of a list of which that is a prefix
+same_behind : (d xs ys : List Revision) → d ++ xs ≡ d ++ ys → xs ≡ ys
+same_behind [] xs ys e = e
+same_behind (x ∷ d) xs ys e = same_behind d xs ys (cc)
+
+pub line_more : (rest prefix behind whole tail : List Revision) → rest ≡ prefix ++ behind → whole ≡ prefix ++ tail → (rest ≡ whole) ↔ (behind ≡ tail)
+line_more rest prefix behind whole tail split on =
+    (λ e. same_behind prefix behind tail (sym split ∙ (e ∙ on)), λ e. split ∙ (ap (λ z. prefix ++ z) e ∙ sym on))
+
+pub walk_sliced : (xs : List Stem) (a : AreStems xs) (o : Option Place) (p : Place) (s : Stem) (q : List Revision) → IfSome o (IsWithin xs) → o ≡ Some p → s ≡ get_or xs p.stem s → q ≡ s.revisions.items
+    → path_from (branches_of xs) o ≡ take (length q - p.at) (drop p.at q) ++ path_from (branches_of xs) s.parent
+walk_sliced xs a o p s q w is item same = walk_on xs a o p s w is item ∙ ap (λ z. z ++ path_from (branches_of xs) s.parent) (sym (rest_slice s.revisions.items q p.at same))
+
+-- a stem as it is lent
+pub tip_shown : (s : Stem) (r : Revision) (deleted : Bool) (body : List ℕ) → slice_get s.revisions.items 0 ≡ Some r → deleted ≡ s.deleted → body ≡ s.body → tip r deleted body ≡ tip_in s
+tip_shown s r deleted body head mark members = rw (head, mark, members) refl
+
+pub no_edit : (xs : List Stem) → AreStems xs → (k : ℕ) → length xs ≤ k → option_map (λ b. tip_of (edit_of b)) (slice_get (branches_of xs) k) ≡ None
+no_edit xs a k past = tip_at xs a k ∙ ap (option_map tip_in) (slice_get_past xs k past)
+
+pub some_edit : (xs : List Stem) → AreStems xs → (k : ℕ) (s : Stem) (r : Revision) (deleted : Bool) (body : List ℕ) → slice_get xs k ≡ Some s → slice_get s.revisions.items 0 ≡ Some r → deleted ≡ s.deleted → body ≡ s.body
+    → Some (tip r deleted body) ≡ option_map (λ b. tip_of (edit_of b)) (slice_get (branches_of xs) k)
+some_edit xs a k s r deleted body e head mark members = ap Some (tip_shown s r deleted body head mark members) ∙ sym (tip_at xs a k ∙ ap (option_map tip_in) e)
+
+pub some_headed : (xs : List Stem) → AreStems xs → (rev : Revision) (s : Stem) (r : Revision) (deleted : Bool) (body : List ℕ) → Some s ≡ find (λ z. is_first rev z.revisions.items) xs → slice_get s.revisions.items 0 ≡ Some r → deleted ≡ s.deleted → body ≡ s.body
+    → Some (tip r deleted body) ≡ option_map (λ b. tip_of (edit_of b)) (find (λ b. is_first rev b.path) (branches_of xs))
+some_headed xs a rev s r deleted body e head mark members = ap Some (tip_shown s r deleted body head mark members) ∙ ap (option_map tip_in) e ∙ sym (headed_in rev xs a)
+
+pub none_headed : (xs : List Stem) → AreStems xs → (rev : Revision) → None ≡ find (λ z. is_first rev z.revisions.items) xs → option_map (λ b. tip_of (edit_of b)) (find (λ b. is_first rev b.path) (branches_of xs)) ≡ None
+none_headed xs a rev e = headed_in rev xs a ∙ ap (option_map tip_in) (sym e)
+
+-- a stem that is found is one
+pub found_falls : (xs : List Stem) → AreStems xs → (rev : Revision) (s : Stem) → Some s ≡ find (λ z. is_first rev z.revisions.items) xs → IsPath s.revisions.items
+found_falls xs a rev s e =
+    let i = find_is (λ (z : Stem). is_first rev z.revisions.items) xs s (sym e) in
+    a.falling i.1.0 s (slice_get_read xs _ i.1.0 s refl i.1.1 (sym i.1.2))
+
+pub read_stem : (xs : List Stem) (k : ℕ) (s : Stem) → k < length xs → s ≡ get_or xs k s → slice_get xs k ≡ Some s
+read_stem xs k s low is = slice_get_read xs _ k s refl low is
+
+-- a number of the branches is one of the stems
+pub low_stem : (xs : List Stem) (bs : List Branch) (k : ℕ) → branches_of xs ≡ bs → k < length bs → k < length xs
+low_stem xs bs k same low = let many = as_many xs in let n : length (branches_of xs) ≡ length bs = ap (λ (z : List Branch). length z) same in omega (arith, low, many, n)

@@ -1,0 +1,33 @@
+use Rattle.std.proofs.Common.{◌∙◌, sym, ap, take, Vec, Global}
+use Rattle.hub_model.specs.Revision.{Revision}
+use Rattle.hub_revtree.specs.declared.stem.Stem.{Stem}
+use Rattle.hub_revtree.proofs.JoinLemmas.{Brings, brought_edit, brought_stems, met_brings, new_brings}
+use Rattle.hub_revtree.proofs.branches.Branches.push.Goals as goal
+use Rattle.hub_revtree.proofs.branches.Branches.push.Goals.{in-Some, in_default}
+
+-- the stem brings what is new of the path
+brings : (c : goal.After-push_reserved) → Brings c.self.inside.stems.items c.args.path (record { revisions = c.match-met.revisions; parent = c.match-met.parent; deleted = c.args.deleted; body = c.args.body })
+brings c =
+    let xs = c.self.inside.stems.items in
+    let legal = rw (sym c.self.view_is) at c.requires.legal in
+    let ok = rw (sym c.self.view_is) at c.requires.acceptable in
+    let stem : Stem = record { revisions = c.match-met.revisions; parent = c.match-met.parent; deleted = c.args.deleted; body = c.args.body } in
+    elim c.match-met.branch [
+      | in-Some w ↦
+          let met = rw c.as_slice.ensures.value at w.in-Some.ensures in
+          met_brings xs c.self.invariant legal c.args.path c.revisions.result.now c.args.deleted c.args.body ok c.revisions.ensures stem w.in-Some.met.at w.in-Some.met.place met.new met.within met.same
+          (ap (λ (v : Vec Revision Global). v.items) w.revisions-is ∙ w.shrink_to_fit.ensures.items ∙ w.truncate.ensures.items ∙ ap (take w.in-Some.met.at) c.into_revisions-revisions.ensures)
+          w.parent-is
+      | in_default w ↦
+          new_brings xs c.self.invariant legal c.args.path c.revisions.result.now c.args.deleted c.args.body ok c.revisions.ensures stem (rw c.as_slice.ensures.value at w.in_default.ensures.none)
+          (ap (λ (v : Vec Revision Global). v.items) w.revisions-is ∙ c.into_revisions-revisions.ensures)
+          w.parent-is
+    ]
+
+pub invariant_of-self : goal.invariant_of-self
+invariant_of-self c = rw c.push_reserved.ensures.items (brought_stems c.self.inside.stems.items c.self.invariant (rw (sym c.self.view_is) at c.requires.legal) c.args.path _ (brings c))
+
+pub returns : goal.returns
+returns c =
+    rw (c.push_reserved.ensures.items, sym c.self.view_is)
+    (brought_edit c.self.inside.stems.items c.self.invariant (rw (sym c.self.view_is) at c.requires.legal) c.args.path _ (brings c))

@@ -1,0 +1,229 @@
+//! The stored edits of a document, which share what stands behind them.
+
+ghost use Rattle.std.specs.Prelude.{◌≡◌, ◌≤◌, ◌<◌, ◌++◌, ◌∷◌, Some, [], ◌-◌, ◌^◌, length, min, find, option_map, option_and_then, slice_get, IfOk, OnOk, OnErr};
+ghost use Rattle.std.specs.List.{list_any, list_all};
+ghost use Rattle.hub_model.specs.Journal.{IsAcceptable, IsLegal};
+ghost use Rattle.hub_model.specs.Leaves.{is_behind_head as stands_behind_head};
+ghost use Rattle.hub_model.specs.Missing.{highest as highest_of};
+ghost use Rattle.hub_model.specs.Path.{IsHistory, IsPath, agrees as agrees_with, is_first, names};
+ghost use Rattle.hub_revtree.specs.Winner.{head_in};
+ghost use Rattle.hub_revtree.specs.Branch.{edit_of, edits_in, unnamed_in};
+ghost use Rattle.hub_revtree.specs.Count.{revision_count as count_of};
+ghost use Rattle.hub_revtree.specs.Extend.{line_to};
+ghost use Rattle.hub_revtree.specs.Tree.{nameless, tip, tip_of};
+
+use crate::heads::StoredEdit;
+use crate::leaf::Winner;
+use crate::stem::Stem;
+use crate::stems::{append_from, first_known, headed, is_behind, is_line, place_of};
+use hub_document::{Body, Path, RevId};
+use std::alloc::{AllocError, Global};
+use std::marker::Model;
+
+/// The stored edits, in the order in which they came. An edit keeps the revisions that it brought, and
+/// shares those behind them with the edit that brought these.
+#[derive(Debug, Drop)]
+pub(crate) struct Branches {
+    stems: Vec<Stem>,
+}
+
+impl Model for Branches {
+    ghost use Rattle.std.specs.Prelude.{◌-◌, vec_len, vec_capacity};
+    ghost use Rattle.hub_revtree.specs.Branch.{Storage};
+
+    ghost Value = { Storage };
+
+    ghost use Rattle.hub_revtree.specs.Stem.{AreStems, branches_of};
+
+    ghost view = { λ a. record { list = branches_of a.stems.items; spare = vec_capacity a.stems - vec_len a.stems } };
+
+    ghost invariant = { λ a. AreStems a.stems.items };
+}
+
+// An edit as it is lent.
+fn stored(stem: &Stem) -> StoredEdit<'_>
+    requires { IsPath stem.now.revisions.items }
+    ensures rev { slice_get stem.now.revisions.items 0 ≡ Some result.rev.now }
+    ensures deleted { result.deleted ≡ stem.now.deleted }
+    ensures body { result.body.now ≡ stem.now.body }
+{
+    StoredEdit {
+        rev: &stem.revisions[0],
+        deleted: stem.deleted,
+        body: &stem.body,
+    }
+}
+
+impl Branches {
+    /// No edits, and no memory for one.
+    pub(crate) fn new(alloc: Global) -> Branches
+        ensures { result.list ≡ [] }
+    {
+        Branches {
+            stems: Vec::new(alloc),
+        }
+    }
+
+    /// What they take their memory from.
+    pub(crate) fn allocator(&self) -> Global {
+        *self.stems.allocator()
+    }
+
+    /// How many there are.
+    pub(crate) fn len(&self) -> usize
+        ensures { result ≡ length self.now.list }
+    {
+        self.stems.len()
+    }
+
+    /// How many revisions are kept, each once. One step an edit.
+    pub(crate) fn revision_count(&self) -> usize
+        ensures { result ≡ min (count_of (edits_in self.now.list)) (2 ^ 64 - 1) }
+    {
+        let mut count = 0usize;
+        for stem in &self.stems {
+            count = count.saturating_add(stem.revisions.len());
+        }
+        count
+    }
+
+    /// The edit of this number. Constant time.
+    pub(crate) fn edit(&self, at: usize) -> Option<StoredEdit<'_>>
+        ensures { option_map (λ e. tip e.rev.now e.deleted e.body.now) result ≡ option_map (λ b. tip_of (edit_of b)) (slice_get self.now.list at) }
+    {
+        let stem = self.stems.as_slice().get(at)?;
+        Some(stored(stem))
+    }
+
+    /// The edit that the revision heads. One look an edit.
+    pub(crate) fn headed(&self, rev: &RevId) -> Option<StoredEdit<'_>>
+        ensures { option_map (λ e. tip e.rev.now e.deleted e.body.now) result ≡ option_map (λ b. tip_of (edit_of b)) (find (λ b. is_first rev.now b.path) self.now.list) }
+    {
+        let stem = headed(self.stems.as_slice(), rev)?;
+        Some(stored(stem))
+    }
+
+    /// The revision of the edit of this number, and its mark. Constant time.
+    pub(crate) fn head(&self, at: usize) -> Winner
+        requires { at < length self.now.list }
+        ensures { option_and_then head_in (slice_get self.now.list at) ≡ Some result }
+    {
+        let edit = stored(&self.stems[at]);
+        Winner {
+            rev: *edit.rev,
+            deleted: edit.deleted,
+        }
+    }
+
+    /// Whether a path names the revision. One look an edit.
+    pub(crate) fn is_named(&self, rev: &RevId) -> bool
+        ensures { result ≡ list_any (λ b. names b.path rev.now) self.now.list }
+    {
+        place_of(self.stems.as_slice(), rev).is_some()
+    }
+
+    /// Whether the revision stands behind a head. One look an edit.
+    pub(crate) fn is_behind(&self, rev: &RevId) -> bool
+        ensures { result ≡ list_any (λ b. stands_behind_head rev.now (edit_of b)) self.now.list }
+    {
+        is_behind(self.stems.as_slice(), rev)
+    }
+
+    /// Puts the revision and all that stands behind it behind what the vector holds; nothing where no
+    /// path names it. It costs a look an edit, and what it puts there.
+    pub(crate) fn append_line(&self, rev: &RevId, line: &mut Vec<RevId>) -> Result<(), AllocError>
+        requires { IsLegal (edits_in self.now.list) }
+        ensures { OnOk result (line.new.items ≡ line.old.items ++ line_to (edits_in self.now.list) (Some rev.now)) }
+    {
+        match place_of(self.stems.as_slice(), rev) {
+            Some(place) => append_from(self.stems.as_slice(), place, line),
+            None => Ok(()),
+        }
+    }
+
+    /// Whether the path agrees with all stored ones. It costs a look an edit for each of the path's
+    /// revisions that no path names, and the number of the others.
+    pub(crate) fn agrees_with_all(&self, path: &Path) -> bool
+        requires legal { IsLegal (edits_in self.now.list) }
+        requires history { IsHistory path.now }
+        ensures { result ≡ list_all (λ b. agrees_with path.now b.path) self.now.list }
+    {
+        let stems = self.stems.as_slice();
+        let revisions = path.revisions();
+        match first_known(stems, revisions) {
+            Some(met) => is_line(stems, met.place, &revisions[met.at..]),
+            None => true,
+        }
+    }
+
+    /// Makes room for one more edit: exactly for the first, since most documents have one.
+    pub(crate) fn make_room(&mut self) -> Result<(), AllocError>
+        ensures list { self.new.list ≡ self.old.list }
+        ensures room { OnOk result (1 ≤ self.new.spare) }
+    {
+        if self.stems.is_empty() {
+            self.stems.try_reserve_exact(1)
+        } else {
+            self.stems.try_reserve(1)
+        }
+    }
+
+    /// Takes an edit, in the room that was made for it: it takes no new memory, and gives back that of
+    /// the revisions which are known. It costs a look an edit for each of the path's revisions that no
+    /// path names, and the path's length.
+    pub(crate) fn push(&mut self, path: Path, deleted: bool, body: Body)
+        requires legal { IsLegal (edits_in self.old.list) }
+        requires acceptable { IsAcceptable (edits_in self.old.list) (nameless path deleted body) }
+        requires room { 1 ≤ self.old.spare }
+        ensures { edits_in self.new.list ≡ edits_in self.old.list ++ nameless path deleted body ∷ [] }
+    {
+        let mut parent = None;
+        let met = first_known(self.stems.as_slice(), path.revisions());
+        let mut revisions = path.into_revisions();
+        if let Some(met) = met {
+            revisions.truncate(met.at);
+            revisions.shrink_to_fit();
+            parent = Some(met.place);
+        }
+        self.stems.push_reserved(Stem {
+            revisions,
+            parent,
+            deleted,
+            body,
+        });
+    }
+}
+
+/// Those of the revisions that no path names, in the same order. One look an edit for each.
+pub(crate) fn unnamed(
+    alloc: Global,
+    branches: &Branches,
+    revs: &[RevId],
+) -> Result<Vec<RevId>, AllocError>
+    ensures ok { IfOk result (λ found. found.items ≡ unnamed_in branches.now.list revs.now) }
+    ensures memory { OnErr result (¬ (unnamed_in branches.now.list revs.now ≡ [])) }
+{
+    let mut found = Vec::new(alloc);
+    for rev in revs {
+        if branches.is_named(rev) {
+            continue;
+        }
+        found.push(*rev)?;
+    }
+    Ok(found)
+}
+
+/// The greatest generation of those of the revisions that no path names; 0 where there is none. One
+/// look an edit for each.
+pub(crate) fn highest_unnamed(branches: &Branches, revs: &[RevId]) -> u16
+    ensures { result ≡ highest_of (unnamed_in branches.now.list revs.now) }
+{
+    let mut highest = 0;
+    for rev in revs {
+        if branches.is_named(rev) {
+            continue;
+        }
+        highest = rev.generation().max(highest);
+    }
+    highest
+}

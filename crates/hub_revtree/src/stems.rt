@@ -1,0 +1,136 @@
+//! The revisions of a tree, as its edits brought them.
+
+ghost use Rattle.std.specs.Prelude.{◌≡◌, ◌++◌, ◌↔◌, List, Some, false, take, find, slice_get, option_map, IsTrue, IfSome, IfNone, OnOk};
+ghost use Rattle.std.specs.List.{list_any};
+ghost use Rattle.hub_model.specs.Revision.{Revision};
+ghost use Rattle.hub_model.specs.Path.{is_first};
+ghost use Rattle.hub_revtree.specs.Stem.{AreStems, IsWithin, branches_of, has_revision, is_at as is_revision_at, is_behind_newest, path_from, revisions_at};
+
+use crate::stem::{Place, Stem};
+use hub_document::RevId;
+use std::alloc::AllocError;
+
+/// Where a path meets the stored ones: its first known revision, counted from its head, and where that
+/// stands.
+#[derive(Clone, Copy, Debug)]
+pub(crate) struct Meeting {
+    pub(crate) at: usize,
+    pub(crate) place: Place,
+}
+
+/// Where the revision stands; None where no edit brought it. One look an edit.
+pub(crate) fn place_of(stems: &[Stem], rev: &RevId) -> Option<Place>
+    requires { AreStems stems.now }
+    ensures found { IfSome result (λ place. slice_get (revisions_at stems.now place.stem) place.at ≡ Some rev.now) }
+    ensures none { IfNone result (has_revision stems.now rev.now ≡ false) }
+{
+    for (number, stem) in stems.iter().enumerate() {
+        if let Some(at) = stem.position(rev) {
+            return Some(Place { stem: number, at });
+        }
+    }
+    None
+}
+
+// Whether the revision is the one at the place. Constant time.
+fn is_at(stems: &[Stem], place: Option<Place>, rev: &RevId) -> bool
+    requires { IfSome place (IsWithin stems.now) }
+    ensures { result ≡ is_revision_at stems.now rev.now place }
+{
+    match place {
+        Some(place) => rev.is_same(&stems[place.stem].revisions[place.at]),
+        None => false,
+    }
+}
+
+/// Whether the revision stands behind the newest of a stem. One look an edit.
+pub(crate) fn is_behind(stems: &[Stem], rev: &RevId) -> bool
+    requires { AreStems stems.now }
+    ensures { result ≡ list_any (is_behind_newest stems.now rev.now) stems.now }
+{
+    for stem in stems {
+        if stem.has_behind(rev) || is_at(stems, stem.parent, rev) {
+            return true;
+        }
+    }
+    false
+}
+
+/// The stem whose newest revision this is. One look an edit.
+pub(crate) fn headed<'a>(stems: &'a [Stem], rev: &RevId) -> Option<&'a Stem>
+    ensures { option_map (λ s. s.now) result ≡ find (λ s. is_first rev.now s.revisions.items) stems.now }
+{
+    stems.iter().find(|stem| stem.is_head(rev))
+}
+
+/// Puts the revision at the place, and all that stands behind it, behind what the vector holds. It
+/// costs their number.
+pub(crate) fn append_from(
+    stems: &[Stem],
+    place: Place,
+    line: &mut Vec<RevId>,
+) -> Result<(), AllocError>
+    requires stems { AreStems stems.now }
+    requires within { IsWithin stems.now place }
+    ensures { OnOk result (line.new.items ≡ line.old.items ++ path_from (branches_of stems.now) (Some place)) }
+{
+    let mut next = Some(place);
+    while let Some(place) = next {
+        let stem = &stems[place.stem];
+        line.extend_from_slice(&stem.revisions.as_slice()[place.at..])?;
+        next = stem.parent;
+    }
+    Ok(())
+}
+
+// What stands behind the first of these revisions, where they begin with the others. It costs the
+// others' number.
+fn behind_prefix<'a>(revisions: &'a [RevId], prefix: &[RevId]) -> Option<&'a [RevId]>
+    ensures found { IfSome result (λ rest. revisions.now ≡ prefix.now ++ rest.now) }
+    ensures none { IfNone result ((rest : List Revision) → ¬ (revisions.now ≡ prefix.now ++ rest)) }
+{
+    let mut rest = revisions;
+    for rev in prefix {
+        let (first, others) = rest.split_first()?;
+        if !first.is_same(rev) {
+            return None;
+        }
+        rest = others;
+    }
+    Some(rest)
+}
+
+/// Whether these are the revision at the place and all that stands behind it. It costs their number.
+pub(crate) fn is_line(stems: &[Stem], place: Place, revisions: &[RevId]) -> bool
+    requires stems { AreStems stems.now }
+    requires within { IsWithin stems.now place }
+    ensures { IsTrue result ↔ (revisions.now ≡ path_from (branches_of stems.now) (Some place)) }
+{
+    let mut rest = revisions;
+    let mut next = Some(place);
+    while let Some(place) = next {
+        let stem = &stems[place.stem];
+        let Some(behind) = behind_prefix(rest, &stem.revisions.as_slice()[place.at..]) else {
+            return false;
+        };
+        rest = behind;
+        next = stem.parent;
+    }
+    rest.is_empty()
+}
+
+/// The first of the revisions that an edit brought. One look an edit for each revision up to it.
+pub(crate) fn first_known(stems: &[Stem], revisions: &[RevId]) -> Option<Meeting>
+    requires { AreStems stems.now }
+    ensures new { IfSome result (λ m. list_any (has_revision stems.now) (take m.at revisions.now) ≡ false) }
+    ensures within { IfSome result (λ m. IsWithin stems.now m.place) }
+    ensures same { IfSome result (λ m. slice_get revisions.now m.at ≡ slice_get (revisions_at stems.now m.place.stem) m.place.at) }
+    ensures none { IfNone result (list_any (has_revision stems.now) revisions.now ≡ false) }
+{
+    for (at, rev) in revisions.iter().enumerate() {
+        if let Some(place) = place_of(stems, rev) {
+            return Some(Meeting { at, place });
+        }
+    }
+    None
+}
