@@ -1,5 +1,5 @@
 -- The stems keep as many revisions as the edits have different ones.
-use Rattle.std.proofs.Common.{◌≡◌, ℕ, zero, suc, ◌+◌, ◌<◌, ◌≤◌, List, [], ◌∷◌, ◌++◌, length, get_or, take, Bool, true, false, inl, inr, refl, sym, ap, ap₂, ◌∙◌, subst, append_assoc, append-nil, add-one, arith}
+use Rattle.std.proofs.Common.{◌≡◌, ℕ, zero, suc, ◌+◌, ◌<◌, ◌≤◌, List, [], ◌∷◌, ◌++◌, length, get_or, take, Bool, true, false, inl, inr, refl, sym, ap, ◌∙◌, subst, append_assoc, append-nil, add-one, arith}
 use Rattle.std.specs.Prelude.{Some, slice_get, min}
 use Rattle.std.specs.List.{list_any}
 use Rattle.std.proofs.lemmas.Bool.{cases_Bool}
@@ -12,7 +12,7 @@ use Rattle.hub_model.specs.Journal.{Edit, is_known}
 use Rattle.hub_model.specs.Missing.{missing}
 use Rattle.hub_model.proofs.Tests.{or_false, or_left, or_right, same_is, same_self}
 use Rattle.hub_revtree.specs.declared.stem.Stem.{Stem}
-use Rattle.hub_revtree.specs.Branch.{Branch, edit_of, edits_in}
+use Rattle.hub_revtree.specs.Branch.{edit_of, edits_in}
 use Rattle.hub_revtree.specs.Count.{count_after, revision_count}
 use Rattle.hub_revtree.specs.Stem.{AreStems, branch_of, branches_of, has_revision, path_from}
 use Rattle.hub_revtree.proofs.StemLemmas.{from_end, from_named, front, get_last, named_in, one_stem_more}
