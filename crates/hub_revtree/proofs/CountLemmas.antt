@@ -60,9 +60,9 @@ counted_more xs s ih a =
     let bs = branches_of xs in
     let fresh = subst (λ z. list_any (has_revision z) s.revisions.items ≡ false) (take-append_seam xs (s ∷ [])) (a.fresh (length xs) s (get_last xs s)) in
     let brought : missing (edits_in bs) [] (branch_of bs s).path ≡ s.revisions.items =
-        all_new (edits_in bs) s.revisions.items (path_from bs s.parent)
-        (λ r n. known_by bs r ∙ (named_in xs r ∙ none_of (has_revision xs) s.revisions.items r fresh n))
-        (λ r n. known_by bs r ∙ from_named bs s.parent r n) in
+    all_new (edits_in bs) s.revisions.items (path_from bs s.parent)
+    (λ r n. known_by bs r ∙ (named_in xs r ∙ none_of (has_revision xs) s.revisions.items r fresh n))
+    (λ r n. known_by bs r ∙ from_named bs s.parent r n) in
     let number : length (missing (edits_in bs) [] (branch_of bs s).path) ≡ length s.revisions.items = ap length brought in
     let more : revision_count (edits_in bs ++ edit_of (branch_of bs s) ∷ []) ≡ revision_count (edits_in bs) + length (missing (edits_in bs) [] (branch_of bs s).path) = count_more [] (edits_in bs) (edit_of (branch_of bs s)) in
     let so_far : kept xs ≡ revision_count (edits_in bs) = ih (front xs s a) in
