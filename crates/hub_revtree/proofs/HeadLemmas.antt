@@ -1,5 +1,5 @@
 -- What is lent of an edit, among the branches and among the edits that they are.
-use Rattle.std.proofs.Common.{◌≡◌, ℕ, List, [], ◌∷◌, Bool, Contains, inl, inr, refl, ap, ◌∙◌, subst, sym}
+use Rattle.std.proofs.Common.{◌≡◌, ℕ, List, [], ◌∷◌, Bool, true, Contains, inl, inr, refl, ap, ◌∙◌, subst, sym}
 use Rattle.std.specs.Prelude.{Option, Some, None, slice_get, find, option_map}
 use Rattle.std.proofs.lemmas.Bool.{cases_Bool}
 use Rattle.std.proofs.lemmas.Option.{same_Some, slice_get-map}
