@@ -16,7 +16,7 @@ push-requires c =
     }
 
 pub invariant_of-self : goal.invariant_of-self
-invariant_of-self c = rw c.push.ensures (record {
-  legal = legal_more _ _ c.self.invariant.legal (rw (sym c.self.view_is, sym c.ready.view_is) at c.requires.acceptable);
-  first = rw (sym c.push.ensures) (c.best_leaf.ensures ∙ ap winner_of (sym (leaves_by c.push.new.self.list)));
-})
+invariant_of-self c = record {
+  legal = rw c.push.ensures (legal_more _ _ c.self.invariant.legal (rw (sym c.self.view_is, sym c.ready.view_is) at c.requires.acceptable));
+  first = c.best_leaf-self-inside.ensures ∙ ap winner_of (sym (leaves_by c.push.new.self.list));
+}
