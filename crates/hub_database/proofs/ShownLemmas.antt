@@ -18,7 +18,8 @@ use Rattle.hub_document.specs.declared.doc.Doc.{Doc}
 use Rattle.hub_document.specs.declared.open_revs.OpenRevs.TheVariants.{All, Listed}
 use Rattle.hub_revtree.specs.declared.leaf.Winner.{Winner}
 use Rattle.hub_model.specs.Row.{doc_of}
-use Rattle.hub_revtree.specs.Tree.{IsRevTree, nameless}
+use Rattle.hub_revtree.specs.Extend.{path_to}
+use Rattle.hub_revtree.specs.Tree.{IsRevTree, Tip, tip, tip_of}
 use Rattle.hub_revtree.specs.Winner.{winner_of}
 use Rattle.hub_database.specs.declared.document.Document.{Document}
 use Rattle.hub_database.specs.declared.answers.Lookup.TheVariants as looked
@@ -59,48 +60,72 @@ head_first : (p : List Revision) (r h : Revision) → is_first r p ≡ true → 
 head_first [] r h t e = absurd (cc)
 head_first (x ∷ p) r h t e = same_is r x t ∙ same_Some x h e
 
-above_zero : (p : List Revision) (r : Revision) → IsPath p → IsFirst p r → 1 ≤ r.generation
-above_zero [] r h i = absurd i
-above_zero (x ∷ []) r h i = subst (λ (z : Revision). 1 ≤ z.generation) i h
-above_zero (x ∷ s ∷ p) r h i = subst (λ (z : Revision). 1 ≤ z.generation) i (let g = h.0 in omega arith)
-
-line_first : (es : List Edit) (n : ℕ) (r : Revision) → 1 ≤ n → slice_get (line es n (Some r)) 0 ≡ Some r
-line_first es zero r h = absurd (omega arith)
-line_first es (suc n) r h = refl
+-- what is lent of an edit that is found
+lent : {P : Type 0} (o : Option Edit) (t : Tip) (p : Option (List Revision)) → Some t ≡ option_map tip_of o
+    → Some p ≡ option_map (λ e. Some e.path) o
+    → ((e : Edit) → o ≡ Some e → t ≡ tip_of e → p ≡ Some e.path → P) → P
+lent None t p same on next = absurd (none-some t (sym same))
+lent (Some e) t p same on next = next e refl (same_Some t (tip_of e) same) (same_Some p (Some e.path) on)
 
 -- a document that is copied from the edit that a revision heads
-module _ (d : Document) (r : Revision) (path : List Revision) (deleted : Bool) (body : List ℕ)
-    (found : Some (nameless path deleted body) ≡ find (is_head r) (edits_of d.tree.edits [])) (h : Revision)
-    (first : slice_get path 0 ≡ Some h) (good : IsHistory path) where
-  is : (is_first r path ≡ true) × Contains (edits_of d.tree.edits []) (nameless path deleted body)
-  is = find_is (is_head r) (edits_of d.tree.edits []) (nameless path deleted body) (sym found)
+module _ (d : Document) (r h : Revision) (deleted : Bool) (body : List ℕ) where
+  abbrev edits : List Edit
+  edits = d.tree.edits
 
-  known : is_known d.tree.edits [] r ≡ true
-  known =
-      at_any (λ (e : Edit). names e.path r) (edits_of d.tree.edits []) (nameless path deleted body) is.1
-      (is_named path r (first_in path r (head_is path r is.0)))
+  module _ (e : Edit) (found : find (is_head r) (edits_of edits []) ≡ Some e) (same : tip h deleted body ≡ tip_of e)
+      (on : path_to edits h ≡ Some e.path) where
+    is : (is_first r e.path ≡ true) × Contains (edits_of edits []) e
+    is = find_is (is_head r) (edits_of edits []) e found
 
-  whole : (revs : Bool)
-      → history_of revs d.tree.edits r ≡ (if revs then Some (line_of d.tree.edits [] r) else None)
-  whole true = ap (λ b. if b then Some (line_of d.tree.edits [] r) else None) known
-  whole false = refl
+    known : is_known edits [] r ≡ true
+    known =
+        at_any (λ (f : Edit). names f.path r) (edits_of edits []) e is.1
+        (is_named e.path r (first_in e.path r (head_is e.path r is.0)))
 
-  head : head_of (record { id = d.id; path = line_of d.tree.edits [] r; deleted = deleted; body = body })
-      ≡ Some h
-  head =
-      line_first (edits_of d.tree.edits []) r.generation r
-      (above_zero path r good.falls (head_is path r is.0))
-      ∙ ap Some (head_first path r h is.0 first)
+    rev : h ≡ r
+    rev = sym (head_first e.path r h is.0 (sym (ap (λ (t : Tip). t.rev) same)))
 
-  pub doc_found : (revs : Bool) (history : Option (List Revision)) → history ≡ history_of revs d.tree.edits r
+    line_is : line_of edits [] r ≡ e.path
+    line_is =
+        same_Some (line_of edits [] r) e.path
+        (sym (ap (λ b. if b then Some (line_of edits [] r) else None) known) ∙ subst (λ z. path_to edits z ≡ Some e.path) rev on)
+
+    whole : (revs : Bool)
+        → history_of revs edits r ≡ (if revs then Some (line_of edits [] r) else None)
+    whole true = ap (λ b. if b then Some (line_of edits [] r) else None) known
+    whole false = refl
+
+    head : Some h ≡ slice_get (line_of edits [] r) 0
+    head = ap (λ (t : Tip). t.rev) same ∙ ap (λ (p : List Revision). slice_get p 0) (sym line_is)
+
+    doc_of_edit : (revs : Bool) (history : Option (List Revision)) → history ≡ history_of revs edits r
+        → Some (record { id = d.id; rev = Some h; path = history; deleted = deleted; body = body })
+        ≡ option_map (doc_shown revs) (shown_in d r)
+    doc_of_edit revs history is_so =
+        ap
+        (λ (p : Option (List Revision)). Some (record { id = d.id; rev = Some h; path = p; deleted = deleted; body = body }))
+        (is_so ∙ whole revs)
+        ∙ (ap (λ (o : Option Revision). Some (record { id = d.id; rev = o; path = if revs then Some (line_of edits [] r) else None; deleted = deleted; body = body })) head
+        ∙ (ap (λ (t : Tip). Some (record { id = d.id; rev = slice_get (line_of edits [] r) 0; path = if revs then Some (line_of edits [] r) else None; deleted = t.deleted; body = t.body })) same
+        ∙ ap (λ o. option_map (doc_shown revs) (option_map (named d.id) (shown_of edits [] r o))) (sym found)))
+
+  pub doc_found : Some (tip h deleted body) ≡ option_map tip_of (find (is_head r) (edits_of edits []))
+      → Some (path_to edits h) ≡ option_map (λ e. Some e.path) (find (is_head r) (edits_of edits []))
+      → (revs : Bool) (history : Option (List Revision)) → history ≡ history_of revs edits r
       → Some (record { id = d.id; rev = Some h; path = history; deleted = deleted; body = body })
       ≡ option_map (doc_shown revs) (shown_in d r)
-  doc_found revs history is_so =
-      ap
-      (λ (p : Option (List Revision)). Some (record { id = d.id; rev = Some h; path = p; deleted = deleted; body = body }))
-      (is_so ∙ whole revs)
-      ∙ (ap (λ (o : Option Revision). Some (record { id = d.id; rev = o; path = if revs then Some (line_of d.tree.edits [] r) else None; deleted = deleted; body = body })) (sym head)
-      ∙ ap (λ o. option_map (doc_shown revs) (option_map (named d.id) (shown_of d.tree.edits [] r o))) found)
+  doc_found same on revs history is_so =
+      lent (find (is_head r) (edits_of edits [])) (tip h deleted body) (path_to edits h) same on
+      (λ e found tips path. doc_of_edit e found tips path revs history is_so)
+
+  pub no_doc : None ≡ option_map tip_of (find (is_head r) (edits_of edits [])) → (revs : Bool)
+      → None ≡ option_map (doc_shown revs) (shown_in d r)
+  no_doc same revs = from (find (is_head r) (edits_of edits [])) refl same
+    where
+      from : (o : Option Edit) → find (is_head r) (edits_of edits []) ≡ o → None ≡ option_map tip_of o
+          → None ≡ option_map (doc_shown revs) (shown_in d r)
+      from None q e = rw q refl
+      from (Some f) q e = absurd (none-some (tip_of f) e)
 
 -- the edit of a winner is the one that its revision heads
 module _ (J : List Edit) (id : List ℕ) (legal : IsLegal J) where
@@ -255,20 +280,20 @@ module _ (edits : List Edit) (tree : IsRevTree edits) (w : Winner)
       ap (λ r. find (is_head r) (edits_of edits [])) rev
       ∙ leaf_headed edits [] tree.legal l (subst (λ ls. Contains ls l) (sym q) (contains_here l others))
 
-  pub members_found : (path : List Revision) (deleted : Bool) (body : List ℕ)
-      → Some (nameless path deleted body) ≡ find (is_head w.rev) (edits_of edits [])
+  pub members_found : (h : Revision) (deleted : Bool) (body : List ℕ)
+      → Some (tip h deleted body) ≡ option_map tip_of (find (is_head w.rev) (edits_of edits []))
       → Some body ≡ doc_of true (leaves_of edits [])
-  members_found path deleted body found = from (leaves_of edits []) refl
+  members_found h deleted body found = from (leaves_of edits []) refl
     where
       from : (ls : List Leaf) → leaves_of edits [] ≡ ls → Some body ≡ doc_of true ls
       from [] q = absurd (none-some w (sym (is ∙ ap winner_of q)))
       from (l ∷ others) q =
-          ap (λ (e : Edit). Some e.body)
-          (same_Some (nameless path deleted body) l.edit (found ∙ winner_edit l others q))
+          ap (λ (t : Tip). Some t.body)
+          (same_Some (tip h deleted body) (tip_of l.edit) (found ∙ ap (option_map tip_of) (winner_edit l others q)))
 
-  pub members_none : None ≡ find (is_head w.rev) (edits_of edits []) → ⊥
+  pub members_none : None ≡ option_map tip_of (find (is_head w.rev) (edits_of edits [])) → ⊥
   members_none none = from (leaves_of edits []) refl
     where
       from : (ls : List Leaf) → leaves_of edits [] ≡ ls → ⊥
       from [] q = none-some w (sym (is ∙ ap winner_of q))
-      from (l ∷ others) q = none-some l.edit (none ∙ winner_edit l others q)
+      from (l ∷ others) q = none-some (tip_of l.edit) (none ∙ ap (option_map tip_of) (winner_edit l others q))

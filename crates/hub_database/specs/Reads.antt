@@ -28,6 +28,10 @@ doc_shown revs e =
       body = e.body;
     }
 
+-- a document without its history
+abbrev pub bare_doc : List ℕ → Revision → Bool → List ℕ → Doc
+bare_doc id rev deleted body = record { id = id; rev = Some rev; path = None; deleted = deleted; body = body }
+
 -- what is shown of a revision, where it has a body
 abbrev pub open_rev_of : Bool → Revision → Option Edit → OpenRev
 open_rev_of revs r None = opened.Missing r

@@ -1,9 +1,8 @@
 //! The edits of a database by their sequences.
 
-ghost use Rattle.std.specs.Prelude.{◌≡◌, IfOk, IsSome, OnErr, option_map};
-ghost use Rattle.hub_revtree.specs.Tree.{nameless};
-ghost use Rattle.hub_database.specs.Filed.{named};
-ghost use Rattle.hub_database.specs.Reads.{entry_at, entry_of, entry_doc_of};
+ghost use Rattle.std.specs.Prelude.{◌≡◌, false, Some, IfOk, IsSome, OnErr, option_map};
+ghost use Rattle.hub_revtree.specs.Extend.{path_to};
+ghost use Rattle.hub_database.specs.Reads.{bare_doc, doc_shown, entry_at, entry_of, entry_doc_of};
 ghost use Rattle.hub_database.specs.Store.{IsStore, edits_of_store};
 
 use crate::contents::Contents;
@@ -17,8 +16,10 @@ impl Store {
     // The edit of this sequence, with its document. Constant time.
     fn edit(&self, seq: u64) -> Option<(&Document, StoredEdit<'_>)>
         requires { IsStore self.now }
-        ensures { option_map (λ p. named p.0.now.id (nameless p.1.path.now p.1.deleted p.1.body.now)) result
-            ≡ entry_at (edits_of_store self.now) seq }
+        ensures edit { option_map (λ p. bare_doc p.0.now.id p.1.rev.now p.1.deleted p.1.body.now) result
+            ≡ option_map (doc_shown false) (entry_at (edits_of_store self.now) seq) }
+        ensures path { option_map (λ p. path_to p.0.now.tree.edits p.1.rev.now) result
+            ≡ option_map (λ e. Some e.path) (entry_at (edits_of_store self.now) seq) }
     {
         let at = seq.checked_sub(1)?;
         let entry = self.journal.get(at as usize)?;
@@ -35,11 +36,11 @@ impl Contents {
         ensures { option_map (λ p. (p.0.now, p.1)) result ≡ entry_of self.now.journal seq }
     {
         let (document, edit) = self.store.edit(seq)?;
-        Some((document.id.as_str(), edit.path.head()))
+        Some((document.id.as_str(), *edit.rev))
     }
 
-    /// The edit of this sequence, with its history; None of a sequence that no edit has. It costs
-    /// a copy of the edit.
+    /// The edit of this sequence, with its history; None of a sequence that no edit has. It costs a
+    /// look an edit of its document, and a copy.
     pub fn entry_doc(&self, seq: u64) -> Result<Option<Doc>, AllocError>
         ensures doc { IfOk result (λ doc. doc ≡ entry_doc_of self.now.journal seq) }
         ensures memory { OnErr result (IsSome (entry_at self.now.journal seq)) }
@@ -50,8 +51,8 @@ impl Contents {
         };
         Ok(Some(Doc {
             id: document.id.copy(alloc)?,
-            rev: Some(edit.path.head()),
-            path: Some(edit.path.copy(alloc)?),
+            rev: Some(*edit.rev),
+            path: document.tree.path(alloc, edit.rev)?,
             deleted: edit.deleted,
             body: edit.body.copy(alloc)?,
         }))

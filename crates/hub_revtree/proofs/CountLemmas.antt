@@ -1,5 +1,5 @@
 -- The stems keep as many revisions as the edits have different ones.
-use Rattle.std.proofs.Common.{◌≡◌, ℕ, zero, suc, ◌+◌, ◌<◌, ◌≤◌, List, [], ◌∷◌, ◌++◌, length, get_or, take, Bool, true, false, inl, inr, refl, sym, ap, ap₂, ◌∙◌, subst, append_assoc, append-nil, add-one, arith}
+use Rattle.std.proofs.Common.{◌≡◌, ℕ, zero, suc, ◌+◌, ◌<◌, ◌≤◌, List, [], ◌∷◌, ◌++◌, length, get_or, take, Bool, true, false, inl, inr, refl, sym, ap, ◌∙◌, subst, append_assoc, append-nil, add-one, arith}
 use Rattle.std.specs.Prelude.{Some, slice_get, min}
 use Rattle.std.specs.List.{list_any}
 use Rattle.std.proofs.lemmas.Bool.{cases_Bool}
@@ -12,7 +12,7 @@ use Rattle.hub_model.specs.Journal.{Edit, is_known}
 use Rattle.hub_model.specs.Missing.{missing}
 use Rattle.hub_model.proofs.Tests.{or_false, or_left, or_right, same_is, same_self}
 use Rattle.hub_revtree.specs.declared.stem.Stem.{Stem}
-use Rattle.hub_revtree.specs.Branch.{Branch, edit_of, edits_in}
+use Rattle.hub_revtree.specs.Branch.{edit_of, edits_in}
 use Rattle.hub_revtree.specs.Count.{count_after, revision_count}
 use Rattle.hub_revtree.specs.Stem.{AreStems, branch_of, branches_of, has_revision, path_from}
 use Rattle.hub_revtree.proofs.StemLemmas.{from_end, from_named, front, get_last, named_in, one_stem_more}
@@ -60,9 +60,9 @@ counted_more xs s ih a =
     let bs = branches_of xs in
     let fresh = subst (λ z. list_any (has_revision z) s.revisions.items ≡ false) (take-append_seam xs (s ∷ [])) (a.fresh (length xs) s (get_last xs s)) in
     let brought : missing (edits_in bs) [] (branch_of bs s).path ≡ s.revisions.items =
-        all_new (edits_in bs) s.revisions.items (path_from bs s.parent)
-        (λ r n. known_by bs r ∙ (named_in xs r ∙ none_of (has_revision xs) s.revisions.items r fresh n))
-        (λ r n. known_by bs r ∙ from_named bs s.parent r n) in
+    all_new (edits_in bs) s.revisions.items (path_from bs s.parent)
+    (λ r n. known_by bs r ∙ (named_in xs r ∙ none_of (has_revision xs) s.revisions.items r fresh n))
+    (λ r n. known_by bs r ∙ from_named bs s.parent r n) in
     let number : length (missing (edits_in bs) [] (branch_of bs s).path) ≡ length s.revisions.items = ap length brought in
     let more : revision_count (edits_in bs ++ edit_of (branch_of bs s) ∷ []) ≡ revision_count (edits_in bs) + length (missing (edits_in bs) [] (branch_of bs s).path) = count_more [] (edits_in bs) (edit_of (branch_of bs s)) in
     let so_far : kept xs ≡ revision_count (edits_in bs) = ih (front xs s a) in

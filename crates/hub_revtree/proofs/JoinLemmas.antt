@@ -26,7 +26,7 @@ use Rattle.hub_revtree.proofs.StemLooks.{rest_slice}
 use Rattle.hub_revtree.proofs.TreeLemmas.{all_of_one, in_tree, known_by}
 
 -- an element at a place
-there : {A : Type 0} (xs : List A) (k : ℕ) (x : A) → slice_get xs k ≡ Some x → Contains xs x
+pub there : {A : Type 0} (xs : List A) (k : ℕ) (x : A) → slice_get xs k ≡ Some x → Contains xs x
 there xs k x e = (k, slice_get_within xs k x e, get_or_from_slice_get xs k x x e)
 
 place_in : {A : Type 0} (xs : List A) (x : A) → Contains xs x → (k : ℕ) × (slice_get xs k ≡ Some x)

@@ -78,9 +78,9 @@ module _ (xs : List Stem) (a : AreStems xs) (r : Revision) where
   to_stem (suc n) k s low e t = elim (cases_Bool (names (drop 1 s.revisions.items) r)) [
     | inl u ↦ any_at (is_behind_newest xs r) xs k s e (or_left (names (drop 1 s.revisions.items) r) (is_at xs r s.parent) u)
     | inr u ↦ elim (cases_Bool (is_first r (path_from (branches_of xs) s.parent))) [
-        | inl v ↦ any_at (is_behind_newest xs r) xs k s e (or_right (names (drop 1 s.revisions.items) r) (is_at xs r s.parent) (sym (first_of k s e) ∙ v))
-        | inr v ↦ further (to_stem n) s.parent refl v (rw u at (sym (behind_parts s (a.falling k s e)) ∙ t))
-      ]
+      | inl v ↦ any_at (is_behind_newest xs r) xs k s e (or_right (names (drop 1 s.revisions.items) r) (is_at xs r s.parent) (sym (first_of k s e) ∙ v))
+      | inr v ↦ further (to_stem n) s.parent refl v (rw u at (sym (behind_parts s (a.falling k s e)) ∙ t))
+    ]
   ]
     where
       further : ((j : ℕ) (t : Stem) → j < n → slice_get xs j ≡ Some t → names (drop 1 (branch_of (branches_of xs) t).path) r ≡ true → list_any (is_behind_newest xs r) xs ≡ true)
@@ -96,10 +96,10 @@ module _ (xs : List Stem) (a : AreStems xs) (r : Revision) where
   pub behind_in : list_any (λ b. is_behind_head r (edit_of b)) (branches_of xs) ≡ list_any (is_behind_newest xs r) xs
   behind_in = same_truth _ _
       (λ t.
-        let i = any_place (λ b. is_behind_head r (edit_of b)) (branches_of xs) t in
-        let low = slice_get_within (branches_of xs) i.0 i.1 i.2 in
-        let j = get_some xs i.0 (omega (arith, low, as_many xs)) in
-        to_stem (i.0 + 1) i.0 j.0 (omega arith) j.1 (subst (λ (z : Branch). is_behind_head r (edit_of z) ≡ true) (same_branch i.1 _ (sym i.2 ∙ shown_at xs a i.0 j.0 j.1)) i.3))
+      let i = any_place (λ b. is_behind_head r (edit_of b)) (branches_of xs) t in
+      let low = slice_get_within (branches_of xs) i.0 i.1 i.2 in
+      let j = get_some xs i.0 (omega (arith, low, as_many xs)) in
+      to_stem (i.0 + 1) i.0 j.0 (omega arith) j.1 (subst (λ (z : Branch). is_behind_head r (edit_of z) ≡ true) (same_branch i.1 _ (sym i.2 ∙ shown_at xs a i.0 j.0 j.1)) i.3))
       (λ t. let i = any_place (is_behind_newest xs r) xs t in from_stem i.0 i.1 i.2 i.3)
     where
       same_branch : (b c : Branch) → ◌≡◌ {A = Option Branch} (Some b) (Some c) → b ≡ c

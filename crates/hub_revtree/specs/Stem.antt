@@ -63,8 +63,8 @@ IsWithin stems place = place.at < length (revisions_at stems place.stem)
 pub record AreStems (stems : List Stem) : Type 0 where
   pub falling : (k : ℕ) (stem : Stem) → slice_get stems k ≡ Some stem → IsPath stem.revisions.items
   pub fresh :
-    (k : ℕ) (stem : Stem) → slice_get stems k ≡ Some stem
-    → list_any (has_revision (take k stems)) stem.revisions.items ≡ false
+      (k : ℕ) (stem : Stem) → slice_get stems k ≡ Some stem
+      → list_any (has_revision (take k stems)) stem.revisions.items ≡ false
   pub earlier :
       (k : ℕ) (stem : Stem) (place : Place) → slice_get stems k ≡ Some stem → stem.parent ≡ Some place
       → (place.stem < k) × IsWithin stems place

@@ -1,9 +1,10 @@
 -- The first of some leaves (CouchDB API reference, document revisions and conflicts).
-use Rattle.std.specs.Prelude.{ℕ, List, [], ◌∷◌, map, insert, nat_lt, Bool, true, Option, Some, None}
+use Rattle.std.specs.Prelude.{◌≡◌, ℕ, List, [], ◌∷◌, map, insert, nat_lt, Bool, true, Option, Some, None}
 use Rattle.std.specs.Prelude.{if◌then◌else◌, option_map, slice_get}
 use Rattle.std.specs.List.{list_any, position_or_len}
 use Rattle.std.specs.Ordering.{is_gt}
-use Rattle.hub_model.specs.Leaves.{Leaf, leaf_cmp}
+use Rattle.hub_model.specs.Journal.{Edit, IsLegal}
+use Rattle.hub_model.specs.Leaves.{Leaf, leaf_cmp, leaves_of}
 use Rattle.hub_revtree.specs.Branch.{Branch}
 use Rattle.hub_revtree.specs.declared.leaf.Winner.{Winner}
 
@@ -15,6 +16,11 @@ winner_of (leaf ∷ others) = Some (record { rev = leaf.rev; deleted = leaf.edit
 -- the first revision of a branch with its mark, if there is one
 abbrev pub head_in : Branch → Option Winner
 head_in branch = option_map (λ r. record { rev = r; deleted = branch.deleted }) (slice_get branch.path 0)
+
+-- what holds of a tree's edits and of the winner that it keeps
+pub record HasWinner (edits : List Edit) (winner : Option Winner) : Type 0 where
+  pub legal : IsLegal edits
+  pub first : winner ≡ winner_of (leaves_of edits [])
 
 -- whether a leaf is above the best of the others, if there are any
 abbrev pub is_better_than : Winner → Option Winner → Bool

@@ -107,7 +107,7 @@ impl RevTree {
     /// Looks what becomes of an edit that is made here, on the leaf that is named, or, without a
     /// name, on nothing where the document is unknown and on its winner where that is deleted: the
     /// edit with the revision that is made for it, with memory for it. `id` is the document's, which
-    /// the revision's hash has in it. It costs what `best` does, and the lengths of the path and the
+    /// the revision's hash has in it. It costs a look an edit, and the lengths of the path and the
     /// body.
     pub fn look_extend(
         &mut self,
@@ -139,7 +139,7 @@ impl RevTree {
     }
 
     /// Makes an edit on the leaf that is named or chosen, and takes it. An error changes nothing. It
-    /// costs what `look_extend` does.
+    /// costs what `look_extend` and `adopt` do.
     pub fn extend(
         &mut self,
         id: &DocId,

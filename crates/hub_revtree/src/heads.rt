@@ -1,8 +1,9 @@
 //! The stored edits of a tree, one by one.
 
-ghost use Rattle.std.specs.Prelude.{◌≡◌, [], find, option_map, slice_get};
+ghost use Rattle.std.specs.Prelude.{◌≡◌, [], Some, find, option_map, slice_get};
 ghost use Rattle.hub_model.specs.Journal.{edits_of};
 ghost use Rattle.hub_model.specs.Walk.{is_head};
+ghost use Rattle.hub_revtree.specs.Extend.{path_to};
 ghost use Rattle.hub_revtree.specs.Tree.{tip, tip_of};
 
 use crate::tree::RevTree;
@@ -22,7 +23,8 @@ pub struct StoredEdit<'a> {
 impl RevTree {
     /// The edit of this number, from 0 in the order in which they were taken. Constant time.
     pub fn edit(&self, at: usize) -> Option<StoredEdit<'_>>
-        ensures { option_map (λ e. tip e.rev.now e.deleted e.body.now) result ≡ option_map tip_of (slice_get self.now.edits at) }
+        ensures tip { option_map (λ e. tip e.rev.now e.deleted e.body.now) result ≡ option_map tip_of (slice_get self.now.edits at) }
+        ensures path { option_map (λ e. path_to self.now.edits e.rev.now) result ≡ option_map (λ e. Some e.path) (slice_get self.now.edits at) }
     {
         self.branches().edit(at)
     }
@@ -30,7 +32,8 @@ impl RevTree {
     /// The edit that the revision heads; None where it heads none, as an ancestor does that came
     /// inside a history alone. One look an edit.
     pub fn headed(&self, rev: &RevId) -> Option<StoredEdit<'_>>
-        ensures { option_map (λ e. tip e.rev.now e.deleted e.body.now) result ≡ option_map tip_of (find (is_head rev.now) (edits_of self.now.edits [])) }
+        ensures tip { option_map (λ e. tip e.rev.now e.deleted e.body.now) result ≡ option_map tip_of (find (is_head rev.now) (edits_of self.now.edits [])) }
+        ensures path { option_map (λ e. path_to self.now.edits e.rev.now) result ≡ option_map (λ e. Some e.path) (find (is_head rev.now) (edits_of self.now.edits [])) }
     {
         self.branches().headed(rev)
     }

@@ -1,11 +1,12 @@
 //! Trees as tables: what is done to one, what it is asked, and what it answers.
 
 mod edits;
+mod keeps;
 mod looks;
 mod merges;
 
 use crate::tests::Step::{
-    Ancestors, Body, Deleted, Knows, Leaves, Len, Make, Merge, Missing, Path, Winner,
+    Ancestors, Body, Deleted, Knows, Leaves, Len, Make, Merge, Missing, Nodes, Path, Winner,
 };
 use crate::{EditFault, MergeFault, Merged, RevTree};
 use hub_document::{Body as Members, Doc, DocId, RevId};
@@ -24,6 +25,8 @@ enum Step {
     Make(Option<&'static str>, bool, Result<&'static str, EditFault>),
     /// The number of edits.
     Len(usize),
+    /// The number of revisions that are kept.
+    Nodes(usize),
     /// The winner.
     Winner(Option<&'static str>),
     /// The leaves.
@@ -101,6 +104,16 @@ fn make(
     };
     let members = Members::empty(alloc)?;
     Ok(Some(tree.extend(&id, parent, deleted, members)))
+}
+
+// A document whose history has so many revisions.
+fn long_history(alloc: Global, count: u16) -> Result<String, AllocError> {
+    let mut text = format!(in alloc; r#"{{"_id":"a","_revisions":{{"start":{count},"ids":["a""#)?;
+    for _ in 1..count {
+        text.push_str(r#","a""#)?;
+    }
+    text.push_str("]}}")?;
+    Ok(text)
 }
 
 // Whether an edit is made with this answer. A text that is no revision stands for no parent, so a
@@ -184,6 +197,7 @@ fn holds(alloc: Global, tree: &mut RevTree, step: &Step) -> Result<bool, AllocEr
         Merge(text, answer) => Ok(merge(alloc, tree, text) == Some(*answer)),
         Make(parent, deleted, answer) => is_made(alloc, tree, *parent, *deleted, *answer),
         Len(len) => Ok(tree.len() == *len),
+        Nodes(count) => Ok(tree.nodes() == *count),
         Winner(text) => Ok(
             tree.winner() == rev_of(*text) && tree.winner().is_some() == text.is_some(),
         ),

@@ -15,25 +15,26 @@ use hub_document::{Body, Path, RevId};
 use std::alloc::{AllocError, Global};
 use std::marker::Model;
 
-/// The stored edits of one document, in the order in which they came. The document's id stands
-/// elsewhere.
+/// The stored edits of one document, in the order in which they came, and their winner. The document's
+/// id stands elsewhere.
 #[derive(Debug, Drop)]
 pub struct RevTree {
     branches: Branches,
+    best: Option<Winner>,
 }
 
 impl Model for RevTree {
     ghost use Rattle.std.specs.Prelude.{◌*◌};
-    ghost use Rattle.hub_model.specs.Journal.{IsLegal};
     ghost use Rattle.hub_revtree.specs.Tree.{Tree};
 
     ghost Value = { Tree };
 
     ghost use Rattle.hub_revtree.specs.Branch.{edits_in};
+    ghost use Rattle.hub_revtree.specs.Winner.{HasWinner};
 
     ghost view = { λ a. record { edits = edits_in a.branches.list; room = 65535 * a.branches.spare } };
 
-    ghost invariant = { λ a. IsLegal (edits_in a.branches.list) };
+    ghost invariant = { λ a. HasWinner (edits_in a.branches.list) a.best };
 }
 
 /// An edit that a tree can take, and has memory for.
@@ -78,6 +79,7 @@ impl RevTree {
     {
         RevTree {
             branches: Branches::new(alloc),
+            best: None,
         }
     }
 
@@ -146,15 +148,15 @@ impl RevTree {
         Some(edit.deleted)
     }
 
-    /// The best leaf, with its mark. Each head is looked for in each edit's path.
+    /// The best leaf, with its mark. Constant time.
     pub fn best(&self) -> Option<Winner>
         ensures best { result ≡ winner_of (leaves_of self.now.edits []) }
         ensures tree { IsRevTree self.now.edits }
     {
-        best_leaf(&self.branches)
+        self.best
     }
 
-    /// The revision of the best leaf; None of a tree with no edit. It costs what `best` does.
+    /// The revision of the best leaf; None of a tree with no edit. Constant time.
     pub fn winner(&self) -> Option<RevId>
         ensures winner { IfSome result (IsWinner self.now.edits []) }
         ensures none { IsNone result ↔ (self.now.edits ≡ []) }
@@ -195,7 +197,8 @@ impl RevTree {
 
     /// Takes an edit that `look_merge` or `look_extend` made ready. It takes no memory, and gives back
     /// that of the path's revisions which are known. It costs a look an edit for each of the others, and
-    /// the path's length.
+    /// the path's length; and the winner is found anew: each head is looked for in each edit where it
+    /// would be the best so far, which is one look an edit for a line of edits.
     pub fn adopt(&mut self, ready: Ready)
         requires acceptable { IsAcceptable self.old.edits ready }
         requires room { length ready.path ≤ self.old.room }
@@ -207,10 +210,11 @@ impl RevTree {
             body,
         } = ready;
         self.branches.push(path, deleted, body);
+        self.best = best_leaf(&self.branches);
     }
 
     /// Takes an edit, where its revision is new and its path contradicts no stored one. It costs
-    /// what `look_merge` does.
+    /// what `look_merge` and `adopt` do.
     pub fn merge(&mut self, path: Path, deleted: bool, body: Body) -> Result<Merged, MergeFault>
         ensures added { result ≡ Ok Merged.Added → IsAcceptable self.old.edits (nameless path deleted body)
             × (self.new.edits ≡ self.old.edits ++ nameless path deleted body ∷ []) }

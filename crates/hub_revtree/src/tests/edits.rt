@@ -1,7 +1,7 @@
 //! Edits that are made on trees. The hashes are the MD5s of the texts beside them.
 
 use crate::tests::Step::{Deleted, Leaves, Len, Make, Merge, Path, Winner};
-use crate::tests::{ADDED, Step, assert_steps, make, merge};
+use crate::tests::{ADDED, Step, assert_steps, long_history, make, merge};
 use crate::{EditFault, Merged, RevTree};
 use hub_document::RevId;
 use std::alloc::{AllocError, Global};
@@ -93,16 +93,6 @@ const MADE_BEFORE: &[Step] = &[
 #[test]
 fn made_revisions_that_are_known_conflict(rt: HostRuntime) -> Result<(), Fail> {
     assert_steps(&rt, rt.alloc(), MADE_BEFORE)
-}
-
-// A document whose history has so many revisions.
-fn long_history(alloc: Global, count: u16) -> Result<String, AllocError> {
-    let mut text = format!(in alloc; r#"{{"_id":"a","_revisions":{{"start":{count},"ids":["a""#)?;
-    for _ in 1..count {
-        text.push_str(r#","a""#)?;
-    }
-    text.push_str("]}}")?;
-    Ok(text)
 }
 
 // Whether the generation before the last is extended once, and the last is not.

@@ -1,4 +1,4 @@
-use Rattle.std.proofs.Common.{◌≡◌, ◌-◌, ◌^◌, ◌∙◌, length, sym}
+use Rattle.std.proofs.Common.{◌-◌, ◌^◌, ◌∙◌, sym}
 use Rattle.hub_revtree.proofs.CountLemmas.{saturated_all, saturated_more}
 use Rattle.hub_revtree.proofs.branches.Branches.revision_count.Goals as goal
 

@@ -3,4 +3,4 @@ use Rattle.hub_revtree.proofs.TreeLemmas.{rev_tree}
 use Rattle.hub_revtree.proofs.tree.RevTree.branches.Goals as goal
 
 pub returns-clause-tree : goal.returns-clause-tree
-returns-clause-tree c = rw (sym c.self.view_is) (rev_tree _ c.self.invariant)
+returns-clause-tree c = rw (sym c.self.view_is) (rev_tree _ c.self.invariant.legal)

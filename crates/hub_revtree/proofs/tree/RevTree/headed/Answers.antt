@@ -1,6 +1,12 @@
 use Rattle.std.proofs.Common.{◌∙◌}
-use Rattle.hub_revtree.proofs.HeadLemmas.{headed_by}
+use Rattle.hub_revtree.specs.declared.heads.StoredEdit.{StoredEdit}
+use Rattle.hub_revtree.proofs.HeadLemmas.{headed_by, headed_path}
 use Rattle.hub_revtree.proofs.tree.RevTree.headed.Goals as goal
 
-pub returns : goal.returns
-returns c = c.headed.ensures ∙ headed_by c.branches.result.now.list c.args.self.now.edits c.args.rev.now c.branches.ensures.edits
+pub returns-clause-tip : goal.returns-clause-tip
+returns-clause-tip c = c.headed.ensures ∙ headed_by c.branches.result.now.list c.args.self.now.edits c.args.rev.now c.branches.ensures.edits
+
+pub returns-clause-path : goal.returns-clause-path
+returns-clause-path c =
+    headed_path {A = StoredEdit} c.args.self.now.edits c.branches.ensures.tree (λ e. e.rev.now) (λ e. e.deleted) (λ e. e.body.now) c.headed.result c.args.rev.now
+    (c.headed.ensures ∙ headed_by c.branches.result.now.list c.args.self.now.edits c.args.rev.now c.branches.ensures.edits)

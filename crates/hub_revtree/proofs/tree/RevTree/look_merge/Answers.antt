@@ -3,7 +3,7 @@ use Rattle.hub_revtree.proofs.TreeLemmas.{rev_tree, head_known, head_new, accept
 use Rattle.hub_revtree.proofs.tree.RevTree.look_merge.Goals as goal
 
 pub returns-then-is_named-clause-tree : goal.returns-then-is_named-clause-tree
-returns-then-is_named-clause-tree c = rw (sym c.self.view_is) (rev_tree _ c.self.invariant)
+returns-then-is_named-clause-tree c = rw (sym c.self.view_is) (rev_tree _ c.self.invariant.legal)
 
 pub returns-then-is_named-clause-known : goal.returns-then-is_named-clause-known
 returns-then-is_named-clause-known c =
@@ -13,7 +13,7 @@ returns-then-is_named-clause-known c =
     )
 
 pub returns-then-not-agrees_with_all-clause-tree : goal.returns-then-not-agrees_with_all-clause-tree
-returns-then-not-agrees_with_all-clause-tree c = rw (sym c.self.view_is) (rev_tree _ c.self.invariant)
+returns-then-not-agrees_with_all-clause-tree c = rw (sym c.self.view_is) (rev_tree _ c.self.invariant.legal)
 
 pub returns-then-not-agrees_with_all-clause-contradicts :
     goal.returns-then-not-agrees_with_all-clause-contradicts
@@ -24,14 +24,14 @@ returns-then-not-agrees_with_all-clause-contradicts c =
     ))
 
 pub returns-in_err-ready-clause-tree : goal.returns-in_err-ready-clause-tree
-returns-in_err-ready-clause-tree c = rw (c.made_ready.ensures.edits, sym c.self.view_is) (rev_tree _ c.self.invariant)
+returns-in_err-ready-clause-tree c = rw (c.made_ready.ensures.edits, sym c.self.view_is) (rev_tree _ c.self.invariant.legal)
 
 pub returns-in_err-ready-clause-memory : goal.returns-in_err-ready-clause-memory
 returns-in_err-ready-clause-memory c =
-    rw (sym c.self.view_is) (λ _. acceptable c.self.inside.branches.list c.args.path c.head-head.result c.head-head.ensures.value c.is_named.result c.is_named.ensures c.agrees_with_all.result c.agrees_with_all.ensures c.args.deleted c.args.body c.self.invariant c.head-head.ensures.good c.if-is_named.false c.if-not-agrees_with_all.false)
+    rw (sym c.self.view_is) (λ _. acceptable c.self.inside.branches.list c.args.path c.head-head.result c.head-head.ensures.value c.is_named.result c.is_named.ensures c.agrees_with_all.result c.agrees_with_all.ensures c.args.deleted c.args.body c.self.invariant.legal c.head-head.ensures.good c.if-is_named.false c.if-not-agrees_with_all.false)
 
 pub returns-clause-tree : goal.returns-clause-tree
-returns-clause-tree c = rw (c.made_ready.ensures.edits, sym c.self.view_is) (rev_tree _ c.self.invariant)
+returns-clause-tree c = rw (c.made_ready.ensures.edits, sym c.self.view_is) (rev_tree _ c.self.invariant.legal)
 
 pub returns-clause-known : goal.returns-clause-known
 returns-clause-known c =
@@ -42,4 +42,4 @@ returns-clause-known c =
 
 pub returns-clause-acceptable : goal.returns-clause-acceptable
 returns-clause-acceptable c =
-    rw (c.in_ok-ready.ensures.ready, sym c.self.view_is) (acceptable c.self.inside.branches.list c.args.path c.head-head.result c.head-head.ensures.value c.is_named.result c.is_named.ensures c.agrees_with_all.result c.agrees_with_all.ensures c.args.deleted c.args.body c.self.invariant c.head-head.ensures.good c.if-is_named.false c.if-not-agrees_with_all.false)
+    rw (c.in_ok-ready.ensures.ready, sym c.self.view_is) (acceptable c.self.inside.branches.list c.args.path c.head-head.result c.head-head.ensures.value c.is_named.result c.is_named.ensures c.agrees_with_all.result c.agrees_with_all.ensures c.args.deleted c.args.body c.self.invariant.legal c.head-head.ensures.good c.if-is_named.false c.if-not-agrees_with_all.false)
