@@ -4,7 +4,8 @@ use Rattle.std.specs.Prelude.{Option, Some, None, option_and_then, option_map, s
 use Rattle.std.specs.List.{list_any, position_or_len}
 use Rattle.std.proofs.lemmas.Bool.{cases_Bool, ltb-false}
 use Rattle.std.proofs.lemmas.List.Sums.{prefix_len-le-length}
-use Rattle.std.proofs.lemmas.Option.{same_Some}
+use Rattle.std.proofs.lemmas.List.{drop_all}
+use Rattle.std.proofs.lemmas.Option.{same_Some, slice_get_past}
 use Rattle.hub_model.specs.Revision.{Revision}
 use Rattle.hub_model.specs.Journal.{Edit}
 use Rattle.hub_model.specs.Leaves.{Leaf, is_behind_head, with_leaf, leaves_among, comes_before, placed, best_first, revisions_of}
@@ -123,6 +124,14 @@ dropped_one : (xs : List Branch) (k : ℕ) (b : Branch) → slice_get xs k ≡ S
 dropped_one [] k b e = absurd (cc)
 dropped_one (x ∷ xs) zero b e = ap (λ z. z ∷ xs) (same_Some x b e)
 dropped_one (x ∷ xs) (suc k) b e = dropped_one xs k b e
+
+-- before the newest there is no best leaf, and no edit has the number behind the last
+pub none_yet : (all : List Branch) (from number : ℕ) → from ≡ length all → number ≡ length all
+    → (best_of all (drop from all) ≡ None) × (option_and_then head_in (slice_get all number) ≡ None)
+none_yet all from number end past = (
+    ap (best_of all) (drop_all from all (omega (arith, end))),
+    ap (option_and_then head_in) (slice_get_past all number (omega (arith, past)))
+  )
 
 -- going through the branches from the newest
 module _ (all : List Branch) (at : ℕ) (leaf : Winner) (some : 0 < at) (head : option_and_then head_in (slice_get all (at - 1)) ≡ Some leaf) where

@@ -115,6 +115,17 @@ impl Branches {
         }
     }
 
+    /// The same, where there is an edit of this number. Constant time.
+    pub(crate) fn head_if_any(&self, at: usize) -> Option<Winner>
+        ensures { result ≡ option_and_then head_in (slice_get self.now.list at) }
+    {
+        if at < self.len() {
+            Some(self.head(at))
+        } else {
+            None
+        }
+    }
+
     /// Whether a path names the revision. One look an edit.
     pub(crate) fn is_named(&self, rev: &RevId) -> bool
         ensures { result ≡ list_any (λ b. names b.path rev.now) self.now.list }

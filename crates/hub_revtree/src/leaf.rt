@@ -1,11 +1,11 @@
 //! The order of leaves.
 
-ghost use Rattle.std.specs.Prelude.{◌≡◌, ◌<◌, [], Some, length, map, option_map, position, slice_get, IfOk, OnOk};
+ghost use Rattle.std.specs.Prelude.{◌≡◌, ◌<◌, [], Some, length, map, option_and_then, option_map, position, slice_get, IfOk, OnOk};
 ghost use Rattle.std.specs.List.{list_any};
 ghost use Rattle.hub_model.specs.Revision.{revision_cmp};
 ghost use Rattle.hub_model.specs.Leaves.{leaf_cmp, leaves_among, best_first, with_leaf};
 ghost use Rattle.hub_revtree.specs.Branch.{edit_of, edits_in};
-ghost use Rattle.hub_revtree.specs.Winner.{has_below, winner_of, is_better_than, is_above, put_in, winners_of};
+ghost use Rattle.hub_revtree.specs.Winner.{has_below, head_in, winner_of, is_better_than, is_above, put_in, winners_of};
 
 use crate::branches::Branches;
 use hub_document::RevId;
@@ -50,13 +50,15 @@ fn is_better(leaf: &Winner, best: &Option<Winner>) -> bool
     }
 }
 
-/// The best of the edits' revisions that stand behind no head. The newest comes first, and one is
-/// looked for in each edit only where it would be the best so far: so a line of edits costs one look an
-/// edit.
-pub(crate) fn best_leaf(branches: &Branches) -> Option<Winner>
-    ensures { result ≡ winner_of (best_first (leaves_among (edits_in branches.now.list) (edits_in branches.now.list))) }
+/// The number of the edit whose revision is the best of those that stand behind no head; where there is
+/// none, how many edits there are. The newest comes first, and one is looked for in each edit only where
+/// it would be the best so far: so a line of edits costs one look an edit.
+pub(crate) fn best_leaf(branches: &Branches) -> usize
+    ensures { option_and_then head_in (slice_get branches.now.list result)
+        ≡ winner_of (best_first (leaves_among (edits_in branches.now.list) (edits_in branches.now.list))) }
 {
     let mut best = None;
+    let mut number = branches.len();
     for at in (0..branches.len()).rev() {
         let leaf = branches.head(at);
         if !is_better(&leaf, &best) {
@@ -66,8 +68,9 @@ pub(crate) fn best_leaf(branches: &Branches) -> Option<Winner>
             continue;
         }
         best = Some(leaf);
+        number = at;
     }
-    best
+    number
 }
 
 // The place of the first of the leaves that this one is above.

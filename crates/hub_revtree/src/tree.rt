@@ -20,21 +20,22 @@ use std::marker::Model;
 #[derive(Debug, Drop)]
 pub struct RevTree {
     branches: Branches,
-    best: Option<Winner>,
+    /// The number of the winner's edit; 0 where there is none.
+    best: usize,
 }
 
 impl Model for RevTree {
-    ghost use Rattle.std.specs.Prelude.{◌*◌};
+    ghost use Rattle.std.specs.Prelude.{◌*◌, option_and_then, slice_get};
     ghost use Rattle.hub_revtree.specs.Tree.{Tree};
 
     ghost Value = { Tree };
 
     ghost use Rattle.hub_revtree.specs.Branch.{edits_in};
-    ghost use Rattle.hub_revtree.specs.Winner.{HasWinner};
+    ghost use Rattle.hub_revtree.specs.Winner.{HasWinner, head_in};
 
     ghost view = { λ a. record { edits = edits_in a.branches.list; room = 65535 * a.branches.spare } };
 
-    ghost invariant = { λ a. HasWinner (edits_in a.branches.list) a.best };
+    ghost invariant = { λ a. HasWinner (edits_in a.branches.list) (option_and_then head_in (slice_get a.branches.list a.best)) };
 }
 
 /// An edit that a tree can take, and has memory for.
@@ -79,7 +80,7 @@ impl RevTree {
     {
         RevTree {
             branches: Branches::new(alloc),
-            best: None,
+            best: 0,
         }
     }
 
@@ -153,7 +154,7 @@ impl RevTree {
         ensures best { result ≡ winner_of (leaves_of self.now.edits []) }
         ensures tree { IsRevTree self.now.edits }
     {
-        self.best
+        self.branches.head_if_any(self.best)
     }
 
     /// The revision of the best leaf; None of a tree with no edit. Constant time.
