@@ -1,10 +1,9 @@
 -- The edit of a sequence is the one that its entry names.
 use Rattle.std.proofs.Common.{◌≡◌, ℕ, suc, ◌<◌, List, length, ap, refl, sym, ◌∙◌, subst}
-use Rattle.std.specs.Prelude.{Bool, false, true, Option, Some, None, IsSome, option_and_then, option_map, slice_get, get_or, [], ◌∷◌}
+use Rattle.std.specs.Prelude.{Bool, false, Option, Some, None, option_map, slice_get, get_or}
 use Rattle.std.proofs.lemmas.Option.{none-some, same_Some, slice_get-map}
 use Rattle.hub_model.specs.Revision.{Revision}
-use Rattle.hub_model.specs.Journal.{Edit, head_of}
-use Rattle.hub_document.specs.declared.doc.Doc.{Doc}
+use Rattle.hub_model.specs.Journal.{Edit}
 use Rattle.hub_revtree.specs.Tree.{Tip, tip, tip_of}
 use Rattle.hub_database.specs.declared.document.Document.{Document}
 use Rattle.hub_database.specs.declared.entry.Entry.{Entry}
@@ -41,31 +40,6 @@ path_lent id path (Some f) e = e
 pub none_lent : (id : List ℕ) (o : Option Edit) → None ≡ option_map tip_of o → option_map (named id) o ≡ None
 none_lent id None e = refl
 none_lent id (Some f) e = absurd (none-some (tip_of f) e)
-
--- an edit that is read
-module _ (id : List ℕ) (rev : Revision) (deleted : Bool) (body : List ℕ) where
-  pub entry_id : (o : Option Edit) → Some (bare_doc id rev deleted body) ≡ option_map (doc_shown false) o → Some (id, rev) ≡ option_and_then (λ e. option_map (λ r. (e.id, r)) (head_of e)) o
-  entry_id None e = absurd (none-some (bare_doc id rev deleted body) (sym e))
-  entry_id (Some f) e =
-      let same : bare_doc id rev deleted body ≡ doc_shown false f = same_Some _ _ e in
-      ap (λ (d : Doc). option_map (λ r. (d.id, r)) d.rev) same
-
-  pub entry_whole : (path : Option (List Revision)) (o : Option Edit) → Some (bare_doc id rev deleted body) ≡ option_map (doc_shown false) o → Some path ≡ option_map (λ e. Some e.path) o
-      → Some (record { id = id; rev = Some rev; path = path; deleted = deleted; body = body }) ≡ option_map (doc_shown true) o
-  entry_whole path None e on = absurd (none-some path (sym on))
-  entry_whole path (Some f) e on =
-      let same : bare_doc id rev deleted body ≡ doc_shown false f = same_Some _ _ e in
-      let history : path ≡ Some f.path = same_Some _ _ on in
-      ap (λ (d : Doc). Some (record { id = d.id; rev = d.rev; path = path; deleted = d.deleted; body = d.body })) same
-      ∙ ap (λ (p : Option (List Revision)). Some (record { id = f.id; rev = head_of f; path = p; deleted = f.deleted; body = f.body })) history
-
-pub no_entry : (o : Option Edit) → None ≡ option_map (doc_shown false) o → o ≡ None
-no_entry None e = refl
-no_entry (Some f) e = absurd (none-some (doc_shown false f) e)
-
-pub some_entry : (d : Doc) (o : Option Edit) → Some d ≡ option_map (doc_shown false) o → IsSome o
-some_entry d None e = absurd (none-some d (sym e))
-some_entry d (Some f) e = ?
 
 -- of a sequence
 pub at_sequence : (J : List Edit) (seq k : ℕ) → seq ≡ suc k → entry_at J seq ≡ slice_get J k

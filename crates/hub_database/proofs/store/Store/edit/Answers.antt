@@ -1,4 +1,4 @@
-use Rattle.std.proofs.Common.{◌≡◌, Some, None, false, suc, arith, sym, ap, ◌∙◌}
+use Rattle.std.proofs.Common.{◌≡◌, Some, false, suc, arith, refl, sym, ap, ◌∙◌}
 use Rattle.std.specs.Prelude.{option_map, slice_get}
 use Rattle.std.specs.BTreeMap.{get_by_text}
 use Rattle.hub_revtree.specs.Extend.{path_to}
@@ -18,7 +18,7 @@ returns-in_err-edit-clause-edit c =
     let next : c.args.seq ≡ suc c.in_ok-at.at = omega (arith, a) in
     let entry = found ∙ sym (at_sequence (edits_of_store c.args.self.now) c.args.seq c.in_ok-at.at next) in
     let none = none_lent c.index-document.result.now.id (slice_get c.index-document.result.now.tree.edits c.in_ok-entry.entry.now.revision) c.in_err-edit.ensures.tip in
-    rw (c.from_residual-in_err-edit.ensures, sym entry, none) ?
+    rw (c.from_residual-in_err-edit.ensures, sym entry, none) refl
 
 pub returns-in_err-edit-clause-path : goal.returns-in_err-edit-clause-path
 returns-in_err-edit-clause-path c =
@@ -29,7 +29,7 @@ returns-in_err-edit-clause-path c =
     let next : c.args.seq ≡ suc c.in_ok-at.at = omega (arith, a) in
     let entry = found ∙ sym (at_sequence (edits_of_store c.args.self.now) c.args.seq c.in_ok-at.at next) in
     let none = none_lent c.index-document.result.now.id (slice_get c.index-document.result.now.tree.edits c.in_ok-entry.entry.now.revision) c.in_err-edit.ensures.tip in
-    rw (c.from_residual-in_err-edit.ensures, sym entry, none) ?
+    rw (c.from_residual-in_err-edit.ensures, sym entry, none) refl
 
 pub returns-clause-edit : goal.returns-clause-edit
 returns-clause-edit c =
