@@ -1,13 +1,15 @@
 -- The edit of a sequence is the one that its entry names.
 use Rattle.std.proofs.Common.{◌≡◌, ℕ, suc, ◌<◌, List, length, ap, refl, sym, ◌∙◌, subst}
-use Rattle.std.specs.Prelude.{Option, Some, option_map, slice_get, get_or}
-use Rattle.std.proofs.lemmas.Option.{same_Some, slice_get-map}
+use Rattle.std.specs.Prelude.{Bool, false, Option, Some, None, option_map, slice_get, get_or}
+use Rattle.std.proofs.lemmas.Option.{none-some, same_Some, slice_get-map}
+use Rattle.hub_model.specs.Revision.{Revision}
 use Rattle.hub_model.specs.Journal.{Edit}
+use Rattle.hub_revtree.specs.Tree.{Tip, tip, tip_of}
 use Rattle.hub_database.specs.declared.document.Document.{Document}
 use Rattle.hub_database.specs.declared.entry.Entry.{Entry}
 use Rattle.hub_database.specs.Filed.{Filed, named, no_edit, edit_in, edit_at, journal_of, IsFiled}
 use Rattle.hub_database.specs.Store.{filed, files}
-use Rattle.hub_database.specs.Reads.{entry_at}
+use Rattle.hub_database.specs.Reads.{bare_doc, doc_shown, entry_at}
 use Rattle.hub_database.proofs.RowLemmas.{get_default, document_of}
 
 -- the edit that an entry stands for
@@ -21,6 +23,23 @@ edit_found limit numbers documents entries st k x here d is =
     let low : x.revision < length d.tree.edits = subst (λ (z : Filed). x.revision < length z.edits) same w.2 in
     let there : slice_get d.tree.edits x.revision ≡ Some (get_or d.tree.edits x.revision no_edit) = get_default d.tree.edits d.tree.edits x.revision no_edit refl low in
     ap (option_map (named d.id)) there ∙ (sym (ap (λ o. Some (edit_in o x.revision)) filed_so) ∙ sym (slice_get-map (edit_at (files documents)) entries k ∙ ap (option_map (edit_at (files documents))) here))
+
+-- what is lent of it, with its document's id
+module _ {A : Type 0} (id : List ℕ) (rev : A → Revision) (deleted : A → Bool) (body : A → List ℕ) (x : A) where
+  pub bare_lent : (o : Option Edit) → Some (tip (rev x) (deleted x) (body x)) ≡ option_map tip_of o
+      → Some (bare_doc id (rev x) (deleted x) (body x)) ≡ option_map (doc_shown false) (option_map (named id) o)
+  bare_lent None e = absurd (none-some (tip (rev x) (deleted x) (body x)) (sym e))
+  bare_lent (Some f) e =
+      let same : tip (rev x) (deleted x) (body x) ≡ tip_of f = same_Some _ _ e in
+      ap (λ (t : Tip). Some (record { id = id; rev = t.rev; path = None; deleted = t.deleted; body = t.body })) same
+
+pub path_lent : (id : List ℕ) (path : Option (List Revision)) (o : Option Edit) → Some path ≡ option_map (λ e. Some e.path) o → Some path ≡ option_map (λ e. Some e.path) (option_map (named id) o)
+path_lent id path None e = absurd (none-some path (sym e))
+path_lent id path (Some f) e = e
+
+pub none_lent : (id : List ℕ) (o : Option Edit) → None ≡ option_map tip_of o → option_map (named id) o ≡ None
+none_lent id None e = refl
+none_lent id (Some f) e = absurd (none-some (tip_of f) e)
 
 -- of a sequence
 pub at_sequence : (J : List Edit) (seq k : ℕ) → seq ≡ suc k → entry_at J seq ≡ slice_get J k

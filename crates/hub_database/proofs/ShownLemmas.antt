@@ -1,14 +1,14 @@
 -- What a document's tree shows is what the journal has of it.
-use Rattle.std.proofs.Common.{◌≡◌, ℕ, zero, suc, ◌≤◌, List, [], ◌∷◌, Bool, true, false, ap, refl, sym, ◌∙◌}
-use Rattle.std.proofs.Common.{subst, arith}
+use Rattle.std.proofs.Common.{◌≡◌, ℕ, List, [], ◌∷◌, Bool, true, false, ap, refl, sym, ◌∙◌}
+use Rattle.std.proofs.Common.{subst}
 use Rattle.std.specs.Prelude.{Option, Some, None, Contains, map, find, option_map, slice_get, get_or}
 use Rattle.std.specs.Prelude.{if◌then◌else◌}
 use Rattle.std.proofs.lemmas.Option.{same_Some, none-some, slice_get-map}
 use Rattle.hub_model.specs.Revision.{Revision}
-use Rattle.hub_model.specs.Path.{IsFirst, IsHistory, IsPath, names, is_first}
-use Rattle.hub_model.specs.Journal.{Edit, IsLegal, edits_of, is_known, head_of}
+use Rattle.hub_model.specs.Path.{names, is_first}
+use Rattle.hub_model.specs.Journal.{Edit, IsLegal, edits_of, is_known}
 use Rattle.hub_model.specs.Leaves.{Leaf, leaves_among, best_first, leaves_of, revisions_of}
-use Rattle.hub_model.specs.Walk.{line, line_of, is_head, shown, shown_of}
+use Rattle.hub_model.specs.Walk.{line_of, is_head, shown, shown_of}
 use Rattle.hub_model.proofs.Lists.{contains_here}
 use Rattle.hub_model.proofs.Legal.{first_in, legal_sound}
 use Rattle.hub_model.proofs.Tests.{at_any, is_named, same_is, edits_in, in_edits}

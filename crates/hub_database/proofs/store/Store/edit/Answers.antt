@@ -1,26 +1,54 @@
-use Rattle.std.proofs.Common.{◌≡◌, Some, suc, arith, sym, ap, ◌∙◌}
+use Rattle.std.proofs.Common.{◌≡◌, Some, false, suc, arith, refl, sym, ap, ◌∙◌}
 use Rattle.std.specs.Prelude.{option_map, slice_get}
 use Rattle.std.specs.BTreeMap.{get_by_text}
-use Rattle.hub_database.specs.Filed.{named}
+use Rattle.hub_revtree.specs.Extend.{path_to}
+use Rattle.hub_revtree.specs.declared.heads.StoredEdit.{StoredEdit}
+use Rattle.hub_database.specs.Reads.{doc_shown}
 use Rattle.hub_database.specs.Store.{edits_of_store}
 use Rattle.hub_database.proofs.RowLemmas.{get_default}
-use Rattle.hub_database.proofs.EntryLemmas.{edit_found, at_sequence}
+use Rattle.hub_database.proofs.EntryLemmas.{bare_lent, edit_found, at_sequence, none_lent, path_lent}
 use Rattle.hub_database.proofs.store.Store.edit.Goals as goal
 
-pub returns-in_err-edit : goal.returns-in_err-edit
-returns-in_err-edit c =
+pub returns-in_err-edit-clause-edit : goal.returns-in_err-edit-clause-edit
+returns-in_err-edit-clause-edit c =
     let look = c.in_ok-entry.ensures.lookup in
     let here : slice_get c.args.self.now.journal.items c.in_ok-at.at ≡ Some c.in_ok-entry.entry.now = get_default c.args.self.now.journal.items c.deref.result.now c.in_ok-at.at c.in_ok-entry.entry.now c.deref.ensures.value look.3.0 ∙ ap Some (sym look.1) in
     let found = edit_found c.args.self.now.limits.journal (get_by_text c.args.self.now.numbers) c.args.self.now.documents.items c.args.self.now.journal.items c.requires c.in_ok-at.at c.in_ok-entry.entry.now here c.index-document.result.now c.index-document.ensures in
     let a = c.in_ok-at.ensures in
     let next : c.args.seq ≡ suc c.in_ok-at.at = omega (arith, a) in
-    rw c.from_residual-in_err-edit.ensures (ap (option_map (named c.index-document.result.now.id)) c.in_err-edit.ensures ∙ (found ∙ sym (at_sequence (edits_of_store c.args.self.now) c.args.seq c.in_ok-at.at next)))
+    let entry = found ∙ sym (at_sequence (edits_of_store c.args.self.now) c.args.seq c.in_ok-at.at next) in
+    let none = none_lent c.index-document.result.now.id (slice_get c.index-document.result.now.tree.edits c.in_ok-entry.entry.now.revision) c.in_err-edit.ensures.tip in
+    rw (c.from_residual-in_err-edit.ensures, sym entry, none) refl
 
-pub returns : goal.returns
-returns c =
+pub returns-in_err-edit-clause-path : goal.returns-in_err-edit-clause-path
+returns-in_err-edit-clause-path c =
     let look = c.in_ok-entry.ensures.lookup in
     let here : slice_get c.args.self.now.journal.items c.in_ok-at.at ≡ Some c.in_ok-entry.entry.now = get_default c.args.self.now.journal.items c.deref.result.now c.in_ok-at.at c.in_ok-entry.entry.now c.deref.ensures.value look.3.0 ∙ ap Some (sym look.1) in
     let found = edit_found c.args.self.now.limits.journal (get_by_text c.args.self.now.numbers) c.args.self.now.documents.items c.args.self.now.journal.items c.requires c.in_ok-at.at c.in_ok-entry.entry.now here c.index-document.result.now c.index-document.ensures in
     let a = c.in_ok-at.ensures in
     let next : c.args.seq ≡ suc c.in_ok-at.at = omega (arith, a) in
-    ap (option_map (named c.index-document.result.now.id)) c.in_ok-edit.ensures ∙ (found ∙ sym (at_sequence (edits_of_store c.args.self.now) c.args.seq c.in_ok-at.at next))
+    let entry = found ∙ sym (at_sequence (edits_of_store c.args.self.now) c.args.seq c.in_ok-at.at next) in
+    let none = none_lent c.index-document.result.now.id (slice_get c.index-document.result.now.tree.edits c.in_ok-entry.entry.now.revision) c.in_err-edit.ensures.tip in
+    rw (c.from_residual-in_err-edit.ensures, sym entry, none) refl
+
+pub returns-clause-edit : goal.returns-clause-edit
+returns-clause-edit c =
+    let look = c.in_ok-entry.ensures.lookup in
+    let here : slice_get c.args.self.now.journal.items c.in_ok-at.at ≡ Some c.in_ok-entry.entry.now = get_default c.args.self.now.journal.items c.deref.result.now c.in_ok-at.at c.in_ok-entry.entry.now c.deref.ensures.value look.3.0 ∙ ap Some (sym look.1) in
+    let found = edit_found c.args.self.now.limits.journal (get_by_text c.args.self.now.numbers) c.args.self.now.documents.items c.args.self.now.journal.items c.requires c.in_ok-at.at c.in_ok-entry.entry.now here c.index-document.result.now c.index-document.ensures in
+    let a = c.in_ok-at.ensures in
+    let next : c.args.seq ≡ suc c.in_ok-at.at = omega (arith, a) in
+    let entry = found ∙ sym (at_sequence (edits_of_store c.args.self.now) c.args.seq c.in_ok-at.at next) in
+    bare_lent {A = StoredEdit} c.index-document.result.now.id (λ e. e.rev.now) (λ e. e.deleted) (λ e. e.body.now) c.in_ok-edit.edit (slice_get c.index-document.result.now.tree.edits c.in_ok-entry.entry.now.revision) c.in_ok-edit.ensures.tip
+    ∙ ap (option_map (doc_shown false)) entry
+
+pub returns-clause-path : goal.returns-clause-path
+returns-clause-path c =
+    let look = c.in_ok-entry.ensures.lookup in
+    let here : slice_get c.args.self.now.journal.items c.in_ok-at.at ≡ Some c.in_ok-entry.entry.now = get_default c.args.self.now.journal.items c.deref.result.now c.in_ok-at.at c.in_ok-entry.entry.now c.deref.ensures.value look.3.0 ∙ ap Some (sym look.1) in
+    let found = edit_found c.args.self.now.limits.journal (get_by_text c.args.self.now.numbers) c.args.self.now.documents.items c.args.self.now.journal.items c.requires c.in_ok-at.at c.in_ok-entry.entry.now here c.index-document.result.now c.index-document.ensures in
+    let a = c.in_ok-at.ensures in
+    let next : c.args.seq ≡ suc c.in_ok-at.at = omega (arith, a) in
+    let entry = found ∙ sym (at_sequence (edits_of_store c.args.self.now) c.args.seq c.in_ok-at.at next) in
+    path_lent c.index-document.result.now.id (path_to c.index-document.result.now.tree.edits c.in_ok-edit.edit.rev.now) (slice_get c.index-document.result.now.tree.edits c.in_ok-entry.entry.now.revision) c.in_ok-edit.ensures.path
+    ∙ ap (option_map (λ e. Some e.path)) entry
