@@ -27,10 +27,11 @@ pub record Tip : Type 0 where
   pub deleted : Bool
   pub body : List ℕ
 
+-- that of an edit
 abbrev pub tip_of : Edit → Tip
 tip_of e = record { rev = head_of e; deleted = e.deleted; body = e.body }
 
--- that of an edit with this revision
+-- that of an edit with this revision, mark and members
 abbrev pub tip : Revision → Bool → List ℕ → Tip
 tip rev deleted body = record { rev = Some rev; deleted = deleted; body = body }
 

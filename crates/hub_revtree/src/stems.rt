@@ -18,14 +18,15 @@ pub(crate) struct Meeting {
     pub(crate) place: Place,
 }
 
-/// Where the revision stands; None where no edit brought it. One look an edit.
+/// Where the revision stands; None where no edit brought it. One look an edit, the newest first, since
+/// most edits stand on that.
 pub(crate) fn place_of(stems: &[Stem], rev: &RevId) -> Option<Place>
     requires { AreStems stems.now }
     ensures found { IfSome result (λ place. slice_get (revisions_at stems.now place.stem) place.at ≡ Some rev.now) }
     ensures none { IfNone result (has_revision stems.now rev.now ≡ false) }
 {
-    for (number, stem) in stems.iter().enumerate() {
-        if let Some(at) = stem.position(rev) {
+    for number in (0..stems.len()).rev() {
+        if let Some(at) = stems[number].position(rev) {
             return Some(Place { stem: number, at });
         }
     }
