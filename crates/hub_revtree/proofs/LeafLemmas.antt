@@ -129,9 +129,9 @@ dropped_one (x ∷ xs) (suc k) b e = dropped_one xs k b e
 pub none_yet : (all : List Branch) (from number : ℕ) → from ≡ length all → number ≡ length all
     → (best_of all (drop from all) ≡ None) × (option_and_then head_in (slice_get all number) ≡ None)
 none_yet all from number end past = (
-    ap (best_of all) (drop_all from all (omega (arith, end))),
-    ap (option_and_then head_in) (slice_get_past all number (omega (arith, past)))
-  )
+  ap (best_of all) (drop_all from all (omega (arith, end))),
+  ap (option_and_then head_in) (slice_get_past all number (omega (arith, past))),
+)
 
 -- going through the branches from the newest
 module _ (all : List Branch) (at : ℕ) (leaf : Winner) (some : 0 < at) (head : option_and_then head_in (slice_get all (at - 1)) ≡ Some leaf) where

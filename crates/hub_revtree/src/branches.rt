@@ -15,7 +15,7 @@ ghost use Rattle.hub_revtree.specs.Tree.{nameless, tip, tip_of};
 use crate::heads::StoredEdit;
 use crate::leaf::Winner;
 use crate::stem::Stem;
-use crate::stems::{append_from, first_known, headed, is_behind, is_line, place_of};
+use crate::stems::{append_from, first_known, headed, is_behind, is_line, place_of, place_up_to};
 use hub_document::{Body, Path, RevId};
 use std::alloc::{AllocError, Global};
 use std::marker::Model;
@@ -25,6 +25,8 @@ use std::marker::Model;
 #[derive(Debug, Drop)]
 pub(crate) struct Branches {
     stems: Vec<Stem>,
+    /// The highest generation of their revisions; 0 where there is none.
+    highest: u16,
 }
 
 impl Model for Branches {
@@ -33,11 +35,11 @@ impl Model for Branches {
 
     ghost Value = { Storage };
 
-    ghost use Rattle.hub_revtree.specs.Stem.{AreStems, branches_of};
+    ghost use Rattle.hub_revtree.specs.Stem.{AreStems, AreUpTo, branches_of};
 
     ghost view = { λ a. record { list = branches_of a.stems.items; spare = vec_capacity a.stems - vec_len a.stems } };
 
-    ghost invariant = { λ a. AreStems a.stems.items };
+    ghost invariant = { λ a. AreStems a.stems.items × AreUpTo a.stems.items a.highest };
 }
 
 // An edit as it is lent.
@@ -61,6 +63,7 @@ impl Branches {
     {
         Branches {
             stems: Vec::new(alloc),
+            highest: 0,
         }
     }
 
@@ -126,18 +129,20 @@ impl Branches {
         }
     }
 
-    /// Whether a path names the revision. One look an edit.
+    /// Whether a path names the revision. One look an edit; constant time where its generation is above
+    /// all others.
     pub(crate) fn is_named(&self, rev: &RevId) -> bool
         ensures { result ≡ list_any (λ b. names b.path rev.now) self.now.list }
     {
-        place_of(self.stems.as_slice(), rev).is_some()
+        place_up_to(self.stems.as_slice(), self.highest, rev).is_some()
     }
 
-    /// Whether the revision stands behind a head. One look an edit.
+    /// Whether the revision stands behind a head. One look an edit; constant time where no generation is
+    /// above its own.
     pub(crate) fn is_behind(&self, rev: &RevId) -> bool
         ensures { result ≡ list_any (λ b. stands_behind_head rev.now (edit_of b)) self.now.list }
     {
-        is_behind(self.stems.as_slice(), rev)
+        rev.generation() < self.highest && is_behind(self.stems.as_slice(), rev)
     }
 
     /// Puts the revision and all that stands behind it behind what the vector holds; nothing where no
@@ -161,7 +166,7 @@ impl Branches {
     {
         let stems = self.stems.as_slice();
         let revisions = path.revisions();
-        match first_known(stems, revisions) {
+        match first_known(stems, self.highest, revisions) {
             Some(met) => is_line(stems, met.place, &revisions[met.at..]),
             None => true,
         }
@@ -189,7 +194,9 @@ impl Branches {
         ensures { edits_in self.new.list ≡ edits_in self.old.list ++ nameless path deleted body ∷ [] }
     {
         let mut parent = None;
-        let met = first_known(self.stems.as_slice(), path.revisions());
+        let met = first_known(self.stems.as_slice(), self.highest, path.revisions());
+        let head = path.head();
+        self.highest = head.generation().max(self.highest);
         let mut revisions = path.into_revisions();
         if let Some(met) = met {
             revisions.truncate(met.at);

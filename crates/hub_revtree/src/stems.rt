@@ -4,7 +4,7 @@ ghost use Rattle.std.specs.Prelude.{◌≡◌, ◌++◌, ◌↔◌, List, Some, 
 ghost use Rattle.std.specs.List.{list_any};
 ghost use Rattle.hub_model.specs.Revision.{Revision};
 ghost use Rattle.hub_model.specs.Path.{is_first};
-ghost use Rattle.hub_revtree.specs.Stem.{AreStems, IsWithin, branches_of, has_revision, is_at as is_revision_at, is_behind_newest, path_from, revisions_at};
+ghost use Rattle.hub_revtree.specs.Stem.{AreStems, AreUpTo, IsWithin, branches_of, has_revision, is_at as is_revision_at, is_behind_newest, path_from, revisions_at};
 
 use crate::stem::{Place, Stem};
 use hub_document::RevId;
@@ -30,6 +30,20 @@ pub(crate) fn place_of(stems: &[Stem], rev: &RevId) -> Option<Place>
         }
     }
     None
+}
+
+/// The same of stems with no revision of a generation above the highest. Constant time for a revision of
+/// such a generation.
+pub(crate) fn place_up_to(stems: &[Stem], highest: u16, rev: &RevId) -> Option<Place>
+    requires stems { AreStems stems.now }
+    requires highest { AreUpTo stems.now highest }
+    ensures found { IfSome result (λ place. slice_get (revisions_at stems.now place.stem) place.at ≡ Some rev.now) }
+    ensures none { IfNone result (has_revision stems.now rev.now ≡ false) }
+{
+    if rev.generation() > highest {
+        return None;
+    }
+    place_of(stems, rev)
 }
 
 // Whether the revision is the one at the place. Constant time.
@@ -119,16 +133,18 @@ pub(crate) fn is_line(stems: &[Stem], place: Place, revisions: &[RevId]) -> bool
     rest.is_empty()
 }
 
-/// The first of the revisions that an edit brought. One look an edit for each revision up to it.
-pub(crate) fn first_known(stems: &[Stem], revisions: &[RevId]) -> Option<Meeting>
-    requires { AreStems stems.now }
+/// The first of the revisions that an edit brought, of stems with no revision of a generation above the
+/// highest. One look an edit for each revision up to it; constant time for each of such a generation.
+pub(crate) fn first_known(stems: &[Stem], highest: u16, revisions: &[RevId]) -> Option<Meeting>
+    requires stems { AreStems stems.now }
+    requires highest { AreUpTo stems.now highest }
     ensures new { IfSome result (λ m. list_any (has_revision stems.now) (take m.at revisions.now) ≡ false) }
     ensures within { IfSome result (λ m. IsWithin stems.now m.place) }
     ensures same { IfSome result (λ m. slice_get revisions.now m.at ≡ slice_get (revisions_at stems.now m.place.stem) m.place.at) }
     ensures none { IfNone result (list_any (has_revision stems.now) revisions.now ≡ false) }
 {
     for (at, rev) in revisions.iter().enumerate() {
-        if let Some(place) = place_of(stems, rev) {
+        if let Some(place) = place_up_to(stems, highest, rev) {
             return Some(Meeting { at, place });
         }
     }
