@@ -10,3 +10,4 @@ pub mod JoinLemmas
 pub mod StemLemmas
 pub mod StemLooks
 pub mod HighestLemmas
+pub mod WinnerLemmas

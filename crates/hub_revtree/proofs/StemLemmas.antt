@@ -3,7 +3,7 @@ use Rattle.std.proofs.Common.{◌≡◌, ℕ, zero, suc, ◌+◌, ◌<◌, ◌�
 use Rattle.std.specs.Prelude.{Option, Some, None, slice_get, IfSome, is_some}
 use Rattle.std.specs.List.{list_any}
 use Rattle.std.proofs.lemmas.Bool.{cases_Bool}
-use Rattle.std.proofs.lemmas.List.{drop-append-le, length-append, take_all, take-append-le}
+use Rattle.std.proofs.lemmas.List.{drop_all, drop-append-le, length-append, take_all, take-append-drop, take-append-le}
 use Rattle.std.proofs.Math.Seq.{take-append_seam}
 use Rattle.std.proofs.lemmas.List.Folds.{list_any-append}
 use Rattle.std.proofs.lemmas.Option.{same_Some, slice_get_within}
@@ -44,6 +44,21 @@ get_pushed (z ∷ xs) x (suc k) y e = elim (get_pushed xs x k y e) [
   | inl f ↦ inl f
   | inr f ↦ inr (ap suc f.0, f.1)
 ]
+
+pub get_taken : {A : Type 0} (n k : ℕ) (xs : List A) → k < n → slice_get (take n xs) k ≡ slice_get xs k
+get_taken zero k xs low = absurd (omega arith)
+get_taken (suc n) k [] low = refl
+get_taken (suc n) zero (x ∷ xs) low = refl
+get_taken (suc n) (suc k) (x ∷ xs) low = get_taken n k xs (omega arith)
+
+pub dropped_one : {A : Type 0} (xs : List A) (k : ℕ) (x : A) → slice_get xs k ≡ Some x → drop k xs ≡ x ∷ drop (suc k) xs
+dropped_one [] k x e = absurd (cc)
+dropped_one (y ∷ xs) zero x e = ap (λ z. z ∷ xs) (same_Some y x e)
+dropped_one (y ∷ xs) (suc k) x e = dropped_one xs k x e
+
+-- the last one
+pub split_at : {A : Type 0} (xs : List A) (k : ℕ) (x : A) → slice_get xs k ≡ Some x → length xs ≤ suc k → xs ≡ take k xs ++ x ∷ []
+split_at xs k x e past = sym (take-append-drop k xs) ∙ ap (λ z. take k xs ++ z) (dropped_one xs k x e ∙ ap (λ z. x ∷ z) (drop_all (suc k) xs past))
 
 pub get_some : {A : Type 0} (xs : List A) (k : ℕ) → k < length xs → (x : A) × (slice_get xs k ≡ Some x)
 get_some [] k low = absurd (omega arith)

@@ -4,7 +4,7 @@ use Rattle.std.specs.Prelude.{Option, Some, None, IfSome, slice_get, ◌↔◌, 
 use Rattle.std.specs.List.{list_any}
 use Rattle.std.specs.Option.{option_or}
 use Rattle.std.proofs.lemmas.Bool.{cases_Bool, both_ways}
-use Rattle.std.proofs.lemmas.List.{drop-append-le, drop_more, length-drop, take_all}
+use Rattle.std.proofs.lemmas.List.{drop-append-le, drop_more, length-drop, length-take, take_all}
 use Rattle.std.proofs.lemmas.List.Folds.{list_any-append, find-append}
 use Rattle.std.proofs.lemmas.Option.{get_or_from_slice_get, same_Some, slice_get_past, slice_get_read, slice_get_within}
 use Rattle.hub_model.specs.Revision.{Revision, is_same}
@@ -14,11 +14,11 @@ use Rattle.hub_model.proofs.Shown.{find_is}
 use Rattle.hub_model.proofs.Tests.{or_left, or_right, same_is, same_self}
 use Rattle.hub_revtree.specs.declared.stem.Place.{Place}
 use Rattle.hub_revtree.specs.declared.stem.Stem.{Stem}
-use Rattle.hub_revtree.specs.Branch.{Branch, edit_of}
+use Rattle.hub_revtree.specs.Branch.{Branch, earlier_branches, edit_of}
 use Rattle.hub_revtree.specs.Stem.{AreStems, IsWithin, branch_of, branches_after, branches_of, is_at, is_behind_newest, path_from}
 use Rattle.hub_revtree.specs.Tree.{Tip, tip, tip_of}
 use Rattle.hub_revtree.specs.Winner.{head_in}
-use Rattle.hub_revtree.proofs.StemLemmas.{any_at, any_place, as_many, get_some, rest_at, same_truth, shown_at, steps_left, within_stem}
+use Rattle.hub_revtree.proofs.StemLemmas.{any_at, any_place, as_many, get_some, get_taken, rest_at, same_truth, shown_at, steps_left, within_stem}
 
 -- the first of some revisions
 first_append : (p q : List Revision) (r : Revision) → 0 < length p → is_first r (p ++ q) ≡ is_first r p
@@ -66,12 +66,27 @@ module _ (xs : List Stem) (a : AreStems xs) (r : Revision) where
     first_of : is_first r (path_from (branches_of xs) s.parent) ≡ is_at xs r s.parent
     first_of = first_at s.parent within
 
-  from_stem : (k : ℕ) (s : Stem) → slice_get xs k ≡ Some s → is_behind_newest xs r s ≡ true → list_any (λ b. is_behind_head r (edit_of b)) (branches_of xs) ≡ true
-  from_stem k s e t = any_at (λ b. is_behind_head r (edit_of b)) (branches_of xs) k (branch_of (branches_of xs) s) (shown_at xs a k s e)
+  own_behind : (k : ℕ) (s : Stem) → slice_get xs k ≡ Some s → is_behind_newest xs r s ≡ true → is_behind_head r (edit_of (branch_of (branches_of xs) s)) ≡ true
+  own_behind k s e t =
       (behind_parts s (a.falling k s e) ∙ elim (cases_Bool (names (drop 1 s.revisions.items) r)) [
         | inl u ↦ or_left (names (drop 1 s.revisions.items) r) (names (path_from (branches_of xs) s.parent) r) u
         | inr u ↦ or_right (names (drop 1 s.revisions.items) r) (names (path_from (branches_of xs) s.parent) r) (first_named (path_from (branches_of xs) s.parent) r (first_of k s e ∙ (rw u at t)))
       ])
+
+  from_stem : (k : ℕ) (s : Stem) → slice_get xs k ≡ Some s → is_behind_newest xs r s ≡ true → list_any (λ b. is_behind_head r (edit_of b)) (branches_of xs) ≡ true
+  from_stem k s e t = any_at (λ b. is_behind_head r (edit_of b)) (branches_of xs) k (branch_of (branches_of xs) s) (shown_at xs a k s e) (own_behind k s e t)
+
+  -- what stands behind no head before the newest stands behind no stem's newest before the last
+  pub earlier_front : list_any (λ b. is_behind_head r (edit_of b)) (earlier_branches (branches_of xs)) ≡ false → list_any (is_behind_newest xs r) (take (length xs - 1) xs) ≡ false
+  earlier_front f = elim (cases_Bool (list_any (is_behind_newest xs r) (take (length xs - 1) xs))) [
+    | inl t ↦
+        let i = any_place (is_behind_newest xs r) (take (length xs - 1) xs) t in
+        let low = slice_get_within (take (length xs - 1) xs) i.0 i.1 i.2 in
+        let there : slice_get xs i.0 ≡ Some i.1 = sym (get_taken (length xs - 1) i.0 xs (omega (arith, low, length-take (length xs - 1) xs))) ∙ i.2 in
+        let shown = get_taken (length (branches_of xs) - 1) i.0 (branches_of xs) (omega (arith, low, length-take (length xs - 1) xs, as_many xs)) ∙ shown_at xs a i.0 i.1 there in
+        absurd (both_ways _ f (any_at (λ b. is_behind_head r (edit_of b)) (earlier_branches (branches_of xs)) i.0 (branch_of (branches_of xs) i.1) shown (own_behind i.0 i.1 there i.3)))
+    | inr t ↦ t
+  ]
 
   to_stem : (n k : ℕ) (s : Stem) → k < n → slice_get xs k ≡ Some s → names (drop 1 (branch_of (branches_of xs) s).path) r ≡ true → list_any (is_behind_newest xs r) xs ≡ true
   to_stem zero k s low e t = absurd (omega arith)

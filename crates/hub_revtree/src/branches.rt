@@ -1,13 +1,13 @@
 //! The stored edits of a document, which share what stands behind them.
 
-ghost use Rattle.std.specs.Prelude.{◌≡◌, ◌≤◌, ◌<◌, ◌++◌, ◌∷◌, Some, [], ◌-◌, ◌^◌, length, min, find, option_map, option_and_then, slice_get, IfOk, OnOk, OnErr};
+ghost use Rattle.std.specs.Prelude.{◌≡◌, ◌≤◌, ◌<◌, ◌++◌, ◌∷◌, Some, [], ◌-◌, ◌^◌, length, min, false, find, option_map, option_and_then, slice_get, IfOk, OnOk, OnErr};
 ghost use Rattle.std.specs.List.{list_any, list_all};
 ghost use Rattle.hub_model.specs.Journal.{IsAcceptable, IsLegal};
 ghost use Rattle.hub_model.specs.Leaves.{is_behind_head as stands_behind_head};
 ghost use Rattle.hub_model.specs.Missing.{highest as highest_of};
 ghost use Rattle.hub_model.specs.Path.{IsHistory, IsPath, agrees as agrees_with, is_first, names};
 ghost use Rattle.hub_revtree.specs.Winner.{head_in};
-ghost use Rattle.hub_revtree.specs.Branch.{edit_of, edits_in, unnamed_in};
+ghost use Rattle.hub_revtree.specs.Branch.{earlier_branches, edit_of, edits_in, unnamed_in};
 ghost use Rattle.hub_revtree.specs.Count.{revision_count as count_of};
 ghost use Rattle.hub_revtree.specs.Extend.{line_to};
 ghost use Rattle.hub_revtree.specs.Tree.{nameless, tip, tip_of};
@@ -15,7 +15,9 @@ ghost use Rattle.hub_revtree.specs.Tree.{nameless, tip, tip_of};
 use crate::heads::StoredEdit;
 use crate::leaf::Winner;
 use crate::stem::Stem;
-use crate::stems::{append_from, first_known, headed, is_behind, is_line, place_of, place_up_to};
+use crate::stems::{
+    append_from, first_known, headed, is_behind, is_behind_last, is_line, place_of, place_up_to,
+};
 use hub_document::{Body, Path, RevId};
 use std::alloc::{AllocError, Global};
 use std::marker::Model;
@@ -143,6 +145,14 @@ impl Branches {
         ensures { result ≡ list_any (λ b. stands_behind_head rev.now (edit_of b)) self.now.list }
     {
         rev.generation() < self.highest && is_behind(self.stems.as_slice(), rev)
+    }
+
+    /// The same of a revision that stands behind no head of the edits before the newest. Constant time.
+    pub(crate) fn is_behind_newest(&self, rev: &RevId) -> bool
+        requires { list_any (λ b. stands_behind_head rev.now (edit_of b)) (earlier_branches self.now.list) ≡ false }
+        ensures { result ≡ list_any (λ b. stands_behind_head rev.now (edit_of b)) self.now.list }
+    {
+        is_behind_last(self.stems.as_slice(), rev)
     }
 
     /// Puts the revision and all that stands behind it behind what the vector holds; nothing where no

@@ -1,6 +1,6 @@
 //! The revisions of a tree, as its edits brought them.
 
-ghost use Rattle.std.specs.Prelude.{◌≡◌, ◌++◌, ◌↔◌, List, Some, false, take, find, slice_get, option_map, IsTrue, IfSome, IfNone, OnOk};
+ghost use Rattle.std.specs.Prelude.{◌≡◌, ◌-◌, ◌++◌, ◌↔◌, List, length, Some, false, take, find, slice_get, option_map, IsTrue, IfSome, IfNone, OnOk};
 ghost use Rattle.std.specs.List.{list_any};
 ghost use Rattle.hub_model.specs.Revision.{Revision};
 ghost use Rattle.hub_model.specs.Path.{is_first};
@@ -68,6 +68,18 @@ pub(crate) fn is_behind(stems: &[Stem], rev: &RevId) -> bool
         }
     }
     false
+}
+
+/// The same of a revision that stands behind the newest of none of the earlier stems. Constant time.
+pub(crate) fn is_behind_last(stems: &[Stem], rev: &RevId) -> bool
+    requires stems { AreStems stems.now }
+    requires others { list_any (is_behind_newest stems.now rev.now) (take (length stems.now - 1) stems.now) ≡ false }
+    ensures { result ≡ list_any (is_behind_newest stems.now rev.now) stems.now }
+{
+    match stems.last() {
+        Some(last) => last.has_behind(rev) || is_at(stems, last.parent, rev),
+        None => false,
+    }
 }
 
 /// The stem whose newest revision this is. One look an edit.

@@ -10,7 +10,7 @@ ghost use Rattle.hub_revtree.specs.Winner.{winner_of};
 
 use crate::branches::Branches;
 use crate::fault::{MergeFault, Merged};
-use crate::leaf::{Winner, best_leaf};
+use crate::leaf::{Winner, best_with_newest};
 use hub_document::{Body, Path, RevId};
 use std::alloc::{AllocError, Global};
 use std::marker::Model;
@@ -211,7 +211,7 @@ impl RevTree {
             body,
         } = ready;
         self.branches.push(path, deleted, body);
-        self.best = best_leaf(&self.branches);
+        self.best = best_with_newest(&self.branches, self.best);
     }
 
     /// Takes an edit, where its revision is new and its path contradicts no stored one. It costs
