@@ -9,7 +9,7 @@ use Rattle.std.proofs.lemmas.List.Folds.{list_any-append}
 use Rattle.std.proofs.lemmas.Option.{same_Some, slice_get_within}
 use Rattle.hub_model.specs.Revision.{Revision, is_same}
 use Rattle.hub_model.specs.Path.{IsPath, names, is_first}
-use Rattle.hub_model.proofs.Tests.{or_left, or_right, or_false}
+use Rattle.hub_model.proofs.Tests.{or_left, or_right, or_false, same_is}
 use Rattle.hub_document.proofs.PlaceLemmas.{named}
 use Rattle.hub_revtree.specs.declared.stem.Place.{Place}
 use Rattle.hub_revtree.specs.declared.stem.Stem.{Stem}
@@ -89,6 +89,15 @@ none_more {A = A} P xs k x e f t = rw (add-one k) (more xs k e f)
 
 pub none_all : {A : Type 0} (P : A → Bool) (xs : List A) (k : ℕ) → length xs ≤ k → list_any P (take k xs) ≡ false → list_any P xs ≡ false
 none_all P xs k past f = rw (take_all k xs past) at f
+
+pub none_of : (P : Revision → Bool) (p : List Revision) (r : Revision) → list_any P p ≡ false → names p r ≡ true → P r ≡ false
+none_of P [] r f n = absurd (cc)
+none_of P (x ∷ p) r f n =
+    let parts = or_false (P x) (list_any P p) f in
+    elim (cases_Bool (is_same r x)) [
+      | inl t ↦ ap P (same_is r x t) ∙ parts.0
+      | inr t ↦ none_of P p r parts.1 (rw t at n)
+    ]
 
 pub same_truth : (a b : Bool) → (a ≡ true → b ≡ true) → (b ≡ true → a ≡ true) → a ≡ b
 same_truth true b f g = sym (f refl)

@@ -11,14 +11,14 @@ use Rattle.hub_model.specs.Revision.{Revision, is_same}
 use Rattle.hub_model.specs.Path.{IsPath, names, is_first}
 use Rattle.hub_model.specs.Leaves.{is_behind_head}
 use Rattle.hub_model.proofs.Shown.{find_is}
-use Rattle.hub_model.proofs.Tests.{or_left, or_right, same_is, same_self}
+use Rattle.hub_model.proofs.Tests.{or_false, or_left, or_right, same_is, same_self}
 use Rattle.hub_revtree.specs.declared.stem.Place.{Place}
 use Rattle.hub_revtree.specs.declared.stem.Stem.{Stem}
 use Rattle.hub_revtree.specs.Branch.{Branch, earlier_branches, edit_of}
-use Rattle.hub_revtree.specs.Stem.{AreStems, IsWithin, branch_of, branches_after, branches_of, is_at, is_behind_newest, path_from}
+use Rattle.hub_revtree.specs.Stem.{AreStems, IsWithin, branch_of, branches_after, branches_of, has_revision, is_at, is_behind_newest, path_from}
 use Rattle.hub_revtree.specs.Tree.{Tip, tip, tip_of}
 use Rattle.hub_revtree.specs.Winner.{head_in}
-use Rattle.hub_revtree.proofs.StemLemmas.{any_at, any_place, as_many, get_some, get_taken, rest_at, same_truth, shown_at, steps_left, within_stem}
+use Rattle.hub_revtree.proofs.StemLemmas.{any_at, any_place, as_many, get_some, get_taken, none_of, rest_at, same_truth, shown_at, steps_left, within_stem}
 
 -- the first of some revisions
 first_append : (p q : List Revision) (r : Revision) → 0 < length p → is_first r (p ++ q) ≡ is_first r p
@@ -271,6 +271,29 @@ some_headed xs a rev s r deleted body e head mark members = ap Some (tip_shown s
 
 pub none_headed : (xs : List Stem) → AreStems xs → (rev : Revision) → None ≡ find (λ z. is_first rev z.revisions.items) xs → option_map (λ b. tip_of (edit_of b)) (find (λ b. is_first rev b.path) (branches_of xs)) ≡ None
 none_headed xs a rev e = headed_in rev xs a ∙ ap (option_map tip_in) (sym e)
+
+-- no two stems have one newest revision
+heads_differ : (xs : List Stem) → AreStems xs → (r : Revision) (k : ℕ) (s : Stem) → slice_get xs k ≡ Some s → is_first r s.revisions.items ≡ true → list_any (λ z. is_first r z.revisions.items) (take k xs) ≡ false
+heads_differ xs a r k s e first = elim (cases_Bool (list_any (λ (z : Stem). is_first r z.revisions.items) (take k xs))) [
+  | inl t ↦
+      let i = any_place (λ (z : Stem). is_first r z.revisions.items) (take k xs) t in
+      let old = any_at (λ (z : Stem). names z.revisions.items r) (take k xs) i.0 i.1 i.2 (first_named i.1.revisions.items r i.3) in
+      absurd (both_ways _ (none_of (has_revision (take k xs)) s.revisions.items r (a.fresh k s e) (first_named s.revisions.items r first)) old)
+  | inr t ↦ t
+]
+
+find_here : (P : Stem → Bool) (xs : List Stem) (k : ℕ) (s : Stem) → slice_get xs k ≡ Some s → P s ≡ true → list_any P (take k xs) ≡ false → Some s ≡ find P xs
+find_here P [] k s e t f = absurd (cc)
+find_here P (x ∷ xs) zero s e t f = let u : P x ≡ true = ap P (same_Some x s e) ∙ t in rw u (ap Some (sym (same_Some x s e)))
+find_here P (x ∷ xs) (suc k) s e t f = let g = or_false (P x) (list_any P (take k xs)) f in rw g.0 (find_here P xs k s e t g.1)
+
+-- so the stem of a number is found by its newest
+pub head_found : (xs : List Stem) → AreStems xs → (r : Revision) (k : ℕ) (s : Stem) → slice_get xs k ≡ Some s → is_first r s.revisions.items ≡ true → Some s ≡ find (λ z. is_first r z.revisions.items) xs
+head_found xs a r k s e first = find_here (λ z. is_first r z.revisions.items) xs k s e first (heads_differ xs a r k s e first)
+
+pub none_found : (P : Stem → Bool) (xs : List Stem) → list_any P xs ≡ false → None ≡ find P xs
+none_found P [] f = refl
+none_found P (x ∷ xs) f = let g = or_false (P x) (list_any P xs) f in rw g.0 (none_found P xs g.1)
 
 -- a stem that is found is one
 pub found_falls : (xs : List Stem) → AreStems xs → (rev : Revision) (s : Stem) → Some s ≡ find (λ z. is_first rev z.revisions.items) xs → IsPath s.revisions.items

@@ -100,7 +100,7 @@ impl Branches {
         Some(stored(stem))
     }
 
-    /// The edit that the revision heads. One look an edit.
+    /// The edit that the revision heads. One look an edit, from the newest on up to that one.
     pub(crate) fn headed(&self, rev: &RevId) -> Option<StoredEdit<'_>>
         ensures { option_map (λ e. tip e.rev.now e.deleted e.body.now) result ≡ option_map (λ b. tip_of (edit_of b)) (find (λ b. is_first rev.now b.path) self.now.list) }
     {
@@ -131,8 +131,8 @@ impl Branches {
         }
     }
 
-    /// Whether a path names the revision. One look an edit; constant time where its generation is above
-    /// all others.
+    /// Whether a path names the revision. One look an edit, from the newest on up to the one that brought
+    /// it; constant time where its generation is above all others.
     pub(crate) fn is_named(&self, rev: &RevId) -> bool
         ensures { result ≡ list_any (λ b. names b.path rev.now) self.now.list }
     {
@@ -156,7 +156,8 @@ impl Branches {
     }
 
     /// Puts the revision and all that stands behind it behind what the vector holds; nothing where no
-    /// path names it. It costs a look an edit, and what it puts there.
+    /// path names it. It costs a look an edit, from the newest on up to the one that brought it, and the
+    /// length of what it puts there.
     pub(crate) fn append_line(&self, rev: &RevId, line: &mut Vec<RevId>) -> Result<(), AllocError>
         requires { IsLegal (edits_in self.now.list) }
         ensures { OnOk result (line.new.items ≡ line.old.items ++ line_to (edits_in self.now.list) (Some rev.now)) }
@@ -168,7 +169,8 @@ impl Branches {
     }
 
     /// Whether the path agrees with all stored ones. It costs a look an edit for each of the path's
-    /// revisions that no path names, and the number of the others.
+    /// revisions that no path names, but for those of a generation above all others; a look at each edit
+    /// from the newest on up to the one that brought the first of the others; and the number of these.
     pub(crate) fn agrees_with_all(&self, path: &Path) -> bool
         requires legal { IsLegal (edits_in self.now.list) }
         requires history { IsHistory path.now }
@@ -195,8 +197,7 @@ impl Branches {
     }
 
     /// Takes an edit, in the room that was made for it: it takes no new memory, and gives back that of
-    /// the revisions which are known. It costs a look an edit for each of the path's revisions that no
-    /// path names, and the path's length.
+    /// the revisions which are known. It costs what `agrees_with_all` does.
     pub(crate) fn push(&mut self, path: Path, deleted: bool, body: Body)
         requires legal { IsLegal (edits_in self.old.list) }
         requires acceptable { IsAcceptable (edits_in self.old.list) (nameless path deleted body) }
@@ -222,7 +223,7 @@ impl Branches {
     }
 }
 
-/// Those of the revisions that no path names, in the same order. One look an edit for each.
+/// Those of the revisions that no path names, in the same order. It costs what `is_named` does for each.
 pub(crate) fn unnamed(
     alloc: Global,
     branches: &Branches,
@@ -241,8 +242,8 @@ pub(crate) fn unnamed(
     Ok(found)
 }
 
-/// The greatest generation of those of the revisions that no path names; 0 where there is none. One
-/// look an edit for each.
+/// The greatest generation of those of the revisions that no path names; 0 where there is none. It
+/// costs what `is_named` does for each.
 pub(crate) fn highest_unnamed(branches: &Branches, revs: &[RevId]) -> u16
     ensures { result ≡ highest_of (unnamed_in branches.now.list revs.now) }
 {

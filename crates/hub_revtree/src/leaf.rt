@@ -53,7 +53,7 @@ fn is_better(leaf: &Winner, best: &Option<Winner>) -> bool
 
 /// The number of the edit whose revision is the best of those that stand behind no head; where there is
 /// none, how many edits there are. The newest comes first, and one is looked for in each edit only where
-/// it would be the best so far: so a line of edits costs one look an edit.
+/// it would be the best so far: so a line of edits costs a step an edit.
 pub(crate) fn best_leaf(branches: &Branches) -> usize
     ensures { option_and_then head_in (slice_get branches.now.list result)
         ≡ winner_of (best_first (leaves_among (edits_in branches.now.list) (edits_in branches.now.list))) }

@@ -18,14 +18,15 @@ pub(crate) struct Meeting {
     pub(crate) place: Place,
 }
 
-/// Where the revision stands; None where no edit brought it. One look an edit.
+/// Where the revision stands; None where no edit brought it. One look an edit, from the newest on up to the
+/// one that brought it.
 pub(crate) fn place_of(stems: &[Stem], rev: &RevId) -> Option<Place>
     requires { AreStems stems.now }
     ensures found { IfSome result (λ place. slice_get (revisions_at stems.now place.stem) place.at ≡ Some rev.now) }
     ensures none { IfNone result (has_revision stems.now rev.now ≡ false) }
 {
-    for (number, stem) in stems.iter().enumerate() {
-        if let Some(at) = stem.position(rev) {
+    for number in (0..stems.len()).rev() {
+        if let Some(at) = stems[number].position(rev) {
             return Some(Place { stem: number, at });
         }
     }
@@ -82,11 +83,18 @@ pub(crate) fn is_behind_last(stems: &[Stem], rev: &RevId) -> bool
     }
 }
 
-/// The stem whose newest revision this is. One look an edit.
+/// The stem whose newest revision this is. One look an edit, from the newest on up to that one.
 pub(crate) fn headed<'a>(stems: &'a [Stem], rev: &RevId) -> Option<&'a Stem>
+    requires { AreStems stems.now }
     ensures { option_map (λ s. s.now) result ≡ find (λ s. is_first rev.now s.revisions.items) stems.now }
 {
-    stems.iter().find(|stem| stem.is_head(rev))
+    for number in (0..stems.len()).rev() {
+        let stem = &stems[number];
+        if stem.is_head(rev) {
+            return Some(stem);
+        }
+    }
+    None
 }
 
 /// Puts the revision at the place, and all that stands behind it, behind what the vector holds. It
