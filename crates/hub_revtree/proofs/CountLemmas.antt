@@ -15,7 +15,7 @@ use Rattle.hub_revtree.specs.declared.stem.Stem.{Stem}
 use Rattle.hub_revtree.specs.Branch.{edit_of, edits_in}
 use Rattle.hub_revtree.specs.Count.{count_after, revision_count}
 use Rattle.hub_revtree.specs.Stem.{AreStems, branch_of, branches_of, has_revision, path_from}
-use Rattle.hub_revtree.proofs.StemLemmas.{from_end, from_named, front, get_last, named_in, one_stem_more}
+use Rattle.hub_revtree.proofs.StemLemmas.{from_end, from_named, front, get_last, named_in, none_of, one_stem_more}
 use Rattle.hub_revtree.proofs.TreeLemmas.{known_by}
 
 -- how many revisions the stems have
@@ -42,15 +42,6 @@ all_new es [] (r ∷ q) new known =
     rw (known r (or_left (is_same r r) (names q r) (same_self r))) (all_new es [] q new (λ s n. known s (or_right (is_same s r) (names q s) n)))
 all_new es (r ∷ p) q new known =
     rw (new r (or_left (is_same r r) (names p r) (same_self r))) (ap (λ rs. r ∷ rs) (all_new es p q (λ s n. new s (or_right (is_same s r) (names p s) n)) known))
-
-none_of : (P : Revision → Bool) (p : List Revision) (r : Revision) → list_any P p ≡ false → names p r ≡ true → P r ≡ false
-none_of P [] r f n = absurd (cc)
-none_of P (x ∷ p) r f n =
-    let parts = or_false (P x) (list_any P p) f in
-    elim (cases_Bool (is_same r x)) [
-      | inl t ↦ ap P (same_is r x t) ∙ parts.0
-      | inr t ↦ none_of P p r parts.1 (rw t at n)
-    ]
 
 abbrev AreCounted : List Stem → Type 0
 AreCounted xs = AreStems xs → kept xs ≡ revision_count (edits_in (branches_of xs))

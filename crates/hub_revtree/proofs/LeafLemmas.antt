@@ -1,5 +1,5 @@
 -- The first of the leaves, one branch more at a time.
-use Rattle.std.proofs.Common.{◌≡◌, ℕ, ap₂, zero, suc, ◌+◌, ◌-◌, ◌<◌, ◌≤◌, List, [], ◌∷◌, length, Bool, true, false, ap, refl, sym, ◌∙◌, subst, inl, inr, arith}
+use Rattle.std.proofs.Common.{◌≡◌, ℕ, ap₂, suc, ◌+◌, ◌-◌, ◌<◌, ◌≤◌, List, [], ◌∷◌, length, Bool, true, false, ap, refl, sym, ◌∙◌, subst, inl, inr, arith}
 use Rattle.std.specs.Prelude.{Option, Some, None, option_and_then, option_map, slice_get, drop, if◌then◌else◌, map, insert, not, nat_lt, position, unwrap_or}
 use Rattle.std.specs.List.{list_any, position_or_len}
 use Rattle.std.proofs.lemmas.Bool.{cases_Bool, ltb-false}
@@ -13,6 +13,7 @@ use Rattle.hub_revtree.specs.declared.leaf.Winner.{Winner}
 use Rattle.hub_revtree.specs.Branch.{Branch, edit_of, edits_in}
 use Rattle.hub_revtree.specs.Winner.{winner_of, head_in, better_of, is_better_than, is_above, put_in, winners_of}
 use Rattle.hub_revtree.proofs.BranchLemmas.{any_map}
+use Rattle.hub_revtree.proofs.StemLemmas.{dropped_one}
 
 abbrev one : Leaf → Winner
 one leaf = record { rev = leaf.rev; deleted = leaf.edit.deleted }
@@ -120,18 +121,13 @@ head_there all k leaf h = from (slice_get all k) refl h
     from None e q = absurd (cc)
     from (Some b) e q = let f = first b (slice_get b.path 0) q in (b, e, f.0, f.1)
 
-dropped_one : (xs : List Branch) (k : ℕ) (b : Branch) → slice_get xs k ≡ Some b → drop k xs ≡ b ∷ drop (suc k) xs
-dropped_one [] k b e = absurd (cc)
-dropped_one (x ∷ xs) zero b e = ap (λ z. z ∷ xs) (same_Some x b e)
-dropped_one (x ∷ xs) (suc k) b e = dropped_one xs k b e
-
 -- before the newest there is no best leaf, and no edit has the number behind the last
 pub none_yet : (all : List Branch) (from number : ℕ) → from ≡ length all → number ≡ length all
     → (best_of all (drop from all) ≡ None) × (option_and_then head_in (slice_get all number) ≡ None)
 none_yet all from number end past = (
-    ap (best_of all) (drop_all from all (omega (arith, end))),
-    ap (option_and_then head_in) (slice_get_past all number (omega (arith, past)))
-  )
+  ap (best_of all) (drop_all from all (omega (arith, end))),
+  ap (option_and_then head_in) (slice_get_past all number (omega (arith, past))),
+)
 
 -- going through the branches from the newest
 module _ (all : List Branch) (at : ℕ) (leaf : Winner) (some : 0 < at) (head : option_and_then head_in (slice_get all (at - 1)) ≡ Some leaf) where

@@ -9,3 +9,5 @@ pub mod CountLemmas
 pub mod JoinLemmas
 pub mod StemLemmas
 pub mod StemLooks
+pub mod HighestLemmas
+pub mod WinnerLemmas

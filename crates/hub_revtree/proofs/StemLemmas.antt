@@ -3,13 +3,13 @@ use Rattle.std.proofs.Common.{◌≡◌, ℕ, zero, suc, ◌+◌, ◌<◌, ◌�
 use Rattle.std.specs.Prelude.{Option, Some, None, slice_get, IfSome, is_some}
 use Rattle.std.specs.List.{list_any}
 use Rattle.std.proofs.lemmas.Bool.{cases_Bool}
-use Rattle.std.proofs.lemmas.List.{drop-append-le, length-append, take_all, take-append-le}
+use Rattle.std.proofs.lemmas.List.{drop_all, drop-append-le, length-append, take_all, take-append-drop, take-append-le}
 use Rattle.std.proofs.Math.Seq.{take-append_seam}
 use Rattle.std.proofs.lemmas.List.Folds.{list_any-append}
 use Rattle.std.proofs.lemmas.Option.{same_Some, slice_get_within}
 use Rattle.hub_model.specs.Revision.{Revision, is_same}
 use Rattle.hub_model.specs.Path.{IsPath, names, is_first}
-use Rattle.hub_model.proofs.Tests.{or_left, or_right, or_false}
+use Rattle.hub_model.proofs.Tests.{or_left, or_right, or_false, same_is}
 use Rattle.hub_document.proofs.PlaceLemmas.{named}
 use Rattle.hub_revtree.specs.declared.stem.Place.{Place}
 use Rattle.hub_revtree.specs.declared.stem.Stem.{Stem}
@@ -45,6 +45,21 @@ get_pushed (z ∷ xs) x (suc k) y e = elim (get_pushed xs x k y e) [
   | inr f ↦ inr (ap suc f.0, f.1)
 ]
 
+pub get_taken : {A : Type 0} (n k : ℕ) (xs : List A) → k < n → slice_get (take n xs) k ≡ slice_get xs k
+get_taken zero k xs low = absurd (omega arith)
+get_taken (suc n) k [] low = refl
+get_taken (suc n) zero (x ∷ xs) low = refl
+get_taken (suc n) (suc k) (x ∷ xs) low = get_taken n k xs (omega arith)
+
+pub dropped_one : {A : Type 0} (xs : List A) (k : ℕ) (x : A) → slice_get xs k ≡ Some x → drop k xs ≡ x ∷ drop (suc k) xs
+dropped_one [] k x e = absurd (cc)
+dropped_one (y ∷ xs) zero x e = ap (λ z. z ∷ xs) (same_Some y x e)
+dropped_one (y ∷ xs) (suc k) x e = dropped_one xs k x e
+
+-- the last one
+pub split_at : {A : Type 0} (xs : List A) (k : ℕ) (x : A) → slice_get xs k ≡ Some x → length xs ≤ suc k → xs ≡ take k xs ++ x ∷ []
+split_at xs k x e past = sym (take-append-drop k xs) ∙ ap (λ z. take k xs ++ z) (dropped_one xs k x e ∙ ap (λ z. x ∷ z) (drop_all (suc k) xs past))
+
 pub get_some : {A : Type 0} (xs : List A) (k : ℕ) → k < length xs → (x : A) × (slice_get xs k ≡ Some x)
 get_some [] k low = absurd (omega arith)
 get_some (x ∷ xs) zero low = (x, refl)
@@ -74,6 +89,15 @@ none_more {A = A} P xs k x e f t = rw (add-one k) (more xs k e f)
 
 pub none_all : {A : Type 0} (P : A → Bool) (xs : List A) (k : ℕ) → length xs ≤ k → list_any P (take k xs) ≡ false → list_any P xs ≡ false
 none_all P xs k past f = rw (take_all k xs past) at f
+
+pub none_of : (P : Revision → Bool) (p : List Revision) (r : Revision) → list_any P p ≡ false → names p r ≡ true → P r ≡ false
+none_of P [] r f n = absurd (cc)
+none_of P (x ∷ p) r f n =
+    let parts = or_false (P x) (list_any P p) f in
+    elim (cases_Bool (is_same r x)) [
+      | inl t ↦ ap P (same_is r x t) ∙ parts.0
+      | inr t ↦ none_of P p r parts.1 (rw t at n)
+    ]
 
 pub same_truth : (a b : Bool) → (a ≡ true → b ≡ true) → (b ≡ true → a ≡ true) → a ≡ b
 same_truth true b f g = sym (f refl)

@@ -4,21 +4,21 @@ use Rattle.std.specs.Prelude.{Option, Some, None, IfSome, slice_get, ◌↔◌, 
 use Rattle.std.specs.List.{list_any}
 use Rattle.std.specs.Option.{option_or}
 use Rattle.std.proofs.lemmas.Bool.{cases_Bool, both_ways}
-use Rattle.std.proofs.lemmas.List.{drop-append-le, drop_more, length-drop, take_all}
+use Rattle.std.proofs.lemmas.List.{drop-append-le, drop_more, length-drop, length-take, take_all}
 use Rattle.std.proofs.lemmas.List.Folds.{list_any-append, find-append}
 use Rattle.std.proofs.lemmas.Option.{get_or_from_slice_get, same_Some, slice_get_past, slice_get_read, slice_get_within}
 use Rattle.hub_model.specs.Revision.{Revision, is_same}
 use Rattle.hub_model.specs.Path.{IsPath, names, is_first}
 use Rattle.hub_model.specs.Leaves.{is_behind_head}
 use Rattle.hub_model.proofs.Shown.{find_is}
-use Rattle.hub_model.proofs.Tests.{or_left, or_right, same_is, same_self}
+use Rattle.hub_model.proofs.Tests.{or_false, or_left, or_right, same_is, same_self}
 use Rattle.hub_revtree.specs.declared.stem.Place.{Place}
 use Rattle.hub_revtree.specs.declared.stem.Stem.{Stem}
-use Rattle.hub_revtree.specs.Branch.{Branch, edit_of}
-use Rattle.hub_revtree.specs.Stem.{AreStems, IsWithin, branch_of, branches_after, branches_of, is_at, is_behind_newest, path_from}
+use Rattle.hub_revtree.specs.Branch.{Branch, earlier_branches, edit_of}
+use Rattle.hub_revtree.specs.Stem.{AreStems, IsWithin, branch_of, branches_after, branches_of, has_revision, is_at, is_behind_newest, path_from}
 use Rattle.hub_revtree.specs.Tree.{Tip, tip, tip_of}
 use Rattle.hub_revtree.specs.Winner.{head_in}
-use Rattle.hub_revtree.proofs.StemLemmas.{any_at, any_place, as_many, get_some, rest_at, same_truth, shown_at, steps_left, within_stem}
+use Rattle.hub_revtree.proofs.StemLemmas.{any_at, any_place, as_many, get_some, get_taken, none_of, rest_at, same_truth, shown_at, steps_left, within_stem}
 
 -- the first of some revisions
 first_append : (p q : List Revision) (r : Revision) → 0 < length p → is_first r (p ++ q) ≡ is_first r p
@@ -66,12 +66,27 @@ module _ (xs : List Stem) (a : AreStems xs) (r : Revision) where
     first_of : is_first r (path_from (branches_of xs) s.parent) ≡ is_at xs r s.parent
     first_of = first_at s.parent within
 
-  from_stem : (k : ℕ) (s : Stem) → slice_get xs k ≡ Some s → is_behind_newest xs r s ≡ true → list_any (λ b. is_behind_head r (edit_of b)) (branches_of xs) ≡ true
-  from_stem k s e t = any_at (λ b. is_behind_head r (edit_of b)) (branches_of xs) k (branch_of (branches_of xs) s) (shown_at xs a k s e)
+  own_behind : (k : ℕ) (s : Stem) → slice_get xs k ≡ Some s → is_behind_newest xs r s ≡ true → is_behind_head r (edit_of (branch_of (branches_of xs) s)) ≡ true
+  own_behind k s e t =
       (behind_parts s (a.falling k s e) ∙ elim (cases_Bool (names (drop 1 s.revisions.items) r)) [
         | inl u ↦ or_left (names (drop 1 s.revisions.items) r) (names (path_from (branches_of xs) s.parent) r) u
         | inr u ↦ or_right (names (drop 1 s.revisions.items) r) (names (path_from (branches_of xs) s.parent) r) (first_named (path_from (branches_of xs) s.parent) r (first_of k s e ∙ (rw u at t)))
       ])
+
+  from_stem : (k : ℕ) (s : Stem) → slice_get xs k ≡ Some s → is_behind_newest xs r s ≡ true → list_any (λ b. is_behind_head r (edit_of b)) (branches_of xs) ≡ true
+  from_stem k s e t = any_at (λ b. is_behind_head r (edit_of b)) (branches_of xs) k (branch_of (branches_of xs) s) (shown_at xs a k s e) (own_behind k s e t)
+
+  -- what stands behind no head before the newest stands behind no stem's newest before the last
+  pub earlier_front : list_any (λ b. is_behind_head r (edit_of b)) (earlier_branches (branches_of xs)) ≡ false → list_any (is_behind_newest xs r) (take (length xs - 1) xs) ≡ false
+  earlier_front f = elim (cases_Bool (list_any (is_behind_newest xs r) (take (length xs - 1) xs))) [
+    | inl t ↦
+        let i = any_place (is_behind_newest xs r) (take (length xs - 1) xs) t in
+        let low = slice_get_within (take (length xs - 1) xs) i.0 i.1 i.2 in
+        let there : slice_get xs i.0 ≡ Some i.1 = sym (get_taken (length xs - 1) i.0 xs (omega (arith, low, length-take (length xs - 1) xs))) ∙ i.2 in
+        let shown = get_taken (length (branches_of xs) - 1) i.0 (branches_of xs) (omega (arith, low, length-take (length xs - 1) xs, as_many xs)) ∙ shown_at xs a i.0 i.1 there in
+        absurd (both_ways _ f (any_at (λ b. is_behind_head r (edit_of b)) (earlier_branches (branches_of xs)) i.0 (branch_of (branches_of xs) i.1) shown (own_behind i.0 i.1 there i.3)))
+    | inr t ↦ t
+  ]
 
   to_stem : (n k : ℕ) (s : Stem) → k < n → slice_get xs k ≡ Some s → names (drop 1 (branch_of (branches_of xs) s).path) r ≡ true → list_any (is_behind_newest xs r) xs ≡ true
   to_stem zero k s low e t = absurd (omega arith)
@@ -256,6 +271,29 @@ some_headed xs a rev s r deleted body e head mark members = ap Some (tip_shown s
 
 pub none_headed : (xs : List Stem) → AreStems xs → (rev : Revision) → None ≡ find (λ z. is_first rev z.revisions.items) xs → option_map (λ b. tip_of (edit_of b)) (find (λ b. is_first rev b.path) (branches_of xs)) ≡ None
 none_headed xs a rev e = headed_in rev xs a ∙ ap (option_map tip_in) (sym e)
+
+-- no two stems have one newest revision
+heads_differ : (xs : List Stem) → AreStems xs → (r : Revision) (k : ℕ) (s : Stem) → slice_get xs k ≡ Some s → is_first r s.revisions.items ≡ true → list_any (λ z. is_first r z.revisions.items) (take k xs) ≡ false
+heads_differ xs a r k s e first = elim (cases_Bool (list_any (λ (z : Stem). is_first r z.revisions.items) (take k xs))) [
+  | inl t ↦
+      let i = any_place (λ (z : Stem). is_first r z.revisions.items) (take k xs) t in
+      let old = any_at (λ (z : Stem). names z.revisions.items r) (take k xs) i.0 i.1 i.2 (first_named i.1.revisions.items r i.3) in
+      absurd (both_ways _ (none_of (has_revision (take k xs)) s.revisions.items r (a.fresh k s e) (first_named s.revisions.items r first)) old)
+  | inr t ↦ t
+]
+
+find_here : (P : Stem → Bool) (xs : List Stem) (k : ℕ) (s : Stem) → slice_get xs k ≡ Some s → P s ≡ true → list_any P (take k xs) ≡ false → Some s ≡ find P xs
+find_here P [] k s e t f = absurd (cc)
+find_here P (x ∷ xs) zero s e t f = let u : P x ≡ true = ap P (same_Some x s e) ∙ t in rw u (ap Some (sym (same_Some x s e)))
+find_here P (x ∷ xs) (suc k) s e t f = let g = or_false (P x) (list_any P (take k xs)) f in rw g.0 (find_here P xs k s e t g.1)
+
+-- so the stem of a number is found by its newest
+pub head_found : (xs : List Stem) → AreStems xs → (r : Revision) (k : ℕ) (s : Stem) → slice_get xs k ≡ Some s → is_first r s.revisions.items ≡ true → Some s ≡ find (λ z. is_first r z.revisions.items) xs
+head_found xs a r k s e first = find_here (λ z. is_first r z.revisions.items) xs k s e first (heads_differ xs a r k s e first)
+
+pub none_found : (P : Stem → Bool) (xs : List Stem) → list_any P xs ≡ false → None ≡ find P xs
+none_found P [] f = refl
+none_found P (x ∷ xs) f = let g = or_false (P x) (list_any P xs) f in rw g.0 (none_found P xs g.1)
 
 -- a stem that is found is one
 pub found_falls : (xs : List Stem) → AreStems xs → (rev : Revision) (s : Stem) → Some s ≡ find (λ z. is_first rev z.revisions.items) xs → IsPath s.revisions.items

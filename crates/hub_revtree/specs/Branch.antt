@@ -1,5 +1,5 @@
 -- The stored edits of a document, without its id (own).
-use Rattle.std.specs.Prelude.{ℕ, List, [], map, filter, not, Bool}
+use Rattle.std.specs.Prelude.{ℕ, ◌-◌, take, length, List, [], map, filter, not, Bool}
 use Rattle.std.specs.List.{list_any}
 use Rattle.hub_model.specs.Revision.{Revision}
 use Rattle.hub_model.specs.Path.{names}
@@ -27,3 +27,7 @@ edits_in branches = map edit_of branches
 -- those of the revisions that no path of the branches names, in the same order
 abbrev pub unnamed_in : List Branch → List Revision → List Revision
 unnamed_in branches revs = filter (λ r. not (list_any (λ b. names b.path r) branches)) revs
+
+-- the branches that came before the newest; none where there is none
+abbrev pub earlier_branches : List Branch → List Branch
+earlier_branches branches = take (length branches - 1) branches

@@ -4,8 +4,8 @@
 -- and stands on place 1 of stem 0, which is 1-a. So `branches_of` these three stems has the paths 2-b 1-a, then
 -- 3-c and the first path from place 0 on, 3-c 2-b 1-a, then 3-d 2-e and the first path from place 1 on,
 -- 3-d 2-e 1-a.
-use Rattle.std.specs.Prelude.{◌≡◌, ℕ, ◌<◌, List, [], ◌∷◌, ◌++◌, length, drop, take, slice_get, Option, Some, None}
-use Rattle.std.specs.Prelude.{Bool, false, ◌||◌}
+use Rattle.std.specs.Prelude.{◌≡◌, ℕ, ◌<◌, ◌≤◌, List, [], ◌∷◌, ◌++◌, length, drop, take, slice_get, Option, Some, None}
+use Rattle.std.specs.Prelude.{Bool, true, false, ◌||◌}
 use Rattle.std.specs.List.{list_any}
 use Rattle.hub_model.specs.Revision.{Revision}
 use Rattle.hub_model.specs.Path.{IsPath, names, is_first}
@@ -77,3 +77,9 @@ is_at stems r (Some place) = is_first r (drop place.at (revisions_at stems place
 -- whether r stands behind the stem's newest revision, among its others or as the one that they stand on
 abbrev pub is_behind_newest : List Stem → Revision → Stem → Bool
 is_behind_newest stems r stem = names (drop 1 stem.revisions.items) r || is_at stems r stem.parent
+
+-- no revision of the stems is of a higher generation than this one, and each that stands behind a newest one is of
+-- a lower generation. An example: the three stems above are up to generation 3, and so up to 4, but not up to 2
+pub record AreUpTo (stems : List Stem) (highest : ℕ) : Type 0 where
+  pub known : (r : Revision) → has_revision stems r ≡ true → r.generation ≤ highest
+  pub behind : (r : Revision) → list_any (is_behind_newest stems r) stems ≡ true → r.generation < highest

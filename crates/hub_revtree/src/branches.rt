@@ -1,13 +1,13 @@
 //! The stored edits of a document, which share what stands behind them.
 
-ghost use Rattle.std.specs.Prelude.{◌≡◌, ◌≤◌, ◌<◌, ◌++◌, ◌∷◌, Some, [], ◌-◌, ◌^◌, length, min, find, option_map, option_and_then, slice_get, IfOk, OnOk, OnErr};
+ghost use Rattle.std.specs.Prelude.{◌≡◌, ◌≤◌, ◌<◌, ◌++◌, ◌∷◌, Some, [], ◌-◌, ◌^◌, length, min, false, find, option_map, option_and_then, slice_get, IfOk, OnOk, OnErr};
 ghost use Rattle.std.specs.List.{list_any, list_all};
 ghost use Rattle.hub_model.specs.Journal.{IsAcceptable, IsLegal};
 ghost use Rattle.hub_model.specs.Leaves.{is_behind_head as stands_behind_head};
 ghost use Rattle.hub_model.specs.Missing.{highest as highest_of};
 ghost use Rattle.hub_model.specs.Path.{IsHistory, IsPath, agrees as agrees_with, is_first, names};
 ghost use Rattle.hub_revtree.specs.Winner.{head_in};
-ghost use Rattle.hub_revtree.specs.Branch.{edit_of, edits_in, unnamed_in};
+ghost use Rattle.hub_revtree.specs.Branch.{earlier_branches, edit_of, edits_in, unnamed_in};
 ghost use Rattle.hub_revtree.specs.Count.{revision_count as count_of};
 ghost use Rattle.hub_revtree.specs.Extend.{line_to};
 ghost use Rattle.hub_revtree.specs.Tree.{nameless, tip, tip_of};
@@ -15,7 +15,9 @@ ghost use Rattle.hub_revtree.specs.Tree.{nameless, tip, tip_of};
 use crate::heads::StoredEdit;
 use crate::leaf::Winner;
 use crate::stem::Stem;
-use crate::stems::{append_from, first_known, headed, is_behind, is_line, place_of};
+use crate::stems::{
+    append_from, first_known, headed, is_behind, is_behind_last, is_line, place_of, place_up_to,
+};
 use hub_document::{Body, Path, RevId};
 use std::alloc::{AllocError, Global};
 use std::marker::Model;
@@ -25,6 +27,8 @@ use std::marker::Model;
 #[derive(Debug, Drop)]
 pub(crate) struct Branches {
     stems: Vec<Stem>,
+    /// The highest generation of their revisions; 0 where there is none.
+    highest: u16,
 }
 
 impl Model for Branches {
@@ -33,11 +37,11 @@ impl Model for Branches {
 
     ghost Value = { Storage };
 
-    ghost use Rattle.hub_revtree.specs.Stem.{AreStems, branches_of};
+    ghost use Rattle.hub_revtree.specs.Stem.{AreStems, AreUpTo, branches_of};
 
     ghost view = { λ a. record { list = branches_of a.stems.items; spare = vec_capacity a.stems - vec_len a.stems } };
 
-    ghost invariant = { λ a. AreStems a.stems.items };
+    ghost invariant = { λ a. AreStems a.stems.items × AreUpTo a.stems.items a.highest };
 }
 
 // An edit as it is lent.
@@ -61,6 +65,7 @@ impl Branches {
     {
         Branches {
             stems: Vec::new(alloc),
+            highest: 0,
         }
     }
 
@@ -95,7 +100,7 @@ impl Branches {
         Some(stored(stem))
     }
 
-    /// The edit that the revision heads. One look an edit.
+    /// The edit that the revision heads. One look an edit, from the newest on up to that one.
     pub(crate) fn headed(&self, rev: &RevId) -> Option<StoredEdit<'_>>
         ensures { option_map (λ e. tip e.rev.now e.deleted e.body.now) result ≡ option_map (λ b. tip_of (edit_of b)) (find (λ b. is_first rev.now b.path) self.now.list) }
     {
@@ -126,22 +131,33 @@ impl Branches {
         }
     }
 
-    /// Whether a path names the revision. One look an edit.
+    /// Whether a path names the revision. One look an edit, from the newest on up to the one that brought
+    /// it; constant time where its generation is above all others.
     pub(crate) fn is_named(&self, rev: &RevId) -> bool
         ensures { result ≡ list_any (λ b. names b.path rev.now) self.now.list }
     {
-        place_of(self.stems.as_slice(), rev).is_some()
+        place_up_to(self.stems.as_slice(), self.highest, rev).is_some()
     }
 
-    /// Whether the revision stands behind a head. One look an edit.
+    /// Whether the revision stands behind a head. One look an edit; constant time where no generation is
+    /// above its own.
     pub(crate) fn is_behind(&self, rev: &RevId) -> bool
         ensures { result ≡ list_any (λ b. stands_behind_head rev.now (edit_of b)) self.now.list }
     {
-        is_behind(self.stems.as_slice(), rev)
+        rev.generation() < self.highest && is_behind(self.stems.as_slice(), rev)
+    }
+
+    /// The same of a revision that stands behind no head of the edits before the newest. Constant time.
+    pub(crate) fn is_behind_newest(&self, rev: &RevId) -> bool
+        requires { list_any (λ b. stands_behind_head rev.now (edit_of b)) (earlier_branches self.now.list) ≡ false }
+        ensures { result ≡ list_any (λ b. stands_behind_head rev.now (edit_of b)) self.now.list }
+    {
+        is_behind_last(self.stems.as_slice(), rev)
     }
 
     /// Puts the revision and all that stands behind it behind what the vector holds; nothing where no
-    /// path names it. It costs a look an edit, and what it puts there.
+    /// path names it. It costs a look an edit, from the newest on up to the one that brought it, and the
+    /// length of what it puts there.
     pub(crate) fn append_line(&self, rev: &RevId, line: &mut Vec<RevId>) -> Result<(), AllocError>
         requires { IsLegal (edits_in self.now.list) }
         ensures { OnOk result (line.new.items ≡ line.old.items ++ line_to (edits_in self.now.list) (Some rev.now)) }
@@ -153,7 +169,8 @@ impl Branches {
     }
 
     /// Whether the path agrees with all stored ones. It costs a look an edit for each of the path's
-    /// revisions that no path names, and the number of the others.
+    /// revisions that no path names, but for those of a generation above all others; a look at each edit
+    /// from the newest on up to the one that brought the first of the others; and the number of these.
     pub(crate) fn agrees_with_all(&self, path: &Path) -> bool
         requires legal { IsLegal (edits_in self.now.list) }
         requires history { IsHistory path.now }
@@ -161,7 +178,7 @@ impl Branches {
     {
         let stems = self.stems.as_slice();
         let revisions = path.revisions();
-        match first_known(stems, revisions) {
+        match first_known(stems, self.highest, revisions) {
             Some(met) => is_line(stems, met.place, &revisions[met.at..]),
             None => true,
         }
@@ -180,8 +197,7 @@ impl Branches {
     }
 
     /// Takes an edit, in the room that was made for it: it takes no new memory, and gives back that of
-    /// the revisions which are known. It costs a look an edit for each of the path's revisions that no
-    /// path names, and the path's length.
+    /// the revisions which are known. It costs what `agrees_with_all` does.
     pub(crate) fn push(&mut self, path: Path, deleted: bool, body: Body)
         requires legal { IsLegal (edits_in self.old.list) }
         requires acceptable { IsAcceptable (edits_in self.old.list) (nameless path deleted body) }
@@ -189,7 +205,9 @@ impl Branches {
         ensures { edits_in self.new.list ≡ edits_in self.old.list ++ nameless path deleted body ∷ [] }
     {
         let mut parent = None;
-        let met = first_known(self.stems.as_slice(), path.revisions());
+        let met = first_known(self.stems.as_slice(), self.highest, path.revisions());
+        let head = path.head();
+        self.highest = head.generation().max(self.highest);
         let mut revisions = path.into_revisions();
         if let Some(met) = met {
             revisions.truncate(met.at);
@@ -205,7 +223,7 @@ impl Branches {
     }
 }
 
-/// Those of the revisions that no path names, in the same order. One look an edit for each.
+/// Those of the revisions that no path names, in the same order. It costs what `is_named` does for each.
 pub(crate) fn unnamed(
     alloc: Global,
     branches: &Branches,
@@ -224,8 +242,8 @@ pub(crate) fn unnamed(
     Ok(found)
 }
 
-/// The greatest generation of those of the revisions that no path names; 0 where there is none. One
-/// look an edit for each.
+/// The greatest generation of those of the revisions that no path names; 0 where there is none. It
+/// costs what `is_named` does for each.
 pub(crate) fn highest_unnamed(branches: &Branches, revs: &[RevId]) -> u16
     ensures { result ≡ highest_of (unnamed_in branches.now.list revs.now) }
 {

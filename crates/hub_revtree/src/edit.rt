@@ -45,7 +45,8 @@ fn generation(rev: &Option<RevId>) -> u16
 }
 
 impl RevTree {
-    // The leaf that is named. One look an edit.
+    // The leaf that is named. One look an edit; where no generation is above its own, only from the newest
+    // on up to the one that brought it.
     fn leaf(&self, rev: RevId) -> Result<Option<RevId>, EditFault>
         ensures tree { IsRevTree self.now.edits }
         ensures line { option_map (line_to self.now.edits) (result_ok result) ≡ extended_in self.now.edits [] (leaves_of self.now.edits []) (Some rev) }
@@ -108,7 +109,8 @@ impl RevTree {
     /// name, on nothing where the document is unknown and on its winner where that is deleted: the
     /// edit with the revision that is made for it, with memory for it. `id` is the document's, which
     /// the revision's hash has in it. It costs a look an edit, and the lengths of the path and the
-    /// body.
+    /// body; where no generation is above that of the leaf, it looks only from the newest edit on up to the
+    /// one that brought the leaf.
     pub fn look_extend(
         &mut self,
         id: &DocId,

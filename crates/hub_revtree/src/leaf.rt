@@ -3,9 +3,10 @@
 ghost use Rattle.std.specs.Prelude.{◌≡◌, ◌<◌, [], Some, length, map, option_and_then, option_map, position, slice_get, IfOk, OnOk};
 ghost use Rattle.std.specs.List.{list_any};
 ghost use Rattle.hub_model.specs.Revision.{revision_cmp};
-ghost use Rattle.hub_model.specs.Leaves.{leaf_cmp, leaves_among, best_first, with_leaf};
-ghost use Rattle.hub_revtree.specs.Branch.{edit_of, edits_in};
-ghost use Rattle.hub_revtree.specs.Winner.{has_below, head_in, winner_of, is_better_than, is_above, put_in, winners_of};
+ghost use Rattle.hub_model.specs.Journal.{IsLegal};
+ghost use Rattle.hub_model.specs.Leaves.{leaf_cmp, leaves_among, leaves_of, best_first, with_leaf};
+ghost use Rattle.hub_revtree.specs.Branch.{earlier_branches, edit_of, edits_in};
+ghost use Rattle.hub_revtree.specs.Winner.{HasWinner, has_below, head_in, winner_of, is_better_than, is_above, put_in, winners_of};
 
 use crate::branches::Branches;
 use hub_document::RevId;
@@ -52,7 +53,7 @@ fn is_better(leaf: &Winner, best: &Option<Winner>) -> bool
 
 /// The number of the edit whose revision is the best of those that stand behind no head; where there is
 /// none, how many edits there are. The newest comes first, and one is looked for in each edit only where
-/// it would be the best so far: so a line of edits costs one look an edit.
+/// it would be the best so far: so a line of edits costs a step an edit.
 pub(crate) fn best_leaf(branches: &Branches) -> usize
     ensures { option_and_then head_in (slice_get branches.now.list result)
         ≡ winner_of (best_first (leaves_among (edits_in branches.now.list) (edits_in branches.now.list))) }
@@ -71,6 +72,29 @@ pub(crate) fn best_leaf(branches: &Branches) -> usize
         number = at;
     }
     number
+}
+
+/// The same where only the newest edit has come since the winner's edit had this number. Constant time where
+/// the newest edit wins, or the winner is not what it stands on; else the cost of `best_leaf`.
+pub(crate) fn best_with_newest(branches: &Branches, best: usize) -> usize
+    requires some { 0 < length branches.now.list }
+    requires legal { IsLegal (edits_in branches.now.list) }
+    requires winner { HasWinner (edits_in (earlier_branches branches.now.list)) (option_and_then head_in (slice_get (earlier_branches branches.now.list) best)) }
+    ensures { option_and_then head_in (slice_get branches.now.list result) ≡ winner_of (leaves_of (edits_in branches.now.list) []) }
+{
+    let newest = branches.len() - 1;
+    let leaf = branches.head(newest);
+    if best >= newest {
+        return newest;
+    }
+    let winner = branches.head(best);
+    if leaf_order(&leaf, &winner).is_gt() {
+        return newest;
+    }
+    if branches.is_behind_newest(&winner.rev) {
+        return best_leaf(branches);
+    }
+    best
 }
 
 // The place of the first of the leaves that this one is above.

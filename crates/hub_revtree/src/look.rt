@@ -39,7 +39,8 @@ impl RevTree {
     }
 
     /// A known revision and all that stands behind it, in memory of its own; None of one that is not
-    /// known. It costs a look an edit, and the length of the path.
+    /// known. It costs a look an edit, from the newest on up to the one that brought it, and the length of the
+    /// path.
     pub fn path(&self, alloc: Global, rev: &RevId) -> Result<Option<Path>, AllocError>
         ensures ok { IfOk result (λ path. path ≡ path_to self.now.edits rev.now) }
         ensures memory { OnErr result (IsKnown self.now.edits [] rev.now) }
@@ -53,7 +54,7 @@ impl RevTree {
     }
 
     /// The members of the edit that the revision heads; None where it heads none, as an ancestor
-    /// does that came inside a history alone. One look an edit.
+    /// does that came inside a history alone. One look an edit, from the newest on up to that one.
     pub fn body(&self, rev: &RevId) -> Option<&Body>
         ensures { option_map (λ b. b.now) result ≡ option_map (λ e. e.body) (find (is_head rev.now) self.now.edits) }
     {
@@ -61,7 +62,7 @@ impl RevTree {
         Some(edit.body)
     }
 
-    /// Of these revisions those that are not known, in the same order. One look an edit for each.
+    /// Of these revisions those that are not known, in the same order. It costs what `knows` does for each.
     pub fn missing(&self, alloc: Global, revs: &[RevId]) -> Result<Revisions, AllocError>
         ensures ok { IfOk result (λ found. found ≡ missing_from self.now.edits [] revs.now) }
         ensures memory { OnErr result (¬ (missing_from self.now.edits [] revs.now ≡ [])) }

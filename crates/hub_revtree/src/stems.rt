@@ -1,10 +1,10 @@
 //! The revisions of a tree, as its edits brought them.
 
-ghost use Rattle.std.specs.Prelude.{◌≡◌, ◌++◌, ◌↔◌, List, Some, false, take, find, slice_get, option_map, IsTrue, IfSome, IfNone, OnOk};
+ghost use Rattle.std.specs.Prelude.{◌≡◌, ◌-◌, ◌++◌, ◌↔◌, List, length, Some, false, take, find, slice_get, option_map, IsTrue, IfSome, IfNone, OnOk};
 ghost use Rattle.std.specs.List.{list_any};
 ghost use Rattle.hub_model.specs.Revision.{Revision};
 ghost use Rattle.hub_model.specs.Path.{is_first};
-ghost use Rattle.hub_revtree.specs.Stem.{AreStems, IsWithin, branches_of, has_revision, is_at as is_revision_at, is_behind_newest, path_from, revisions_at};
+ghost use Rattle.hub_revtree.specs.Stem.{AreStems, AreUpTo, IsWithin, branches_of, has_revision, is_at as is_revision_at, is_behind_newest, path_from, revisions_at};
 
 use crate::stem::{Place, Stem};
 use hub_document::RevId;
@@ -18,8 +18,8 @@ pub(crate) struct Meeting {
     pub(crate) place: Place,
 }
 
-/// Where the revision stands; None where no edit brought it. One look an edit, the newest first, since
-/// most edits stand on that.
+/// Where the revision stands; None where no edit brought it. One look an edit, from the newest on up to the
+/// one that brought it.
 pub(crate) fn place_of(stems: &[Stem], rev: &RevId) -> Option<Place>
     requires { AreStems stems.now }
     ensures found { IfSome result (λ place. slice_get (revisions_at stems.now place.stem) place.at ≡ Some rev.now) }
@@ -31,6 +31,20 @@ pub(crate) fn place_of(stems: &[Stem], rev: &RevId) -> Option<Place>
         }
     }
     None
+}
+
+/// The same of stems with no revision of a generation above the highest. Constant time for a revision of
+/// such a generation.
+pub(crate) fn place_up_to(stems: &[Stem], highest: u16, rev: &RevId) -> Option<Place>
+    requires stems { AreStems stems.now }
+    requires highest { AreUpTo stems.now highest }
+    ensures found { IfSome result (λ place. slice_get (revisions_at stems.now place.stem) place.at ≡ Some rev.now) }
+    ensures none { IfNone result (has_revision stems.now rev.now ≡ false) }
+{
+    if rev.generation() > highest {
+        return None;
+    }
+    place_of(stems, rev)
 }
 
 // Whether the revision is the one at the place. Constant time.
@@ -57,11 +71,30 @@ pub(crate) fn is_behind(stems: &[Stem], rev: &RevId) -> bool
     false
 }
 
-/// The stem whose newest revision this is. One look an edit.
+/// The same of a revision that stands behind the newest of none of the earlier stems. Constant time.
+pub(crate) fn is_behind_last(stems: &[Stem], rev: &RevId) -> bool
+    requires stems { AreStems stems.now }
+    requires others { list_any (is_behind_newest stems.now rev.now) (take (length stems.now - 1) stems.now) ≡ false }
+    ensures { result ≡ list_any (is_behind_newest stems.now rev.now) stems.now }
+{
+    match stems.last() {
+        Some(last) => last.has_behind(rev) || is_at(stems, last.parent, rev),
+        None => false,
+    }
+}
+
+/// The stem whose newest revision this is. One look an edit, from the newest on up to that one.
 pub(crate) fn headed<'a>(stems: &'a [Stem], rev: &RevId) -> Option<&'a Stem>
+    requires { AreStems stems.now }
     ensures { option_map (λ s. s.now) result ≡ find (λ s. is_first rev.now s.revisions.items) stems.now }
 {
-    stems.iter().find(|stem| stem.is_head(rev))
+    for number in (0..stems.len()).rev() {
+        let stem = &stems[number];
+        if stem.is_head(rev) {
+            return Some(stem);
+        }
+    }
+    None
 }
 
 /// Puts the revision at the place, and all that stands behind it, behind what the vector holds. It
@@ -120,16 +153,18 @@ pub(crate) fn is_line(stems: &[Stem], place: Place, revisions: &[RevId]) -> bool
     rest.is_empty()
 }
 
-/// The first of the revisions that an edit brought. One look an edit for each revision up to it.
-pub(crate) fn first_known(stems: &[Stem], revisions: &[RevId]) -> Option<Meeting>
-    requires { AreStems stems.now }
+/// The first of the revisions that an edit brought, of stems with no revision of a generation above the
+/// highest. One look an edit for each revision up to it; constant time for each of such a generation.
+pub(crate) fn first_known(stems: &[Stem], highest: u16, revisions: &[RevId]) -> Option<Meeting>
+    requires stems { AreStems stems.now }
+    requires highest { AreUpTo stems.now highest }
     ensures new { IfSome result (λ m. list_any (has_revision stems.now) (take m.at revisions.now) ≡ false) }
     ensures within { IfSome result (λ m. IsWithin stems.now m.place) }
     ensures same { IfSome result (λ m. slice_get revisions.now m.at ≡ slice_get (revisions_at stems.now m.place.stem) m.place.at) }
     ensures none { IfNone result (list_any (has_revision stems.now) revisions.now ≡ false) }
 {
     for (at, rev) in revisions.iter().enumerate() {
-        if let Some(place) = place_of(stems, rev) {
+        if let Some(place) = place_up_to(stems, highest, rev) {
             return Some(Meeting { at, place });
         }
     }

@@ -2,6 +2,7 @@
 
 mod edits;
 mod keeps;
+mod lines;
 mod looks;
 mod merges;
 

@@ -10,7 +10,7 @@ ghost use Rattle.hub_revtree.specs.Winner.{winner_of};
 
 use crate::branches::Branches;
 use crate::fault::{MergeFault, Merged};
-use crate::leaf::{Winner, best_leaf};
+use crate::leaf::{Winner, best_with_newest};
 use hub_document::{Body, Path, RevId};
 use std::alloc::{AllocError, Global};
 use std::marker::Model;
@@ -133,14 +133,16 @@ impl RevTree {
         self.branches.len() == 0
     }
 
-    /// Whether a path names the revision. One look an edit.
+    /// Whether a path names the revision. One look an edit, from the newest on up to the one that brought it;
+    /// constant time where its generation is above all others.
     pub fn knows(&self, rev: &RevId) -> bool
         ensures { IsTrue result ↔ IsKnown self.now.edits [] rev.now }
     {
         self.branches.is_named(rev)
     }
 
-    /// Whether the edit that the revision heads deletes the document. One look an edit.
+    /// Whether the edit that the revision heads deletes the document. One look an edit, from the newest on up
+    /// to that one.
     pub fn deleted(&self, rev: &RevId) -> Option<bool>
         ensures mark { IfSome result (IsMarked self.now.edits [] rev.now) }
         ensures none { IfNone result ((mark : Bool) → ¬ IsMarked self.now.edits [] rev.now mark) }
@@ -168,8 +170,9 @@ impl RevTree {
     }
 
     /// Looks what becomes of an edit: `None` where its revision is known, else the edit, with
-    /// memory for it. It costs a look an edit for each of the path's revisions that is not known, and
-    /// the path's length.
+    /// memory for it. It costs a look an edit for each of the path's revisions that is not known, but for
+    /// those of a generation above all others; a look at each edit from the newest on up to the one that
+    /// brought the first that is known; and the path's length.
     pub fn look_merge(
         &mut self,
         path: Path,
@@ -197,9 +200,10 @@ impl RevTree {
     }
 
     /// Takes an edit that `look_merge` or `look_extend` made ready. It takes no memory, and gives back
-    /// that of the path's revisions which are known. It costs a look an edit for each of the others, and
-    /// the path's length; and the winner is found anew: each head is looked for in each edit where it
-    /// would be the best so far, which is one look an edit for a line of edits.
+    /// that of the path's revisions which are known. It costs what `look_merge` does. The winner takes
+    /// constant time where it is the edit's revision, or the old one which the edit does not stand on; else
+    /// it is found anew: each head is looked for in each edit where it would be the best so far. So an edit on
+    /// the newest one of a line takes the path's length alone.
     pub fn adopt(&mut self, ready: Ready)
         requires acceptable { IsAcceptable self.old.edits ready }
         requires room { length ready.path ≤ self.old.room }
@@ -211,7 +215,7 @@ impl RevTree {
             body,
         } = ready;
         self.branches.push(path, deleted, body);
-        self.best = best_leaf(&self.branches);
+        self.best = best_with_newest(&self.branches, self.best);
     }
 
     /// Takes an edit, where its revision is new and its path contradicts no stored one. It costs

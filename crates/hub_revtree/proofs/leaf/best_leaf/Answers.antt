@@ -7,18 +7,18 @@ loop-at-init c = none_yet c.args.branches.now.list c.len-at.result c.len-number.
 
 pub loop-at-preserved-then-not-is_better : goal.loop-at-preserved-then-not-is_better
 loop-at-preserved-then-not-is_better c = (
-    best_passed c.args.branches.now.list c.loop-at.at c.head-leaf.result c.loop-at-test.true c.head-leaf.ensures c.loop-at.best c.loop-at.invariant.0 (sym c.is_better.ensures ∙ c.if-not-is_better.true),
-    c.loop-at.invariant.1
-  )
+  best_passed c.args.branches.now.list c.loop-at.at c.head-leaf.result c.loop-at-test.true c.head-leaf.ensures c.loop-at.best c.loop-at.invariant.0 (sym c.is_better.ensures ∙ c.if-not-is_better.true),
+  c.loop-at.invariant.1,
+)
 
 pub loop-at-preserved-then-is_behind : goal.loop-at-preserved-then-is_behind
 loop-at-preserved-then-is_behind c = (
-    best_behind c.args.branches.now.list c.loop-at.at c.head-leaf.result c.loop-at-test.true c.head-leaf.ensures c.loop-at.best c.loop-at.invariant.0 (sym c.is_behind.ensures ∙ c.if-is_behind.true),
-    c.loop-at.invariant.1
-  )
+  best_behind c.args.branches.now.list c.loop-at.at c.head-leaf.result c.loop-at-test.true c.head-leaf.ensures c.loop-at.best c.loop-at.invariant.0 (sym c.is_behind.ensures ∙ c.if-is_behind.true),
+  c.loop-at.invariant.1,
+)
 
 pub loop-at-preserved : goal.loop-at-preserved
 loop-at-preserved c = (
-    best_taken c.args.branches.now.list c.loop-at.at c.head-leaf.result c.loop-at-test.true c.head-leaf.ensures c.loop-at.best c.loop-at.invariant.0 (sym c.is_behind.ensures ∙ c.if-is_behind.false) (sym c.is_better.ensures ∙ c.if-not-is_better.false),
-    c.head-leaf.ensures
-  )
+  best_taken c.args.branches.now.list c.loop-at.at c.head-leaf.result c.loop-at-test.true c.head-leaf.ensures c.loop-at.best c.loop-at.invariant.0 (sym c.is_behind.ensures ∙ c.if-is_behind.false) (sym c.is_better.ensures ∙ c.if-not-is_better.false),
+  c.head-leaf.ensures,
+)

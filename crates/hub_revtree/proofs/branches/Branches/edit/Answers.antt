@@ -3,16 +3,16 @@ use Rattle.hub_revtree.proofs.StemLooks.{no_edit, read_stem, some_edit}
 use Rattle.hub_revtree.proofs.branches.Branches.edit.Goals as goal
 
 pub returns-in_err-stem : goal.returns-in_err-stem
-returns-in_err-stem c = rw (c.from_residual.ensures, sym c.self.view_is) (sym (no_edit c.self.inside.stems.items c.self.invariant c.args.at (rw c.as_slice.ensures.value at c.in_err-stem.ensures.lookup.3)))
+returns-in_err-stem c = rw (c.from_residual.ensures, sym c.self.view_is) (sym (no_edit c.self.inside.stems.items c.self.invariant.0 c.args.at (rw c.as_slice.ensures.value at c.in_err-stem.ensures.lookup.3)))
 
 pub stored-requires : goal.stored-requires
 stored-requires c =
     let found = rw c.as_slice.ensures.value at c.in_ok-stem.ensures.lookup.3 in
-    c.self.invariant.falling c.args.at c.in_ok-stem.stem.now (read_stem c.self.inside.stems.items c.args.at c.in_ok-stem.stem.now found.0 (found.1 c.in_ok-stem.stem.now))
+    c.self.invariant.0.falling c.args.at c.in_ok-stem.stem.now (read_stem c.self.inside.stems.items c.args.at c.in_ok-stem.stem.now found.0 (found.1 c.in_ok-stem.stem.now))
 
 pub returns : goal.returns
 returns c =
     let found = rw c.as_slice.ensures.value at c.in_ok-stem.ensures.lookup.3 in
     rw (sym c.self.view_is)
-    (some_edit c.self.inside.stems.items c.self.invariant c.args.at c.in_ok-stem.stem.now c.stored.result.rev.now c.stored.result.deleted c.stored.result.body.now
+    (some_edit c.self.inside.stems.items c.self.invariant.0 c.args.at c.in_ok-stem.stem.now c.stored.result.rev.now c.stored.result.deleted c.stored.result.body.now
     (read_stem c.self.inside.stems.items c.args.at c.in_ok-stem.stem.now found.0 (found.1 c.in_ok-stem.stem.now)) c.stored.ensures.rev c.stored.ensures.deleted c.stored.ensures.body)

@@ -1,12 +1,13 @@
 use Rattle.std.proofs.Common.{◌∙◌, sym, ap, take, Vec, Global}
 use Rattle.hub_model.specs.Revision.{Revision}
 use Rattle.hub_revtree.specs.declared.stem.Stem.{Stem}
+use Rattle.hub_revtree.proofs.HighestLemmas.{up_to_more}
 use Rattle.hub_revtree.proofs.JoinLemmas.{Brings, brought_edit, brought_stems, met_brings, new_brings}
 use Rattle.hub_revtree.proofs.branches.Branches.push.Goals as goal
-use Rattle.hub_revtree.proofs.branches.Branches.push.Goals.{in-Some, in_default}
+use Rattle.hub_revtree.proofs.branches.Branches.push.Goals.{After-push_reserved, in-Some, in_default}
 
 -- the stem brings what is new of the path
-brings : (c : goal.After-push_reserved) → Brings c.self.inside.stems.items c.args.path (record { revisions = c.match-met.revisions; parent = c.match-met.parent; deleted = c.args.deleted; body = c.args.body })
+brings : (c : After-push_reserved) → Brings c.self.inside.stems.items c.args.path (record { revisions = c.match-met.revisions; parent = c.match-met.parent; deleted = c.args.deleted; body = c.args.body })
 brings c =
     let xs = c.self.inside.stems.items in
     let legal = rw (sym c.self.view_is) at c.requires.legal in
@@ -15,19 +16,27 @@ brings c =
     elim c.match-met.branch [
       | in-Some w ↦
           let met = rw c.as_slice.ensures.value at w.in-Some.ensures in
-          met_brings xs c.self.invariant legal c.args.path c.revisions.result.now c.args.deleted c.args.body ok c.revisions.ensures stem w.in-Some.met.at w.in-Some.met.place met.new met.within met.same
+          met_brings xs c.self.invariant.0 legal c.args.path c.revisions.result.now c.args.deleted c.args.body ok c.revisions.ensures stem w.in-Some.met.at w.in-Some.met.place met.new met.within met.same
           (ap (λ (v : Vec Revision Global). v.items) w.revisions-is ∙ w.shrink_to_fit.ensures.items ∙ w.truncate.ensures.items ∙ ap (take w.in-Some.met.at) c.into_revisions-revisions.ensures)
           w.parent-is
       | in_default w ↦
-          new_brings xs c.self.invariant legal c.args.path c.revisions.result.now c.args.deleted c.args.body ok c.revisions.ensures stem (rw c.as_slice.ensures.value at w.in_default.ensures.none)
+          new_brings xs c.self.invariant.0 legal c.args.path c.revisions.result.now c.args.deleted c.args.body ok c.revisions.ensures stem (rw c.as_slice.ensures.value at w.in_default.ensures.none)
           (ap (λ (v : Vec Revision Global). v.items) w.revisions-is ∙ c.into_revisions-revisions.ensures)
           w.parent-is
     ]
 
 pub invariant_of-self : goal.invariant_of-self
-invariant_of-self c = rw c.push_reserved.ensures.items (brought_stems c.self.inside.stems.items c.self.invariant (rw (sym c.self.view_is) at c.requires.legal) c.args.path _ (brings c))
+invariant_of-self c =
+    let xs = c.self.inside.stems.items in
+    let path = brings c in
+    let more = brought_stems xs c.self.invariant.0 (rw (sym c.self.view_is) at c.requires.legal) c.args.path _ path in
+    rw c.push_reserved.ensures.items (
+      more,
+      up_to_more xs _ c.args.path c.head-head.result c.self.inside.highest c.max-self-inside.result c.self.invariant.0 more c.self.invariant.1 c.head-head.ensures.good.falls c.head-head.ensures.value path.whole
+          (rw c.generation.ensures.value at c.max-self-inside.ensures),
+    )
 
 pub returns : goal.returns
 returns c =
     rw (c.push_reserved.ensures.items, sym c.self.view_is)
-    (brought_edit c.self.inside.stems.items c.self.invariant (rw (sym c.self.view_is) at c.requires.legal) c.args.path _ (brings c))
+    (brought_edit c.self.inside.stems.items c.self.invariant.0 (rw (sym c.self.view_is) at c.requires.legal) c.args.path _ (brings c))

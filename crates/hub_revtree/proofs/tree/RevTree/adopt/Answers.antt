@@ -1,8 +1,7 @@
-use Rattle.std.proofs.Common.{◌*◌, ◌≤◌, ◌∙◌, ap, length, sym, arith}
+use Rattle.std.proofs.Common.{◌*◌, ◌≤◌, length, sym, arith}
 use Rattle.hub_model.proofs.Legal.{legal_more}
 use Rattle.hub_revtree.proofs.BranchLemmas.{some_history}
-use Rattle.hub_revtree.specs.Winner.{winner_of}
-use Rattle.hub_revtree.proofs.TreeLemmas.{leaves_by}
+use Rattle.hub_revtree.proofs.WinnerLemmas.{earlier_taken}
 use Rattle.hub_revtree.proofs.tree.RevTree.adopt.Goals as goal
 
 pub push-requires : goal.push-requires
@@ -15,8 +14,16 @@ push-requires c =
       room = omega (arith, room, some_history c.args.ready.path c.requires.acceptable.history);
     }
 
+pub best_with_newest-self-inside-requires-clause-legal : goal.best_with_newest-self-inside-requires-clause-legal
+best_with_newest-self-inside-requires-clause-legal c = rw c.push.ensures (legal_more _ _ c.self.invariant.legal (rw (sym c.self.view_is, sym c.ready.view_is) at c.requires.acceptable))
+
+pub best_with_newest-self-inside-requires-clause-winner :
+    goal.best_with_newest-self-inside-requires-clause-winner
+best_with_newest-self-inside-requires-clause-winner c =
+    rw (earlier_taken c.self.inside.branches.list c.push.new.self.list _ c.push.ensures) c.self.invariant
+
 pub invariant_of-self : goal.invariant_of-self
 invariant_of-self c = record {
   legal = rw c.push.ensures (legal_more _ _ c.self.invariant.legal (rw (sym c.self.view_is, sym c.ready.view_is) at c.requires.acceptable));
-  first = c.best_leaf-self-inside.ensures ∙ ap winner_of (sym (leaves_by c.push.new.self.list));
+  first = c.best_with_newest-self-inside.ensures;
 }

@@ -1,0 +1,68 @@
+-- What the highest generation of stems shows of a revision.
+use Rattle.std.proofs.Common.{◌≡◌, ℕ, ◌<◌, ◌≤◌, List, [], ◌∷◌, ◌++◌, drop, Bool, true, false, inl, inr, refl, sym, ap, ◌∙◌, subst, ◌||◌, arith}
+use Rattle.std.specs.Prelude.{Some, slice_get, max}
+use Rattle.std.specs.List.{list_any}
+use Rattle.std.proofs.lemmas.Bool.{cases_Bool}
+use Rattle.std.proofs.lemmas.List.Folds.{list_any-append}
+use Rattle.std.proofs.lemmas.Option.{same_Some}
+use Rattle.hub_model.specs.Revision.{Revision, is_same}
+use Rattle.hub_model.specs.Path.{IsPath, names}
+use Rattle.hub_model.specs.Leaves.{is_behind_head}
+use Rattle.hub_model.proofs.Legal.{falls_below}
+use Rattle.hub_model.proofs.Tests.{names_is, same_is}
+use Rattle.hub_revtree.specs.declared.stem.Stem.{Stem}
+use Rattle.hub_revtree.specs.Branch.{edit_of}
+use Rattle.hub_revtree.specs.Stem.{AreStems, AreUpTo, branch_of, branches_of, has_revision, is_behind_newest}
+use Rattle.hub_revtree.proofs.StemLemmas.{named_in, one_stem_more}
+use Rattle.hub_revtree.proofs.StemLooks.{behind_in}
+
+-- no stem has a revision of a higher generation
+pub above_unknown : (xs : List Stem) (highest : ℕ) (r : Revision) → AreUpTo xs highest → highest < r.generation → has_revision xs r ≡ false
+above_unknown xs highest r up high = elim (cases_Bool (has_revision xs r)) [
+  | inl t ↦ absurd (omega (arith, up.known r t, high))
+  | inr t ↦ t
+]
+
+-- and one of the highest stands behind nothing
+pub highest_leads : (xs : List Stem) (highest : ℕ) (r : Revision) → AreStems xs → AreUpTo xs highest → highest ≤ r.generation → list_any (λ b. is_behind_head r (edit_of b)) (branches_of xs) ≡ false
+highest_leads xs highest r a up high = behind_in xs a r ∙ elim (cases_Bool (list_any (is_behind_newest xs r) xs)) [
+  | inl t ↦ absurd (omega (arith, up.behind r t, high))
+  | inr t ↦ t
+]
+
+-- a path is up to its first generation
+behind_below : (p : List Revision) (x r : Revision) → IsPath p → slice_get p 0 ≡ Some x → names (drop 1 p) r ≡ true → r.generation < x.generation
+behind_below [] x r f e n = absurd f
+behind_below (y ∷ p) x r f e n = let same : y.generation ≡ x.generation = ap (λ (z : Revision). z.generation) (same_Some y x e) in omega (arith, same, falls_below y p r f (names_is p r n))
+
+named_up_to : (p : List Revision) (x r : Revision) → IsPath p → slice_get p 0 ≡ Some x → names p r ≡ true → r.generation ≤ x.generation
+named_up_to [] x r f e n = absurd f
+named_up_to (y ∷ p) x r f e n = elim (cases_Bool (is_same r y)) [
+  | inl t ↦ let same : r.generation ≡ x.generation = ap (λ (z : Revision). z.generation) (same_is r y t ∙ same_Some y x e) in omega (arith, same)
+  | inr t ↦ let low = behind_below (y ∷ p) x r f e (rw t at n) in omega (arith, low)
+]
+
+either : {A : Type 0} (P : A → Bool) (xs : List A) (x : A) → list_any P (xs ++ x ∷ []) ≡ true → list_any P xs ≡ false → P x ≡ true
+either P xs x t f = last (P x) (ap (λ b. b || (P x || false)) (sym f) ∙ (sym (list_any-append P xs (x ∷ [])) ∙ t))
+  where
+    last : (b : Bool) → (b || false) ≡ true → b ≡ true
+    last true e = refl
+    last false e = e
+
+-- one stem more
+pub up_to_more : (xs : List Stem) (s : Stem) (path : List Revision) (x : Revision) (highest next : ℕ) → AreStems xs → AreStems (xs ++ s ∷ []) → AreUpTo xs highest → IsPath path → slice_get path 0 ≡ Some x
+    → (branch_of (branches_of xs) s).path ≡ path → next ≡ max x.generation highest → AreUpTo (xs ++ s ∷ []) next
+up_to_more xs s path x highest next a more up falls head whole is = record {
+  known = λ r t. elim (cases_Bool (has_revision xs r)) [
+    | inl u ↦ omega (arith, up.known r u, is)
+    | inr u ↦
+        let new = either (λ b. names b.path r) (branches_of xs) (branch_of (branches_of xs) s) (ap (list_any (λ b. names b.path r)) (sym (one_stem_more xs s)) ∙ (named_in (xs ++ s ∷ []) r ∙ t)) (named_in xs r ∙ u) in
+        omega (arith, named_up_to path x r falls head (subst (λ p. names p r ≡ true) whole new), is)
+  ];
+  behind = λ r t. elim (cases_Bool (list_any (is_behind_newest xs r) xs)) [
+    | inl u ↦ omega (arith, up.behind r u, is)
+    | inr u ↦
+        let new = either (λ b. is_behind_head r (edit_of b)) (branches_of xs) (branch_of (branches_of xs) s) (ap (list_any (λ b. is_behind_head r (edit_of b))) (sym (one_stem_more xs s)) ∙ (behind_in (xs ++ s ∷ []) more r ∙ t)) (behind_in xs a r ∙ u) in
+        omega (arith, behind_below path x r falls head (subst (λ p. names (drop 1 p) r ≡ true) whole new), is)
+  ];
+}
