@@ -118,15 +118,6 @@ module _ (d : Document) (r h : Revision) (deleted : Bool) (body : List ℕ) wher
       lent (find (is_head r) (edits_of edits [])) (tip h deleted body) (path_to edits h) same on
       (λ e found tips path. doc_of_edit e found tips path revs history is_so)
 
-  pub no_doc : None ≡ option_map tip_of (find (is_head r) (edits_of edits [])) → (revs : Bool)
-      → None ≡ option_map (doc_shown revs) (shown_in d r)
-  no_doc same revs = from (find (is_head r) (edits_of edits [])) refl same
-    where
-      from : (o : Option Edit) → find (is_head r) (edits_of edits []) ≡ o → None ≡ option_map tip_of o
-          → None ≡ option_map (doc_shown revs) (shown_in d r)
-      from None q e = rw q refl
-      from (Some f) q e = absurd (none-some (tip_of f) e)
-
 -- the edit of a winner is the one that its revision heads
 module _ (J : List Edit) (id : List ℕ) (legal : IsLegal J) where
   pub leaf_headed : (l : Leaf) → Contains (leaves_of J id) l

@@ -1,6 +1,6 @@
 -- What branches and lists of them show.
-use Rattle.std.proofs.Common.{◌≡◌, ℕ, zero, suc, ◌+◌, ◌++◌, take, get_or, filter, cond, ◌<◌, ◌≤◌, List, [], ◌∷◌, length, Bool, true, false, inl, inr, ap, refl, sym, ◌∙◌, ◌||◌, ◌&&◌, not, arith}
-use Rattle.std.specs.Prelude.{Result, Ok, Err, OnErr, Some, slice_get, drop, map}
+use Rattle.std.proofs.Common.{◌≡◌, ℕ, zero, suc, ◌+◌, ◌++◌, take, get_or, filter, cond, ◌<◌, ◌≤◌, List, [], ◌∷◌, length, Bool, true, false, inl, inr, ap, refl, sym, ◌∙◌, ◌||◌, not, arith}
+use Rattle.std.specs.Prelude.{Result, Ok, Err, OnErr, Some, slice_get, map}
 use Rattle.std.specs.List.{list_any}
 use Rattle.std.proofs.lemmas.Bool.{cases_Bool}
 use Rattle.std.proofs.lemmas.Option.{same_Some}
@@ -18,17 +18,7 @@ apart y p r f t = elim (cases_Bool (names p r)) [
   | inr n ↦ n
 ]
 
--- a revision behind the head is another one than the head
-pub behind_head : (p : List Revision) (x r : Revision) → IsHistory p → slice_get p 0 ≡ Some x → names (drop 1 p) r ≡ (names p r && not (is_same r x))
-behind_head [] x r h e = absurd h.falls
-behind_head (y ∷ p) x r h e = from (is_same r y) (names p r) refl refl ∙ ap (λ z. names (y ∷ p) r && not (is_same r z)) (same_Some y x e)
-  where
-    from : (a b : Bool) → is_same r y ≡ a → names p r ≡ b → names p r ≡ (names (y ∷ p) r && not (is_same r y))
-    from true b s n = rw (s, apart y p r h.falls s) refl
-    from false true s n = rw (s, n) refl
-    from false false s n = rw (s, n) refl
-
--- and one at least
+-- a history has a revision
 pub some_history : (p : List Revision) → IsHistory p → 0 < length p
 some_history [] h = absurd h.falls
 some_history (x ∷ p) h = omega arith

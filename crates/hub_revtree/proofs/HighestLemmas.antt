@@ -16,14 +16,7 @@ use Rattle.hub_revtree.specs.Stem.{AreStems, AreUpTo, branch_of, branches_of, ha
 use Rattle.hub_revtree.proofs.StemLemmas.{named_in, one_stem_more}
 use Rattle.hub_revtree.proofs.StemLooks.{behind_in}
 
--- no stem has a revision of a higher generation
-pub above_unknown : (xs : List Stem) (highest : ℕ) (r : Revision) → AreUpTo xs highest → highest < r.generation → has_revision xs r ≡ false
-above_unknown xs highest r up high = elim (cases_Bool (has_revision xs r)) [
-  | inl t ↦ absurd (omega (arith, up.known r t, high))
-  | inr t ↦ t
-]
-
--- and one of the highest stands behind nothing
+-- a revision of the highest generation stands behind nothing
 pub highest_leads : (xs : List Stem) (highest : ℕ) (r : Revision) → AreStems xs → AreUpTo xs highest → highest ≤ r.generation → list_any (λ b. is_behind_head r (edit_of b)) (branches_of xs) ≡ false
 highest_leads xs highest r a up high = behind_in xs a r ∙ elim (cases_Bool (list_any (is_behind_newest xs r) xs)) [
   | inl t ↦ absurd (omega (arith, up.behind r t, high))

@@ -6,7 +6,7 @@ use Rattle.std.proofs.lemmas.Bool.{cases_Bool, and_parts, eqb-true}
 use Rattle.std.proofs.lemmas.Option.{same_Some}
 use Rattle.hub_model.specs.Revision.{Revision, is_same}
 use Rattle.hub_model.specs.Path.{IsFirst, IsNext, IsHistory, names, is_falling, is_full}
-use Rattle.hub_model.specs.Journal.{Edit, Edits, IsBehind, IsKnown, IsLegal, is_known}
+use Rattle.hub_model.specs.Journal.{Edit, Edits, IsBehind, IsLegal, is_known}
 use Rattle.hub_model.specs.Missing.{missing}
 use Rattle.hub_model.specs.Walk.{IsWalk, line_of}
 use Rattle.hub_model.proofs.Legal.{legal_sound}
@@ -59,13 +59,6 @@ path_history es r path tree h = elim (cases_Bool (is_known es [] r)) [
       let known = known_is es [] r t in
       let w = line_of_walk es [] tree.legal r known in
       subst IsHistory (same_Some (line_of es [] r) path (rw t at h)) (walk_history es [] (legal_histories es tree.legal) (line_of es [] r) r w.0 known w.1)
-  | inr t ↦ absurd (let e = rw t at h in cc)
-]
-
--- and only a known revision has one
-pub path_known : (es : List Edit) (r : Revision) (path : List Revision) → path_to es r ≡ Some path → IsKnown es [] r
-path_known es r path h = elim (cases_Bool (is_known es [] r)) [
-  | inl t ↦ known_is es [] r t
   | inr t ↦ absurd (let e = rw t at h in cc)
 ]
 

@@ -3,7 +3,7 @@ use Rattle.std.proofs.Common.{◌≡◌, ℕ, zero, suc, ◌+◌, ◌<◌, ◌�
 use Rattle.std.specs.Prelude.{Option, Some, None, slice_get, IfSome, is_some}
 use Rattle.std.specs.List.{list_any}
 use Rattle.std.proofs.lemmas.Bool.{cases_Bool}
-use Rattle.std.proofs.lemmas.List.{drop_all, drop-append-le, length-append, take_all, take-append-drop, take-append-le}
+use Rattle.std.proofs.lemmas.List.{drop_all, drop-append-le, length-append, take-append-drop, take-append-le}
 use Rattle.std.proofs.Math.Seq.{take-append_seam}
 use Rattle.std.proofs.lemmas.List.Folds.{list_any-append}
 use Rattle.std.proofs.lemmas.Option.{same_Some, slice_get_within}
@@ -86,9 +86,6 @@ none_more {A = A} P xs k x e f t = rw (add-one k) (more xs k e f)
     more [] k e f = absurd (cc)
     more (y ∷ xs) zero e f = rw (ap P (same_Some y x e) ∙ t) refl
     more (y ∷ xs) (suc k) e f = let g = or_false (P y) (list_any P (take k xs)) f in rw g.0 (more xs k e g.1)
-
-pub none_all : {A : Type 0} (P : A → Bool) (xs : List A) (k : ℕ) → length xs ≤ k → list_any P (take k xs) ≡ false → list_any P xs ≡ false
-none_all P xs k past f = rw (take_all k xs past) at f
 
 pub none_of : (P : Revision → Bool) (p : List Revision) (r : Revision) → list_any P p ≡ false → names p r ≡ true → P r ≡ false
 none_of P [] r f n = absurd (cc)

@@ -214,12 +214,6 @@ module _ (xs : List Stem) (a : AreStems xs) (o : Option Place) (p : Place) (s : 
   stem_there : slice_get xs p.stem ≡ Some s
   stem_there = let i = within_stem xs p at_place in i.1 ∙ ap Some (sym (item ∙ get_or_from_slice_get xs p.stem i.0 s i.1))
 
-  pub walk_low : p.stem < length xs
-  walk_low = slice_get_within xs p.stem s stem_there
-
-  pub walk_within : p.at < length s.revisions.items
-  walk_within = rw stem_there at at_place
-
   pub walk_on : path_from (branches_of xs) o ≡ drop p.at s.revisions.items ++ path_from (branches_of xs) s.parent
   walk_on = ap (path_from (branches_of xs)) is ∙ rest_at xs p s a stem_there at_place
 
