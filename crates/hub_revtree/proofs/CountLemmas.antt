@@ -1,8 +1,7 @@
 -- The stems keep as many revisions as the edits have different ones.
-use Rattle.std.proofs.Common.{◌≡◌, ℕ, zero, suc, ◌+◌, ◌<◌, ◌≤◌, List, [], ◌∷◌, ◌++◌, length, get_or, take, Bool, true, false, inl, inr, refl, sym, ap, ◌∙◌, subst, append_assoc, append-nil, add-one, arith}
+use Rattle.std.proofs.Common.{◌≡◌, ℕ, zero, suc, ◌+◌, ◌<◌, ◌≤◌, List, [], ◌∷◌, ◌++◌, length, get_or, take, true, false, refl, sym, ap, ◌∙◌, subst, append_assoc, append-nil, add-one, arith}
 use Rattle.std.specs.Prelude.{Some, slice_get, min}
 use Rattle.std.specs.List.{list_any}
-use Rattle.std.proofs.lemmas.Bool.{cases_Bool}
 use Rattle.std.proofs.lemmas.List.{map-append, take_all}
 use Rattle.std.proofs.Math.Seq.{take-append_seam}
 use Rattle.std.proofs.lemmas.Option.{same_Some, slice_get_read}
@@ -10,7 +9,7 @@ use Rattle.hub_model.specs.Revision.{Revision, is_same}
 use Rattle.hub_model.specs.Path.{names}
 use Rattle.hub_model.specs.Journal.{Edit, is_known}
 use Rattle.hub_model.specs.Missing.{missing}
-use Rattle.hub_model.proofs.Tests.{or_false, or_left, or_right, same_is, same_self}
+use Rattle.hub_model.proofs.Tests.{or_left, or_right, same_self}
 use Rattle.hub_revtree.specs.declared.stem.Stem.{Stem}
 use Rattle.hub_revtree.specs.Branch.{edit_of, edits_in}
 use Rattle.hub_revtree.specs.Count.{count_after, revision_count}
