@@ -3,9 +3,9 @@
 /// Where a gate is passed.
 #[derive(Clone, Copy, Debug, PartialEq, Eq)]
 pub enum Point {
-    /// By a pump, before it takes the lock; not where it wakes for news and has it.
+    /// By a pump, before each holding of the lock.
     PumpFree,
-    /// By a pump, once in each turn, inside the lock.
+    /// By a pump, once inside each holding of the lock.
     PumpHolding,
     /// By a connection of this number, before each answer. Connections are numbered from 1 as they
     /// are accepted.

@@ -95,6 +95,7 @@ impl<C: Count> Guarded<C> {
         let accepted = self.served.locked.write_into(room, docs, new_edits)?;
         let rise = C::add(&mut self.book, share, accepted.receipts.len() as u64);
         let _within = self.served.locked.state().update_seq();
+        self.served.tell();
         Ok((accepted, rise))
     }
 
@@ -178,12 +179,17 @@ impl<C: Count> Guarded<C> {
         ensures err { IfErr result (λ e. (self.old.state.deleted ≡ true)
             × (e ≡ DbFault.Refused Deleted) × (self.new ≡ self.old)) }
     {
+        self.served.tell();
         self.served.locked.delete()
     }
 }
 
 impl<C: Count> Pumped<DbState> for Guarded<C> {
     ghost locked = { λ a. a };
+
+    fn news(&self) -> u64 {
+        self.served.news()
+    }
 
     fn signals(&self, feed: FeedId) -> Result<Option<Arc<Signals, Global>>, AllocError> {
         self.served.signals(feed)

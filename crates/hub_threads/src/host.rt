@@ -12,7 +12,7 @@ use hub_lane::Asks;
 use hub_model::Item;
 use hub_shared::{FeedLabel, Handed};
 use std::alloc::{AllocError, Global};
-use std::sync::{Arc, Condvar, Mutex, MutexGuard, Wait};
+use std::sync::{Arc, Condvar, Mutex, Wait};
 use std::time::{self, Duration};
 
 // The longest wait, in milliseconds.
@@ -24,6 +24,9 @@ pub trait Pumped<S: FeedHost>: Drop {
 
     /// The host with the senders of its feeds.
     ghost locked: { Self → LockedState S S.Row };
+
+    /// Another number after each change that a pump may wait for, and each end of a feed.
+    fn news(&self) -> u64;
 
     /// The signals of a feed, if there is one of this number. A look at each feed.
     fn signals(&self, feed: FeedId) -> Result<Option<Arc<Signals, Global>>, AllocError>;
@@ -66,8 +69,7 @@ pub trait Pumped<S: FeedHost>: Drop {
 #[derive(Drop)]
 struct Shared<G: Drop> {
     /// The only lock: it guards what keeps the feeds, their senders and their signals. It is held for one
-    /// call, or for a pump's turn; nothing is waited for while it is held, and no other lock is taken under
-    /// it.
+    /// call; nothing is waited for while it is held, and no other lock is taken under it.
     guarded: Mutex<G>,
     /// Told of each change that a pump may wait for, and each end of a feed, once the lock is free
     /// again. Pumps wait here that have nothing to hand.
@@ -112,15 +114,23 @@ impl<G: Drop> Host<G> {
         })
     }
 
-    /// Lets the lock go and sleeps until there are news, for so many milliseconds at most, and for a minute
-    /// at most; then it takes the lock again. So no news is missed that came since the lock was taken.
-    pub(crate) fn wait_for_news<'a, R: Wait + time::Clock>(
-        &'a self,
+    /// Waits for news that came after these, for so many milliseconds at most, and for a minute at most.
+    /// The number of the news is compared under the lock, so that none is missed that comes between
+    /// two holdings.
+    pub(crate) fn wait_for_news<S: FeedHost, R: Wait + time::Clock>(
+        &self,
         rt: &R,
-        guarded: MutexGuard<'a, G>,
+        seen: u64,
         most: u64,
-    ) -> MutexGuard<'a, G> {
+    )
+    where
+        G: Pumped<S>,
+    {
+        let guarded = self.guarded().lock(rt);
+        if guarded.news() != seen {
+            return;
+        }
         let most = Duration::from_millis(most.min(MINUTE));
-        self.shared.news.wait_timeout(rt, guarded, most).0
+        let _waited = self.shared.news.wait_timeout(rt, guarded, most);
     }
 }

@@ -10,7 +10,7 @@ use hub_model::Item;
 use hub_shared::{FeedLabel, Handed};
 use std::alloc::{AllocError, Global};
 use std::marker::PhantomData;
-use std::sync::{Arc, MutexGuard, Wait};
+use std::sync::{Arc, Wait};
 use std::time;
 
 /// What one holding of the lock does for a feed.
@@ -22,6 +22,17 @@ pub enum Turn {
     Beat,
     /// It ends the feed's time.
     Expire,
+}
+
+// What one holding did.
+#[derive(Clone, Copy)]
+struct Holding {
+    /// What the last step answered.
+    last: Handed,
+    /// How many items were handed.
+    sent: u64,
+    /// The number of the news as the lock was let go.
+    news: u64,
 }
 
 // Hands until an answer is not a row, or as many items as may be were sent in one holding: the last
@@ -43,33 +54,38 @@ where
     Ok((Handed::Row, most))
 }
 
-// What a holding of the lock does for a feed: the last answer, and how many items were handed, but for
-// heartbeats.
-fn take_turn<S, H, R, G>(
-    guarded: &mut H,
-    rt: &R,
-    feed: FeedId,
-    turn: Turn,
-    gate: &G,
-) -> Result<(Handed, u64), AllocError>
-where
-    S: FeedHost,
-    H: Pumped<S>,
-    R: Asks<FeedLabel<S>, Item<S::Row>>,
-    G: Gate,
-{
-    gate.pass(Point::PumpHolding);
-    match turn {
-        Turn::Hand => hand_on(guarded, rt, feed),
-        Turn::Beat => Ok((guarded.beat(rt, feed), 0)),
-        Turn::Expire => {
-            guarded.expire(feed);
-            Ok((Handed::Nothing, 0))
-        }
-    }
-}
-
 impl<H: Drop> Host<H> {
+    // One holding of the lock.
+    fn hold_once<S, R, G>(
+        &self,
+        rt: &R,
+        feed: FeedId,
+        turn: Turn,
+        gate: &G,
+    ) -> Result<Holding, AllocError>
+    where
+        S: FeedHost,
+        H: Pumped<S>,
+        R: Asks<FeedLabel<S>, Item<S::Row>>,
+        G: Gate,
+    {
+        let mut guarded = self.guarded().lock(rt);
+        gate.pass(Point::PumpHolding);
+        let (last, sent) = match turn {
+            Turn::Hand => hand_on(&mut *guarded, rt, feed)?,
+            Turn::Beat => (guarded.beat(rt, feed), 0),
+            Turn::Expire => {
+                guarded.expire(feed);
+                (Handed::Nothing, 0)
+            }
+        };
+        Ok(Holding {
+            last,
+            sent,
+            news: guarded.news(),
+        })
+    }
+
     // The signals of a feed, unless it is finished.
     fn signals<S, R>(
         &self,
@@ -102,22 +118,11 @@ where
     R: Asks<FeedLabel<S>, Item<S::Row>>,
     G: Gate,
 {
-    let (last, _sent) = take_turn(&mut *host.guarded().lock(rt), rt, feed, turn, gate)?;
-    Ok(last)
+    let holding = host.hold_once(rt, feed, turn, gate)?;
+    Ok(holding.last)
 }
 
-// What a pump waits for between two turns.
-#[derive(Clone, Copy, Debug, PartialEq, Eq)]
-enum Pause {
-    // Nothing: others may have the lock.
-    Yield,
-    // Room in the lane.
-    Room,
-    // News, so many milliseconds at most.
-    News(u64),
-}
-
-// What a pump knows between two turns.
+// What a pump knows between two holdings.
 #[derive(Drop)]
 struct PumpState<'a, S: FeedHost, H: Pumped<S>, K: Clock> {
     host: &'a Host<H>,
@@ -132,68 +137,27 @@ struct PumpState<'a, S: FeedHost, H: Pumped<S>, K: Clock> {
 impl<'a, S: FeedHost, H: Pumped<S>, K: Clock> PumpState<'a, S, H, K> {
     // What comes after a turn that found nothing to do: behind a heartbeat or the end of its time the
     // feed is asked again; a feed that had nothing to hand gets one of these, or waits for news.
-    fn after_nothing(&mut self, turn: Turn) -> (Turn, Pause) {
+    fn after_nothing<R: Wait + time::Clock>(&mut self, rt: &R, turn: Turn, news: u64) -> Turn {
         let now = self.clock.now_ms();
         if turn == Turn::Beat {
             self.last_item = now;
             self.signals.ring_items();
         }
         if turn != Turn::Hand {
-            return (Turn::Hand, Pause::Yield);
+            return Turn::Hand;
         }
         match self
             .signals
             .times
             .due_after(now.saturating_sub(self.last_item))
         {
-            Due::Beat => (Turn::Beat, Pause::Yield),
-            Due::Expire => (Turn::Expire, Pause::Yield),
-            Due::Wait(most) => (Turn::Hand, Pause::News(most)),
-        }
-    }
-
-    // What comes after a turn, by its last answer; None where the feed is gone. Where it handed items the
-    // connection is told.
-    fn after(&mut self, turn: Turn, last: Handed, sent: u64) -> Option<(Turn, Pause)> {
-        if sent > 0 {
-            self.last_item = self.clock.now_ms();
-            self.signals.count_handed(sent);
-        }
-        match last {
-            Handed::Gone => None,
-            Handed::Row | Handed::End => Some((Turn::Hand, Pause::Yield)),
-            Handed::Full => Some((Turn::Hand, Pause::Room)),
-            Handed::Nothing => Some(self.after_nothing(turn)),
-        }
-    }
-
-    // The lock, which others had in the meantime.
-    fn lock<R: Wait, G: Gate>(&self, rt: &R, gate: &G) -> MutexGuard<'a, H> {
-        gate.pass(Point::PumpFree);
-        self.host.guarded().lock(rt)
-    }
-
-    // Lets the lock go, waits, and takes it again.
-    fn wait<R, G>(
-        &self,
-        rt: &R,
-        gate: &G,
-        guarded: MutexGuard<'a, H>,
-        pause: Pause,
-    ) -> MutexGuard<'a, H>
-    where
-        R: Wait + time::Clock,
-        G: Gate,
-    {
-        match pause {
-            Pause::News(most) => return self.host.wait_for_news(rt, guarded, most),
-            Pause::Yield => drop(guarded),
-            Pause::Room => {
-                drop(guarded);
-                self.signals.wait_for_room(rt);
+            Due::Beat => Turn::Beat,
+            Due::Expire => Turn::Expire,
+            Due::Wait(most) => {
+                self.host.wait_for_news(rt, news, most);
+                Turn::Hand
             }
         }
-        self.lock(rt, gate)
     }
 
     // Hands until the feed is gone.
@@ -202,15 +166,23 @@ impl<'a, S: FeedHost, H: Pumped<S>, K: Clock> PumpState<'a, S, H, K> {
         R: Asks<FeedLabel<S>, Item<S::Row>> + time::Clock,
         G: Gate,
     {
-        let mut guarded = self.lock(rt, gate);
         let mut turn = Turn::Hand;
         for _ in rt.forever() {
-            let (last, sent) = take_turn(&mut *guarded, rt, self.feed, turn, gate)?;
-            let Some((next, pause)) = self.after(turn, last, sent) else {
-                return Ok(());
+            gate.pass(Point::PumpFree);
+            let holding = self.host.hold_once(rt, self.feed, turn, gate)?;
+            if holding.sent > 0 {
+                self.last_item = self.clock.now_ms();
+                self.signals.count_handed(holding.sent);
+            }
+            turn = match holding.last {
+                Handed::Gone => return Ok(()),
+                Handed::Row | Handed::End => Turn::Hand,
+                Handed::Full => {
+                    self.signals.wait_for_room(rt);
+                    Turn::Hand
+                }
+                Handed::Nothing => self.after_nothing(rt, turn, holding.news),
             };
-            turn = next;
-            guarded = self.wait(rt, gate, guarded, pause);
         }
         unreachable!()
     }
@@ -220,8 +192,7 @@ impl<'a, S: FeedHost, H: Pumped<S>, K: Clock> PumpState<'a, S, H, K> {
 /// then it ends with Ok. Without memory for a row it ends with that error, and the feed stays as it
 /// is. It takes the lock for at most as many items as one holding may hand. Where the lane is full it
 /// sleeps until `Feed::take` finds it empty; where there is nothing to hand it sleeps until a write, a
-/// deletion or the end of a feed, and at most until a heartbeat is due, or the feed's time is over: it
-/// takes its next turn in the holding in which it wakes.
+/// deletion or the end of a feed, and at most until a heartbeat is due, or the feed's time is over.
 pub fn pump<S, H, R, G, K>(
     rt: &R,
     host: &Host<H>,

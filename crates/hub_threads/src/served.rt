@@ -32,6 +32,8 @@ pub struct Served<S: FeedHost> {
     signals: Vec<(FeedId, Arc<Signals, Global>)>,
     /// How many items a feed is handed in one holding at most.
     hold: u64,
+    /// Another number after each change that a pump may wait for, and each end of a feed.
+    news: u64,
 }
 
 impl<S: FeedHost> Model for Served<S> {
@@ -55,6 +57,7 @@ impl<S: FeedHost> Served<S> {
             alloc,
             signals: Vec::new(alloc),
             hold,
+            news: 0,
         }
     }
 
@@ -63,6 +66,13 @@ impl<S: FeedHost> Served<S> {
         ensures { result.now ≡ self.now.state }
     {
         self.locked.state()
+    }
+
+    /// There is something that a pump may wait for.
+    pub(crate) fn tell(&mut self)
+        ensures { self.new ≡ self.old }
+    {
+        self.news = self.news.wrapping_add(1);
     }
 
     /// Opens a feed, as `Locked::begin`, with signals of its own.
@@ -93,6 +103,10 @@ impl<S: FeedHost> Served<S> {
 
 impl<S: FeedHost + Drop> Pumped<S> for Served<S> {
     ghost locked = { λ a. a };
+
+    fn news(&self) -> u64 {
+        self.news
+    }
 
     fn signals(&self, feed: FeedId) -> Result<Option<Arc<Signals, Global>>, AllocError> {
         for entry in &self.signals {
@@ -127,5 +141,6 @@ impl<S: FeedHost + Drop> Pumped<S> for Served<S> {
         let sender = self.locked.finish(feed);
         drop(sender);
         self.signals.retain(|kept| kept.0.number != feed.number);
+        self.tell();
     }
 }

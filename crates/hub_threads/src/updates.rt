@@ -20,6 +20,16 @@ pub type Updates = Host<Served<UpdatesState>>;
 /// A feed of the log of updates.
 pub type UpdatesFeed = HostFeed<UpdatesState, Served<UpdatesState>>;
 
+impl Served<UpdatesState> {
+    // Adds a notice at the end of the log, or hands it back, as `Locked::note`.
+    fn note(&mut self, notice: Notice) -> Result<(), (Notice, NoteFault)>
+        ensures err { IfErr result (λ e. e.0 ≡ notice) }
+    {
+        self.tell();
+        self.locked.note(notice)
+    }
+}
+
 impl Host<Served<UpdatesState>> {
     /// A log of nothing.
     pub fn of_updates(alloc: Global, limits: Limits) -> Result<Updates, AllocError> {
@@ -37,7 +47,7 @@ impl Host<Served<UpdatesState>> {
     pub fn note<R: Wait>(&self, rt: &R, notice: Notice) -> Result<(), (Notice, NoteFault)>
         ensures err { IfErr result (λ e. e.0 ≡ notice) }
     {
-        let noted = self.guarded().lock(rt).locked.note(notice);
+        let noted = self.guarded().lock(rt).note(notice);
         self.tell();
         noted
     }
