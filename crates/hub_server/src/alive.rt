@@ -1,12 +1,12 @@
-//! How many connections are served.
+//! How many threads serve connections, or hand feeds.
 
 use std::sync::{Condvar, Mutex, Wait};
 
-/// The number of connections that are served by threads which nobody joins.
+/// The number of threads that serve connections or pump feeds, and which nobody joins.
 #[derive(Drop)]
 pub(crate) struct Alive {
     count: Mutex<u64>,
-    /// Told of each connection that ended.
+    /// Told of each that ended.
     ended: Condvar,
 }
 

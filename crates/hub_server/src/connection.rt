@@ -9,7 +9,7 @@ use hub_http::{Requests, Tally};
 use hub_routes::Routes;
 use hub_service::serve_connection;
 use hub_session::Closing;
-use hub_threads::Gate;
+use hub_threads::{Clock, Gate};
 use std::alloc::Global;
 use std::io::{self, BufWriter, Read};
 use std::net::{Shutdown, TcpStream};
@@ -54,14 +54,19 @@ fn is_left_open(closing: Closing) -> bool
 
 /// Answers the requests of a socket, up to the first closing. An error says that nothing was answered, or
 /// that the client was gone at the end.
-pub(crate) fn answer_socket<R: Wait + Drop, G: Gate + Drop>(
+pub(crate) fn answer_socket<R, G, K>(
     rt: &R,
     alloc: Global,
     hub: &Hub,
     routes: &Routes,
-    pumps: ByThreads<R, G>,
+    pumps: ByThreads<R, G, K>,
     stream: &TcpStream,
-) -> io::Result<()> {
+) -> io::Result<()>
+where
+    R: Wait + Drop,
+    G: Gate + Drop,
+    K: Clock + Drop,
+{
     stream.set_nodelay(true)?;
     stream.set_write_timeout(Some(Duration::from_secs(PATIENCE)))?;
     let mut requests = Requests::new(alloc, Tally::new(stream));

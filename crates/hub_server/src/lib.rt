@@ -10,6 +10,5 @@ mod server;
 mod starter;
 
 pub use clock::Uptime;
-pub use orders::PumpThread;
 pub use pumps::ByThreads;
 pub use server::run_server;

@@ -1,52 +1,43 @@
 //! Pumps that wait for a thread.
 
 use hub_database::DbState;
-use hub_threads::{Clock, FeedPump, Gate, Guarded, Plain, Served};
+use hub_threads::{Gate, Guarded, HostPump, Plain, Served};
 use hub_updates::UpdatesState;
 use std::alloc::{AllocError, Global};
 use std::collections::VecDeque;
 use std::sync::{Arc, Condvar, Mutex, Wait};
-use std::time;
 
-/// The pump of a feed.
+/// The pump of the feeds that wait.
 #[derive(Drop)]
 pub(crate) enum Pump {
     /// Of a database.
-    Changes(FeedPump<DbState, Guarded<Plain>>),
+    Changes(HostPump<DbState, Guarded<Plain>>),
     /// Of the log of updates.
-    Updates(FeedPump<UpdatesState, Served<UpdatesState>>),
+    Updates(HostPump<UpdatesState, Served<UpdatesState>>),
 }
 
 impl Pump {
-    /// Hands the feed's items as they come, until the feed is finished or has handed its end. Without
-    /// memory for a row it ends, and its feed stops there.
-    pub(crate) fn run<R, G, K>(&self, rt: &R, gate: &G, clock: &K)
-    where
-        R: Wait + time::Clock,
-        G: Gate,
-        K: Clock,
-    {
-        let _done = match self {
-            Pump::Changes(pump) => pump.run(rt, gate, clock),
-            Pump::Updates(pump) => pump.run(rt, gate, clock),
-        };
+    /// Hands the feeds what is written, until none waits.
+    pub(crate) fn run<R: Wait, G: Gate>(&self, rt: &R, gate: &G) {
+        match self {
+            Pump::Changes(pump) => pump.run(rt, gate),
+            Pump::Updates(pump) => pump.run(rt, gate),
+        }
     }
 }
 
-/// How far the thread of a pump is.
+/// What became of an order.
 #[derive(Clone, Copy, Debug, PartialEq, Eq)]
 pub(crate) enum Stage {
-    /// It is to be made.
+    /// Its thread is to be made.
     Ordered,
-    /// It runs.
-    Running,
+    /// Its thread was made.
+    Made,
     /// None could be made.
     Refused,
-    /// It has ended.
-    Ended,
 }
 
-/// Where the thread of a pump tells how far it is.
+/// Where it is told what became of an order.
 #[derive(Drop)]
 pub(crate) struct Progress {
     stage: Mutex<Stage>,
@@ -62,31 +53,18 @@ impl Progress {
         }
     }
 
-    /// It has come so far.
+    /// This became of it.
     pub(crate) fn tell<R: Wait>(&self, rt: &R, stage: Stage) {
         *self.stage.lock(rt) = stage;
         self.moved.notify_all();
     }
 
-    /// Sleeps while it is at this stage; how far it is then.
-    fn wait_behind<R: Wait>(&self, rt: &R, stage: Stage) -> Stage {
-        let guard = self
-            .moved
-            .wait_while(rt, self.stage.lock(rt), |now| *now == stage);
+    /// Sleeps while its thread is to be made; what became of it.
+    fn wait<R: Wait>(&self, rt: &R) -> Stage {
+        let guard = self.moved.wait_while(rt, self.stage.lock(rt), |now| {
+            *now == Stage::Ordered
+        });
         *guard
-    }
-}
-
-/// The thread of a pump that was made.
-#[derive(Drop)]
-pub struct PumpThread {
-    progress: Arc<Progress, Global>,
-}
-
-impl PumpThread {
-    /// Sleeps until the thread has ended.
-    pub(crate) fn join<R: Wait>(self, rt: &R) {
-        self.progress.wait_behind(rt, Stage::Running);
     }
 }
 
@@ -140,9 +118,9 @@ impl Orders {
         Ok(())
     }
 
-    /// Orders a thread for a pump, and sleeps until it runs. An error says that none could be made, or
+    /// Orders a thread for a pump, and sleeps until it is made. An error says that none could be made, or
     /// that there was no memory.
-    pub(crate) fn start<R: Wait>(&self, rt: &R, pump: Pump) -> Result<PumpThread, AllocError> {
+    pub(crate) fn start<R: Wait>(&self, rt: &R, pump: Pump) -> Result<(), AllocError> {
         let progress = Arc::new(self.alloc, Progress::new())?;
         let theirs = Arc::try_clone(&progress)?;
         let order = Order {
@@ -150,9 +128,9 @@ impl Orders {
             progress: theirs,
         };
         self.give(rt, order)?;
-        match progress.wait_behind(rt, Stage::Ordered) {
+        match progress.wait(rt) {
             Stage::Refused => Err(AllocError),
-            Stage::Ordered | Stage::Running | Stage::Ended => Ok(PumpThread { progress }),
+            Stage::Ordered | Stage::Made => Ok(()),
         }
     }
 

@@ -18,37 +18,43 @@ use std::io::{self, ErrorKind};
 use std::net::{TcpListener, TcpStream};
 use std::sync::{Arc, Wait};
 use std::thread::{self, JoinHandle, Threads};
-use std::time;
 
 /// What the connections of a server share.
 #[derive(Drop)]
-struct Shared<G> {
+struct Shared<G, K> {
     hub: Arc<Hub, Global>,
     routes: Arc<Routes, Global>,
     gate: Arc<G, Global>,
+    clock: Arc<K, Global>,
     /// Where they order the threads of pumps.
     orders: Arc<Orders, Global>,
     alive: Arc<Alive, Global>,
 }
 
-impl<G: Gate + Send + Sync + Drop + 'static> Shared<G> {
+impl<G, K> Shared<G, K>
+where
+    G: Gate + Send + Sync + Drop + 'static,
+    K: Clock + Send + Sync + Drop + 'static,
+{
     /// A hub without databases, which no connection shares yet.
-    fn new(alloc: Global, gate: G, limits: Limits) -> Result<Shared<G>, AllocError> {
+    fn new(alloc: Global, gate: G, clock: K, limits: Limits) -> Result<Shared<G, K>, AllocError> {
         Ok(Shared {
             hub: Arc::new(alloc, Hub::new(alloc, limits)?)?,
             routes: Arc::new(alloc, Routes::new(alloc)?)?,
             gate: Arc::new(alloc, gate)?,
+            clock: Arc::new(alloc, clock)?,
             orders: Arc::new(alloc, Orders::new(alloc))?,
             alive: Arc::new(alloc, Alive::new())?,
         })
     }
 
     /// The same once more.
-    fn again(&self) -> Result<Shared<G>, AllocError> {
+    fn again(&self) -> Result<Shared<G, K>, AllocError> {
         Ok(Shared {
             hub: Arc::try_clone(&self.hub)?,
             routes: Arc::try_clone(&self.routes)?,
             gate: Arc::try_clone(&self.gate)?,
+            clock: Arc::try_clone(&self.clock)?,
             orders: Arc::try_clone(&self.orders)?,
             alive: Arc::try_clone(&self.alive)?,
         })
@@ -60,10 +66,11 @@ impl<G: Gate + Send + Sync + Drop + 'static> Shared<G> {
             hub,
             routes,
             gate,
+            clock,
             orders,
             alive,
         } = self;
-        let pumps = ByThreads::new(*rt, gate, orders, number);
+        let pumps = ByThreads::new(*rt, gate, clock, orders, number);
         // A client that is gone is told nothing.
         let _answered = answer_socket(rt, alloc, &hub, &routes, pumps, &stream);
         drop(stream);
@@ -86,6 +93,7 @@ impl<G: Gate + Send + Sync + Drop + 'static> Shared<G> {
             hub,
             routes,
             gate,
+            clock,
             orders,
             alive,
         } = self.again()?;
@@ -96,6 +104,7 @@ impl<G: Gate + Send + Sync + Drop + 'static> Shared<G> {
                 hub,
                 routes,
                 gate,
+                clock,
                 orders,
                 alive,
             };
@@ -127,18 +136,15 @@ impl<G: Gate + Send + Sync + Drop + 'static> Shared<G> {
 }
 
 /// Makes the thread that makes the threads of pumps, until no more are ordered.
-fn start_starter<R, G, K>(
-    rt: &R,
-    alloc: Global,
-    shared: &Shared<G>,
-    clock: K,
-) -> Result<JoinHandle<()>, AllocError>
+fn start_starter<R, G, K>(rt: &R, shared: &Shared<G, K>) -> Result<JoinHandle<()>, AllocError>
 where
-    R: Threads + Wait + time::Clock + Copy + Send + Sync + Drop + 'static,
+    R: Threads + Wait + Copy + Send + Sync + Drop + 'static,
     G: Gate + Send + Sync + Drop + 'static,
-    K: Clock + Send + Sync + Drop + 'static,
 {
-    let starter = Starter::new(Arc::try_clone(&shared.gate)?, Arc::new(alloc, clock)?);
+    let starter = Starter::new(
+        Arc::try_clone(&shared.gate)?,
+        Arc::try_clone(&shared.alive)?,
+    );
     let orders = Arc::try_clone(&shared.orders)?;
     let handle = *rt;
     let running = thread::spawn(rt, move || starter.run(&handle, &orders))?;
@@ -169,11 +175,11 @@ fn accept(listener: &TcpListener) -> io::Result<TcpStream>
     Err(io::Error::from(ErrorKind::Other))
 }
 
-/// Serves so many connections of a hub without databases, each in a thread of its own, with a thread for the
-/// pump of each feed, and comes back once all have ended. Connections are numbered from 1 as they are
+/// Serves so many connections of a hub without databases, each in a thread of its own, with one thread more for
+/// each database of which a feed waits, and comes back once all have ended. Connections are numbered from 1 as they are
 /// accepted; each passes `Point::Request` of its number at the gate before each answer. A connection for
-/// which no thread can be made is closed unanswered; a feed for whose pump none can be made is answered
-/// as want of memory is. An error says that there was no memory or no thread to begin with, or that no
+/// which no thread can be made is closed unanswered; a feed for which the pump of its database is missing and none can be made is answered as want of
+/// memory is. An error says that there was no memory or no thread to begin with, or that no
 /// connection could be accepted: then those that are open go on, and begin no feed.
 pub fn run_server<R, G, K>(
     rt: &R,
@@ -185,12 +191,12 @@ pub fn run_server<R, G, K>(
     limits: Limits,
 ) -> io::Result<()>
 where
-    R: Threads + Wait + time::Clock + Copy + Send + Sync + Drop + 'static,
+    R: Threads + Wait + Copy + Send + Sync + Drop + 'static,
     G: Gate + Send + Sync + Drop + 'static,
     K: Clock + Send + Sync + Drop + 'static,
 {
-    let shared = Shared::new(alloc, gate, limits)?;
-    let starter = start_starter(rt, alloc, &shared, clock)?;
+    let shared = Shared::new(alloc, gate, clock, limits)?;
+    let starter = start_starter(rt, &shared)?;
     let accepted = shared.accept_all(rt, alloc, listener, count);
     if accepted.is_ok() {
         shared.alive.wait(rt);

@@ -38,8 +38,6 @@ pub struct Connection<'h, N: Wait, P: Pumping> {
     pumping: P,
     /// What was asked for last and is sent item by item, until its end was handed.
     sent: Option<Sent>,
-    /// What goes on beside a feed that is sent, until it is finished.
-    running: Option<P::Running>,
 }
 
 impl<'h, N: Wait, P: Pumping> Model for Connection<'h, N, P> {
@@ -69,7 +67,6 @@ impl<'h, N: Wait, P: Pumping> Connection<'h, N, P> {
             routes,
             pumping,
             sent: None,
-            running: None,
         }
     }
 
@@ -152,25 +149,13 @@ impl<'h, N: Wait, P: Pumping> Connection<'h, N, P> {
     }
 
     // Begins to hand a feed its items. A list needs nothing beside it.
-    fn begin(&mut self, sent: &Sent) -> Result<(), AllocError>
-        ensures same { self.new ≡ self.old }
+    fn begin(&self, sent: &Sent) -> Result<(), AllocError>
         ensures err { OnErr result (IsFeed sent.now) }
     {
-        let running = match sent {
-            Sent::Listed(_) => return Ok(()),
-            Sent::Changes(feed) => self.pumping.begin_changes(feed)?,
-            Sent::Updates(feed) => self.pumping.begin_updates(feed)?,
-        };
-        self.running = Some(running);
-        Ok(())
-    }
-
-    // Waits for what went on beside a feed that is finished.
-    fn end(&mut self)
-        ensures { self.new ≡ self.old }
-    {
-        if let Some(running) = self.running.take() {
-            self.pumping.end(running);
+        match sent {
+            Sent::Listed(_) => Ok(()),
+            Sent::Changes(feed) => self.pumping.begin_changes(feed),
+            Sent::Updates(feed) => self.pumping.begin_updates(feed),
         }
     }
 
@@ -215,9 +200,6 @@ impl<'h, N: Wait, P: Pumping> Service for Connection<'h, N, P> {
         let sent = self.sent.take()?;
         let (item, left) = next(self.rt, &self.pumping, sent);
         self.sent = left;
-        if self.sent.is_none() {
-            self.end();
-        }
         item
     }
 
@@ -225,6 +207,5 @@ impl<'h, N: Wait, P: Pumping> Service for Connection<'h, N, P> {
         if let Some(sent) = self.sent.take() {
             sent.finish(self.rt);
         }
-        self.end();
     }
 }

@@ -12,17 +12,14 @@ use std::sync::Wait;
 
 /// What hands feeds their items while a connection sends them.
 pub trait Pumping: Drop {
-    /// What goes on beside a feed until the feed is finished.
-    type Running: Drop;
-
     /// A request is answered next: where a test may hold the connection.
     fn pass_request(&self);
 
     /// Begins to hand a feed of a database its items. An error says that memory or a thread was missing.
-    fn begin_changes(&self, feed: &Feed<Plain>) -> Result<Self::Running, AllocError>;
+    fn begin_changes(&self, feed: &Feed<Plain>) -> Result<(), AllocError>;
 
     /// Begins to hand a feed of the log of updates its items.
-    fn begin_updates(&self, feed: &UpdatesFeed) -> Result<Self::Running, AllocError>;
+    fn begin_updates(&self, feed: &UpdatesFeed) -> Result<(), AllocError>;
 
     /// The next item of a feed. There is none where nothing hands it further, as for want of memory.
     fn next_item<S: FeedHost, H: Pumped<S>>(
@@ -36,9 +33,6 @@ pub trait Pumping: Drop {
 
     /// Whether `next_item` would answer at once. It decides flushing alone.
     fn is_ready<S: FeedHost, H: Pumped<S>>(&self, feed: &HostFeed<S, H>) -> bool;
-
-    /// Waits for what went on beside a feed that is finished.
-    fn end(&self, running: Self::Running);
 }
 
 // A gate that holds nobody.
@@ -64,8 +58,6 @@ impl<'h, N: Wait> ByTurns<'h, N> {
 }
 
 impl<'h, N: Wait> Pumping for ByTurns<'h, N> {
-    type Running = ();
-
     fn pass_request(&self) {}
 
     fn begin_changes(&self, _feed: &Feed<Plain>) -> Result<(), AllocError> {
@@ -95,6 +87,4 @@ impl<'h, N: Wait> Pumping for ByTurns<'h, N> {
     fn is_ready<S: FeedHost, H: Pumped<S>>(&self, _feed: &HostFeed<S, H>) -> bool {
         true
     }
-
-    fn end(&self, _running: ()) {}
 }

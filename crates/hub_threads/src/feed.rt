@@ -7,7 +7,8 @@ ghost use Rattle.hub_params.specs.FeedModel.{params_in};
 use crate::gate::Gate;
 use crate::guarded::Guarded;
 use crate::host::{Host, Pumped};
-use crate::pumping::{FeedPump, Turn, hold};
+use crate::host_pump::HostPump;
+use crate::pumping::{Turn, hold};
 use crate::signals::Signals;
 use hub_database::DbState;
 use hub_document::ChangeRow;
@@ -32,12 +33,14 @@ pub type Feed<C> = HostFeed<DbState, Guarded<C>>;
 /// that is let go otherwise stays among the feeds of its host.
 #[derive(Drop)]
 pub struct HostFeed<S: FeedHost, G: Pumped<S>> {
-    host: Host<G>,
-    id: FeedId,
+    pub(crate) host: Host<G>,
+    pub(crate) id: FeedId,
     receiver: Receiver<FeedLabel<S>, Item<S::Row>>,
-    signals: Arc<Signals, Global>,
+    pub(crate) signals: Arc<Signals, Global>,
     /// How many items were taken, but for heartbeats.
     taken: u64,
+    /// The clock's reading as there was nothing to take for the first time behind the last item.
+    pub(crate) idle_since: Option<u64>,
     of: PhantomData<S>,
 }
 
@@ -66,6 +69,7 @@ impl<S: FeedHost, G: Pumped<S>> HostFeed<S, G> {
             receiver,
             signals,
             taken: 0,
+            idle_since: None,
             of: PhantomData,
         }
     }
@@ -94,26 +98,31 @@ impl<S: FeedHost, G: Pumped<S>> HostFeed<S, G> {
             (λ l items. S.right (params_in l.asked) l.since items) self.new }
     {
         let item = self.receiver.take(rt);
-        match &item {
-            None => self.signals.ring_room(),
-            Some(Item::Beat) => {}
-            Some(_) => self.taken = self.taken.wrapping_add(1),
+        if item.is_none() {
+            self.signals.ring_room();
+            return None;
+        }
+        self.idle_since = None;
+        if !matches!(&item, Some(Item::Beat)) {
+            self.taken = self.taken.wrapping_add(1);
         }
         item
     }
 
-    /// Whether the feed's pump has told of items that were not taken yet. Where it has not, items may lie
-    /// there all the same. Constant time.
-    pub fn is_ready(&self) -> bool {
+    // Whether it was told of items that were not taken yet. Where it was not, items may lie there all the
+    // same.
+    pub(crate) fn has_told(&self) -> bool {
         self.taken < self.signals.handed()
     }
 
-    /// The feed's pump, for a thread of its own. It takes no memory; an error says that too many share
-    /// the database.
-    pub fn pump(&self) -> Result<FeedPump<S, G>, AllocError> {
-        let host = self.host.again()?;
-        let signals = Arc::try_clone(&self.signals)?;
-        Ok(FeedPump::new(host, self.id, signals))
+    /// A pump of all feeds that wait, where this feed waits and there is none yet: it is to be run by another
+    /// thread, for `next` to be told of what is written. It takes no memory, and costs the wait for the
+    /// lock; an error says that too many share the host.
+    pub fn missing_pump<R: Wait>(&self, rt: &R) -> Result<Option<HostPump<S, G>>, AllocError> {
+        if !self.signals.waits || self.host.has_pump(rt) {
+            return Ok(None);
+        }
+        Ok(Some(HostPump::new(self.host.again()?)))
     }
 
     /// Sleeps until the feed's pump handed items or ended, for a connection that found nothing to
@@ -147,6 +156,7 @@ impl<S: FeedHost, G: Pumped<S>> HostFeed<S, G> {
             receiver,
             signals,
             taken: _,
+            idle_since: _,
             of: _,
         } = self;
         host.guarded().lock(rt).finish(id);

@@ -195,6 +195,18 @@ impl<C: Count> Pumped<DbState> for Guarded<C> {
         self.served.signals(feed)
     }
 
+    fn waiting(&self, from: u64) -> Result<Option<(FeedId, Arc<Signals, Global>)>, AllocError> {
+        self.served.waiting(from)
+    }
+
+    fn has_pump(&self) -> bool {
+        self.served.has_pump()
+    }
+
+    fn set_pump(&mut self, has: bool) {
+        self.served.set_pump(has);
+    }
+
     fn most(&self) -> u64 {
         self.served.most()
     }

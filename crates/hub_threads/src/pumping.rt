@@ -24,26 +24,30 @@ pub enum Turn {
     Expire,
 }
 
-// What one holding did.
+/// What one holding did.
 #[derive(Clone, Copy)]
-struct Holding {
+pub(crate) struct Holding {
     /// What the last step answered.
-    last: Handed,
+    pub(crate) last: Handed,
     /// How many items were handed.
-    sent: u64,
+    pub(crate) sent: u64,
     /// The number of the news as the lock was let go.
     news: u64,
 }
 
-// Hands until an answer is not a row, or as many items as may be were sent in one holding: the last
-// answer, and how many items were sent.
-fn hand_on<S, H, R>(guarded: &mut H, rt: &R, feed: FeedId) -> Result<(Handed, u64), AllocError>
+/// Hands until an answer is not a row, or so many items were sent: the last answer, and how many items
+/// were sent.
+pub(crate) fn hand_on<S, H, R>(
+    guarded: &mut H,
+    rt: &R,
+    feed: FeedId,
+    most: u64,
+) -> Result<(Handed, u64), AllocError>
 where
     S: FeedHost,
     H: Pumped<S>,
     R: Asks<FeedLabel<S>, Item<S::Row>>,
 {
-    let most = guarded.most();
     for sent in 0..most {
         match guarded.hand(rt, feed)? {
             Handed::Row => {}
@@ -55,8 +59,8 @@ where
 }
 
 impl<H: Drop> Host<H> {
-    // One holding of the lock.
-    fn hold_once<S, R, G>(
+    /// One holding of the lock.
+    pub(crate) fn hold_once<S, R, G>(
         &self,
         rt: &R,
         feed: FeedId,
@@ -71,8 +75,9 @@ impl<H: Drop> Host<H> {
     {
         let mut guarded = self.guarded().lock(rt);
         gate.pass(Point::PumpHolding);
+        let most = guarded.most();
         let (last, sent) = match turn {
-            Turn::Hand => hand_on(&mut *guarded, rt, feed)?,
+            Turn::Hand => hand_on(&mut *guarded, rt, feed, most)?,
             Turn::Beat => (guarded.beat(rt, feed), 0),
             Turn::Expire => {
                 guarded.expire(feed);
@@ -173,6 +178,7 @@ impl<'a, S: FeedHost, H: Pumped<S>, K: Clock> PumpState<'a, S, H, K> {
             if holding.sent > 0 {
                 self.last_item = self.clock.now_ms();
                 self.signals.count_handed(holding.sent);
+                self.signals.ring_items();
             }
             turn = match holding.last {
                 Handed::Gone => return Ok(()),
@@ -210,29 +216,10 @@ where
     let Some(signals) = host.signals(rt, feed)? else {
         return Ok(());
     };
-    pump_with(rt, host, feed, &signals, gate, clock)
-}
-
-// Hands a feed's items with its signals.
-fn pump_with<S, H, R, G, K>(
-    rt: &R,
-    host: &Host<H>,
-    feed: FeedId,
-    signals: &Signals,
-    gate: &G,
-    clock: &K,
-) -> Result<(), AllocError>
-where
-    S: FeedHost,
-    H: Pumped<S>,
-    R: Asks<FeedLabel<S>, Item<S::Row>> + time::Clock,
-    G: Gate,
-    K: Clock,
-{
     let mut state = PumpState {
         host,
         feed,
-        signals,
+        signals: &signals,
         clock,
         last_item: clock.now_ms(),
         of: PhantomData,
@@ -240,38 +227,4 @@ where
     let done = state.run(rt, gate);
     signals.end();
     done
-}
-
-/// The pump of a feed, for the thread that is to run it: it keeps what the feed's database shares.
-#[derive(Drop)]
-pub struct FeedPump<S: FeedHost, H: Pumped<S>> {
-    host: Host<H>,
-    feed: FeedId,
-    signals: Arc<Signals, Global>,
-    of: PhantomData<S>,
-}
-
-impl<S: FeedHost, H: Pumped<S>> FeedPump<S, H> {
-    pub(crate) fn new(
-        host: Host<H>,
-        feed: FeedId,
-        signals: Arc<Signals, Global>,
-    ) -> FeedPump<S, H> {
-        FeedPump {
-            host,
-            feed,
-            signals,
-            of: PhantomData,
-        }
-    }
-
-    /// Hands the feed's items into its lane as they come, as the free function `pump`.
-    pub fn run<R, G, K>(&self, rt: &R, gate: &G, clock: &K) -> Result<(), AllocError>
-    where
-        R: Asks<FeedLabel<S>, Item<S::Row>> + time::Clock,
-        G: Gate,
-        K: Clock,
-    {
-        pump_with(rt, &self.host, self.feed, &self.signals, gate, clock)
-    }
 }

@@ -28,8 +28,10 @@ pub(crate) struct OpenedFeed<S: FeedHost> {
 pub struct Served<S: FeedHost> {
     pub(crate) locked: Locked<S>,
     pub(crate) alloc: Global,
-    /// The signals of the feeds that are not finished.
-    signals: Vec<(FeedId, Arc<Signals, Global>)>,
+    /// The signals of the feeds that are not finished, by the numbers of the feeds, which rise.
+    signals: Vec<(u64, Arc<Signals, Global>)>,
+    /// Whether one pump hands all feeds that wait.
+    has_pump: bool,
     /// How many items a feed is handed in one holding at most.
     hold: u64,
     /// Another number after each change that a pump may wait for, and each end of a feed.
@@ -56,6 +58,7 @@ impl<S: FeedHost> Served<S> {
             locked: Locked::new(alloc, state, lane),
             alloc,
             signals: Vec::new(alloc),
+            has_pump: false,
             hold,
             news: 0,
         }
@@ -66,6 +69,12 @@ impl<S: FeedHost> Served<S> {
         ensures { result.now ≡ self.now.state }
     {
         self.locked.state()
+    }
+
+    // The signals of the feeds of a number from this one on. A binary search.
+    fn signals_from(&self, number: u64) -> &[(u64, Arc<Signals, Global>)] {
+        let at = self.signals.partition_point(|kept| kept.0 < number);
+        &self.signals.as_slice()[at..]
     }
 
     /// There is something that a pump may wait for.
@@ -92,7 +101,7 @@ impl<S: FeedHost> Served<S> {
             return Err(OpenFault::NoMemory);
         };
         let (id, receiver) = self.locked.begin(params)?;
-        self.signals.push_reserved((id, own));
+        self.signals.push_reserved((id.number, own));
         Ok(OpenedFeed {
             id,
             receiver,
@@ -109,12 +118,28 @@ impl<S: FeedHost + Drop> Pumped<S> for Served<S> {
     }
 
     fn signals(&self, feed: FeedId) -> Result<Option<Arc<Signals, Global>>, AllocError> {
-        for entry in &self.signals {
-            if entry.0 == feed {
-                return Ok(Some(Arc::try_clone(&entry.1)?));
+        match self.signals_from(feed.number).first() {
+            Some(entry) if entry.0 == feed.number => Ok(Some(Arc::try_clone(&entry.1)?)),
+            _ => Ok(None),
+        }
+    }
+
+    fn waiting(&self, from: u64) -> Result<Option<(FeedId, Arc<Signals, Global>)>, AllocError> {
+        for entry in self.signals_from(from) {
+            if entry.1.waits {
+                let signals = Arc::try_clone(&entry.1)?;
+                return Ok(Some((FeedId { number: entry.0 }, signals)));
             }
         }
         Ok(None)
+    }
+
+    fn has_pump(&self) -> bool {
+        self.has_pump
+    }
+
+    fn set_pump(&mut self, has: bool) {
+        self.has_pump = has;
     }
 
     fn most(&self) -> u64 {
@@ -140,7 +165,7 @@ impl<S: FeedHost + Drop> Pumped<S> for Served<S> {
     fn finish(&mut self, feed: FeedId) {
         let sender = self.locked.finish(feed);
         drop(sender);
-        self.signals.retain(|kept| kept.0.number != feed.number);
+        self.signals.retain(|kept| kept.0 != feed.number);
         self.tell();
     }
 }

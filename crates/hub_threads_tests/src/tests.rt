@@ -7,8 +7,8 @@ mod audits;
 mod clocks;
 mod databases;
 mod holding;
-mod owned;
 mod readers;
+mod shared;
 mod stress;
 
 use hub_document::{ChangeRow, Doc, Limits};
