@@ -32,8 +32,8 @@ impl Told {
 }
 
 // Hands a feed that waits so many items at most. How many it was handed, where its connection is to be told:
-// also where the feed falls behind, or stops without memory for a row. A feed that is behind is its
-// connection's to hand.
+// also where the feed falls behind, as it does behind its end. A feed that is behind is its connection's to
+// hand. One that stops without memory for a row is told at once.
 fn hand_waiting<S, H, R>(
     guarded: &mut H,
     rt: &R,
@@ -50,12 +50,12 @@ where
         return None;
     }
     match hand_on(guarded, rt, feed, most) {
-        Ok((Handed::Nothing | Handed::Gone, 0)) => None,
-        Ok((Handed::Row | Handed::Full, sent)) => {
+        Ok((Handed::Nothing, 0)) => None,
+        Ok((Handed::Nothing, sent)) => Some(sent),
+        Ok((_, sent)) => {
             signals.fall_behind();
             Some(sent)
         }
-        Ok((_, sent)) => Some(sent),
         Err(_) => {
             signals.end();
             None

@@ -29,17 +29,11 @@ impl<S: FeedHost, H: Pumped<S>> HostFeed<S, H> {
             return false;
         };
         self.signals.count_handed(holding.sent);
-        match holding.last {
-            Handed::Row | Handed::Full => {
-                self.signals.fall_behind();
-                true
-            }
-            Handed::End | Handed::Nothing => true,
-            Handed::Gone => {
-                self.signals.fall_behind();
-                false
-            }
+        if holding.last != Handed::Nothing {
+            // Behind its end it is asked once more, and then gone.
+            self.signals.fall_behind();
         }
+        holding.last != Handed::Gone
     }
 
     /// Whether there is something to take, as far as was told: a feed that is behind is handed on first. Where
@@ -107,10 +101,6 @@ impl<S: FeedHost, H: Pumped<S>> HostFeed<S, H> {
             // Looked at first: a pump that had ended before the look at the lane sends nothing behind it.
             let is_over = self.signals.is_over();
             let item = self.take(rt);
-            if matches!(&item, Some(Item::End { .. })) {
-                // Who asks behind the end is told by the host that the feed is gone.
-                self.signals.fall_behind();
-            }
             if item.is_some() || is_over {
                 return item;
             }
