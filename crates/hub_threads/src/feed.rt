@@ -39,8 +39,6 @@ pub struct HostFeed<S: FeedHost, G: Pumped<S>> {
     pub(crate) signals: Arc<Signals, Global>,
     /// How many items were taken, but for heartbeats.
     taken: u64,
-    /// The clock's reading as there was nothing to take for the first time behind the last item.
-    pub(crate) idle_since: Option<u64>,
     of: PhantomData<S>,
 }
 
@@ -69,7 +67,6 @@ impl<S: FeedHost, G: Pumped<S>> HostFeed<S, G> {
             receiver,
             signals,
             taken: 0,
-            idle_since: None,
             of: PhantomData,
         }
     }
@@ -98,13 +95,10 @@ impl<S: FeedHost, G: Pumped<S>> HostFeed<S, G> {
             (λ l items. S.right (params_in l.asked) l.since items) self.new }
     {
         let item = self.receiver.take(rt);
-        if item.is_none() {
-            self.signals.ring_room();
-            return None;
-        }
-        self.idle_since = None;
-        if !matches!(&item, Some(Item::Beat)) {
-            self.taken = self.taken.wrapping_add(1);
+        match &item {
+            None => self.signals.ring_room(),
+            Some(Item::Beat) => {}
+            Some(_) => self.taken = self.taken.wrapping_add(1),
         }
         item
     }
@@ -156,7 +150,6 @@ impl<S: FeedHost, G: Pumped<S>> HostFeed<S, G> {
             receiver,
             signals,
             taken: _,
-            idle_since: _,
             of: _,
         } = self;
         host.guarded().lock(rt).finish(id);

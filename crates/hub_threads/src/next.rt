@@ -51,23 +51,23 @@ impl<S: FeedHost, H: Pumped<S>> HostFeed<S, H> {
     }
 
     // Does what is due where nothing was there to take: hands on where the feed is behind, sends a
-    // heartbeat, ends its time, or sleeps. Whether the feed may go on.
-    fn go_on<R, G, K>(&mut self, rt: &R, gate: &G, clock: &K) -> bool
+    // heartbeat, ends its time, or sleeps. Whether the feed may go on. It keeps the clock's reading as nothing
+    // was due for the first time.
+    fn go_on<R, G, K>(&self, rt: &R, gate: &G, clock: &K, idle_since: &mut Option<u64>) -> bool
     where
         R: Asks<FeedLabel<S>, Item<S::Row>>,
         G: Gate,
         K: Clock,
-        ensures { self.new ≡ self.old }
     {
         if self.signals.catch_up() {
             return self.hold_own(rt, Turn::Hand, gate);
         }
         let now = clock.now_ms();
-        let since = self.idle_since.unwrap_or(now);
-        self.idle_since = Some(since);
+        let since = idle_since.unwrap_or(now);
+        *idle_since = Some(since);
         match self.signals.times.due_after(now.saturating_sub(since)) {
             Due::Beat => {
-                self.idle_since = Some(now);
+                *idle_since = Some(now);
                 self.hold_own(rt, Turn::Beat, gate)
             }
             Due::Expire => {
@@ -97,6 +97,7 @@ impl<S: FeedHost, H: Pumped<S>> HostFeed<S, H> {
         ensures allowed { IsAllowedBeginning
             (λ l items. S.right (params_in l.asked) l.since items) self.new }
     {
+        let mut idle_since = None;
         for _ in rt.forever() {
             // Looked at first: a pump that had ended before the look at the lane sends nothing behind it.
             let is_over = self.signals.is_over();
@@ -104,7 +105,7 @@ impl<S: FeedHost, H: Pumped<S>> HostFeed<S, H> {
             if item.is_some() || is_over {
                 return item;
             }
-            if !self.go_on(rt, gate, clock) {
+            if !self.go_on(rt, gate, clock, &mut idle_since) {
                 return self.take(rt);
             }
         }
