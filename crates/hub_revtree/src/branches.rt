@@ -215,10 +215,9 @@ impl Branches {
         }
     }
 
-    /// Takes an edit, in the place that was made for it: it takes no new memory. Where some of its revisions
-    /// are known, the new ones move into the room that is given, if it is for just so many, and the path's
-    /// memory is given back; if not, that memory is cut to what they need. Where all are new they stay where
-    /// they are. It costs what `new_count` does.
+    /// Takes an edit, in the place that was made for it: it takes no new memory. Those of its revisions that
+    /// are new move into the room, where it is for just so many, and the path's memory is given back; else that
+    /// memory is cut to what they need. It costs what `new_count` does.
     pub(crate) fn push(&mut self, path: Path, room: Vec<RevId>, deleted: bool, body: Body)
         requires legal { IsLegal (edits_in self.old.list) }
         requires acceptable { IsAcceptable (edits_in self.old.list) (nameless path deleted body) }
@@ -229,11 +228,13 @@ impl Branches {
         let met = first_known(self.stems.as_slice(), self.highest, path.revisions());
         let head = path.head();
         self.highest = head.generation().max(self.highest);
-        let mut revisions = path.into_revisions();
+        let all = path.into_revisions();
+        let mut new = all.len();
         if let Some(met) = met {
-            revisions = kept(room, revisions, met.at);
+            new = met.at;
             parent = Some(met.place);
         }
+        let revisions = kept(room, all, new);
         self.stems.push_reserved(Stem {
             revisions,
             parent,

@@ -42,8 +42,7 @@ impl Model for RevTree {
 #[derive(Debug, Drop)]
 pub struct Ready {
     path: Path,
-    /// Memory for those of the path's revisions that are new; none where all are, since they stay in the
-    /// path's then.
+    /// Memory for those of the path's revisions that are new, and for no more.
     room: Vec<RevId>,
     deleted: bool,
     body: Body,
@@ -109,11 +108,7 @@ impl RevTree {
         let _revisions_at_most = head.generation();
         self.branches.make_room()?;
         let alloc = self.allocator();
-        let room = if new < path.revisions().len() {
-            Vec::with_capacity(alloc, new)?
-        } else {
-            Vec::new(alloc)
-        };
+        let room = Vec::with_capacity(alloc, new)?;
         Ok(Ready {
             path,
             room,
@@ -181,10 +176,9 @@ impl RevTree {
     }
 
     /// Looks what becomes of an edit: `None` where its revision is known, else the edit, with
-    /// memory for it: a place, and room for those of the path's revisions that are new, where not all are. It
-    /// costs a look an edit for each of the path's revisions that is not known, but for those of a generation
-    /// above all others; a look at each edit from the newest on up to the one that brought the first that is
-    /// known; and the path's length.
+    /// memory for it: a place, and room for those of the path's revisions that are new. It costs a look an
+    /// edit for each of these, but for those of a generation above all others; a look at each edit from the
+    /// newest on up to the one that brought the first that is known; and the path's length.
     pub fn look_merge(
         &mut self,
         path: Path,
@@ -211,13 +205,12 @@ impl RevTree {
         Ok(Some(ready))
     }
 
-    /// Takes an edit that `look_merge` or `look_extend` made ready. It takes no memory, and gives back
-    /// that of the path's revisions which are known: the others move into the room that the look made for
-    /// them. Of a tree that needs other room than the one that was looked at, the path's memory is cut to them
-    /// instead. It costs what `look_merge` does. The winner takes constant time where it is the edit's
-    /// revision, or the old one which the edit does not stand on; else it is found anew: each head is looked
-    /// for in each edit where it would be the best so far. So an edit on the newest one of a line takes the
-    /// path's length alone.
+    /// Takes an edit that `look_merge` or `look_extend` made ready. It takes no memory, and gives back the
+    /// path's: the revisions that are new move into the room that the look made for them. Where that is for
+    /// more or fewer, as it may be for a tree that was not looked at, the path's memory is cut to them instead.
+    /// It costs what `look_merge` does. The winner takes constant time where it is the edit's revision, or the
+    /// old one which the edit does not stand on; else it is found anew: each head is looked for in each edit
+    /// where it would be the best so far. So an edit on the newest one of a line takes the path's length alone.
     pub fn adopt(&mut self, ready: Ready)
         requires acceptable { IsAcceptable self.old.edits ready }
         requires room { length ready.path ≤ self.old.room }
