@@ -6,7 +6,7 @@ use Rattle.hub_revtree.proofs.branches.Branches.new_count.Goals as goal
 pub returns-in-Some-clause-agrees : goal.returns-in-Some-clause-agrees
 returns-in-Some-clause-agrees c =
     let met = rw c.as_slice-stems.ensures.value at c.in-Some.ensures in
-    rw (c.then_some.ensures, is_some_then c.is_line.result c.in-Some.met.at, sym c.self.view_is)
+    rw (c.then_some.ensures, is_some_then, sym c.self.view_is)
     (met_agrees c.self.inside.stems.items c.self.invariant.0 (rw (sym c.self.view_is) at c.requires.legal) c.args.path.now c.revisions-revisions.result.now c.requires.history c.revisions-revisions.ensures c.in-Some.met.at c.in-Some.met.place met.new met.within met.same c.is_line.result (rw c.as_slice-stems.ensures.value at c.is_line.ensures))
 
 pub returns-in-Some-clause-new : goal.returns-in-Some-clause-new
