@@ -1,8 +1,9 @@
 -- The stems keep as many revisions as the edits have different ones.
-use Rattle.std.proofs.Common.{◌≡◌, ℕ, zero, suc, ◌+◌, ◌<◌, ◌≤◌, List, [], ◌∷◌, ◌++◌, length, get_or, take, true, false, refl, sym, ap, ◌∙◌, subst, append_assoc, append-nil, add-one, arith}
-use Rattle.std.specs.Prelude.{Some, slice_get, min}
+use Rattle.std.proofs.Common.{◌≡◌, ℕ, zero, suc, ◌+◌, ◌-◌, ◌<◌, ◌≤◌, List, [], ◌∷◌, ◌++◌, length, get_or, take, drop, Bool, true, false, refl, sym, ap, ◌∙◌, subst, append_assoc, append-nil, add-one, arith}
+use Rattle.std.specs.Prelude.{Option, Some, None, IfSome, IsTrue, ◌↔◌, is_some, slice_get, min}
+use Rattle.std.specs.Bool.{then_some}
 use Rattle.std.specs.List.{list_any}
-use Rattle.std.proofs.lemmas.List.{map-append, take_all}
+use Rattle.std.proofs.lemmas.List.{length-take-le, map-append, take-append-drop, take_all}
 use Rattle.std.proofs.Math.Seq.{take-append_seam}
 use Rattle.std.proofs.lemmas.Option.{same_Some, slice_get_read}
 use Rattle.hub_model.specs.Revision.{Revision, is_same}
@@ -10,11 +11,14 @@ use Rattle.hub_model.specs.Path.{names}
 use Rattle.hub_model.specs.Journal.{Edit, is_known}
 use Rattle.hub_model.specs.Missing.{missing}
 use Rattle.hub_model.proofs.Tests.{or_left, or_right, same_self}
+use Rattle.hub_revtree.specs.declared.stem.Place.{Place}
 use Rattle.hub_revtree.specs.declared.stem.Stem.{Stem}
 use Rattle.hub_revtree.specs.Branch.{edit_of, edits_in}
 use Rattle.hub_revtree.specs.Count.{count_after, revision_count}
-use Rattle.hub_revtree.specs.Stem.{AreStems, branch_of, branches_of, has_revision, path_from}
+use Rattle.hub_revtree.specs.Stem.{AreStems, IsWithin, branch_of, branches_of, has_revision, path_from, revisions_at}
+use Rattle.hub_revtree.proofs.JoinLemmas.{met_within}
 use Rattle.hub_revtree.proofs.StemLemmas.{from_end, from_named, front, get_last, named_in, none_of, one_stem_more}
+use Rattle.hub_revtree.proofs.StemLooks.{rest_slice}
 use Rattle.hub_revtree.proofs.TreeLemmas.{known_by}
 
 -- how many revisions the stems have
@@ -42,6 +46,37 @@ all_new es [] (r ∷ q) new known =
 all_new es (r ∷ p) q new known =
     rw (new r (or_left (is_same r r) (names p r) (same_self r))) (ap (λ rs. r ∷ rs) (all_new es p q (λ s n. new s (or_right (is_same s r) (names p s) n)) known))
 
+-- the stems bring what is new in front, and name what stands behind a place
+new_front : (xs : List Stem) (p : List Revision) (o : Option Place) → list_any (has_revision xs) p ≡ false → missing (edits_in (branches_of xs)) [] (p ++ path_from (branches_of xs) o) ≡ p
+new_front xs p o fresh =
+    let bs = branches_of xs in
+    all_new (edits_in bs) p (path_from bs o)
+    (λ r n. known_by bs r ∙ (named_in xs r ∙ none_of (has_revision xs) p r fresh n))
+    (λ r n. known_by bs r ∙ from_named bs o r n)
+
+pub is_some_then : (b : Bool) (n : ℕ) → is_some (then_some b n) ≡ b
+is_some_then true n = refl
+is_some_then false n = refl
+
+-- how many revisions of a path are new
+module _ (xs : List Stem) (path q : List Revision) (again : q ≡ path) where
+  pub met_new : (at : ℕ) (p : Place) → list_any (has_revision xs) (take at q) ≡ false → IsWithin xs p → slice_get q at ≡ slice_get (revisions_at xs p.stem) p.at
+      → (b : Bool) → IsTrue b ↔ (take (length q - at) (drop at q) ≡ path_from (branches_of xs) (Some p)) → IfSome (then_some b at) (λ n. n ≡ length (missing (edits_in (branches_of xs)) [] path))
+  met_new at p first within same false says = tt
+  met_new at p first within same true says =
+      let bs = branches_of xs in
+      let fresh = subst (λ z. list_any (has_revision xs) (take at z) ≡ false) again first in
+      let low : at ≤ length path = subst (λ z. at ≤ length z) again (met_within xs q at p within same) in
+      let whole : take at path ++ path_from bs (Some p) ≡ path = ap (λ z. take at path ++ z) (sym (sym (rest_slice path q at again) ∙ says.0 refl)) ∙ take-append-drop at path in
+      sym (length-take-le at path low)
+      ∙ ap length (sym (sym (ap (missing (edits_in bs) []) whole) ∙ new_front xs (take at path) (Some p) fresh))
+
+  pub all_of_new : list_any (has_revision xs) q ≡ false → length q ≡ length (missing (edits_in (branches_of xs)) [] path)
+  all_of_new none =
+      let bs = branches_of xs in
+      let fresh = subst (λ z. list_any (has_revision xs) z ≡ false) again none in
+      ap length (again ∙ sym (sym (ap (missing (edits_in bs) []) (append-nil path)) ∙ new_front xs path None fresh))
+
 abbrev AreCounted : List Stem → Type 0
 AreCounted xs = AreStems xs → kept xs ≡ revision_count (edits_in (branches_of xs))
 
@@ -49,10 +84,7 @@ counted_more : (xs : List Stem) (s : Stem) → AreCounted xs → AreCounted (xs 
 counted_more xs s ih a =
     let bs = branches_of xs in
     let fresh = subst (λ z. list_any (has_revision z) s.revisions.items ≡ false) (take-append_seam xs (s ∷ [])) (a.fresh (length xs) s (get_last xs s)) in
-    let brought : missing (edits_in bs) [] (branch_of bs s).path ≡ s.revisions.items =
-    all_new (edits_in bs) s.revisions.items (path_from bs s.parent)
-    (λ r n. known_by bs r ∙ (named_in xs r ∙ none_of (has_revision xs) s.revisions.items r fresh n))
-    (λ r n. known_by bs r ∙ from_named bs s.parent r n) in
+    let brought : missing (edits_in bs) [] (branch_of bs s).path ≡ s.revisions.items = new_front xs s.revisions.items s.parent fresh in
     let number : length (missing (edits_in bs) [] (branch_of bs s).path) ≡ length s.revisions.items = ap length brought in
     let more : revision_count (edits_in bs ++ edit_of (branch_of bs s) ∷ []) ≡ revision_count (edits_in bs) + length (missing (edits_in bs) [] (branch_of bs s).path) = count_more [] (edits_in bs) (edit_of (branch_of bs s)) in
     let so_far : kept xs ≡ revision_count (edits_in bs) = ih (front xs s a) in

@@ -225,6 +225,13 @@ pub record Brings (xs : List Stem) (path : List Revision) (s : Stem) : Type 0 wh
   pub within : (p : Place) → s.parent ≡ Some p → IsWithin xs p
   pub whole : (branch_of (branches_of xs) s).path ≡ path
 
+-- where a path meets a stem it has a revision
+pub met_within : (xs : List Stem) (q : List Revision) (at : ℕ) (p : Place) → IsWithin xs p → slice_get q at ≡ slice_get (revisions_at xs p.stem) p.at → at ≤ length q
+met_within xs q at p within same =
+    let r = get_some (revisions_at xs p.stem) p.at within in
+    let low : at < length q = slice_get_within q at r.0 (same ∙ r.1) in
+    omega arith
+
 module _ (xs : List Stem) (a : AreStems xs) (legal : IsLegal (edits_in (branches_of xs))) where
   -- whether the rest of a path is the stored one says whether it agrees with all
   module _ (path q : List Revision) (history : IsHistory path) (again : q ≡ path) where

@@ -1,10 +1,10 @@
 //! The stored edits of a document, which share what stands behind them.
 
-ghost use Rattle.std.specs.Prelude.{◌≡◌, ◌≤◌, ◌<◌, ◌++◌, ◌∷◌, Some, [], ◌-◌, ◌^◌, length, min, false, find, option_map, option_and_then, slice_get, IfOk, OnOk, OnErr};
+ghost use Rattle.std.specs.Prelude.{◌≡◌, ◌≤◌, ◌<◌, ◌++◌, ◌∷◌, Some, [], ◌-◌, ◌^◌, length, min, take, is_some, false, find, option_map, option_and_then, slice_get, IfSome, IfOk, OnOk, OnErr};
 ghost use Rattle.std.specs.List.{list_any, list_all};
 ghost use Rattle.hub_model.specs.Journal.{IsAcceptable, IsLegal};
 ghost use Rattle.hub_model.specs.Leaves.{is_behind_head as stands_behind_head};
-ghost use Rattle.hub_model.specs.Missing.{highest as highest_of};
+ghost use Rattle.hub_model.specs.Missing.{highest as highest_of, missing as missing_from};
 ghost use Rattle.hub_model.specs.Path.{IsHistory, IsPath, agrees as agrees_with, is_first, names};
 ghost use Rattle.hub_revtree.specs.Winner.{head_in};
 ghost use Rattle.hub_revtree.specs.Branch.{earlier_branches, edit_of, edits_in, unnamed_in};
@@ -56,6 +56,23 @@ fn stored(stem: &Stem) -> StoredEdit<'_>
         deleted: stem.deleted,
         body: &stem.body,
     }
+}
+
+// The first of the revisions, so many. They move into the room where it is for just so many; else they stay
+// in their own vector, which gives the rest of its memory back. It costs their number, and takes no memory.
+fn kept(mut room: Vec<RevId>, mut revisions: Vec<RevId>, count: usize) -> Vec<RevId>
+    requires { count ≤ length revisions.items }
+    ensures { result.items ≡ take count revisions.items }
+{
+    room.clear();
+    if room.capacity() == count {
+        if let Ok(()) = room.extend_from_slice(&revisions.as_slice()[..count]) {
+            return room;
+        }
+    }
+    revisions.truncate(count);
+    revisions.shrink_to_fit();
+    revisions
 }
 
 impl Branches {
@@ -168,19 +185,21 @@ impl Branches {
         }
     }
 
-    /// Whether the path agrees with all stored ones. It costs a look an edit for each of the path's
-    /// revisions that no path names, but for those of a generation above all others; a look at each edit
-    /// from the newest on up to the one that brought the first of the others; and the number of these.
-    pub(crate) fn agrees_with_all(&self, path: &Path) -> bool
+    /// How many revisions are new of a path that agrees with all stored ones; None where it does not agree.
+    /// It costs a look an edit for each of the path's revisions that no path names, but for those of a
+    /// generation above all others; a look at each edit from the newest on up to the one that brought the
+    /// first of the others; and the number of these.
+    pub(crate) fn new_count(&self, path: &Path) -> Option<usize>
         requires legal { IsLegal (edits_in self.now.list) }
         requires history { IsHistory path.now }
-        ensures { result ≡ list_all (λ b. agrees_with path.now b.path) self.now.list }
+        ensures agrees { is_some result ≡ list_all (λ b. agrees_with path.now b.path) self.now.list }
+        ensures new { IfSome result (λ n. n ≡ length (missing_from (edits_in self.now.list) [] path.now)) }
     {
         let stems = self.stems.as_slice();
         let revisions = path.revisions();
         match first_known(stems, self.highest, revisions) {
-            Some(met) => is_line(stems, met.place, &revisions[met.at..]),
-            None => true,
+            Some(met) => is_line(stems, met.place, &revisions[met.at..]).then_some(met.at),
+            None => Some(revisions.len()),
         }
     }
 
@@ -196,9 +215,10 @@ impl Branches {
         }
     }
 
-    /// Takes an edit, in the room that was made for it: it takes no new memory, and gives back that of
-    /// the revisions which are known. It costs what `agrees_with_all` does.
-    pub(crate) fn push(&mut self, path: Path, deleted: bool, body: Body)
+    /// Takes an edit, in the place that was made for it: it takes no new memory. Those of its revisions that
+    /// are new move into the room, where it is for just so many, and the path's memory is given back; else that
+    /// memory is cut to what they need. It costs what `new_count` does.
+    pub(crate) fn push(&mut self, path: Path, room: Vec<RevId>, deleted: bool, body: Body)
         requires legal { IsLegal (edits_in self.old.list) }
         requires acceptable { IsAcceptable (edits_in self.old.list) (nameless path deleted body) }
         requires room { 1 ≤ self.old.spare }
@@ -208,12 +228,13 @@ impl Branches {
         let met = first_known(self.stems.as_slice(), self.highest, path.revisions());
         let head = path.head();
         self.highest = head.generation().max(self.highest);
-        let mut revisions = path.into_revisions();
+        let all = path.into_revisions();
+        let mut new = all.len();
         if let Some(met) = met {
-            revisions.truncate(met.at);
-            revisions.shrink_to_fit();
+            new = met.at;
             parent = Some(met.place);
         }
+        let revisions = kept(room, all, new);
         self.stems.push_reserved(Stem {
             revisions,
             parent,

@@ -136,7 +136,8 @@ impl RevTree {
             return Err(EditFault::Conflict);
         }
         let path = self.path_on(alloc, rev, &older)?;
-        let ready = self.made_ready(path, deleted, body)?;
+        // The revision alone is new: what it stands on is known.
+        let ready = self.made_ready(path, 1, deleted, body)?;
         Ok(ready)
     }
 

@@ -42,6 +42,8 @@ impl Model for RevTree {
 #[derive(Debug, Drop)]
 pub struct Ready {
     path: Path,
+    /// Memory for those of the path's revisions that are new, and for no more.
+    room: Vec<RevId>,
     deleted: bool,
     body: Body,
 }
@@ -89,10 +91,11 @@ impl RevTree {
         self.branches.allocator()
     }
 
-    // The edit, with memory for it.
+    // The edit, with memory for it, and for so many of its revisions, which are new.
     pub(crate) fn made_ready(
         &mut self,
         path: Path,
+        new: usize,
         deleted: bool,
         body: Body,
     ) -> Result<Ready, AllocError>
@@ -104,8 +107,11 @@ impl RevTree {
         let head = path.head();
         let _revisions_at_most = head.generation();
         self.branches.make_room()?;
+        let alloc = self.allocator();
+        let room = Vec::with_capacity(alloc, new)?;
         Ok(Ready {
             path,
+            room,
             deleted,
             body,
         })
@@ -170,9 +176,9 @@ impl RevTree {
     }
 
     /// Looks what becomes of an edit: `None` where its revision is known, else the edit, with
-    /// memory for it. It costs a look an edit for each of the path's revisions that is not known, but for
-    /// those of a generation above all others; a look at each edit from the newest on up to the one that
-    /// brought the first that is known; and the path's length.
+    /// memory for it: a place, and room for those of the path's revisions that are new. It costs a look an
+    /// edit for each of these, but for those of a generation above all others; a look at each edit from the
+    /// newest on up to the one that brought the first that is known; and the path's length.
     pub fn look_merge(
         &mut self,
         path: Path,
@@ -192,18 +198,19 @@ impl RevTree {
         if self.branches.is_named(&head) {
             return Ok(None);
         }
-        if !self.branches.agrees_with_all(&path) {
+        let Some(new) = self.branches.new_count(&path) else {
             return Err(MergeFault::Contradicts);
-        }
-        let ready = self.made_ready(path, deleted, body)?;
+        };
+        let ready = self.made_ready(path, new, deleted, body)?;
         Ok(Some(ready))
     }
 
-    /// Takes an edit that `look_merge` or `look_extend` made ready. It takes no memory, and gives back
-    /// that of the path's revisions which are known. It costs what `look_merge` does. The winner takes
-    /// constant time where it is the edit's revision, or the old one which the edit does not stand on; else
-    /// it is found anew: each head is looked for in each edit where it would be the best so far. So an edit on
-    /// the newest one of a line takes the path's length alone.
+    /// Takes an edit that `look_merge` or `look_extend` made ready. It takes no memory, and gives back the
+    /// path's: the revisions that are new move into the room that the look made for them. Where that is for
+    /// more or fewer, as it may be for a tree that was not looked at, the path's memory is cut to them instead.
+    /// It costs what `look_merge` does. The winner takes constant time where it is the edit's revision, or the
+    /// old one which the edit does not stand on; else it is found anew: each head is looked for in each edit
+    /// where it would be the best so far. So an edit on the newest one of a line takes the path's length alone.
     pub fn adopt(&mut self, ready: Ready)
         requires acceptable { IsAcceptable self.old.edits ready }
         requires room { length ready.path ≤ self.old.room }
@@ -211,10 +218,11 @@ impl RevTree {
     {
         let Ready {
             path,
+            room,
             deleted,
             body,
         } = ready;
-        self.branches.push(path, deleted, body);
+        self.branches.push(path, room, deleted, body);
         self.best = best_with_newest(&self.branches, self.best);
     }
 

@@ -1,28 +1,38 @@
-use Rattle.std.proofs.Common.{◌∙◌, sym, ap, take, Vec, Global}
-use Rattle.hub_model.specs.Revision.{Revision}
+use Rattle.std.proofs.Common.{◌≡◌, ◌∙◌, length, sym, ap, take, arith}
+use Rattle.std.proofs.lemmas.List.{take_all}
 use Rattle.hub_revtree.specs.declared.stem.Stem.{Stem}
 use Rattle.hub_revtree.proofs.HighestLemmas.{up_to_more}
-use Rattle.hub_revtree.proofs.JoinLemmas.{Brings, brought_edit, brought_stems, met_brings, new_brings}
+use Rattle.hub_revtree.proofs.JoinLemmas.{Brings, brought_edit, brought_stems, met_brings, met_within, new_brings}
 use Rattle.hub_revtree.proofs.branches.Branches.push.Goals as goal
 use Rattle.hub_revtree.proofs.branches.Branches.push.Goals.{After-push_reserved, in-Some, in_default}
 
 -- the stem brings what is new of the path
-brings : (c : After-push_reserved) → Brings c.self.inside.stems.items c.args.path (record { revisions = c.match-met.revisions; parent = c.match-met.parent; deleted = c.args.deleted; body = c.args.body })
+brings : (c : After-push_reserved) → Brings c.self.inside.stems.items c.args.path (record { revisions = c.kept-revisions.result; parent = c.match-met.parent; deleted = c.args.deleted; body = c.args.body })
 brings c =
     let xs = c.self.inside.stems.items in
     let legal = rw (sym c.self.view_is) at c.requires.legal in
     let ok = rw (sym c.self.view_is) at c.requires.acceptable in
-    let stem : Stem = record { revisions = c.match-met.revisions; parent = c.match-met.parent; deleted = c.args.deleted; body = c.args.body } in
+    let stem : Stem = record { revisions = c.kept-revisions.result; parent = c.match-met.parent; deleted = c.args.deleted; body = c.args.body } in
+    let own : c.kept-revisions.result.items ≡ take c.match-met.new c.args.path = c.kept-revisions.ensures ∙ ap (take c.match-met.new) c.into_revisions-all.ensures in
     elim c.match-met.branch [
       | in-Some w ↦
           let met = rw c.as_slice.ensures.value at w.in-Some.ensures in
           met_brings xs c.self.invariant.0 legal c.args.path c.revisions.result.now c.args.deleted c.args.body ok c.revisions.ensures stem w.in-Some.met.at w.in-Some.met.place met.new met.within met.same
-          (ap (λ (v : Vec Revision Global). v.items) w.revisions-is ∙ w.shrink_to_fit.ensures.items ∙ w.truncate.ensures.items ∙ ap (take w.in-Some.met.at) c.into_revisions-revisions.ensures)
+          (own ∙ ap (λ n. take n c.args.path) w.new-is)
           w.parent-is
       | in_default w ↦
           new_brings xs c.self.invariant.0 legal c.args.path c.revisions.result.now c.args.deleted c.args.body ok c.revisions.ensures stem (rw c.as_slice.ensures.value at w.in_default.ensures.none)
-          (ap (λ (v : Vec Revision Global). v.items) w.revisions-is ∙ c.into_revisions-revisions.ensures)
+          (own ∙ take_all c.match-met.new c.args.path (omega (arith, w.new-is, c.len-new.ensures, c.into_revisions-all.result.ok.0, ap length c.into_revisions-all.ensures)))
           w.parent-is
+    ]
+
+pub kept-revisions-requires : goal.kept-revisions-requires
+kept-revisions-requires c =
+    elim c.match-met.branch [
+      | in-Some w ↦
+          let met = rw c.as_slice.ensures.value at w.in-Some.ensures in
+          rw (w.new-is, c.into_revisions-all.ensures, sym c.revisions.ensures) (met_within c.self.inside.stems.items c.revisions.result.now w.in-Some.met.at w.in-Some.met.place met.within met.same)
+      | in_default w ↦ omega (arith, w.new-is, c.len-new.ensures, c.into_revisions-all.result.ok.0)
     ]
 
 pub invariant_of-self : goal.invariant_of-self

@@ -1,4 +1,4 @@
-use Rattle.std.proofs.Common.{sym, refl}
+use Rattle.std.proofs.Common.{false, true, sym, refl}
 use Rattle.hub_revtree.proofs.TreeLemmas.{rev_tree, head_known, head_new, acceptable, contradicts}
 use Rattle.hub_revtree.proofs.tree.RevTree.look_merge.Goals as goal
 
@@ -12,15 +12,15 @@ returns-then-is_named-clause-known c =
       λ _. refl,
     )
 
-pub returns-then-not-agrees_with_all-clause-tree : goal.returns-then-not-agrees_with_all-clause-tree
-returns-then-not-agrees_with_all-clause-tree c = rw (sym c.self.view_is) (rev_tree _ c.self.invariant.legal)
+pub returns-in_default-clause-tree : goal.returns-in_default-clause-tree
+returns-in_default-clause-tree c = rw (sym c.self.view_is) (rev_tree _ c.self.invariant.legal)
 
-pub returns-then-not-agrees_with_all-clause-contradicts :
-    goal.returns-then-not-agrees_with_all-clause-contradicts
-returns-then-not-agrees_with_all-clause-contradicts c =
+pub returns-in_default-clause-contradicts :
+    goal.returns-in_default-clause-contradicts
+returns-in_default-clause-contradicts c =
     rw (sym c.self.view_is) (λ _. (
       head_new c.self.inside.branches.list c.args.path c.head-head.result c.head-head.ensures.value c.is_named.result c.is_named.ensures c.if-is_named.false,
-      contradicts c.self.inside.branches.list c.args.path c.head-head.result c.head-head.ensures.value c.is_named.result c.is_named.ensures c.agrees_with_all.result c.agrees_with_all.ensures c.args.deleted c.args.body c.if-not-agrees_with_all.true,
+      contradicts c.self.inside.branches.list c.args.path c.head-head.result c.head-head.ensures.value c.is_named.result c.is_named.ensures false c.in_default.ensures.agrees c.args.deleted c.args.body refl,
     ))
 
 pub returns-in_err-ready-clause-tree : goal.returns-in_err-ready-clause-tree
@@ -28,7 +28,7 @@ returns-in_err-ready-clause-tree c = rw (c.made_ready.ensures.edits, sym c.self.
 
 pub returns-in_err-ready-clause-memory : goal.returns-in_err-ready-clause-memory
 returns-in_err-ready-clause-memory c =
-    rw (sym c.self.view_is) (λ _. acceptable c.self.inside.branches.list c.args.path c.head-head.result c.head-head.ensures.value c.is_named.result c.is_named.ensures c.agrees_with_all.result c.agrees_with_all.ensures c.args.deleted c.args.body c.self.invariant.legal c.head-head.ensures.good c.if-is_named.false c.if-not-agrees_with_all.false)
+    rw (sym c.self.view_is) (λ _. acceptable c.self.inside.branches.list c.args.path c.head-head.result c.head-head.ensures.value c.is_named.result c.is_named.ensures true c.in-Some.ensures.agrees c.args.deleted c.args.body c.self.invariant.legal c.head-head.ensures.good c.if-is_named.false refl)
 
 pub returns-clause-tree : goal.returns-clause-tree
 returns-clause-tree c = rw (c.made_ready.ensures.edits, sym c.self.view_is) (rev_tree _ c.self.invariant.legal)
@@ -42,4 +42,4 @@ returns-clause-known c =
 
 pub returns-clause-acceptable : goal.returns-clause-acceptable
 returns-clause-acceptable c =
-    rw (c.in_ok-ready.ensures.ready, sym c.self.view_is) (acceptable c.self.inside.branches.list c.args.path c.head-head.result c.head-head.ensures.value c.is_named.result c.is_named.ensures c.agrees_with_all.result c.agrees_with_all.ensures c.args.deleted c.args.body c.self.invariant.legal c.head-head.ensures.good c.if-is_named.false c.if-not-agrees_with_all.false)
+    rw (c.in_ok-ready.ensures.ready, sym c.self.view_is) (acceptable c.self.inside.branches.list c.args.path c.head-head.result c.head-head.ensures.value c.is_named.result c.is_named.ensures true c.in-Some.ensures.agrees c.args.deleted c.args.body c.self.invariant.legal c.head-head.ensures.good c.if-is_named.false refl)
