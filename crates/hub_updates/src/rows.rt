@@ -71,9 +71,9 @@ impl Source for Log {
         let Some(number) = number_of(&self.numbers, id) else {
             return None;
         };
-        let seq = self.pairs[number as usize].latest;
-        if is_ahead(place, bound, seq) {
-            return Some(seq);
+        let pair = &self.pairs[number as usize];
+        if is_ahead(place, bound, pair.latest) {
+            return Some(pair.latest);
         }
         None
     }
