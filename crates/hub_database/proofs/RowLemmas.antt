@@ -185,11 +185,10 @@ pub numbered : (limit : ℕ) (numbers : List ℕ → Option ℕ) (documents : Li
 numbered limit numbers documents entries st id k e =
     let w = st.found id k e in
     let low : k < length documents =
-    omega (arith, slice_get_within (files documents) k w.0 w.1, length-map documents filed) in
-    (
+    omega (arith, slice_get_within (files documents) k w.0 w.1, length-map documents filed) in (
       low,
       λ d is. ap (λ (f : Filed). f.id)
-      (same_Some (filed d) w.0
-      (sym (slice_get-map filed documents k ∙ ap (option_map filed) (at_place documents k d low is)) ∙ w.1))
-      ∙ w.2,
+          (same_Some (filed d) w.0
+          (sym (slice_get-map filed documents k ∙ ap (option_map filed) (at_place documents k d low is)) ∙ w.1))
+          ∙ w.2,
     )

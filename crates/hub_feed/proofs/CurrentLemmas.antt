@@ -1,6 +1,5 @@
 -- Of the current rows of a journal one at most is of a document: what is found of one document alone.
-use Rattle.std.proofs.Common.{◌≡◌, ℕ, ◌+◌, List, [], ◌∷◌, map, Bool, true, false, ◌&&◌, ◌||◌, nat_eq, nat_lt, inl, inr, refl, sym, ◌∙◌, ap, subst, Option, Some, None, find, option_map, Contains}
-use Rattle.std.specs.List.{list_any}
+use Rattle.std.proofs.Common.{◌≡◌, ℕ, ◌+◌, List, [], ◌∷◌, map, true, false, ◌&&◌, nat_eq, nat_lt, inl, inr, refl, sym, ◌∙◌, ap, subst, Option, Some, None, find, option_map, Contains}
 use Rattle.std.specs.Str.{bytes_eq}
 use Rattle.std.proofs.lemmas.Bool.{both_ways, eqb-true}
 use Rattle.std.proofs.lemmas.Option.{same_Some, none-some}

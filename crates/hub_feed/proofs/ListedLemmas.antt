@@ -1,5 +1,5 @@
 -- The first row of several listed documents is the first of the first rows of each.
-use Rattle.std.proofs.Common.{◌≡◌, ℕ, ◌+◌, ◌<◌, ◌≤◌, List, [], ◌∷◌, ◌++◌, length, map, take, get_or, min, Bool, true, false, ◌&&◌, ◌||◌, nat_lt, inl, inr, refl, sym, ◌∙◌, ap, subst, Option, Some, None, find, option_map, Contains, AllPairs, String, Global, string_bytes, arith}
+use Rattle.std.proofs.Common.{◌≡◌, ℕ, ◌+◌, ◌<◌, List, [], ◌∷◌, ◌++◌, length, map, take, get_or, min, Bool, true, false, ◌&&◌, ◌||◌, nat_lt, inl, inr, refl, sym, ◌∙◌, ap, subst, Option, Some, None, find, option_map, Contains, AllPairs, String, Global, string_bytes, arith}
 use Rattle.std.specs.List.{list_any}
 use Rattle.std.specs.Str.{bytes_eq}
 use Rattle.std.proofs.lemmas.Bool.{cases_Bool, both_ways, and_parts}

@@ -44,11 +44,10 @@ module _ (numbers : List ℕ → Option ℕ) (pairs : List Pair) (entries : List
       → (k < length pairs) × ((p : Pair) → p ≡ get_or pairs k p → string_bytes p.id ≡ id)
   numbered id k e =
       let w = kept.found id k e in
-      let low : k < length pairs = pair_low k w.0 w.1 in
-      (
+      let low : k < length pairs = pair_low k w.0 w.1 in (
         low,
         λ p is. ap (λ (q : List ℕ × ℕ). q.0)
-        (same_Some (pair_of p) w.0 (sym (pair_there k p low is) ∙ w.1)) ∙ w.2,
+            (same_Some (pair_of p) w.0 (sym (pair_there k p low is) ∙ w.1)) ∙ w.2,
       )
 
   -- an id that has none is of no row
