@@ -1,8 +1,5 @@
-use Rattle.std.proofs.Common.{◌≡◌, ◌∷◌, [], ◌∙◌, List, ℕ, Some, None, arith, ap, sym, subst, option_map, Contains}
+use Rattle.std.proofs.Common.{◌∙◌, arith, sym}
 use Rattle.std.specs.BTreeMap.{get_by_text}
-use Rattle.hub_model.specs.Current.{Current, current}
-use Rattle.hub_model.specs.Journal.{Edit}
-use Rattle.hub_feed.specs.Reach.{first_listed}
 use Rattle.hub_feed.proofs.CurrentLemmas.{next_ahead, next_apart, next_unedited}
 use Rattle.hub_database.specs.Store.{edits_of_store}
 use Rattle.hub_database.proofs.RowLemmas.{document_row, numbered}
