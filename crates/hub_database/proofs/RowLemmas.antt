@@ -8,6 +8,7 @@ use Rattle.std.specs.Prelude.{reverse}
 use Rattle.std.specs.Prelude.{option_map}
 use Rattle.std.proofs.lemmas.List.{length-map}
 use Rattle.std.proofs.lemmas.Option.{same_Some, slice_get-get_or, slice_get-map, slice_get_within}
+use Rattle.hub_index.specs.Indexed.{id_in, row_in}
 use Rattle.hub_index.specs.Rows.{last_before, next_after}
 use Rattle.hub_index.proofs.IndexedLemmas.{current_edit, last_found, last_known, next_found, next_known}
 use Rattle.hub_index.proofs.ListLemmas.{at_place}
@@ -18,10 +19,11 @@ use Rattle.hub_model.specs.Row.{ChangeRow, row_of, changes_of, doc_of, is_delete
 use Rattle.hub_model.specs.declared.feeds.Style.{Style}
 use Rattle.hub_model.specs.declared.feeds.Style.TheVariants.{MainOnly, AllDocs}
 use Rattle.hub_feed.specs.Reach.{first_within}
+use Rattle.hub_feed.proofs.CurrentLemmas.{row_there}
 use Rattle.hub_revtree.specs.Tree.{IsRevTree}
 use Rattle.hub_database.specs.declared.entry.Entry.{Entry}
 use Rattle.hub_database.specs.declared.document.Document.{Document}
-use Rattle.hub_database.specs.Filed.{named, edit_at, edit_in, journal_of, IsFiled}
+use Rattle.hub_database.specs.Filed.{Filed, named, edit_at, edit_in, journal_of, IsFiled}
 use Rattle.hub_database.specs.Indexed.{IsIndexed, latest_at, latest_of}
 use Rattle.hub_database.specs.Store.{filed, files}
 use Rattle.hub_database.proofs.IndexedLemmas.{document_at}
@@ -123,6 +125,16 @@ module _ (documents : List Document) (entries : List Entry) (index : List (ℕ �
       ap (option_map latest_of)
       (slice_get-map filed documents k ∙ ap (option_map filed) (at_place documents k d low is))
 
+  -- a document's row lies at its latest edit
+  pub document_row : (k : ℕ) (d : Document) → k < length documents → d ≡ get_or documents k d
+      → Contains (current (journal_of (files documents) entries)) (record { seq = d.latest; id = d.id })
+  document_row k d low is =
+      let at = number_there k d low is in
+      row_there (row_in (latest_at (files documents))) index (current (journal_of (files documents) entries)) k
+      d.latest d.id ix.rows (ix.key k (d.id, d.latest) at)
+      (λ r e. ap (λ (o : Option (List ℕ × ℕ)). record { seq = r.0; id = id_in o })
+      (ap (latest_at (files documents)) e ∙ at))
+
   -- the next row is of a document
   module _ (place : ℕ) (bound : Option ℕ) (r : ℕ × ℕ) (is : Some r ≡ next_after index place bound) where
     pub next_low : r.1 < length documents
@@ -165,3 +177,18 @@ document_of limit numbers documents entries st i x here d is =
     let w = st.within i x here in
     at_place documents x.document d
     (omega (arith, slice_get_within (files documents) x.document w.0 w.1, length-map documents filed)) is
+
+-- the document with an id that has a number
+pub numbered : (limit : ℕ) (numbers : List ℕ → Option ℕ) (documents : List Document) (entries : List Entry)
+    → IsFiled limit numbers (files documents) entries → (id : List ℕ) (k : ℕ) → numbers id ≡ Some k
+    → (k < length documents) × ((d : Document) → d ≡ get_or documents k d → d.id ≡ id)
+numbered limit numbers documents entries st id k e =
+    let w = st.found id k e in
+    let low : k < length documents =
+    omega (arith, slice_get_within (files documents) k w.0 w.1, length-map documents filed) in (
+      low,
+      λ d is. ap (λ (f : Filed). f.id)
+          (same_Some (filed d) w.0
+          (sym (slice_get-map filed documents k ∙ ap (option_map filed) (at_place documents k d low is)) ∙ w.1))
+          ∙ w.2,
+    )

@@ -5,7 +5,7 @@ ghost use Rattle.hub_model.specs.Current.{Current, current};
 
 use crate::store::Store;
 use hub_document::ChangeRow;
-use hub_feed::Source;
+use hub_feed::{Source, is_ahead};
 use hub_index::SeqIndex;
 use hub_model::Style;
 use std::alloc::AllocError;
@@ -81,6 +81,19 @@ impl Source for Rows<'_> {
         };
         let document = &self.store.documents[number as usize];
         Some((seq, document.id.as_str()))
+    }
+
+    /// It costs a look in the map of ids.
+    fn next_of(&self, id: &str, place: u64, bound: Option<u64>) -> Option<u64> {
+        let Some(number) = self.store.number_of(id) else {
+            return None;
+        };
+        let document = &self.store.documents[number as usize];
+        let seq = document.latest as u64;
+        if is_ahead(place, bound, seq) {
+            return Some(seq);
+        }
+        None
     }
 
     /// It costs what `SeqIndex::count_after` does.

@@ -136,8 +136,8 @@ impl Store {
         }
     }
 
-    // The number of the document with this id. One look in the map.
-    fn number_of(&self, id: &str) -> Option<u32>
+    /// The number of the document with this id. One look in the map.
+    pub(crate) fn number_of(&self, id: &str) -> Option<u32>
         ensures { result ≡ get_by_text self.now.numbers id.now }
     {
         self.numbers.get(id).copied()

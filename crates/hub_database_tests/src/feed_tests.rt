@@ -311,6 +311,30 @@ fn rows_leave_the_reach_of_a_normal_feed(rt: HostRuntime) {
     assert_steps(&rt, rt.alloc(), LEFT);
 }
 
+// A feed of document 8, listed twice, of document 1, and of one that is not there: 8 is far behind
+// 1. Where 8 is edited again, a feed that was opened before has no row of it.
+const LISTED: &[Step] = &[
+    Batch(
+        ALL,
+        &[
+            STORED, STORED, STORED, STORED, STORED, STORED, STORED, STORED,
+        ],
+    ),
+    Feed(Open(
+        "filter=_doc_ids&doc_ids=%5B%228%22,%228%22,%221%22,%22x%22%5D",
+        Ok(FIRST),
+    )),
+    Feed(Open("filter=_doc_ids&doc_ids=%5B%228%22%5D", Ok(SECOND))),
+    Feed(Hands(FIRST, &[Row(1), Row(8), End(8, 0), Gone])),
+    Batch(&[r#"{"_id":"8","_rev":"1-b"}"#], &[Stored("1-b")]),
+    Feed(Hands(SECOND, &[End(8, 1), Gone])),
+];
+
+#[test]
+fn listed_documents_are_found_far_behind_others(rt: HostRuntime) {
+    assert_steps(&rt, rt.alloc(), LISTED);
+}
+
 const FALLING: &[Step] = &[
     Batch(
         &[A, B, C, A2, A3],

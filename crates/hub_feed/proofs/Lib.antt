@@ -1,5 +1,7 @@
+pub mod CurrentLemmas
 pub mod DueLemmas
 pub mod EditsLemmas
 pub mod FeedsLemmas
 pub mod Handing
+pub mod ListedLemmas
 pub mod ReachLemmas

@@ -10,7 +10,7 @@ use Rattle.hub_model.proofs.Shown.{find_is, find_not}
 use Rattle.hub_feed.specs.Reach.{first_within}
 
 -- two tests that agree on each row find the same
-find_same : (p q : Current → Bool) (rows : List Current) → ((c : Current) → Contains rows c → p c ≡ q c) → find p rows ≡ find q rows
+pub find_same : (p q : Current → Bool) (rows : List Current) → ((c : Current) → Contains rows c → p c ≡ q c) → find p rows ≡ find q rows
 find_same p q [] same = refl
 find_same p q (d ∷ rows) same =
     let here = same d (contains_here d rows) in
@@ -18,7 +18,7 @@ find_same p q (d ∷ rows) same =
     cc
 
 -- where nothing passes nothing is found
-find_nothing : (p : Current → Bool) (rows : List Current) → ((c : Current) → Contains rows c → p c ≡ true → ⊥) → find p rows ≡ None
+pub find_nothing : (p : Current → Bool) (rows : List Current) → ((c : Current) → Contains rows c → p c ≡ true → ⊥) → find p rows ≡ None
 find_nothing p [] none = refl
 find_nothing p (d ∷ rows) none =
     elim (cases_Bool (p d)) [
@@ -27,10 +27,10 @@ find_nothing p (d ∷ rows) none =
     ]
 
 -- where rows rise, those behind the first are above it, and rise
-above_first : (d : Current) (rows : List Current) → AllPairs (λ (a b : Current). a.seq < b.seq) (d ∷ rows) → (c : Current) → Contains rows c → d.seq < c.seq
+pub above_first : (d : Current) (rows : List Current) → AllPairs (λ (a b : Current). a.seq < b.seq) (d ∷ rows) → (c : Current) → Contains rows c → d.seq < c.seq
 above_first d rows rise c (k, l, e) = subst (λ (x : Current). d.seq < x.seq) e (rise 0 (suc k) c (omega arith) (omega arith))
 
-rest_rises : (d : Current) (rows : List Current) → AllPairs (λ (a b : Current). a.seq < b.seq) (d ∷ rows) → AllPairs (λ (a b : Current). a.seq < b.seq) rows
+pub rest_rises : (d : Current) (rows : List Current) → AllPairs (λ (a b : Current). a.seq < b.seq) (d ∷ rows) → AllPairs (λ (a b : Current). a.seq < b.seq) rows
 rest_rises d rows rise i j x lt inside = rise (suc i) (suc j) x (omega arith) (omega arith)
 
 -- above the place and not above the bound

@@ -1,8 +1,25 @@
 -- The rows that a step of a feed looks at (CouchDB API reference, _changes with since).
-use Rattle.std.specs.Prelude.{ℕ, List, ◌&&◌, Option, find, nat_lt}
+use Rattle.std.specs.Prelude.{ℕ, List, ◌&&◌, min, Bool, Option, Some, None, find, nat_lt}
+use Rattle.std.specs.List.{list_any}
+use Rattle.std.specs.Str.{bytes_eq}
 use Rattle.hub_model.specs.Current.{Current}
 use Rattle.hub_model.specs.Feed.{is_within}
 
 -- the first row above a place and not above the bound, if there is one
 abbrev pub first_within : ℕ → Option ℕ → List Current → Option Current
 first_within place bound rows = find (λ (c : Current). nat_lt place c.seq && is_within bound c.seq) rows
+
+-- whether a row lies above a place and not above the bound, and is of one of the documents with these ids
+abbrev pub is_listed_within : ℕ → Option ℕ → List (List ℕ) → Current → Bool
+is_listed_within place bound ids c =
+    nat_lt place c.seq && (is_within bound c.seq && list_any (bytes_eq c.id) ids)
+
+-- the first of these, if there is one
+abbrev pub first_listed : ℕ → Option ℕ → List (List ℕ) → List Current → Option Current
+first_listed place bound ids rows = find (is_listed_within place bound ids) rows
+
+-- the lesser of two numbers, where there are two
+abbrev pub lesser : Option ℕ → Option ℕ → Option ℕ
+lesser None other = other
+lesser (Some n) None = Some n
+lesser (Some n) (Some other) = Some (min n other)

@@ -1,6 +1,6 @@
 //! A feed's state.
 
-ghost use Rattle.std.specs.Prelude.{◌≡◌, ◌<◌, ◌≤◌, option_map, find, Some, IfSome, IfOk, OnErr};
+ghost use Rattle.std.specs.Prelude.{◌≡◌, ◌<◌, ◌≤◌, map, option_map, find, Some, string_bytes, IfSome, IfOk, OnErr};
 ghost use Rattle.hub_model.specs.Feed.{Open, begin, due, is_in_reach, bound_of, bound_after, status_after, after_due, after_row, beat_due, expire, end};
 ghost use Rattle.hub_model.specs.Hand.{item_of};
 ghost use Rattle.hub_model.specs.declared.feeds.Item.TheVariants.{End};
@@ -8,11 +8,13 @@ ghost use Rattle.hub_model.specs.Current.{pending};
 ghost use Rattle.hub_params.specs.FeedModel.{params_of};
 ghost use Rattle.hub_feed.specs.Mark.{mark_of};
 ghost use Rattle.hub_feed.specs.Next.{next_of, after_next, IsRowDue};
+ghost use Rattle.hub_feed.specs.Reach.{first_listed, lesser};
 ghost use Rattle.hub_feed.specs.Shown.{status_of};
 
 use crate::mark::Mark;
 use crate::next::Next;
 use crate::source::Source;
+use hub_filter::Filter;
 use hub_model::{Item, Mode, by_mode};
 use hub_params::FeedParams;
 use std::alloc::AllocError;
@@ -102,6 +104,29 @@ fn end_at<S: Source>(source: &S, place: u64) -> Item<S::Row>
     }
 }
 
+// The lesser of two sequences, where there are two.
+fn lesser(first: Option<u64>, second: Option<u64>) -> Option<u64>
+    ensures { result ≡ lesser first second }
+{
+    match (first, second) {
+        (Some(first), Some(second)) => Some(first.min(second)),
+        (Some(first), None) => Some(first),
+        (None, second) => second,
+    }
+}
+
+// The sequence of the first row above a place and not above the bound of the documents with these
+// ids. It costs what `Source::next_of` does for each.
+fn first_of<S: Source>(source: &S, ids: &[String], place: u64, bound: Option<u64>) -> Option<u64>
+    ensures { result ≡ option_map (λ c. c.seq) (first_listed place bound (map string_bytes ids.now) (S.current source.now)) }
+{
+    let mut first = None;
+    for id in ids {
+        first = lesser(first, source.next_of(id.as_str(), place, bound));
+    }
+    first
+}
+
 impl FeedState {
     /// A feed that is opened while there are `length` edits. Constant time.
     pub fn begin(params: FeedParams, length: u64) -> FeedState
@@ -119,13 +144,14 @@ impl FeedState {
         }
     }
 
-    // The sequence of the first row in reach. One step of the source for each row that does not
-    // pass, and one more.
-    fn first_in_reach<S: Source>(&self, source: &S) -> Option<u64>
-        ensures { result ≡ option_map (λ c. c.seq) (find (is_in_reach self.now) (S.current source.now)) }
+    // The sequence of the first row in reach, if it is found before a place of which no row is looked
+    // at behind. One step of the source for each row that does not pass, and one more.
+    fn first_until<S: Source>(&self, source: &S, until: u64) -> Option<u64>
+        ensures found { IfSome result (λ seq. Some seq ≡ option_map (λ c. c.seq) (find (is_in_reach self.now) (S.current source.now))) }
+        ensures whole { S.length source.now ≤ until → result ≡ option_map (λ c. c.seq) (find (is_in_reach self.now) (S.current source.now)) }
     {
         let mut place = self.place;
-        for _ in self.place..source.length() {
+        for _ in self.place..until {
             let (seq, id) = source.next_after(place, self.bound)?;
             if self.params.filter.passes(id) {
                 return Some(seq);
@@ -133,6 +159,27 @@ impl FeedState {
             place = seq;
         }
         None
+    }
+
+    // The sequence of the first row in reach. One step of the source for each row that does not
+    // pass, and one more; of a feed of listed ids so many steps at most as ids are listed, and then
+    // a look for each of them.
+    fn first_in_reach<S: Source>(&self, source: &S) -> Option<u64>
+        ensures { result ≡ option_map (λ c. c.seq) (find (is_in_reach self.now) (S.current source.now)) }
+    {
+        let length = source.length();
+        let Filter::DocIds(ids) = &self.params.filter else {
+            return self.first_until(source, length);
+        };
+        let ids = ids.as_slice();
+        let few = self.place.saturating_add(ids.len() as u64);
+        if length <= few {
+            return self.first_until(source, length);
+        }
+        match self.first_until(source, few) {
+            Some(seq) => Some(seq),
+            None => first_of(source, ids, self.place, self.bound),
+        }
     }
 
     // What an open feed has to hand.

@@ -18,4 +18,4 @@ pub use hub_document::{ChangeRow, UpdateRow};
 pub use hub_model::{Item, UpdateKind};
 pub use mark::Mark;
 pub use next::Next;
-pub use source::Source;
+pub use source::{Source, is_ahead};

@@ -1,13 +1,24 @@
 //! What feeds follow.
 
-ghost use Rattle.std.specs.Prelude.{◌≡◌, ◌<◌, ◌≤◌, ℕ, List, Bool, Contains, option_map, IfOk};
+ghost use Rattle.std.specs.Prelude.{◌≡◌, ◌<◌, ◌≤◌, ◌&&◌, ℕ, List, [], ◌∷◌, Bool, nat_lt, Contains, option_map, IfOk};
 ghost use Rattle.std.specs.List.{AllPairs};
 ghost use Rattle.hub_model.specs.Current.{Current, pending};
+ghost use Rattle.hub_model.specs.Feed.{is_within};
 ghost use Rattle.hub_model.specs.declared.feeds.Style.{Style as Listing};
-ghost use Rattle.hub_feed.specs.Reach.{first_within};
+ghost use Rattle.hub_feed.specs.Reach.{first_within, first_listed};
 
 use hub_model::Style;
 use std::alloc::AllocError;
+
+/// Whether a sequence lies above a place and not above the bound, if there is one. Constant time.
+pub fn is_ahead(place: u64, bound: Option<u64>, seq: u64) -> bool
+    ensures { result ≡ (nat_lt place seq && is_within bound seq) }
+{
+    match bound {
+        Some(bound) => place < seq && seq <= bound,
+        None => place < seq,
+    }
+}
 
 /// What a feed follows: edits, numbered from 1, of which each current one has a row.
 pub trait Source {
@@ -34,6 +45,11 @@ pub trait Source {
     /// and its id. It takes no memory.
     fn next_after(&self, place: u64, bound: Option<u64>) -> Option<(u64, &str)>
         ensures { option_map (λ p. record { seq = p.0; id = p.1.now }) result ≡ first_within place bound (current self.now) };
+
+    /// The first current row above a place and not above the bound of the document with this id, if
+    /// there is one: its sequence. It takes no memory.
+    fn next_of(&self, id: &str, place: u64, bound: Option<u64>) -> Option<u64>
+        ensures { result ≡ option_map (λ c. c.seq) (first_listed place bound (id.now ∷ []) (current self.now)) };
 
     /// How many current rows lie above a place. It takes no memory.
     fn count_after(&self, place: u64) -> u64

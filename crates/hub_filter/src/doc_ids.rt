@@ -46,6 +46,13 @@ impl DocIds {
             .is_ok()
     }
 
+    /// The listed ids. Constant time.
+    pub fn as_slice(&self) -> &[String]
+        ensures { map string_bytes result.now ≡ self.now }
+    {
+        self.sorted.as_slice()
+    }
+
     /// A copy. It costs the length of the ids, and takes no memory where none is listed.
     pub fn copy(&self, alloc: Global) -> Result<DocIds, AllocError>
         ensures ok { IfOk result (λ ids. ids ≡ self.now) }

@@ -1,10 +1,10 @@
 -- The rows of a log, by its pairs and its index.
 use Rattle.std.proofs.Common.{◌≡◌, ℕ, ◌+◌, ◌<◌, List, length, ap, sym, ◌∙◌, arith, find, get_or, Contains}
 use Rattle.std.proofs.Common.{◌&&◌, nat_lt, Bool}
-use Rattle.std.specs.Prelude.{Option, Some, option_map, slice_get, string_bytes}
+use Rattle.std.specs.Prelude.{Option, Some, None, option_map, slice_get, string_bytes}
 use Rattle.std.proofs.lemmas.List.{length-map}
-use Rattle.std.proofs.lemmas.Option.{same_Some, slice_get-map, slice_get_within}
-use Rattle.hub_index.specs.Indexed.{id_in}
+use Rattle.std.proofs.lemmas.Option.{same_Some, none-some, slice_get-get_or, slice_get-map, slice_get_within}
+use Rattle.hub_index.specs.Indexed.{id_in, row_in}
 use Rattle.hub_index.specs.Rows.{next_after}
 use Rattle.hub_index.proofs.IndexedLemmas.{current_edit, next_found, next_known}
 use Rattle.hub_index.proofs.ListLemmas.{at_place}
@@ -14,6 +14,7 @@ use Rattle.hub_model.specs.Journal.{Edit}
 use Rattle.hub_model.specs.Updates.{Note, UpdateRow, edit_of, edits_of_log, id_of, note_of, update_row_of}
 use Rattle.hub_model.specs.declared.feeds.Style.{Style}
 use Rattle.hub_model.specs.declared.updates.UpdateKind.{UpdateKind}
+use Rattle.hub_feed.proofs.CurrentLemmas.{edit_of_row, row_there}
 use Rattle.hub_updates.specs.declared.log.Pair.{Pair}
 use Rattle.hub_updates.specs.Kept.{IsKept, ids_of, note_at, notes_of, pair_of}
 
@@ -25,6 +26,57 @@ module _ (numbers : List ℕ → Option ℕ) (pairs : List Pair) (entries : List
   pair_there : (k : ℕ) (p : Pair) → k < length pairs → p ≡ get_or pairs k p
       → slice_get (ids_of pairs) k ≡ Some (pair_of p)
   pair_there k p low is = slice_get-map pair_of pairs k ∙ ap (option_map pair_of) (at_place pairs k p low is)
+
+  -- the row of a pair lies at its latest note
+  pub pair_row : (k : ℕ) (p : Pair) → k < length pairs → p ≡ get_or pairs k p
+      → Contains (current (edits_of_log (notes_of (ids_of pairs) entries)))
+      (record { seq = p.latest; id = string_bytes p.id })
+  pair_row k p low is =
+      let at = pair_there k p low is in
+      row_there (row_in (slice_get (ids_of pairs))) index
+      (current (edits_of_log (notes_of (ids_of pairs) entries))) k p.latest (string_bytes p.id) kept.rows.rows
+      (kept.rows.key k (pair_of p) at)
+      (λ r e. ap (λ (o : Option (List ℕ × ℕ)). record { seq = r.0; id = id_in o })
+      (ap (slice_get (ids_of pairs)) e ∙ at))
+
+  -- the pair of an id that has a number
+  pub numbered : (id : List ℕ) (k : ℕ) → numbers id ≡ Some k
+      → (k < length pairs) × ((p : Pair) → p ≡ get_or pairs k p → string_bytes p.id ≡ id)
+  numbered id k e =
+      let w = kept.found id k e in
+      let low : k < length pairs = pair_low k w.0 w.1 in (
+        low,
+        λ p is. ap (λ (q : List ℕ × ℕ). q.0)
+            (same_Some (pair_of p) w.0 (sym (pair_there k p low is) ∙ w.1)) ∙ w.2,
+      )
+
+  -- an id that has none is of no row
+  pub unnumbered : (id : List ℕ) → numbers id ≡ None → (c : Current)
+      → Contains (current (edits_of_log (notes_of (ids_of pairs) entries))) c → c.id ≡ id → ⊥
+  unnumbered id none c h same =
+      let e = edit_of_row (edits_of_log (notes_of (ids_of pairs) entries)) c h in
+      let i = e.1.0 in
+      let low : i < length entries =
+      omega (
+        arith,
+        e.1.1,
+        length-map (notes_of (ids_of pairs) entries) edit_of,
+        length-map entries (note_at (ids_of pairs)),
+      ) in
+      let x = get_or entries i 0 in
+      let here : slice_get entries i ≡ Some x = slice_get-get_or entries i 0 low in
+      let w = kept.within i x here in
+      let edit : slice_get (edits_of_log (notes_of (ids_of pairs) entries)) i ≡ Some (edit_of (note_of w.0.0)) =
+      slice_get-map edit_of (notes_of (ids_of pairs) entries) i
+      ∙ (ap (option_map edit_of)
+      (slice_get-map (note_at (ids_of pairs)) entries i ∙ ap (option_map (note_at (ids_of pairs))) here)
+      ∙ ap (λ o. Some (edit_of (note_of (id_in o)))) w.1) in
+      let found : slice_get (edits_of_log (notes_of (ids_of pairs) entries)) i ≡ Some e.0 =
+      at_place (edits_of_log (notes_of (ids_of pairs) entries)) i e.0 e.1.1 (sym e.1.2) in
+      let id_is : w.0.0 ≡ id =
+      sym (kept.read x w.0 w.1)
+      ∙ (ap (λ (f : Edit). f.id) (same_Some (edit_of (note_of w.0.0)) e.0 (sym edit ∙ found)) ∙ (e.2 ∙ same)) in
+      none-some x (sym none ∙ (ap numbers (sym id_is) ∙ kept.own x w.0 w.1))
 
   -- the next row, which is of a pair that is there
   module _ (place : ℕ) (bound : Option ℕ) (r : ℕ × ℕ) (is : Some r ≡ next_after index place bound) where

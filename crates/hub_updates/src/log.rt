@@ -73,8 +73,8 @@ fn id_of(alloc: Global, notice: &Notice) -> Result<String, AllocError>
     Ok(id)
 }
 
-// The number of the pair of this id. One look in the map.
-fn number_of(numbers: &BTreeMap<String, u32>, id: &str) -> Option<u32>
+/// The number of the pair of this id. One look in the map.
+pub(crate) fn number_of(numbers: &BTreeMap<String, u32>, id: &str) -> Option<u32>
     ensures { result ≡ get_by_text numbers.now id.now }
 {
     numbers.get(id).copied()

@@ -3,9 +3,9 @@
 ghost use Rattle.std.specs.Prelude.{◌≡◌};
 ghost use Rattle.hub_model.specs.Updates.{id_of, note_of};
 
-use crate::log::Log;
+use crate::log::{Log, number_of};
 use hub_document::UpdateRow;
-use hub_feed::Source;
+use hub_feed::{Source, is_ahead};
 use hub_index::SeqIndex;
 use hub_model::{Style, UpdateKind};
 use std::alloc::AllocError;
@@ -64,6 +64,18 @@ impl Source for Log {
         };
         let pair = &self.pairs[number as usize];
         Some((seq, pair.id.as_str()))
+    }
+
+    /// It costs a look in the map of ids.
+    fn next_of(&self, id: &str, place: u64, bound: Option<u64>) -> Option<u64> {
+        let Some(number) = number_of(&self.numbers, id) else {
+            return None;
+        };
+        let pair = &self.pairs[number as usize];
+        if is_ahead(place, bound, pair.latest) {
+            return Some(pair.latest);
+        }
+        None
     }
 
     /// It costs what `SeqIndex::count_after` does.

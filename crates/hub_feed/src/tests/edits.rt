@@ -1,11 +1,10 @@
 //! A plain list of edits, for feeds to follow.
 
 ghost use Rattle.std.specs.Prelude.{◌≡◌, length as list_length, refl};
-ghost use Rattle.hub_model.specs.Feed.{is_within};
 ghost use Rattle.hub_feed.specs.Edits.{rows_of};
 ghost use Rattle.hub_feed.specs.EditsLaws.{rows_rise, rows_within};
 
-use crate::Source;
+use crate::{Source, is_ahead};
 use hub_model::Style;
 use std::alloc::AllocError;
 
@@ -21,15 +20,6 @@ pub struct Shown {
     pub seq: u64,
     pub style: Style,
     pub include_docs: bool,
-}
-
-fn is_within(bound: Option<u64>, seq: u64) -> bool
-    ensures { result ≡ is_within bound seq }
-{
-    match bound {
-        Some(bound) => seq <= bound,
-        None => true,
-    }
 }
 
 impl<'a> Source for Edits<'a> {
@@ -58,7 +48,19 @@ impl<'a> Source for Edits<'a> {
         for edit in self.ids {
             seq += 1;
             match edit {
-                Some(id) if place < seq && is_within(bound, seq) => return Some((seq, *id)),
+                Some(id) if is_ahead(place, bound, seq) => return Some((seq, *id)),
+                _ => {}
+            }
+        }
+        None
+    }
+
+    fn next_of(&self, id: &str, place: u64, bound: Option<u64>) -> Option<u64> {
+        let mut seq = 0;
+        for edit in self.ids {
+            seq += 1;
+            match edit {
+                Some(of) if *of == id && is_ahead(place, bound, seq) => return Some(seq),
                 _ => {}
             }
         }

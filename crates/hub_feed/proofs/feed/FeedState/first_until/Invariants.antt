@@ -1,7 +1,7 @@
 -- Looking from the place reached so far finds what looking from the feed's place does.
 use Rattle.std.proofs.Common.{◌≡◌, ◌≤◌, find}
 use Rattle.hub_model.specs.Feed.{is_in_reach}
-use Rattle.hub_feed.proofs.feed.FeedState.first_in_reach.Given as goal
+use Rattle.hub_feed.proofs.feed.FeedState.first_until.Given as goal
 
 abbrev pub invariant-loop : goal.invariant-loop
 invariant-loop g l = record {

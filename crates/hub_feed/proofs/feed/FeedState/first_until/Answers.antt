@@ -5,14 +5,14 @@ use Rattle.hub_model.specs.Feed.{Feed}
 use Rattle.hub_model.specs.Filter.{passes}
 use Rattle.hub_feed.specs.Reach.{first_within}
 use Rattle.hub_feed.proofs.ReachLemmas.{none_in_reach, found_in_reach, reach_behind, ahead_above, none_above}
-use Rattle.hub_feed.proofs.feed.FeedState.first_in_reach.Goals as goal
+use Rattle.hub_feed.proofs.feed.FeedState.first_until.Goals as goal
 
-pub returns-in_err-seq : goal.returns-in_err-seq
-returns-in_err-seq g c =
+pub returns-in_err-seq-clause-whole : goal.returns-in_err-seq-clause-whole
+returns-in_err-seq-clause-whole g c =
     let rows = g.S.Source.current c.args.source.now in
     let here : Feed = record c.args.self.now { place = c.loop.place } in
     let none = subst (λ (f : Feed). None ≡ first_within c.loop.place f.bound rows) c.self.view_is c.in_err-seq.ensures in
-    c.from_residual.ensures ∙ sym (ap (option_map (λ (r : Current). r.seq)) (c.loop.invariant.kept ∙ none_in_reach here rows none))
+    λ reached. c.from_residual.ensures ∙ sym (ap (option_map (λ (r : Current). r.seq)) (c.loop.invariant.kept ∙ none_in_reach here rows none))
 
 pub returns-then-passes : goal.returns-then-passes
 returns-then-passes g c =
@@ -21,7 +21,8 @@ returns-then-passes g c =
     let row : Current = record { seq = c.in_ok-seq.seq; id = c.in_ok-seq.id.now } in
     let found = subst (λ (f : Feed). Some row ≡ first_within c.loop.place f.bound rows) c.self.view_is c.in_ok-seq.ensures in
     let shown = subst (λ (f : Feed). true ≡ passes f.params.filter row.id) c.self.view_is c.if-passes.ensures in
-    sym (ap (option_map (λ (r : Current). r.seq)) (c.loop.invariant.kept ∙ found_in_reach here rows row found (sym shown)))
+    let same = sym (ap (option_map (λ (r : Current). r.seq)) (c.loop.invariant.kept ∙ found_in_reach here rows row found (sym shown))) in
+    record { found = same; whole = λ reached. same }
 
 pub loop-preserved : goal.loop-preserved
 loop-preserved g c =
@@ -36,7 +37,7 @@ loop-preserved g c =
       kept = c.loop.invariant.kept ∙ reach_behind here rows row (g.met.S.Source.rise c.args.source.now) found (sym hidden);
     }
 
-pub returns : goal.returns
-returns g c =
+pub returns-clause-whole : goal.returns-clause-whole
+returns-clause-whole g c =
     let here : Feed = record c.args.self.now { place = c.loop.place } in
-    sym (ap (option_map (λ (r : Current). r.seq)) (c.loop.invariant.kept ∙ none_above here (g.S.Source.current c.args.source.now) (g.S.Source.length c.args.source.now) (g.met.S.Source.within c.args.source.now) (omega arith)))
+    λ reached. sym (ap (option_map (λ (r : Current). r.seq)) (c.loop.invariant.kept ∙ none_above here (g.S.Source.current c.args.source.now) (g.S.Source.length c.args.source.now) (g.met.S.Source.within c.args.source.now) (omega arith)))

@@ -1,0 +1,8 @@
+-- What is found so far is the first row of the ids that were looked at.
+use Rattle.std.proofs.Common.{◌≡◌, map, take, option_map, string_bytes}
+use Rattle.hub_model.specs.Current.{Current}
+use Rattle.hub_feed.specs.Reach.{first_listed}
+use Rattle.hub_feed.proofs.feed.first_of.Given as goal
+
+abbrev pub invariant-loop-id : goal.invariant-loop-id
+invariant-loop-id g l = l.first ≡ option_map (λ (c : Current). c.seq) (first_listed l.place l.bound (map string_bytes (take l.id-index l.ids)) (g.S.Source.current l.source))
