@@ -1,4 +1,4 @@
-//! A clock for pumps.
+//! A clock for heartbeats.
 
 use std::io;
 use std::time::{self, Instant};

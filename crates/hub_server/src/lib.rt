@@ -1,4 +1,5 @@
-//! The hub over TCP: each connection in a thread of its own, and each feed's pump in another.
+//! The hub over TCP: each connection in a thread of its own, and one more for each database of which a feed
+//! waits.
 #![tactic(auto)]
 
 mod alive;

@@ -61,9 +61,9 @@ impl Progress {
 
     /// Sleeps while its thread is to be made; what became of it.
     fn wait<R: Wait>(&self, rt: &R) -> Stage {
-        let guard = self.moved.wait_while(rt, self.stage.lock(rt), |now| {
-            *now == Stage::Ordered
-        });
+        let guard = self
+            .moved
+            .wait_while(rt, self.stage.lock(rt), |now| { *now == Stage::Ordered });
         *guard
     }
 }

@@ -1,9 +1,5 @@
 //! How the server hands feeds their items.
 
-ghost use Rattle.std.specs.Prelude.{◌≡◌, IfNone, IfSome};
-ghost use Rattle.hub_lane.specs.Ends.{IsAllowedBeginning, behind_take};
-ghost use Rattle.hub_params.specs.FeedModel.{params_in};
-
 use crate::orders::{Orders, Pump};
 use hub_feed::FeedHost;
 use hub_model::Item;

@@ -124,8 +124,8 @@ impl<C: Count> Handle<C> {
         self.db.guarded().lock(rt).local_put(doc)
     }
 
-    /// Opens a feed, which stays until it is finished: something is to call `pump` for it, and
-    /// `Feed::take`. `descending` is not looked at. It costs the wait for the lock, and what
+    /// Opens a feed, which stays until it is finished: its connection is to call `HostFeed::next`, or
+    /// something `pump` for it, and `Feed::take`. `descending` is not looked at. It costs the wait for the lock, and what
     /// `Locked::begin` does.
     pub fn open_feed<R: Wait>(&mut self, rt: &R, params: FeedParams) -> Result<Feed<C>, OpenFault>
         ensures asks { IfOk result (λ feed. feed.label.asked ≡ params_asked params) }

@@ -1,5 +1,5 @@
 //! What threads share: a database behind a lock, with handles on it that count what was accepted through
-//! them, the log of updates behind another, and the feeds of both, each with the pump that fills its lane.
+//! them, the log of updates behind another, the feeds of both, and what fills their lanes.
 #![tactic(auto)]
 
 mod count;

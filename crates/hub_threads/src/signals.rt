@@ -1,4 +1,4 @@
-//! How a feed's pump and its connection wake each other.
+//! How a feed's connection and what hands the feed wake each other.
 
 use crate::times::Times;
 use hub_params::FeedParams;
@@ -17,12 +17,12 @@ pub struct Signals {
     pub(crate) times: Times,
     /// Whether the feed waits for edits to come.
     pub(crate) waits: bool,
-    /// Rung by the pump once it sent items, and as it ends; the connection sleeps on it.
+    /// Rung by a pump once it sent items, and as it ends; the connection sleeps on it.
     items: Parker,
     /// Rung by the connection once the lane is empty, and as the feed is finished; the pump sleeps on
     /// it where the lane is full.
     room: Parker,
-    /// How many items the pump handed, but for heartbeats: counted once the lock is free, and before the
+    /// How many items were handed, but for heartbeats: counted once the lock is free, and before the
     /// ring.
     handed: AtomicU64,
     /// Whether the pump has ended: it will send nothing more.
@@ -33,7 +33,7 @@ pub struct Signals {
 }
 
 impl Signals {
-    /// The signals of a feed of these parameters, for its pump and for its connection.
+    /// The signals of a feed of these parameters, for its host and for its connection.
     pub(crate) fn shared(
         alloc: Global,
         params: &FeedParams,

@@ -52,8 +52,8 @@ impl Host<Served<UpdatesState>> {
         noted
     }
 
-    /// Opens a feed, which stays until it is finished: something is to call `pump` for it, and
-    /// `HostFeed::take`. It costs the wait for the lock, and what `Locked::begin` does.
+    /// Opens a feed, which stays until it is finished: its connection is to call `HostFeed::next`, or
+    /// something `pump` for it, and `HostFeed::take`. It costs the wait for the lock, and what `Locked::begin` does.
     pub fn open_feed<R: Wait>(&self, rt: &R, params: FeedParams) -> Result<UpdatesFeed, OpenFault>
         ensures asks { IfOk result (λ feed. feed.label.asked ≡ params_asked params) }
         ensures begins { IfOk result (λ feed. IsBeginningFor params.since 0 feed.label.since) }
