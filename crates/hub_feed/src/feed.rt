@@ -206,7 +206,8 @@ impl FeedState {
     /// What the feed has to hand now, of the source that it was opened on. An item is made and
     /// nothing changes: `accept_item` goes on. A feed that has nothing to hand goes to the source's
     /// length. Only a row takes memory. It costs a step of the source for each row that does not
-    /// pass, one more, and what the row costs; an end costs the count of the rows above it.
+    /// pass, one more, and what the row costs; an end costs the count of the rows above it. With
+    /// listed ids there are so many steps at most as ids, and then a `Source::next_of` for each.
     pub fn next_item<S: Source>(&mut self, source: &S) -> Result<Next<S::Row>, AllocError>
         requires reached { self.old.place ≤ S.length source.now }
         ensures ok { IfOk result (λ next. next ≡ next_of (S.shown source.now self.old.params.style self.old.params.include_docs) (S.current source.now) (due (S.current source.now) self.old)) }
