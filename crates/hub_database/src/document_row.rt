@@ -19,6 +19,7 @@ fn main_change(alloc: Global, winner: Option<Winner>) -> Result<Revisions, Alloc
 {
     let mut list = Vec::new(alloc);
     if let Some(winner) = winner {
+        list.try_reserve_exact(1)?;
         list.push(winner.rev)?;
     }
     Ok(Revisions::new(list))

@@ -12,6 +12,9 @@ use serde_json::{Map, Value};
 use std::alloc::{AllocError, Global};
 use std::marker::Model;
 
+// What a body is written into at first: most bodies need no more while they are written.
+const FIRST_ROOM: usize = 256;
+
 /// A document's members that don't begin with `_`, seen as their compact JSON text: an object
 /// whose keys stand in byte order.
 #[derive(Debug, Drop)]
@@ -58,7 +61,7 @@ pub(crate) fn body_of(alloc: Global, members: &Map<String, Value>) -> Result<Bod
     requires { members_have_float (members_view members.now.entries) ≡ false }
     ensures { IfOk result (λ b. b ≡ body_text (members_view members.now.entries)) }
 {
-    let mut out = Writer::new(Vec::new(alloc));
+    let mut out = Writer::new(Vec::with_capacity(alloc, FIRST_ROOM)?);
     out.begin_object()?;
     for (key, member) in members.iter() {
         if !is_hidden(key.as_str()) {

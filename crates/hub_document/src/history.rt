@@ -115,7 +115,7 @@ fn alone(alloc: Global, rev: Option<RevId>) -> Result<Option<Path>, AllocError>
     if r.generation() != 1 {
         return Ok(None);
     }
-    let mut revisions = Vec::new(alloc);
+    let mut revisions = Vec::with_capacity(alloc, 1)?;
     revisions.push(r)?;
     Ok(Some(Path::new(revisions)))
 }

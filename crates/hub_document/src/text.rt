@@ -1,7 +1,9 @@
 //! The JSON texts of documents, written part by part behind what a vector holds.
 
-ghost use Rattle.std.specs.Prelude.{◌≡◌, ◌++◌, length, take, OnOk};
+ghost use Rattle.std.specs.Prelude.{◌≡◌, ◌++◌, length, take, true, OnOk};
+ghost use Rattle.std.specs.List.{list_all};
 ghost use Rattle.json.specs.Print.{quoted};
+ghost use Rattle.json.specs.Run.{is_plain};
 ghost use Rattle.hub_document.specs.DocText.{rev_member, deleted_member, history_member, history_text, inside};
 ghost use Rattle.hub_document.specs.Joined.{after_commas, head_text, ids_text, start_text, count_text, rest_text};
 
@@ -13,10 +15,34 @@ use json::Writer;
 use std::alloc::AllocError;
 use std::mem;
 
-/// Appends the JSON string of a text. Where that needs more memory than there is, what was held
-/// still stands in front, and a part may stand behind it; so it is with all that is written here. It
-/// costs the text's length, and copies nothing else.
-pub fn put_quoted(out: &mut Vec<u8>, text: &str) -> Result<(), AllocError>
+// Whether a byte stands for itself in a JSON string (RFC 8259, section 7).
+fn is_plain_byte(byte: u8) -> bool
+    ensures { result ≡ is_plain byte }
+{
+    byte >= 0x20 && byte != b'"' && byte != b'\\'
+}
+
+// Whether each byte does.
+fn are_plain(text: &[u8]) -> bool
+    ensures { result ≡ list_all is_plain text.now }
+{
+    text.iter().all(|byte| is_plain_byte(*byte))
+}
+
+// Appends the JSON string of a text whose bytes stand for themselves.
+fn put_plain(out: &mut Vec<u8>, text: &str) -> Result<(), AllocError>
+    requires { list_all is_plain text.now ≡ true }
+    ensures ok { OnOk result (out.new.items ≡ out.old.items ++ quoted text.now) }
+    ensures front { take (length out.old.items) out.new.items ≡ out.old.items }
+{
+    out.extend_from_slice(b"\"")?;
+    out.extend_from_slice(text.as_bytes())?;
+    out.extend_from_slice(b"\"")?;
+    Ok(())
+}
+
+// Appends the JSON string of any text.
+fn put_escaped(out: &mut Vec<u8>, text: &str) -> Result<(), AllocError>
     ensures ok { OnOk result (out.new.items ≡ out.old.items ++ quoted text.now) }
     ensures front { take (length out.old.items) out.new.items ≡ out.old.items }
 {
@@ -25,6 +51,20 @@ pub fn put_quoted(out: &mut Vec<u8>, text: &str) -> Result<(), AllocError>
     let done = writer.string(text);
     *out = writer.into_inner();
     done
+}
+
+/// Appends the JSON string of a text. Where that needs more memory than there is, what was held
+/// still stands in front, and a part may stand behind it; so it is with all that is written here. It
+/// costs the text's length, and copies nothing else.
+pub fn put_quoted(out: &mut Vec<u8>, text: &str) -> Result<(), AllocError>
+    ensures ok { OnOk result (out.new.items ≡ out.old.items ++ quoted text.now) }
+    ensures front { take (length out.old.items) out.new.items ≡ out.old.items }
+{
+    if are_plain(text.as_bytes()) {
+        put_plain(out, text)
+    } else {
+        put_escaped(out, text)
+    }
 }
 
 // The brace and the id.

@@ -1,6 +1,7 @@
 //! Chunks to a writer.
 
-ghost use Rattle.std.specs.Prelude.{◌≡◌, ◌<◌, ◌≤◌, length, IsErrOf, OnOk, OnErr};
+ghost use Rattle.std.specs.Prelude.{◌≡◌, ◌<◌, ◌≤◌, ◌++◌, false, length, IsErrOf, OnOk, OnErr};
+ghost use Rattle.std.specs.Fmt.{digit_glyph, digits};
 ghost use Rattle.hub_http.specs.Counts.{Rose};
 ghost use Rattle.hub_http.specs.Chunks.{Writes, text_chunks};
 ghost use Rattle.hub_http.specs.Texts.{chunk_text};
@@ -18,15 +19,34 @@ pub enum ChunkFault {
     IoFault,
 }
 
+// The digit of a number below 16, in lower case.
+fn digit(number: usize) -> u8
+    requires { number < 16 }
+    ensures { result ≡ digit_glyph false number }
+{
+    b"0123456789abcdef"[number]
+}
+
+// Appends the digits of a number to the base 16. Two digits, as most items have, are written at once.
+fn put_size(buffer: &mut Vec<u8>, number: usize) -> Result<(), AllocError>
+    ensures { OnOk result (buffer.new.items ≡ buffer.old.items ++ digits 16 false number) }
+{
+    if number < 16 || number >= 256 {
+        return match write!(buffer, "{number:x}") {
+            Ok(()) => Ok(()),
+            Err(_) => Err(AllocError),
+        };
+    }
+    buffer.extend_from_slice(&[digit(number / 16), digit(number % 16)])
+}
+
 #[tactic(auto, unfolding(crate::specs::Texts::chunk_text))]
 fn assemble(buffer: &mut Vec<u8>, text: &[u8]) -> Result<(), AllocError>
     ensures { OnOk result (buffer.new.items ≡ chunk_text text.now) }
 {
-    let len = text.len();
     buffer.clear();
-    if write!(buffer, "{len:x}\r\n").is_err() {
-        return Err(AllocError);
-    }
+    put_size(buffer, text.len())?;
+    buffer.extend_from_slice(b"\r\n")?;
     buffer.extend_from_slice(text)?;
     buffer.extend_from_slice(b"\r\n")
 }

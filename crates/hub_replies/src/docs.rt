@@ -1,6 +1,6 @@
 //! Documents and revisions that were asked for.
 
-ghost use Rattle.std.specs.Prelude.{◌≡◌, ◌++◌, IfOk, OnOk};
+ghost use Rattle.std.specs.Prelude.{◌≡◌, ◌++◌, [], IfOk, OnOk};
 ghost use Rattle.hub_replies.specs.Bodies.{doc_body, local_doc_body, open_rev_text, open_revs_body};
 
 use crate::texts::put_comma;
@@ -8,13 +8,24 @@ use hub_database::{Local, OpenRev};
 use hub_document::{Doc, write_local};
 use std::alloc::{AllocError, Global};
 
+// Room for what stands in a document's text beside its id and its members, unless it has a history.
+const ROOM: usize = 128;
+
+// An empty text, with room for a document with this id and these members.
+fn text_for(alloc: Global, id: &str, members: &[u8]) -> Result<Vec<u8>, AllocError>
+    ensures { IfOk result (λ t. t.items ≡ []) }
+{
+    let room = ROOM.saturating_add(id.len()).saturating_add(members.len());
+    Vec::with_capacity(alloc, room)
+}
+
 /// A document (CouchDB API reference, `GET /{db}/{docid}`). It is written straight into the body,
 /// and costs the text's length.
 #[tactic(auto, unfolding(crate::specs::Bodies::doc_body))]
 pub fn doc_body(alloc: Global, doc: &Doc) -> Result<Vec<u8>, AllocError>
     ensures { IfOk result (λ t. t.items ≡ doc_body doc.now) }
 {
-    let mut text = Vec::new(alloc);
+    let mut text = text_for(alloc, doc.id.as_str(), doc.body.as_bytes())?;
     doc.write(&mut text)?;
     text.push(b'\n')?;
     Ok(text)
@@ -26,7 +37,7 @@ pub fn doc_body(alloc: Global, doc: &Doc) -> Result<Vec<u8>, AllocError>
 pub fn local_doc_body(alloc: Global, id: &str, local: &Local) -> Result<Vec<u8>, AllocError>
     ensures { IfOk result (λ t. t.items ≡ local_doc_body id.now local.now.count local.now.body) }
 {
-    let mut text = Vec::new(alloc);
+    let mut text = text_for(alloc, id, local.body.as_bytes())?;
     write_local(&mut text, id, local.count, &local.body)?;
     text.push(b'\n')?;
     Ok(text)

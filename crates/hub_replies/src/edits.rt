@@ -8,13 +8,17 @@ use hub_document::{RevId, put_quoted};
 use itoa::Buffer;
 use std::alloc::{AllocError, Global};
 
+// Room for what stands in an answer beside the id.
+const ROOM: usize = 128;
+
 /// The answer to an edit of the document of this id, which has this revision now (CouchDB API
 /// reference, `PUT /{db}/{docid}`). It costs the text's length.
 #[tactic(auto, unfolding(crate::specs::Bodies::edit_body, crate::specs::Bodies::edit_text))]
 pub fn edit_body(alloc: Global, id: &str, rev: &RevId) -> Result<Vec<u8>, AllocError>
     ensures { IfOk result (λ t. t.items ≡ edit_body id.now rev.now) }
 {
-    let mut text = Vec::from_slice(alloc, b"{\"ok\":true,\"id\":")?;
+    let mut text = Vec::with_capacity(alloc, ROOM.saturating_add(id.len()))?;
+    text.extend_from_slice(b"{\"ok\":true,\"id\":")?;
     put_quoted(&mut text, id)?;
     text.extend_from_slice(b",\"rev\":")?;
     rev.print_quoted(&mut text)?;
@@ -38,7 +42,8 @@ fn put_count(out: &mut Vec<u8>, count: u64) -> Result<(), AllocError>
 pub fn local_edit_body(alloc: Global, id: &str, count: u64) -> Result<Vec<u8>, AllocError>
     ensures { IfOk result (λ t. t.items ≡ local_edit_body id.now count) }
 {
-    let mut text = Vec::from_slice(alloc, b"{\"ok\":true,\"id\":")?;
+    let mut text = Vec::with_capacity(alloc, ROOM.saturating_add(id.len()))?;
+    text.extend_from_slice(b"{\"ok\":true,\"id\":")?;
     put_quoted(&mut text, id)?;
     text.extend_from_slice(b",\"rev\":")?;
     put_count(&mut text, count)?;

@@ -1,6 +1,6 @@
 use Rattle.std.proofs.Common.{◌∙◌, ap}
 use Rattle.hub_document.proofs.WriteLemmas.{string_written}
-use Rattle.hub_document.proofs.text.put_quoted.Goals as goal
+use Rattle.hub_document.proofs.text.put_escaped.Goals as goal
 
 pub returns-clause-ok : goal.returns-clause-ok
 returns-clause-ok c =

@@ -1,0 +1,13 @@
+use Rattle.hub_document.proofs.WriteLemmas.{quoted_plain, three_parts}
+use Rattle.hub_document.proofs.text.put_plain.Goals as goal
+
+pub returns-clause-ok : goal.returns-clause-ok
+returns-clause-ok c =
+    rw (
+      quoted_plain c.args.text.now c.requires,
+      c.in_ok-extend_from_slice-3.ensures.items,
+      c.in_ok-extend_from_slice-2.ensures.items,
+      c.as_bytes.ensures.value,
+      c.in_ok-extend_from_slice.ensures.items,
+    )
+    (three_parts c.args.out.now.items _ _ _)
