@@ -37,7 +37,9 @@ fn put_size(buffer: &mut Vec<u8>, number: usize) -> Result<(), AllocError>
             Err(_) => Err(AllocError),
         };
     }
-    buffer.extend_from_slice(&[digit(number / 16), digit(number % 16)])
+    let digits = [digit(number / 16), digit(number % 16)];
+    buffer.extend_from_slice(&digits)?;
+    Ok(())
 }
 
 #[tactic(auto, unfolding(crate::specs::Texts::chunk_text))]
