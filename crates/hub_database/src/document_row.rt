@@ -14,13 +14,15 @@ use hub_revtree::Winner;
 use std::alloc::{AllocError, Global};
 
 // The winner alone.
-fn main_change(alloc: Global, winner: Option<Winner>) -> Revisions
-    ensures { result ≡ option_to_list (option_map (λ w. w.rev) winner) }
+fn main_change(alloc: Global, winner: Option<Winner>) -> Result<Revisions, AllocError>
+    ensures { IfOk result (λ revs. revs ≡ option_to_list (option_map (λ w. w.rev) winner)) }
 {
-    match winner {
-        Some(winner) => Revisions::one(winner.rev),
-        None => Revisions::new(Vec::new(alloc)),
+    let mut list = Vec::new(alloc);
+    if let Some(winner) = winner {
+        list.try_reserve_exact(1)?;
+        list.push(winner.rev)?;
     }
+    Ok(Revisions::new(list))
 }
 
 // Whether the winner is deleted.
@@ -45,7 +47,7 @@ impl Document {
         ensures { IfOk result (λ revs. revs ≡ changes_of style (leaves_of self.now.tree.edits [])) }
     {
         by_style!(style,
-            main_only: Ok(main_change(alloc, winner)),
+            main_only: main_change(alloc, winner),
             all_docs: self.tree.leaves(alloc),
         )
     }

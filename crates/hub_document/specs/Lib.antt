@@ -9,7 +9,6 @@ pub mod Inside
 pub mod Joined
 pub mod Limited
 pub mod Lines
-pub mod Listed
 pub mod Local
 pub mod Profile
 pub mod Put
