@@ -1,11 +1,11 @@
 -- The revisions that a run keeps.
-use Rattle.std.proofs.Common.{◌≡◌, ℕ, zero, suc, ◌+◌, ◌-◌, ◌<◌, ◌≤◌, List, [], ◌∷◌, ◌++◌, length, get_or, drop, take, map, Bool, true, false, ◌&&◌, ◌⊎◌, inl, inr, refl, sym, ap, ap₂, ◌∙◌, subst, arith}
+use Rattle.std.proofs.Common.{◌≡◌, ℕ, zero, suc, ◌+◌, ◌-◌, ◌<◌, ◌≤◌, List, [], ◌∷◌, ◌++◌, length, get_or, drop, take, map, Bool, true, false, ◌&&◌, ◌⊎◌, inl, inr, refl, sym, ap, ap₂, ◌∙◌, subst, add-one, arith}
 use Rattle.std.specs.Prelude.{Option, Some, None, IfSome, IfNone, ◌↔◌, slice_get, option_map, nat_eq}
 use Rattle.std.specs.Bool.{then_some}
 use Rattle.std.specs.Str.{bytes_eq}
 use Rattle.std.proofs.lemmas.Bool.{both_ways, cases_Bool, eq-eqb, eqb-true}
-use Rattle.std.proofs.lemmas.List.{append_assoc, drop_more}
-use Rattle.std.proofs.lemmas.Option.{get_or_from_slice_get, same_Some, slice_get_read, slice_get_within}
+use Rattle.std.proofs.lemmas.List.{append_assoc}
+use Rattle.std.proofs.lemmas.Option.{same_Some, slice_get_read}
 use Rattle.hub_model.proofs.Tests.{same_is, same_self}
 use Rattle.hub_document.proofs.PlaceLemmas.{above_head, not_named, past_end}
 use Rattle.hex.specs.Hex.{encode_lower}
@@ -13,6 +13,7 @@ use Rattle.hub_model.specs.Revision.{Revision, is_same}
 use Rattle.hub_model.specs.Path.{Falls, IsPath, names, is_first}
 use Rattle.hub_revtree.specs.Run.{revisions_from}
 
+-- each generation of a path is above 0
 pub least : (y : Revision) (q : List Revision) → Falls y q → 1 ≤ y.generation
 least y [] f = f
 least y (z ∷ q) f = omega (arith, f.0)
@@ -22,6 +23,17 @@ pub first_drop : (p : List Revision) (k : ℕ) (r x : Revision) → slice_get p 
 first_drop [] k r x e = absurd (cc)
 first_drop (y ∷ p) zero r x e = ap (is_same r) (same_Some y x e)
 first_drop (y ∷ p) (suc k) r x e = first_drop p k r x e
+
+-- lists by place
+pub get_some : {A : Type 0} (xs : List A) (k : ℕ) → k < length xs → (x : A) × (slice_get xs k ≡ Some x)
+get_some [] k low = absurd (omega arith)
+get_some (x ∷ xs) zero low = (x, refl)
+get_some (x ∷ xs) (suc k) low = get_some xs k (omega arith)
+
+pub dropped_one : {A : Type 0} (xs : List A) (k : ℕ) (x : A) → slice_get xs k ≡ Some x → drop k xs ≡ x ∷ drop (suc k) xs
+dropped_one [] k x e = absurd (cc)
+dropped_one (y ∷ xs) zero x e = ap (λ z. z ∷ xs) (same_Some y x e)
+dropped_one (y ∷ xs) (suc k) x e = dropped_one xs k x e
 
 -- there are as many as digests
 pub as_many_digests : (n : ℕ) (ds : List (List ℕ)) → length (revisions_from n ds) ≡ length ds
@@ -92,11 +104,6 @@ texts_read p q k x is low read =
     let same : length q ≡ length p = ap length is in
     subst (λ z. slice_get z k ≡ Some x) is (slice_get_read q _ k x refl (omega (arith, low, same)) read)
 
-some_at : (p : List Revision) (k : ℕ) → k < length p → (x : Revision) × (slice_get p k ≡ Some x)
-some_at [] k low = absurd (omega arith)
-some_at (x ∷ p) zero low = (x, refl)
-some_at (x ∷ p) (suc k) low = some_at p k (omega arith)
-
 -- the newest one, by its generation
 pub newest_of : (p : List Revision) (n : ℕ) → option_map (λ r. r.generation) (slice_get p 0) ≡ Some n → (x : Revision) × (slice_get p 0 ≡ Some x) × (x.generation ≡ n)
 newest_of [] n e = absurd (cc)
@@ -114,7 +121,7 @@ module _ (p : List Revision) (path : IsPath p) (n : ℕ) (newest : option_map (�
     pub is_there : (b : Bool) → b ≡ is_first r (drop k p) → k < length p → IfSome (then_some b k) (λ j. slice_get p j ≡ Some r)
     is_there false is low = tt
     is_there true is low =
-        let x = some_at p k low in
+        let x = get_some p k low in
         x.1 ∙ ap Some (sym (same_is r x.0 (sym (first_drop p k r x.0 x.1) ∙ sym is)))
 
     pub is_absent : (b : Bool) → b ≡ is_first r (drop k p) → IfNone (then_some b k) (names p r ≡ false)
@@ -124,16 +131,13 @@ module _ (p : List Revision) (path : IsPath p) (n : ℕ) (newest : option_map (�
         not_named p x.0 r k path x.1 (omega (arith, down, x.2)) (λ e. both_ways (is_first r (drop k p)) (sym is) (first_drop p k r r e ∙ same_self r))
 
 -- one revision on
-next_drop : (p : List Revision) (k : ℕ) (r : Revision) → slice_get p k ≡ Some r → drop k p ≡ r ∷ drop (k + 1) p
-next_drop p k r e = drop_more p k r (slice_get_within p k r e) ∙ ap (λ z. z ∷ drop (k + 1) p) (get_or_from_slice_get p k r r e)
-
 pub one_on : (p line : List Revision) (k : ℕ) (r : Revision) → slice_get p k ≡ Some r → (line ++ r ∷ []) ++ drop (k + 1) p ≡ line ++ drop k p
-one_on p line k r e = append_assoc line (r ∷ []) (drop (k + 1) p) ∙ ap (λ z. line ++ z) (sym (next_drop p k r e))
+one_on p line k r e = rw (add-one k) (append_assoc line (r ∷ []) (drop (suc k) p) ∙ ap (λ z. line ++ z) (sym (dropped_one p k r e)))
 
 -- what stands behind the front of some revisions, one more at a time
 module _ (rest others p tail : List Revision) (k : ℕ) (first : Revision) (low : k < length p) (split : rest ≡ first ∷ others) (b : Bool) (is : b ≡ is_first first (drop k p)) where
   next_one : (x : Revision) × (drop k p ++ tail ≡ x ∷ (drop (k + 1) p ++ tail)) × (b ≡ is_same first x)
-  next_one = let x = some_at p k low in (x.0, ap (λ z. z ++ tail) (next_drop p k x.0 x.1), is ∙ first_drop p k first x.0 x.1)
+  next_one = let x = get_some p k low in (x.0, rw (add-one k) (ap (λ z. z ++ tail) (dropped_one p k x.0 x.1)), is ∙ first_drop p k first x.0 x.1)
 
   pub front_more : b ≡ true → (rest ≡ drop k p ++ tail) ↔ (others ≡ drop (k + 1) p ++ tail)
   front_more t =

@@ -38,10 +38,7 @@ impl Model for Run {
 }
 
 // The digests whose texts the hashes are; None where a hash is another text. It costs their number.
-fn digests_of(
-    alloc: Global,
-    revisions: &[RevId],
-) -> Result<Option<Vec<[u8; 16]>>, AllocError>
+fn digests_of(alloc: Global, revisions: &[RevId]) -> Result<Option<Vec<[u8; 16]>>, AllocError>
     ensures { IfOk result (λ found. IfSome found (λ digests. map encode_lower digests.items ≡ map (λ r. r.hash) revisions.now)) }
 {
     let mut digests = Vec::with_capacity(alloc, revisions.len())?;

@@ -1,4 +1,4 @@
-use Rattle.std.proofs.Common.{◌≡◌, ◌<◌, ◌^◌, ◌∙◌, ap, sym, arith, rules, length}
+use Rattle.std.proofs.Common.{◌<◌, ◌^◌, ◌∙◌, ap, sym, arith, rules}
 use Rattle.std.specs.Prelude.{Some}
 use Rattle.hub_revtree.specs.Run.{kept_in}
 use Rattle.hub_revtree.proofs.RunLemmas.{digest_length, digest_low, digest_read, texts_read}

@@ -1,6 +1,6 @@
-use Rattle.std.proofs.Common.{◌≡◌, ◌<◌, ◌^◌, ◌∙◌, ap, sym, arith, rules, length}
+use Rattle.std.proofs.Common.{◌<◌, ◌^◌, ◌∙◌, ap, sym, arith, rules}
 use Rattle.hub_revtree.specs.Run.{kept_in}
-use Rattle.hub_revtree.proofs.RunLemmas.{digest_first, digest_length, digest_low, other_generation, same_generation}
+use Rattle.hub_revtree.proofs.RunLemmas.{digest_length, digest_low, other_generation, same_generation}
 use Rattle.hub_revtree.proofs.run.Run.is_at.Goals as goal
 
 pub overflow_cast-place : goal.overflow_cast-place
