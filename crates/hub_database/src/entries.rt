@@ -16,15 +16,17 @@ impl Store {
     // The edit of this sequence, with its document. Constant time.
     fn edit(&self, seq: u64) -> Option<(&Document, StoredEdit<'_>)>
         requires { IsStore self.now }
-        ensures edit { option_map (λ p. bare_doc p.0.now.id p.1.rev.now p.1.deleted p.1.body.now) result
+        ensures edit { option_map (λ p. bare_doc p.0.now.id p.1.rev p.1.deleted p.1.body.now) result
             ≡ option_map (doc_shown false) (entry_at (edits_of_store self.now) seq) }
-        ensures path { option_map (λ p. path_to p.0.now.tree.edits p.1.rev.now) result
+        ensures path { option_map (λ p. path_to p.0.now.tree.edits p.1.rev) result
             ≡ option_map (λ e. Some e.path) (entry_at (edits_of_store self.now) seq) }
     {
         let at = seq.checked_sub(1)?;
         let entry = self.journal.get(at as usize)?;
         let document = &self.documents[entry.document as usize];
-        let edit = document.tree.edit(entry.revision as usize)?;
+        let Some(edit) = document.tree.edit(entry.revision as usize) else {
+            return None;
+        };
         Some((document, edit))
     }
 }
@@ -35,8 +37,10 @@ impl Contents {
     pub fn entry(&self, seq: u64) -> Option<(&str, RevId)>
         ensures { option_map (λ p. (p.0.now, p.1)) result ≡ entry_of self.now.journal seq }
     {
-        let (document, edit) = self.store.edit(seq)?;
-        Some((document.id.as_str(), *edit.rev))
+        let Some((document, edit)) = self.store.edit(seq) else {
+            return None;
+        };
+        Some((document.id.as_str(), edit.rev))
     }
 
     /// The edit of this sequence, with its history; None of a sequence that no edit has. It costs a
@@ -51,8 +55,8 @@ impl Contents {
         };
         Ok(Some(Doc {
             id: document.id.copy(alloc)?,
-            rev: Some(*edit.rev),
-            path: document.tree.path(alloc, edit.rev)?,
+            rev: Some(edit.rev),
+            path: document.tree.path(alloc, &edit.rev)?,
             deleted: edit.deleted,
             body: edit.body.copy(alloc)?,
         }))

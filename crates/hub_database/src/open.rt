@@ -38,7 +38,7 @@ impl Document {
         };
         Ok(Some(Doc {
             id: self.id.copy(alloc)?,
-            rev: Some(*edit.rev),
+            rev: Some(edit.rev),
             path: self.history(alloc, rev, revs)?,
             deleted: edit.deleted,
             body: edit.body.copy(alloc)?,

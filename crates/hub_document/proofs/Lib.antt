@@ -1,5 +1,6 @@
 mod AskedLemmas
 pub mod MadeLemmas
+pub mod DigestLemmas
 pub mod PartLemmas
 pub mod PathLemmas
 pub mod PlaceLemmas

@@ -33,7 +33,7 @@ letters_of (b ∷ bs) fits =
     rw (high, low) (letters_of bs (λ i. fits (suc i)))
 
 -- so a digest is a hash
-is_hash_of : (bs : List ℕ) → ((i : ℕ) → slice_index bs i < 256) → length bs ≡ 16 → is_hash (encode_lower bs) ≡ true
+pub is_hash_of : (bs : List ℕ) → ((i : ℕ) → slice_index bs i < 256) → length bs ≡ 16 → is_hash (encode_lower bs) ≡ true
 is_hash_of bs fits sized =
     let len : length (encode_lower bs) ≡ 32 = length-encode_with lower_digits bs ∙ ap (λ n. 2 * n) sized in
     rw len (letters_of bs fits)

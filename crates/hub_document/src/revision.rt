@@ -1,5 +1,7 @@
 //! Revision ids.
 
+mod digest;
+
 ghost use Rattle.std.specs.Prelude.{◌≡◌, ◌≤◌, ◌-◌, ◌<◌, ◌^◌, ◌++◌, length, take, replicate, option_map, IfSome, IfNone, OnOk, OnErr};
 ghost use Rattle.std.specs.List.{list_all};
 ghost use Rattle.json.specs.Print.{quoted};

@@ -1,9 +1,10 @@
 -- The stems keep as many revisions as the edits have different ones.
 use Rattle.std.proofs.Common.{◌≡◌, ℕ, zero, suc, ◌+◌, ◌-◌, ◌<◌, ◌≤◌, List, [], ◌∷◌, ◌++◌, length, get_or, take, drop, Bool, true, false, refl, sym, ap, ◌∙◌, subst, append_assoc, append-nil, add-one, arith}
-use Rattle.std.specs.Prelude.{Option, Some, None, IfSome, IsTrue, ◌↔◌, is_some, slice_get, min}
+use Rattle.std.specs.Prelude.{Option, Some, None, IfSome, IsTrue, ◌↔◌, is_some, not, slice_get, min}
 use Rattle.std.specs.Bool.{then_some}
 use Rattle.std.specs.List.{list_any}
 use Rattle.std.proofs.lemmas.List.{length-take-le, map-append, take-append-drop, take_all}
+use Rattle.std.proofs.lemmas.List.Filters.{length-filter_both}
 use Rattle.std.proofs.Math.Seq.{take-append_seam}
 use Rattle.std.proofs.lemmas.Option.{same_Some, slice_get_read}
 use Rattle.hub_model.specs.Revision.{Revision, is_same}
@@ -12,19 +13,22 @@ use Rattle.hub_model.specs.Journal.{Edit, is_known}
 use Rattle.hub_model.specs.Missing.{missing}
 use Rattle.hub_model.proofs.Tests.{or_left, or_right, same_self}
 use Rattle.hub_revtree.specs.declared.stem.Place.{Place}
-use Rattle.hub_revtree.specs.declared.stem.Stem.{Stem}
 use Rattle.hub_revtree.specs.Branch.{edit_of, edits_in}
 use Rattle.hub_revtree.specs.Count.{count_after, revision_count}
-use Rattle.hub_revtree.specs.Stem.{AreStems, IsWithin, branch_of, branches_of, has_revision, path_from, revisions_at}
+use Rattle.hub_revtree.specs.Stem.{Stem, AreStems, IsWithin, branch_of, branches_of, has_revision, path_from, revisions_at}
 use Rattle.hub_revtree.proofs.JoinLemmas.{met_within}
 use Rattle.hub_revtree.proofs.StemLemmas.{from_end, from_named, front, get_last, named_in, none_of, one_stem_more}
 use Rattle.hub_revtree.proofs.StemLooks.{rest_slice}
 use Rattle.hub_revtree.proofs.TreeLemmas.{known_by}
 
+-- no more of a path are new than it has
+pub missing_within : (es : List Edit) (p : List Revision) → length (missing es [] p) ≤ length p
+missing_within es p = omega (arith, length-filter_both (λ r. not (is_known es [] r)) (λ r. not (not (is_known es [] r))) (λ r. refl) p)
+
 -- how many revisions the stems have
 abbrev pub kept : List Stem → ℕ
 kept [] = 0
-kept (s ∷ xs) = length s.revisions.items + kept xs
+kept (s ∷ xs) = length s.revisions + kept xs
 
 pub kept-append : (xs ys : List Stem) → kept (xs ++ ys) ≡ kept xs + kept ys
 kept-append [] ys = omega arith
@@ -83,9 +87,9 @@ AreCounted xs = AreStems xs → kept xs ≡ revision_count (edits_in (branches_o
 counted_more : (xs : List Stem) (s : Stem) → AreCounted xs → AreCounted (xs ++ s ∷ [])
 counted_more xs s ih a =
     let bs = branches_of xs in
-    let fresh = subst (λ z. list_any (has_revision z) s.revisions.items ≡ false) (take-append_seam xs (s ∷ [])) (a.fresh (length xs) s (get_last xs s)) in
-    let brought : missing (edits_in bs) [] (branch_of bs s).path ≡ s.revisions.items = new_front xs s.revisions.items s.parent fresh in
-    let number : length (missing (edits_in bs) [] (branch_of bs s).path) ≡ length s.revisions.items = ap length brought in
+    let fresh = subst (λ z. list_any (has_revision z) s.revisions ≡ false) (take-append_seam xs (s ∷ [])) (a.fresh (length xs) s (get_last xs s)) in
+    let brought : missing (edits_in bs) [] (branch_of bs s).path ≡ s.revisions = new_front xs s.revisions s.parent fresh in
+    let number : length (missing (edits_in bs) [] (branch_of bs s).path) ≡ length s.revisions = ap length brought in
     let more : revision_count (edits_in bs ++ edit_of (branch_of bs s) ∷ []) ≡ revision_count (edits_in bs) + length (missing (edits_in bs) [] (branch_of bs s).path) = count_more [] (edits_in bs) (edit_of (branch_of bs s)) in
     let so_far : kept xs ≡ revision_count (edits_in bs) = ih (front xs s a) in
     let whole : kept (xs ++ s ∷ []) ≡ revision_count (edits_in bs ++ edit_of (branch_of bs s) ∷ []) = omega (arith, kept-append xs (s ∷ []), more, so_far, number) in
@@ -96,15 +100,15 @@ pub counted : (xs : List Stem) → AreStems xs → kept xs ≡ revision_count (e
 counted = from_end AreCounted (λ a. refl) counted_more
 
 -- one stem more of a sum that stays within its type
-pub kept_more : (xs : List Stem) (k : ℕ) (s : Stem) → slice_get xs k ≡ Some s → kept (take (k + 1) xs) ≡ kept (take k xs) + length s.revisions.items
+pub kept_more : (xs : List Stem) (k : ℕ) (s : Stem) → slice_get xs k ≡ Some s → kept (take (k + 1) xs) ≡ kept (take k xs) + length s.revisions
 kept_more xs k s e = rw (add-one k) (more xs k e)
   where
-    more : (xs : List Stem) (k : ℕ) → slice_get xs k ≡ Some s → kept (take (suc k) xs) ≡ kept (take k xs) + length s.revisions.items
+    more : (xs : List Stem) (k : ℕ) → slice_get xs k ≡ Some s → kept (take (suc k) xs) ≡ kept (take k xs) + length s.revisions
     more [] k e = absurd (cc)
-    more (x ∷ xs) zero e = let same : length x.revisions.items ≡ length s.revisions.items = ap (λ (z : Stem). length z.revisions.items) (same_Some x s e) in omega (arith, same)
+    more (x ∷ xs) zero e = let same : length x.revisions ≡ length s.revisions = ap (λ (z : Stem). length z.revisions) (same_Some x s e) in omega (arith, same)
     more (x ∷ xs) (suc k) e = omega (arith, more xs k e)
 
-pub saturated_more : (xs : List Stem) (k : ℕ) (s : Stem) (count len next most : ℕ) → k < length xs → s ≡ get_or xs k s → count ≡ min (kept (take k xs)) most → len ≡ length s.revisions.items → next ≡ min (count + len) most → next ≡ min (kept (take (k + 1) xs)) most
+pub saturated_more : (xs : List Stem) (k : ℕ) (s : Stem) (count len next most : ℕ) → k < length xs → s ≡ get_or xs k s → count ≡ min (kept (take k xs)) most → len ≡ length s.revisions → next ≡ min (count + len) most → next ≡ min (kept (take (k + 1) xs)) most
 saturated_more xs k s count len next most low item so_far number is =
     let more = kept_more xs k s (slice_get_read xs _ k s refl low item) in omega (arith, so_far, number, is, more)
 

@@ -10,9 +10,8 @@ use Rattle.hub_model.specs.Path.{IsPath, names}
 use Rattle.hub_model.specs.Leaves.{is_behind_head}
 use Rattle.hub_model.proofs.Legal.{falls_below}
 use Rattle.hub_model.proofs.Tests.{names_is, same_is}
-use Rattle.hub_revtree.specs.declared.stem.Stem.{Stem}
 use Rattle.hub_revtree.specs.Branch.{edit_of}
-use Rattle.hub_revtree.specs.Stem.{AreStems, AreUpTo, branch_of, branches_of, has_revision, is_behind_newest}
+use Rattle.hub_revtree.specs.Stem.{Stem, AreStems, AreUpTo, branch_of, branches_of, has_revision, is_behind_newest}
 use Rattle.hub_revtree.proofs.StemLemmas.{named_in, one_stem_more}
 use Rattle.hub_revtree.proofs.StemLooks.{behind_in}
 

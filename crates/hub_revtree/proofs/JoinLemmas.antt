@@ -15,13 +15,13 @@ use Rattle.hub_model.proofs.Walks.{legal_histories}
 use Rattle.hub_document.specs.Lines.{from_on}
 use Rattle.hub_document.proofs.PlaceLemmas.{from_on_at, named}
 use Rattle.hub_revtree.specs.declared.stem.Place.{Place}
-use Rattle.hub_revtree.specs.declared.stem.Stem.{Stem}
 use Rattle.hub_revtree.specs.Branch.{Branch, edit_of, edits_in}
 use Rattle.hub_revtree.specs.Extend.{line_to}
-use Rattle.hub_revtree.specs.Stem.{AreStems, IsWithin, branch_of, branches_of, has_revision, path_from, revisions_at}
+use Rattle.hub_revtree.specs.Stem.{Stem, AreStems, IsWithin, branch_of, branches_of, has_revision, path_from, revisions_at}
 use Rattle.hub_revtree.specs.Tree.{nameless}
 use Rattle.hub_revtree.proofs.LineLemmas.{line_is}
-use Rattle.hub_revtree.proofs.StemLemmas.{any_at, get_front, get_some, named_in, one_stem_more, same_truth, shown_at, stems_more, within_stem}
+use Rattle.hub_revtree.proofs.RunLemmas.{get_some, least}
+use Rattle.hub_revtree.proofs.StemLemmas.{any_at, get_front, named_in, one_stem_more, same_truth, shown_at, stems_more, within_stem}
 use Rattle.hub_revtree.proofs.StemLooks.{rest_slice}
 use Rattle.hub_revtree.proofs.TreeLemmas.{all_of_one, in_tree, known_by}
 
@@ -40,10 +40,6 @@ drop_history (suc n) (x ∷ []) low h = absurd (omega arith)
 drop_history (suc n) (x ∷ y ∷ p) low h =
     let parts = and_parts (is_falling (x ∷ y ∷ p)) (is_full (x ∷ y ∷ p)) h in
     drop_history n (y ∷ p) (omega arith) (and_from (is_falling (y ∷ p)) (is_full (y ∷ p)) ((and_parts _ (is_falling (y ∷ p)) parts.0).1) parts.1)
-
-least : (y : Revision) (q : List Revision) → Falls y q → 1 ≤ y.generation
-least y [] f = f
-least y (z ∷ q) f = omega (arith, f.0)
 
 -- two histories from one revision on that agree are one
 same_lines : (x : Revision) (p q : List Revision) → is_history (x ∷ p) ≡ true → is_history (x ∷ q) ≡ true → ((s r other : Revision) → IsNext (x ∷ p) s r → IsNext (x ∷ q) s other → r ≡ other) → p ≡ q
@@ -98,7 +94,7 @@ module _ (xs : List Stem) (a : AreStems xs) (legal : IsLegal (edits_in (branches
 
   -- the branch of a place has the revision there too
   module _ (p : Place) (r : Revision) (placed : slice_get (revisions_at xs p.stem) p.at ≡ Some r) where
-    in_stem : (s : Stem) × (slice_get xs p.stem ≡ Some s) × (p.at < length s.revisions.items)
+    in_stem : (s : Stem) × (slice_get xs p.stem ≡ Some s) × (p.at < length s.revisions)
     in_stem = within_stem xs p (slice_get_within (revisions_at xs p.stem) p.at r placed)
 
     abbrev branch : Branch
@@ -108,7 +104,7 @@ module _ (xs : List Stem) (a : AreStems xs) (legal : IsLegal (edits_in (branches
     there_branch = shown_at xs a p.stem in_stem.0 in_stem.1
 
     there_rev : slice_get branch.path p.at ≡ Some r
-    there_rev = get_front in_stem.0.revisions.items (path_from bs in_stem.0.parent) p.at r (rw in_stem.1 at placed)
+    there_rev = get_front in_stem.0.revisions (path_from bs in_stem.0.parent) p.at r (rw in_stem.1 at placed)
 
     pub place_known : is_known (edits_in bs) [] r ≡ true
     place_known = known_by bs r ∙ any_at (λ b. names b.path r) bs p.stem branch there_branch (named branch.path p.at r there_rev)
@@ -216,12 +212,12 @@ pub is_placed : (xs : List Stem) (r : Revision) (o : Option Place) → IfSome o 
 is_placed xs r None found none = sym none
 is_placed xs r (Some p) found none =
     let i = within_stem xs p (slice_get_within (revisions_at xs p.stem) p.at r found) in
-    sym (any_at (λ s. names s.revisions.items r) xs p.stem i.0 i.1 (named i.0.revisions.items p.at r (rw i.1 at found)))
+    sym (any_at (λ s. names s.revisions r) xs p.stem i.0 i.1 (named i.0.revisions p.at r (rw i.1 at found)))
 
 -- a stem that brings what is new of a path
 pub record Brings (xs : List Stem) (path : List Revision) (s : Stem) : Type 0 where
-  pub falling : IsPath s.revisions.items
-  pub fresh : list_any (has_revision xs) s.revisions.items ≡ false
+  pub falling : IsPath s.revisions
+  pub fresh : list_any (has_revision xs) s.revisions ≡ false
   pub within : (p : Place) → s.parent ≡ Some p → IsWithin xs p
   pub whole : (branch_of (branches_of xs) s).path ≡ path
 
@@ -251,7 +247,7 @@ module _ (xs : List Stem) (a : AreStems xs) (legal : IsLegal (edits_in (branches
 
   -- the stem of an edit that may be stored
   module _ (path q : List Revision) (deleted : Bool) (body : List ℕ) (ok : IsAcceptable (edits_in (branches_of xs)) (nameless path deleted body)) (again : q ≡ path) (s : Stem) where
-    pub met_brings : (at : ℕ) (p : Place) → list_any (has_revision xs) (take at q) ≡ false → IsWithin xs p → slice_get q at ≡ slice_get (revisions_at xs p.stem) p.at → s.revisions.items ≡ take at path → s.parent ≡ Some p → Brings xs path s
+    pub met_brings : (at : ℕ) (p : Place) → list_any (has_revision xs) (take at q) ≡ false → IsWithin xs p → slice_get q at ≡ slice_get (revisions_at xs p.stem) p.at → s.revisions ≡ take at path → s.parent ≡ Some p → Brings xs path s
     met_brings at p first within same own stands =
         let r = get_some (revisions_at xs p.stem) p.at within in
         let read : slice_get path at ≡ Some r.0 = subst (λ z. slice_get z at ≡ Some r.0) again (same ∙ r.1) in
@@ -264,7 +260,7 @@ module _ (xs : List Stem) (a : AreStems xs) (legal : IsLegal (edits_in (branches
               ∙ take-append-drop at path;
         }
 
-    pub new_brings : list_any (has_revision xs) q ≡ false → s.revisions.items ≡ path → s.parent ≡ None → Brings xs path s
+    pub new_brings : list_any (has_revision xs) q ≡ false → s.revisions ≡ path → s.parent ≡ None → Brings xs path s
     new_brings none own stands =
         record {
           falling = rw own ok.history.falls;

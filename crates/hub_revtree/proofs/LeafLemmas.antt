@@ -13,7 +13,7 @@ use Rattle.hub_revtree.specs.declared.leaf.Winner.{Winner}
 use Rattle.hub_revtree.specs.Branch.{Branch, edit_of, edits_in}
 use Rattle.hub_revtree.specs.Winner.{winner_of, head_in, better_of, is_better_than, is_above, put_in, winners_of}
 use Rattle.hub_revtree.proofs.BranchLemmas.{any_map}
-use Rattle.hub_revtree.proofs.StemLemmas.{dropped_one}
+use Rattle.hub_revtree.proofs.RunLemmas.{dropped_one}
 
 abbrev one : Leaf → Winner
 one leaf = record { rev = leaf.rev; deleted = leaf.edit.deleted }

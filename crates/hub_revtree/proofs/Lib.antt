@@ -7,6 +7,7 @@ pub mod AncestorLemmas
 pub mod EditLemmas
 pub mod CountLemmas
 pub mod JoinLemmas
+pub mod RunLemmas
 pub mod StemLemmas
 pub mod StemLooks
 pub mod HighestLemmas

@@ -12,10 +12,10 @@ use Rattle.hub_model.specs.Path.{IsPath, names, is_first}
 use Rattle.hub_model.proofs.Tests.{or_left, or_right, or_false, same_is}
 use Rattle.hub_document.proofs.PlaceLemmas.{named}
 use Rattle.hub_revtree.specs.declared.stem.Place.{Place}
-use Rattle.hub_revtree.specs.declared.stem.Stem.{Stem}
 use Rattle.hub_revtree.specs.Branch.{Branch}
-use Rattle.hub_revtree.specs.Stem.{AreStems, IsWithin, branch_of, branches_after, branches_of, has_revision, path_from, path_in, revisions_in}
+use Rattle.hub_revtree.specs.Stem.{Stem, AreStems, IsWithin, branch_of, branches_after, branches_of, has_revision, path_from, path_in, revisions_in}
 use Rattle.hub_revtree.proofs.BranchLemmas.{apart}
+use Rattle.hub_revtree.proofs.RunLemmas.{dropped_one, get_some}
 
 -- a revision that a path has stands behind its first one where it is another
 pub behind_newest : (p : List Revision) (r : Revision) (o : Option ℕ) → IsPath p → IfSome o (λ k. slice_get p k ≡ Some r) → is_some o ≡ true → not (is_first r p) ≡ names (drop 1 p) r
@@ -51,19 +51,9 @@ get_taken (suc n) k [] low = refl
 get_taken (suc n) zero (x ∷ xs) low = refl
 get_taken (suc n) (suc k) (x ∷ xs) low = get_taken n k xs (omega arith)
 
-pub dropped_one : {A : Type 0} (xs : List A) (k : ℕ) (x : A) → slice_get xs k ≡ Some x → drop k xs ≡ x ∷ drop (suc k) xs
-dropped_one [] k x e = absurd (cc)
-dropped_one (y ∷ xs) zero x e = ap (λ z. z ∷ xs) (same_Some y x e)
-dropped_one (y ∷ xs) (suc k) x e = dropped_one xs k x e
-
 -- the last one
 pub split_at : {A : Type 0} (xs : List A) (k : ℕ) (x : A) → slice_get xs k ≡ Some x → length xs ≤ suc k → xs ≡ take k xs ++ x ∷ []
 split_at xs k x e past = sym (take-append-drop k xs) ∙ ap (λ z. take k xs ++ z) (dropped_one xs k x e ∙ ap (λ z. x ∷ z) (drop_all (suc k) xs past))
-
-pub get_some : {A : Type 0} (xs : List A) (k : ℕ) → k < length xs → (x : A) × (slice_get xs k ≡ Some x)
-get_some [] k low = absurd (omega arith)
-get_some (x ∷ xs) zero low = (x, refl)
-get_some (x ∷ xs) (suc k) low = get_some xs k (omega arith)
 
 -- an element that passes
 pub any_at : {A : Type 0} (P : A → Bool) (xs : List A) (k : ℕ) (x : A) → slice_get xs k ≡ Some x → P x ≡ true → list_any P xs ≡ true
@@ -125,10 +115,10 @@ pub from_end : (P : List Stem → Type 0) → P [] → ((xs : List Stem) (s : St
 from_end P none step xs = induct_after P step [] xs none
 
 -- a place of some of the stems
-pub within_stem : (xs : List Stem) (p : Place) → IsWithin xs p → (s : Stem) × (slice_get xs p.stem ≡ Some s) × (p.at < length s.revisions.items)
+pub within_stem : (xs : List Stem) (p : Place) → IsWithin xs p → (s : Stem) × (slice_get xs p.stem ≡ Some s) × (p.at < length s.revisions)
 within_stem xs p w = from (slice_get xs p.stem) refl w
   where
-    from : (o : Option Stem) → slice_get xs p.stem ≡ o → p.at < length (revisions_in o) → (s : Stem) × (slice_get xs p.stem ≡ Some s) × (p.at < length s.revisions.items)
+    from : (o : Option Stem) → slice_get xs p.stem ≡ o → p.at < length (revisions_in o) → (s : Stem) × (slice_get xs p.stem ≡ Some s) × (p.at < length s.revisions)
     from None e low = absurd (omega arith)
     from (Some s) e low = (s, e, low)
 
@@ -143,7 +133,7 @@ within_front xs ys p low w =
 pub front : (xs : List Stem) (s : Stem) → AreStems (xs ++ s ∷ []) → AreStems xs
 front xs s a = record {
   falling = λ k t e. a.falling k t (get_front xs (s ∷ []) k t e);
-  fresh = λ k t e. subst (λ z. list_any (has_revision z) t.revisions.items ≡ false) (take-append-le k xs (s ∷ []) (let low = slice_get_within xs k t e in omega (arith, low))) (a.fresh k t (get_front xs (s ∷ []) k t e));
+  fresh = λ k t e. subst (λ z. list_any (has_revision z) t.revisions ≡ false) (take-append-le k xs (s ∷ []) (let low = slice_get_within xs k t e in omega (arith, low))) (a.fresh k t (get_front xs (s ∷ []) k t e));
   earlier = λ k t p e q.
       let i = a.earlier k t p (get_front xs (s ∷ []) k t e) q in
       let low = slice_get_within xs k t e in
@@ -151,15 +141,15 @@ front xs s a = record {
 }
 
 -- one more
-pub stems_more : (xs : List Stem) (s : Stem) → AreStems xs → IsPath s.revisions.items → list_any (has_revision xs) s.revisions.items ≡ false → ((p : Place) → s.parent ≡ Some p → IsWithin xs p) → AreStems (xs ++ s ∷ [])
+pub stems_more : (xs : List Stem) (s : Stem) → AreStems xs → IsPath s.revisions → list_any (has_revision xs) s.revisions ≡ false → ((p : Place) → s.parent ≡ Some p → IsWithin xs p) → AreStems (xs ++ s ∷ [])
 stems_more xs s a path new placed = record {
   falling = λ k t e. elim (get_pushed xs s k t e) [
     | inl f ↦ a.falling k t f
-    | inr f ↦ subst (λ (z : Stem). IsPath z.revisions.items) f.1 path
+    | inr f ↦ subst (λ (z : Stem). IsPath z.revisions) f.1 path
   ];
   fresh = λ k t e. elim (get_pushed xs s k t e) [
-    | inl f ↦ subst (λ z. list_any (has_revision z) t.revisions.items ≡ false) (sym (take-append-le k xs (s ∷ []) (let low = slice_get_within xs k t f in omega (arith, low)))) (a.fresh k t f)
-    | inr f ↦ subst (λ (z : Stem). list_any (has_revision (take k (xs ++ s ∷ []))) z.revisions.items ≡ false) f.1 (subst (λ n. list_any (has_revision (take n (xs ++ s ∷ []))) s.revisions.items ≡ false) (sym f.0) (subst (λ z. list_any (has_revision z) s.revisions.items ≡ false) (sym (take-append_seam xs (s ∷ []))) new))
+    | inl f ↦ subst (λ z. list_any (has_revision z) t.revisions ≡ false) (sym (take-append-le k xs (s ∷ []) (let low = slice_get_within xs k t f in omega (arith, low)))) (a.fresh k t f)
+    | inr f ↦ subst (λ (z : Stem). list_any (has_revision (take k (xs ++ s ∷ []))) z.revisions ≡ false) f.1 (subst (λ n. list_any (has_revision (take n (xs ++ s ∷ []))) s.revisions ≡ false) (sym f.0) (subst (λ z. list_any (has_revision z) s.revisions ≡ false) (sym (take-append_seam xs (s ∷ []))) new))
   ];
   earlier = λ k t p e q. elim (get_pushed xs s k t e) [
     | inl f ↦ let i = a.earlier k t p f q in (i.0, within_more xs (s ∷ []) p i.1)
@@ -177,7 +167,7 @@ module _ (bs cs : List Branch) where
   same_from (Some p) h = let i = h p refl in rw (get_front bs cs p.stem i.0 i.1, i.1) refl
 
   same_branch : (s : Stem) → ((p : Place) → s.parent ≡ Some p → (b : Branch) × (slice_get bs p.stem ≡ Some b)) → branch_of (bs ++ cs) s ≡ branch_of bs s
-  same_branch s h = ap (λ (rest : List Revision). record { path = s.revisions.items ++ rest; deleted = s.deleted; body = s.body }) (same_from s.parent h)
+  same_branch s h = ap (λ (rest : List Revision). record { path = s.revisions ++ rest; deleted = s.deleted; body = s.body }) (same_from s.parent h)
 
 abbrev AreShown : List Stem → Type 0
 AreShown xs = AreStems xs → (k : ℕ) (s : Stem) → slice_get xs k ≡ Some s → slice_get (branches_of xs) k ≡ Some (branch_of (branches_of xs) s)
@@ -204,10 +194,10 @@ pub shown_at : (xs : List Stem) → AreStems xs → (k : ℕ) (s : Stem) → sli
 shown_at = from_end AreShown (λ a k s e. absurd (cc)) shown_more
 
 -- the path from a place on is the rest of its stem's revisions, and the path that they stand on
-pub rest_at : (xs : List Stem) (p : Place) (s : Stem) → AreStems xs → slice_get xs p.stem ≡ Some s → IsWithin xs p → path_from (branches_of xs) (Some p) ≡ drop p.at s.revisions.items ++ path_from (branches_of xs) s.parent
+pub rest_at : (xs : List Stem) (p : Place) (s : Stem) → AreStems xs → slice_get xs p.stem ≡ Some s → IsWithin xs p → path_from (branches_of xs) (Some p) ≡ drop p.at s.revisions ++ path_from (branches_of xs) s.parent
 rest_at xs p s a e w =
-    let low : p.at < length s.revisions.items = rw e at w in
-    rw (shown_at xs a p.stem s e) (drop-append-le p.at s.revisions.items (path_from (branches_of xs) s.parent) (omega (arith, low)))
+    let low : p.at < length s.revisions = rw e at w in
+    rw (shown_at xs a p.stem s e) (drop-append-le p.at s.revisions (path_from (branches_of xs) s.parent) (omega (arith, low)))
 
 -- a path's rest names no other revision
 names_drop : (n : ℕ) (p : List Revision) (r : Revision) → names (drop n p) r ≡ true → names p r ≡ true
@@ -244,9 +234,9 @@ named_after bs [] r = or_none (list_any (λ b. names b.path r) bs)
 named_after bs (x ∷ xs) r =
     named_after (bs ++ branch_of bs x ∷ []) xs r
     ∙ ap (λ a. a || has_revision xs r) (list_any-append (λ b. names b.path r) bs (branch_of bs x ∷ [])
-    ∙ ap (λ a. list_any (λ b. names b.path r) bs || a) (sym (or_none (names (branch_of bs x).path r)) ∙ list_any-append (is_same r) x.revisions.items (path_from bs x.parent))
-    ∙ absorbed (list_any (λ b. names b.path r) bs) (names x.revisions.items r) (names (path_from bs x.parent) r) (from_named bs x.parent r))
-    ∙ or_assoc (list_any (λ b. names b.path r) bs) (names x.revisions.items r) (has_revision xs r)
+    ∙ ap (λ a. list_any (λ b. names b.path r) bs || a) (sym (or_none (names (branch_of bs x).path r)) ∙ list_any-append (is_same r) x.revisions (path_from bs x.parent))
+    ∙ absorbed (list_any (λ b. names b.path r) bs) (names x.revisions r) (names (path_from bs x.parent) r) (from_named bs x.parent r))
+    ∙ or_assoc (list_any (λ b. names b.path r) bs) (names x.revisions r) (has_revision xs r)
 
 pub named_in : (xs : List Stem) (r : Revision) → list_any (λ b. names b.path r) (branches_of xs) ≡ has_revision xs r
 named_in xs r = named_after [] xs r

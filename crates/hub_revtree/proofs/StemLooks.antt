@@ -13,12 +13,12 @@ use Rattle.hub_model.specs.Leaves.{is_behind_head}
 use Rattle.hub_model.proofs.Shown.{find_is}
 use Rattle.hub_model.proofs.Tests.{or_false, or_left, or_right, same_is, same_self}
 use Rattle.hub_revtree.specs.declared.stem.Place.{Place}
-use Rattle.hub_revtree.specs.declared.stem.Stem.{Stem}
 use Rattle.hub_revtree.specs.Branch.{Branch, earlier_branches, edit_of}
-use Rattle.hub_revtree.specs.Stem.{AreStems, IsWithin, branch_of, branches_after, branches_of, has_revision, is_at, is_behind_newest, path_from}
+use Rattle.hub_revtree.specs.Stem.{Stem, AreStems, IsWithin, branch_of, branches_after, branches_of, has_revision, is_at, is_behind_newest, path_from}
 use Rattle.hub_revtree.specs.Tree.{Tip, tip, tip_of}
 use Rattle.hub_revtree.specs.Winner.{head_in}
-use Rattle.hub_revtree.proofs.StemLemmas.{any_at, any_place, as_many, get_some, get_taken, none_of, rest_at, same_truth, shown_at, steps_left, within_stem}
+use Rattle.hub_revtree.proofs.RunLemmas.{get_some}
+use Rattle.hub_revtree.proofs.StemLemmas.{any_at, any_place, as_many, get_taken, none_of, rest_at, same_truth, shown_at, steps_left, within_stem}
 
 -- the first of some revisions
 first_append : (p q : List Revision) (r : Revision) → 0 < length p → is_first r (p ++ q) ≡ is_first r p
@@ -52,12 +52,12 @@ module _ (xs : List Stem) (a : AreStems xs) (r : Revision) where
   first_at (Some p) w =
       let i = within_stem xs p (w p refl) in
       ap (is_first r) (rest_at xs p i.0 a i.1 (w p refl))
-      ∙ rw i.1 (first_append (drop p.at i.0.revisions.items) (path_from (branches_of xs) i.0.parent) r (omega (arith, i.2, length-drop p.at i.0.revisions.items)))
+      ∙ rw i.1 (first_append (drop p.at i.0.revisions) (path_from (branches_of xs) i.0.parent) r (omega (arith, i.2, length-drop p.at i.0.revisions)))
 
-  behind_parts : (s : Stem) → IsPath s.revisions.items → names (drop 1 (branch_of (branches_of xs) s).path) r ≡ (names (drop 1 s.revisions.items) r || names (path_from (branches_of xs) s.parent) r)
+  behind_parts : (s : Stem) → IsPath s.revisions → names (drop 1 (branch_of (branches_of xs) s).path) r ≡ (names (drop 1 s.revisions) r || names (path_from (branches_of xs) s.parent) r)
   behind_parts s f =
-      ap (λ p. names p r) (drop-append-le 1 s.revisions.items (path_from (branches_of xs) s.parent) (omega (arith, some_path s.revisions.items f)))
-      ∙ list_any-append (is_same r) (drop 1 s.revisions.items) (path_from (branches_of xs) s.parent)
+      ap (λ p. names p r) (drop-append-le 1 s.revisions (path_from (branches_of xs) s.parent) (omega (arith, some_path s.revisions f)))
+      ∙ list_any-append (is_same r) (drop 1 s.revisions) (path_from (branches_of xs) s.parent)
 
   module _ (k : ℕ) (s : Stem) (e : slice_get xs k ≡ Some s) where
     within : (p : Place) → s.parent ≡ Some p → IsWithin xs p
@@ -68,9 +68,9 @@ module _ (xs : List Stem) (a : AreStems xs) (r : Revision) where
 
   own_behind : (k : ℕ) (s : Stem) → slice_get xs k ≡ Some s → is_behind_newest xs r s ≡ true → is_behind_head r (edit_of (branch_of (branches_of xs) s)) ≡ true
   own_behind k s e t =
-      (behind_parts s (a.falling k s e) ∙ elim (cases_Bool (names (drop 1 s.revisions.items) r)) [
-        | inl u ↦ or_left (names (drop 1 s.revisions.items) r) (names (path_from (branches_of xs) s.parent) r) u
-        | inr u ↦ or_right (names (drop 1 s.revisions.items) r) (names (path_from (branches_of xs) s.parent) r) (first_named (path_from (branches_of xs) s.parent) r (first_of k s e ∙ (rw u at t)))
+      (behind_parts s (a.falling k s e) ∙ elim (cases_Bool (names (drop 1 s.revisions) r)) [
+        | inl u ↦ or_left (names (drop 1 s.revisions) r) (names (path_from (branches_of xs) s.parent) r) u
+        | inr u ↦ or_right (names (drop 1 s.revisions) r) (names (path_from (branches_of xs) s.parent) r) (first_named (path_from (branches_of xs) s.parent) r (first_of k s e ∙ (rw u at t)))
       ])
 
   from_stem : (k : ℕ) (s : Stem) → slice_get xs k ≡ Some s → is_behind_newest xs r s ≡ true → list_any (λ b. is_behind_head r (edit_of b)) (branches_of xs) ≡ true
@@ -90,10 +90,10 @@ module _ (xs : List Stem) (a : AreStems xs) (r : Revision) where
 
   to_stem : (n k : ℕ) (s : Stem) → k < n → slice_get xs k ≡ Some s → names (drop 1 (branch_of (branches_of xs) s).path) r ≡ true → list_any (is_behind_newest xs r) xs ≡ true
   to_stem zero k s low e t = absurd (omega arith)
-  to_stem (suc n) k s low e t = elim (cases_Bool (names (drop 1 s.revisions.items) r)) [
-    | inl u ↦ any_at (is_behind_newest xs r) xs k s e (or_left (names (drop 1 s.revisions.items) r) (is_at xs r s.parent) u)
+  to_stem (suc n) k s low e t = elim (cases_Bool (names (drop 1 s.revisions) r)) [
+    | inl u ↦ any_at (is_behind_newest xs r) xs k s e (or_left (names (drop 1 s.revisions) r) (is_at xs r s.parent) u)
     | inr u ↦ elim (cases_Bool (is_first r (path_from (branches_of xs) s.parent))) [
-      | inl v ↦ any_at (is_behind_newest xs r) xs k s e (or_right (names (drop 1 s.revisions.items) r) (is_at xs r s.parent) (sym (first_of k s e) ∙ v))
+      | inl v ↦ any_at (is_behind_newest xs r) xs k s e (or_right (names (drop 1 s.revisions) r) (is_at xs r s.parent) (sym (first_of k s e) ∙ v))
       | inr v ↦ further (to_stem n) s.parent refl v (rw u at (sym (behind_parts s (a.falling k s e)) ∙ t))
     ]
   ]
@@ -122,10 +122,10 @@ module _ (xs : List Stem) (a : AreStems xs) (r : Revision) where
 
 -- what is lent of a stem
 abbrev pub tip_in : Stem → Tip
-tip_in stem = record { rev = slice_get stem.revisions.items 0; deleted = stem.deleted; body = stem.body }
+tip_in stem = record { rev = slice_get stem.revisions 0; deleted = stem.deleted; body = stem.body }
 
-tip_same : (bs : List Branch) (s : Stem) → IsPath s.revisions.items → tip_of (edit_of (branch_of bs s)) ≡ tip_in s
-tip_same bs s f = ap (λ (o : Option Revision). record { rev = o; deleted = s.deleted; body = s.body }) (head s.revisions.items f)
+tip_same : (bs : List Branch) (s : Stem) → IsPath s.revisions → tip_of (edit_of (branch_of bs s)) ≡ tip_in s
+tip_same bs s f = ap (λ (o : Option Revision). record { rev = o; deleted = s.deleted; body = s.body }) (head s.revisions f)
   where
     head : (p : List Revision) → IsPath p → slice_get (p ++ path_from bs s.parent) 0 ≡ slice_get p 0
     head [] f = absurd f
@@ -145,7 +145,7 @@ tip_at xs a k = from (slice_get xs k) refl
     from (Some s) e = rw (shown_at xs a k s e) (ap Some (tip_same (branches_of xs) s (a.falling k s e)))
 
 -- its revision and mark
-pub head_at : (xs : List Stem) → AreStems xs → (k : ℕ) (s : Stem) (r : Revision) → slice_get xs k ≡ Some s → slice_get s.revisions.items 0 ≡ Some r
+pub head_at : (xs : List Stem) → AreStems xs → (k : ℕ) (s : Stem) (r : Revision) → slice_get xs k ≡ Some s → slice_get s.revisions 0 ≡ Some r
     → option_and_then head_in (slice_get (branches_of xs) k) ≡ Some (record { rev = r; deleted = s.deleted })
 head_at xs a k s r e h =
     rw (shown_at xs a k s e) (ap (option_map (λ (z : Revision). record { rev = z; deleted = s.deleted })) (ap (λ (t : Tip). t.rev) (tip_same (branches_of xs) s (a.falling k s e)) ∙ h))
@@ -153,7 +153,7 @@ head_at xs a k s r e h =
 -- the branch that a revision heads
 module _ (r : Revision) where
   abbrev Falling : List Stem → Type 0
-  Falling xs = (k : ℕ) (s : Stem) → slice_get xs k ≡ Some s → IsPath s.revisions.items
+  Falling xs = (k : ℕ) (s : Stem) → slice_get xs k ≡ Some s → IsPath s.revisions
 
   abbrev found : Option Branch → Option Tip
   found o = option_map (λ b. tip_of (edit_of b)) o
@@ -162,49 +162,33 @@ module _ (r : Revision) where
   or_nothing None = refl
   or_nothing (Some t) = refl
 
-  seam : (o : Option Branch) (b : Branch) (s : Stem) (rest : Option Stem) (t : Bool) → is_first r b.path ≡ t → is_first r s.revisions.items ≡ t → tip_of (edit_of b) ≡ tip_in s
-      → option_or (found (option_or o (find (λ c. is_first r c.path) (b ∷ [])))) (option_map tip_in rest) ≡ option_or (found o) (option_map tip_in (option_or (find (λ z. is_first r z.revisions.items) (s ∷ [])) rest))
+  seam : (o : Option Branch) (b : Branch) (s : Stem) (rest : Option Stem) (t : Bool) → is_first r b.path ≡ t → is_first r s.revisions ≡ t → tip_of (edit_of b) ≡ tip_in s
+      → option_or (found (option_or o (find (λ c. is_first r c.path) (b ∷ [])))) (option_map tip_in rest) ≡ option_or (found o) (option_map tip_in (option_or (find (λ z. is_first r z.revisions) (s ∷ [])) rest))
   seam (Some c) b s rest t u v same = refl
   seam None b s rest true u v same = rw (u, v) (ap Some same)
   seam None b s rest false u v same = rw (u, v) refl
 
-  is_head_of : (bs : List Branch) (s : Stem) → IsPath s.revisions.items → is_first r (branch_of bs s).path ≡ is_first r s.revisions.items
-  is_head_of bs s f = first_append s.revisions.items (path_from bs s.parent) r (some_path s.revisions.items f)
+  is_head_of : (bs : List Branch) (s : Stem) → IsPath s.revisions → is_first r (branch_of bs s).path ≡ is_first r s.revisions
+  is_head_of bs s f = first_append s.revisions (path_from bs s.parent) r (some_path s.revisions f)
 
   headed_after : (bs : List Branch) (xs : List Stem) → Falling xs
-      → found (find (λ b. is_first r b.path) (branches_after bs xs)) ≡ option_or (found (find (λ b. is_first r b.path) bs)) (option_map tip_in (find (λ s. is_first r s.revisions.items) xs))
+      → found (find (λ b. is_first r b.path) (branches_after bs xs)) ≡ option_or (found (find (λ b. is_first r b.path) bs)) (option_map tip_in (find (λ s. is_first r s.revisions) xs))
   headed_after bs [] f = or_nothing (found (find (λ b. is_first r b.path) bs))
   headed_after bs (x ∷ xs) f =
       headed_after (bs ++ branch_of bs x ∷ []) xs (λ k s e. f (suc k) s e)
-      ∙ ap (λ o. option_or (found o) (option_map tip_in (find (λ s. is_first r s.revisions.items) xs))) (find-append (λ b. is_first r b.path) bs (branch_of bs x ∷ []))
-      ∙ seam (find (λ b. is_first r b.path) bs) (branch_of bs x) x (find (λ s. is_first r s.revisions.items) xs) (is_first r x.revisions.items) (is_head_of bs x (f 0 x refl)) refl (tip_same bs x (f 0 x refl))
-      ∙ ap (λ o. option_or (found (find (λ b. is_first r b.path) bs)) (option_map tip_in o)) (sym (find-append (λ s. is_first r s.revisions.items) (x ∷ []) xs))
+      ∙ ap (λ o. option_or (found o) (option_map tip_in (find (λ s. is_first r s.revisions) xs))) (find-append (λ b. is_first r b.path) bs (branch_of bs x ∷ []))
+      ∙ seam (find (λ b. is_first r b.path) bs) (branch_of bs x) x (find (λ s. is_first r s.revisions) xs) (is_first r x.revisions) (is_head_of bs x (f 0 x refl)) refl (tip_same bs x (f 0 x refl))
+      ∙ ap (λ o. option_or (found (find (λ b. is_first r b.path) bs)) (option_map tip_in o)) (sym (find-append (λ s. is_first r s.revisions) (x ∷ []) xs))
 
-  pub headed_in : (xs : List Stem) → AreStems xs → found (find (λ b. is_first r b.path) (branches_of xs)) ≡ option_map tip_in (find (λ s. is_first r s.revisions.items) xs)
+  pub headed_in : (xs : List Stem) → AreStems xs → found (find (λ b. is_first r b.path) (branches_of xs)) ≡ option_map tip_in (find (λ s. is_first r s.revisions) xs)
   headed_in xs a = headed_after [] xs a.falling
 
--- the revision that is read at a place
-first_drop : (p : List Revision) (k : ℕ) (r x : Revision) → slice_get p k ≡ Some x → is_first r (drop k p) ≡ is_same r x
-first_drop [] k r x e = absurd (cc)
-first_drop (y ∷ p) zero r x e = ap (is_same r) (same_Some y x e)
-first_drop (y ∷ p) (suc k) r x e = first_drop p k r x e
-
-pub is_at_read : (xs : List Stem) (r : Revision) (o : Option Place) (p : Place) (s : Stem) (x : Revision) → IfSome o (IsWithin xs) → o ≡ Some p → x ≡ get_or (get_or xs p.stem s).revisions.items p.at x → is_same r x ≡ is_at xs r o
-is_at_read xs r o p s x w is read =
+-- the revision at a place of its stem
+pub is_at_place : (xs : List Stem) (r : Revision) (o : Option Place) (p : Place) (s : Stem) → IfSome o (IsWithin xs) → o ≡ Some p → s ≡ get_or xs p.stem s → is_first r (drop p.at s.revisions) ≡ is_at xs r o
+is_at_place xs r o p s w is item =
     let i = within_stem xs p (rw is at w) in
-    let stem : get_or xs p.stem s ≡ i.0 = get_or_from_slice_get xs p.stem i.0 s i.1 in
-    rw (is, i.1) (sym (first_drop i.0.revisions.items p.at r x (slice_get_read i.0.revisions.items _ p.at x refl i.2 (rw stem at read))))
-
--- what is behind a prefix, a revision more at a time
-module _ (rest others prefix tail : List Revision) (k : ℕ) (rev first : Revision) (low : k < length prefix) (item : rev ≡ get_or prefix k rev) (split : rest ≡ first ∷ others) where
-  next_one : drop k prefix ++ tail ≡ rev ∷ (drop (k + 1) prefix ++ tail)
-  next_one = ap (λ z. z ++ tail) (drop_more prefix k rev low ∙ ap (λ s. s ∷ drop (k + 1) prefix) (sym item))
-
-  pub prefix_more : (b : Bool) → b ≡ is_same first rev → b ≡ true → (rest ≡ drop k prefix ++ tail) ↔ (others ≡ drop (k + 1) prefix ++ tail)
-  prefix_more b is t = let same : first ≡ rev = same_is first rev (sym is ∙ t) in let next = next_one in (λ e. (cc), λ e. (cc))
-
-  pub prefix_other : (b : Bool) → b ≡ is_same first rev → b ≡ false → ¬ (rest ≡ drop k prefix ++ tail)
-  prefix_other b is f = λ e. let next = next_one in let same : first ≡ rev = (cc) in both_ways b f (is ∙ subst (λ z. is_same first z ≡ true) same (same_self first))
+    let stem : s ≡ i.0 = item ∙ get_or_from_slice_get xs p.stem i.0 s i.1 in
+    rw (is, i.1) (ap (λ (z : Stem). is_first r (drop p.at z.revisions)) stem)
 
 -- a walk goes from a place to where its stem stands
 module _ (xs : List Stem) (a : AreStems xs) (o : Option Place) (p : Place) (s : Stem) (w : IfSome o (IsWithin xs)) (is : o ≡ Some p) (item : s ≡ get_or xs p.stem s) where
@@ -214,7 +198,7 @@ module _ (xs : List Stem) (a : AreStems xs) (o : Option Place) (p : Place) (s : 
   stem_there : slice_get xs p.stem ≡ Some s
   stem_there = let i = within_stem xs p at_place in i.1 ∙ ap Some (sym (item ∙ get_or_from_slice_get xs p.stem i.0 s i.1))
 
-  pub walk_on : path_from (branches_of xs) o ≡ drop p.at s.revisions.items ++ path_from (branches_of xs) s.parent
+  pub walk_on : path_from (branches_of xs) o ≡ drop p.at s.revisions ++ path_from (branches_of xs) s.parent
   walk_on = ap (path_from (branches_of xs)) is ∙ rest_at xs p s a stem_there at_place
 
   pub walk_next : IfSome s.parent (IsWithin xs)
@@ -244,35 +228,31 @@ pub line_more : (rest prefix behind whole tail : List Revision) → rest ≡ pre
 line_more rest prefix behind whole tail split on =
     (λ e. same_behind prefix behind tail (sym split ∙ (e ∙ on)), λ e. split ∙ (ap (λ z. prefix ++ z) e ∙ sym on))
 
-pub walk_sliced : (xs : List Stem) (a : AreStems xs) (o : Option Place) (p : Place) (s : Stem) (q : List Revision) → IfSome o (IsWithin xs) → o ≡ Some p → s ≡ get_or xs p.stem s → q ≡ s.revisions.items
-    → path_from (branches_of xs) o ≡ take (length q - p.at) (drop p.at q) ++ path_from (branches_of xs) s.parent
-walk_sliced xs a o p s q w is item same = walk_on xs a o p s w is item ∙ ap (λ z. z ++ path_from (branches_of xs) s.parent) (sym (rest_slice s.revisions.items q p.at same))
-
 -- a stem as it is lent
-pub tip_shown : (s : Stem) (r : Revision) (deleted : Bool) (body : List ℕ) → slice_get s.revisions.items 0 ≡ Some r → deleted ≡ s.deleted → body ≡ s.body → tip r deleted body ≡ tip_in s
+pub tip_shown : (s : Stem) (r : Revision) (deleted : Bool) (body : List ℕ) → slice_get s.revisions 0 ≡ Some r → deleted ≡ s.deleted → body ≡ s.body → tip r deleted body ≡ tip_in s
 tip_shown s r deleted body head mark members = rw (head, mark, members) refl
 
 pub no_edit : (xs : List Stem) → AreStems xs → (k : ℕ) → length xs ≤ k → option_map (λ b. tip_of (edit_of b)) (slice_get (branches_of xs) k) ≡ None
 no_edit xs a k past = tip_at xs a k ∙ ap (option_map tip_in) (slice_get_past xs k past)
 
-pub some_edit : (xs : List Stem) → AreStems xs → (k : ℕ) (s : Stem) (r : Revision) (deleted : Bool) (body : List ℕ) → slice_get xs k ≡ Some s → slice_get s.revisions.items 0 ≡ Some r → deleted ≡ s.deleted → body ≡ s.body
+pub some_edit : (xs : List Stem) → AreStems xs → (k : ℕ) (s : Stem) (r : Revision) (deleted : Bool) (body : List ℕ) → slice_get xs k ≡ Some s → slice_get s.revisions 0 ≡ Some r → deleted ≡ s.deleted → body ≡ s.body
     → Some (tip r deleted body) ≡ option_map (λ b. tip_of (edit_of b)) (slice_get (branches_of xs) k)
 some_edit xs a k s r deleted body e head mark members = ap Some (tip_shown s r deleted body head mark members) ∙ sym (tip_at xs a k ∙ ap (option_map tip_in) e)
 
-pub some_headed : (xs : List Stem) → AreStems xs → (rev : Revision) (s : Stem) (r : Revision) (deleted : Bool) (body : List ℕ) → Some s ≡ find (λ z. is_first rev z.revisions.items) xs → slice_get s.revisions.items 0 ≡ Some r → deleted ≡ s.deleted → body ≡ s.body
+pub some_headed : (xs : List Stem) → AreStems xs → (rev : Revision) (s : Stem) (r : Revision) (deleted : Bool) (body : List ℕ) → Some s ≡ find (λ z. is_first rev z.revisions) xs → slice_get s.revisions 0 ≡ Some r → deleted ≡ s.deleted → body ≡ s.body
     → Some (tip r deleted body) ≡ option_map (λ b. tip_of (edit_of b)) (find (λ b. is_first rev b.path) (branches_of xs))
 some_headed xs a rev s r deleted body e head mark members = ap Some (tip_shown s r deleted body head mark members) ∙ ap (option_map tip_in) e ∙ sym (headed_in rev xs a)
 
-pub none_headed : (xs : List Stem) → AreStems xs → (rev : Revision) → None ≡ find (λ z. is_first rev z.revisions.items) xs → option_map (λ b. tip_of (edit_of b)) (find (λ b. is_first rev b.path) (branches_of xs)) ≡ None
+pub none_headed : (xs : List Stem) → AreStems xs → (rev : Revision) → None ≡ find (λ z. is_first rev z.revisions) xs → option_map (λ b. tip_of (edit_of b)) (find (λ b. is_first rev b.path) (branches_of xs)) ≡ None
 none_headed xs a rev e = headed_in rev xs a ∙ ap (option_map tip_in) (sym e)
 
 -- no two stems have one newest revision
-heads_differ : (xs : List Stem) → AreStems xs → (r : Revision) (k : ℕ) (s : Stem) → slice_get xs k ≡ Some s → is_first r s.revisions.items ≡ true → list_any (λ z. is_first r z.revisions.items) (take k xs) ≡ false
-heads_differ xs a r k s e first = elim (cases_Bool (list_any (λ (z : Stem). is_first r z.revisions.items) (take k xs))) [
+heads_differ : (xs : List Stem) → AreStems xs → (r : Revision) (k : ℕ) (s : Stem) → slice_get xs k ≡ Some s → is_first r s.revisions ≡ true → list_any (λ z. is_first r z.revisions) (take k xs) ≡ false
+heads_differ xs a r k s e first = elim (cases_Bool (list_any (λ (z : Stem). is_first r z.revisions) (take k xs))) [
   | inl t ↦
-      let i = any_place (λ (z : Stem). is_first r z.revisions.items) (take k xs) t in
-      let old = any_at (λ (z : Stem). names z.revisions.items r) (take k xs) i.0 i.1 i.2 (first_named i.1.revisions.items r i.3) in
-      absurd (both_ways _ (none_of (has_revision (take k xs)) s.revisions.items r (a.fresh k s e) (first_named s.revisions.items r first)) old)
+      let i = any_place (λ (z : Stem). is_first r z.revisions) (take k xs) t in
+      let old = any_at (λ (z : Stem). names z.revisions r) (take k xs) i.0 i.1 i.2 (first_named i.1.revisions r i.3) in
+      absurd (both_ways _ (none_of (has_revision (take k xs)) s.revisions r (a.fresh k s e) (first_named s.revisions r first)) old)
   | inr t ↦ t
 ]
 
@@ -282,17 +262,17 @@ find_here P (x ∷ xs) zero s e t f = let u : P x ≡ true = ap P (same_Some x s
 find_here P (x ∷ xs) (suc k) s e t f = let g = or_false (P x) (list_any P (take k xs)) f in rw g.0 (find_here P xs k s e t g.1)
 
 -- so the stem of a number is found by its newest
-pub head_found : (xs : List Stem) → AreStems xs → (r : Revision) (k : ℕ) (s : Stem) → slice_get xs k ≡ Some s → is_first r s.revisions.items ≡ true → Some s ≡ find (λ z. is_first r z.revisions.items) xs
-head_found xs a r k s e first = find_here (λ z. is_first r z.revisions.items) xs k s e first (heads_differ xs a r k s e first)
+pub head_found : (xs : List Stem) → AreStems xs → (r : Revision) (k : ℕ) (s : Stem) → slice_get xs k ≡ Some s → is_first r s.revisions ≡ true → Some s ≡ find (λ z. is_first r z.revisions) xs
+head_found xs a r k s e first = find_here (λ z. is_first r z.revisions) xs k s e first (heads_differ xs a r k s e first)
 
 pub none_found : (P : Stem → Bool) (xs : List Stem) → list_any P xs ≡ false → None ≡ find P xs
 none_found P [] f = refl
 none_found P (x ∷ xs) f = let g = or_false (P x) (list_any P xs) f in rw g.0 (none_found P xs g.1)
 
 -- a stem that is found is one
-pub found_falls : (xs : List Stem) → AreStems xs → (rev : Revision) (s : Stem) → Some s ≡ find (λ z. is_first rev z.revisions.items) xs → IsPath s.revisions.items
+pub found_falls : (xs : List Stem) → AreStems xs → (rev : Revision) (s : Stem) → Some s ≡ find (λ z. is_first rev z.revisions) xs → IsPath s.revisions
 found_falls xs a rev s e =
-    let i = find_is (λ (z : Stem). is_first rev z.revisions.items) xs s (sym e) in
+    let i = find_is (λ (z : Stem). is_first rev z.revisions) xs s (sym e) in
     a.falling i.1.0 s (slice_get_read xs _ i.1.0 s refl i.1.1 (sym i.1.2))
 
 pub read_stem : (xs : List Stem) (k : ℕ) (s : Stem) → k < length xs → s ≡ get_or xs k s → slice_get xs k ≡ Some s

@@ -1,5 +1,6 @@
 pub mod Tree
 pub mod Branch
+pub mod Run
 pub mod Stem
 pub mod Winner
 pub mod Extend

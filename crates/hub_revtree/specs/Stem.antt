@@ -10,13 +10,25 @@ use Rattle.std.specs.List.{list_any}
 use Rattle.hub_model.specs.Revision.{Revision}
 use Rattle.hub_model.specs.Path.{IsPath, names, is_first}
 use Rattle.hub_revtree.specs.declared.stem.Place.{Place}
-use Rattle.hub_revtree.specs.declared.stem.Stem.{Stem}
 use Rattle.hub_revtree.specs.Branch.{Branch}
+
+-- what an edit brought: those of its path's revisions that were unknown, where the revision behind them stands,
+-- and the rest of the edit
+pub record Stem : Type 0 where
+  pub revisions : List Revision
+  pub parent : Option Place
+  pub deleted : Bool
+  pub body : List ℕ
+
+-- where a stem stands, if it does: on the stem of this number, at this place
+abbrev pub standing : Bool → ℕ → ℕ → Option Place
+standing false below at = None
+standing true below at = Some (record { stem = below; at = at })
 
 -- the revisions of a stem; none where there is no stem
 abbrev pub revisions_in : Option Stem → List Revision
 revisions_in None = []
-revisions_in (Some stem) = stem.revisions.items
+revisions_in (Some stem) = stem.revisions
 
 -- the revisions of the stem of this number
 abbrev pub revisions_at : List Stem → ℕ → List Revision
@@ -36,7 +48,7 @@ path_from branches (Some place) = drop place.at (path_in (slice_get branches pla
 abbrev pub branch_of : List Branch → Stem → Branch
 branch_of earlier stem =
     record {
-      path = stem.revisions.items ++ path_from earlier stem.parent;
+      path = stem.revisions ++ path_from earlier stem.parent;
       deleted = stem.deleted;
       body = stem.body;
     }
@@ -52,7 +64,7 @@ branches_of stems = branches_after [] stems
 
 -- whether one of the stems has r
 abbrev pub has_revision : List Stem → Revision → Bool
-has_revision stems r = list_any (λ s. names s.revisions.items r) stems
+has_revision stems r = list_any (λ s. names s.revisions r) stems
 
 -- the stem of this number has a revision at this place
 abbrev pub IsWithin : List Stem → Place → Type 0
@@ -61,10 +73,10 @@ IsWithin stems place = place.at < length (revisions_at stems place.stem)
 -- each stem has a revision at least, and their generations fall by one; none of them is an earlier one's; and it
 -- stands on a place of an earlier one, or on nothing
 pub record AreStems (stems : List Stem) : Type 0 where
-  pub falling : (k : ℕ) (stem : Stem) → slice_get stems k ≡ Some stem → IsPath stem.revisions.items
+  pub falling : (k : ℕ) (stem : Stem) → slice_get stems k ≡ Some stem → IsPath stem.revisions
   pub fresh :
       (k : ℕ) (stem : Stem) → slice_get stems k ≡ Some stem
-      → list_any (has_revision (take k stems)) stem.revisions.items ≡ false
+      → list_any (has_revision (take k stems)) stem.revisions ≡ false
   pub earlier :
       (k : ℕ) (stem : Stem) (place : Place) → slice_get stems k ≡ Some stem → stem.parent ≡ Some place
       → (place.stem < k) × IsWithin stems place
@@ -76,7 +88,7 @@ is_at stems r (Some place) = is_first r (drop place.at (revisions_at stems place
 
 -- whether r stands behind the stem's newest revision, among its others or as the one that they stand on
 abbrev pub is_behind_newest : List Stem → Revision → Stem → Bool
-is_behind_newest stems r stem = names (drop 1 stem.revisions.items) r || is_at stems r stem.parent
+is_behind_newest stems r stem = names (drop 1 stem.revisions) r || is_at stems r stem.parent
 
 -- no revision of the stems is of a higher generation than this one, and each that stands behind a newest one is of
 -- a lower generation. An example: the three stems above are up to generation 3, and so up to 4, but not up to 2

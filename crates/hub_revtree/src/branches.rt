@@ -14,6 +14,7 @@ ghost use Rattle.hub_revtree.specs.Tree.{nameless, tip, tip_of};
 
 use crate::heads::StoredEdit;
 use crate::leaf::Winner;
+use crate::run::Run;
 use crate::stem::Stem;
 use crate::stems::{
     append_from, first_known, headed, is_behind, is_behind_last, is_line, place_of, place_up_to,
@@ -46,33 +47,30 @@ impl Model for Branches {
 
 // An edit as it is lent.
 fn stored(stem: &Stem) -> StoredEdit<'_>
-    requires { IsPath stem.now.revisions.items }
-    ensures rev { slice_get stem.now.revisions.items 0 ≡ Some result.rev.now }
+    requires { IsPath stem.now.revisions }
+    ensures rev { slice_get stem.now.revisions 0 ≡ Some result.rev }
     ensures deleted { result.deleted ≡ stem.now.deleted }
     ensures body { result.body.now ≡ stem.now.body }
 {
     StoredEdit {
-        rev: &stem.revisions[0],
-        deleted: stem.deleted,
-        body: &stem.body,
+        rev: stem.head(),
+        deleted: stem.deleted(),
+        body: stem.body(),
     }
 }
 
-// The first of the revisions, so many. They move into the room where it is for just so many; else they stay
-// in their own vector, which gives the rest of its memory back. It costs their number, and takes no memory.
-fn kept(mut room: Vec<RevId>, mut revisions: Vec<RevId>, count: usize) -> Vec<RevId>
-    requires { count ≤ length revisions.items }
-    ensures { result.items ≡ take count revisions.items }
+// The run where it is of just so many; else the first of the revisions, so many, in their own vector. It
+// takes no memory.
+fn kept(run: Run, revisions: Vec<RevId>, count: usize) -> Run
+    requires within { count ≤ length revisions.items }
+    requires front { run ≡ take (length run) revisions.items }
+    ensures { result ≡ take count revisions.items }
 {
-    room.clear();
-    if room.capacity() == count {
-        if let Ok(()) = room.extend_from_slice(&revisions.as_slice()[..count]) {
-            return room;
-        }
+    if run.len() == count {
+        run
+    } else {
+        Run::cut(revisions, count)
     }
-    revisions.truncate(count);
-    revisions.shrink_to_fit();
-    revisions
 }
 
 impl Branches {
@@ -104,14 +102,14 @@ impl Branches {
     {
         let mut count = 0usize;
         for stem in &self.stems {
-            count = count.saturating_add(stem.revisions.len());
+            count = count.saturating_add(stem.len());
         }
         count
     }
 
     /// The edit of this number. Constant time.
     pub(crate) fn edit(&self, at: usize) -> Option<StoredEdit<'_>>
-        ensures { option_map (λ e. tip e.rev.now e.deleted e.body.now) result ≡ option_map (λ b. tip_of (edit_of b)) (slice_get self.now.list at) }
+        ensures { option_map (λ e. tip e.rev e.deleted e.body.now) result ≡ option_map (λ b. tip_of (edit_of b)) (slice_get self.now.list at) }
     {
         let stem = self.stems.as_slice().get(at)?;
         Some(stored(stem))
@@ -119,7 +117,7 @@ impl Branches {
 
     /// The edit that the revision heads. One look an edit, from the newest on up to that one.
     pub(crate) fn headed(&self, rev: &RevId) -> Option<StoredEdit<'_>>
-        ensures { option_map (λ e. tip e.rev.now e.deleted e.body.now) result ≡ option_map (λ b. tip_of (edit_of b)) (find (λ b. is_first rev.now b.path) self.now.list) }
+        ensures { option_map (λ e. tip e.rev e.deleted e.body.now) result ≡ option_map (λ b. tip_of (edit_of b)) (find (λ b. is_first rev.now b.path) self.now.list) }
     {
         let stem = headed(self.stems.as_slice(), rev)?;
         Some(stored(stem))
@@ -132,7 +130,7 @@ impl Branches {
     {
         let edit = stored(&self.stems[at]);
         Winner {
-            rev: *edit.rev,
+            rev: edit.rev,
             deleted: edit.deleted,
         }
     }
@@ -215,12 +213,13 @@ impl Branches {
         }
     }
 
-    /// Takes an edit, in the place that was made for it: it takes no new memory. Those of its revisions that
-    /// are new move into the room, where it is for just so many, and the path's memory is given back; else that
+    /// Takes an edit, in the place that was made for it: it takes no new memory. The run is the front of its
+    /// path; where it is of just those that are new, it is kept, and the path's memory is given back, else that
     /// memory is cut to what they need. It costs what `new_count` does.
-    pub(crate) fn push(&mut self, path: Path, room: Vec<RevId>, deleted: bool, body: Body)
+    pub(crate) fn push(&mut self, path: Path, run: Run, deleted: bool, body: Body)
         requires legal { IsLegal (edits_in self.old.list) }
         requires acceptable { IsAcceptable (edits_in self.old.list) (nameless path deleted body) }
+        requires front { run ≡ take (length run) path }
         requires room { 1 ≤ self.old.spare }
         ensures { edits_in self.new.list ≡ edits_in self.old.list ++ nameless path deleted body ∷ [] }
     {
@@ -234,13 +233,9 @@ impl Branches {
             new = met.at;
             parent = Some(met.place);
         }
-        let revisions = kept(room, all, new);
-        self.stems.push_reserved(Stem {
-            revisions,
-            parent,
-            deleted,
-            body,
-        });
+        let run = kept(run, all, new);
+        self.stems
+            .push_reserved(Stem::new(run, parent, deleted, body));
     }
 }
 

@@ -136,9 +136,8 @@ impl RevTree {
             return Err(EditFault::Conflict);
         }
         let path = self.path_on(alloc, rev, &older)?;
-        // The revision alone is new: what it stands on is known. A first one has just its path's memory.
-        let new = usize::from(older.is_some());
-        let ready = self.made_ready(path, new, deleted, body)?;
+        // The revision alone is new: what it stands on is known.
+        let ready = self.made_ready(path, 1, deleted, body)?;
         Ok(ready)
     }
 

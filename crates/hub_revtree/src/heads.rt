@@ -13,7 +13,7 @@ use hub_document::{Body, RevId};
 #[derive(Clone, Copy, Debug)]
 pub struct StoredEdit<'a> {
     /// Its revision.
-    pub rev: &'a RevId,
+    pub rev: RevId,
     /// Whether it deletes the document.
     pub deleted: bool,
     /// Its members.
@@ -23,8 +23,8 @@ pub struct StoredEdit<'a> {
 impl RevTree {
     /// The edit of this number, from 0 in the order in which they were taken. Constant time.
     pub fn edit(&self, at: usize) -> Option<StoredEdit<'_>>
-        ensures tip { option_map (λ e. tip e.rev.now e.deleted e.body.now) result ≡ option_map tip_of (slice_get self.now.edits at) }
-        ensures path { option_map (λ e. path_to self.now.edits e.rev.now) result ≡ option_map (λ e. Some e.path) (slice_get self.now.edits at) }
+        ensures tip { option_map (λ e. tip e.rev e.deleted e.body.now) result ≡ option_map tip_of (slice_get self.now.edits at) }
+        ensures path { option_map (λ e. path_to self.now.edits e.rev) result ≡ option_map (λ e. Some e.path) (slice_get self.now.edits at) }
     {
         self.branches().edit(at)
     }
@@ -32,8 +32,8 @@ impl RevTree {
     /// The edit that the revision heads; None where it heads none, as an ancestor does that came
     /// inside a history alone. One look an edit, from the newest on up to that one.
     pub fn headed(&self, rev: &RevId) -> Option<StoredEdit<'_>>
-        ensures tip { option_map (λ e. tip e.rev.now e.deleted e.body.now) result ≡ option_map tip_of (find (is_head rev.now) (edits_of self.now.edits [])) }
-        ensures path { option_map (λ e. path_to self.now.edits e.rev.now) result ≡ option_map (λ e. Some e.path) (find (is_head rev.now) (edits_of self.now.edits [])) }
+        ensures tip { option_map (λ e. tip e.rev e.deleted e.body.now) result ≡ option_map tip_of (find (is_head rev.now) (edits_of self.now.edits [])) }
+        ensures path { option_map (λ e. path_to self.now.edits e.rev) result ≡ option_map (λ e. Some e.path) (find (is_head rev.now) (edits_of self.now.edits [])) }
     {
         self.branches().headed(rev)
     }

@@ -8,6 +8,7 @@ mod fault;
 mod heads;
 mod leaf;
 mod look;
+mod run;
 mod stem;
 mod stems;
 #[cfg(test)]

@@ -58,8 +58,10 @@ impl RevTree {
     pub fn body(&self, rev: &RevId) -> Option<&Body>
         ensures { option_map (λ b. b.now) result ≡ option_map (λ e. e.body) (find (is_head rev.now) self.now.edits) }
     {
-        let edit = self.branches().headed(rev)?;
-        Some(edit.body)
+        match self.branches().headed(rev) {
+            Some(edit) => Some(edit.body),
+            None => None,
+        }
     }
 
     /// Of these revisions those that are not known, in the same order. It costs what `knows` does for each.

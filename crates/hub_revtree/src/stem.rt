@@ -1,55 +1,152 @@
 //! What one edit of a tree brought.
 
-ghost use Rattle.std.specs.Prelude.{◌≡◌, Some, false, drop, slice_get, IfSome, IfNone};
+ghost use Rattle.std.specs.Prelude.{◌≡◌, ◌<◌, ◌++◌, List, Some, false, drop, length, slice_get, IfSome, IfNone, OnOk};
 ghost use Rattle.hub_model.specs.Path.{IsPath, names, is_first};
+ghost use Rattle.hub_model.specs.Revision.{Revision};
 
-use hub_document::{Body, RevId, place_in};
+use crate::run::Run;
+use hub_document::{Body, RevId};
+use std::alloc::AllocError;
+use std::marker::Model;
+use std::mem::size_of;
 
 /// Where a revision stands: among the revisions of the stem of this number, at this place from the
 /// newest.
 #[derive(Clone, Copy, Debug)]
 pub(crate) struct Place {
     pub(crate) stem: usize,
-    pub(crate) at: usize,
+    pub(crate) at: u16,
 }
 
 /// What an edit brought: those of its path's revisions that were unknown, newest first; where the
 /// revision behind them stands, whose path is the rest of the edit's; whether it deletes the document;
-/// and the members.
+/// and the members. It takes 72 bytes, and what the revisions and the members take.
 #[derive(Debug, Drop)]
 pub(crate) struct Stem {
-    pub(crate) revisions: Vec<RevId>,
-    pub(crate) parent: Option<Place>,
-    pub(crate) deleted: bool,
-    pub(crate) body: Body,
+    run: Run,
+    body: Body,
+    /// The number of the stem that it stands on, and the place there; 0 where it stands on none.
+    below: usize,
+    at: u16,
+    /// Whether it stands on one.
+    stands: bool,
+    deleted: bool,
+}
+
+const _: () = prove!(size_of::<Stem>() == 72);
+
+impl Model for Stem {
+    ghost use Rattle.hub_revtree.specs.Stem.{Stem, standing};
+
+    ghost Value = { Stem };
+
+    ghost view = { λ a. record { revisions = a.run; parent = standing a.stands a.below a.at; deleted = a.deleted; body = a.body } };
 }
 
 impl Stem {
-    /// Where the revision stands, counted from the newest. Constant time.
-    pub(crate) fn position(&self, rev: &RevId) -> Option<usize>
-        requires { IsPath self.now.revisions.items }
-        ensures found { IfSome result (λ k. slice_get self.now.revisions.items k ≡ Some rev.now) }
-        ensures absent { IfNone result (names self.now.revisions.items rev.now ≡ false) }
+    /// The stem of these.
+    pub(crate) fn new(run: Run, parent: Option<Place>, deleted: bool, body: Body) -> Stem
+        ensures { result ≡ record { revisions = run; parent = parent; deleted = deleted; body = body } }
     {
-        let position = place_in(self.revisions.as_slice(), rev)?;
-        Some(usize::from(position))
+        let stands = parent.is_some();
+        let place = parent.unwrap_or(Place { stem: 0, at: 0 });
+        Stem {
+            run,
+            body,
+            below: place.stem,
+            at: place.at,
+            stands,
+            deleted,
+        }
+    }
+
+    /// Where the revision behind its own stands, if there is one. Constant time.
+    pub(crate) fn parent(&self) -> Option<Place>
+        ensures { result ≡ self.now.parent }
+    {
+        self.stands.then_some(Place {
+            stem: self.below,
+            at: self.at,
+        })
+    }
+
+    /// Whether the edit deletes the document.
+    pub(crate) fn deleted(&self) -> bool
+        ensures { result ≡ self.now.deleted }
+    {
+        self.deleted
+    }
+
+    /// The members.
+    pub(crate) fn body(&self) -> &Body
+        ensures { result.now ≡ self.now.body }
+    {
+        &self.body
+    }
+
+    /// How many revisions are its own.
+    pub(crate) fn len(&self) -> usize
+        ensures { result ≡ length self.now.revisions }
+    {
+        self.run.len()
+    }
+
+    /// The newest of them. Constant time.
+    pub(crate) fn head(&self) -> RevId
+        requires { IsPath self.now.revisions }
+        ensures { slice_get self.now.revisions 0 ≡ Some result }
+    {
+        self.run.at(0)
+    }
+
+    /// Where the revision stands, counted from the newest. Constant time.
+    pub(crate) fn position(&self, rev: &RevId) -> Option<u16>
+        requires { IsPath self.now.revisions }
+        ensures found { IfSome result (λ k. slice_get self.now.revisions k ≡ Some rev.now) }
+        ensures absent { IfNone result (names self.now.revisions rev.now ≡ false) }
+    {
+        self.run.position(rev)
+    }
+
+    /// Whether the revision is the one at this place. Constant time.
+    pub(crate) fn is_at(&self, at: u16, rev: &RevId) -> bool
+        requires path { IsPath self.now.revisions }
+        requires within { at < length self.now.revisions }
+        ensures { result ≡ is_first rev.now (drop at self.now.revisions) }
+    {
+        self.run.is_at(usize::from(at), rev)
     }
 
     /// Whether the revision is the newest. Constant time.
     pub(crate) fn is_head(&self, rev: &RevId) -> bool
-        ensures { result ≡ is_first rev.now self.now.revisions.items }
+        requires { IsPath self.now.revisions }
+        ensures { result ≡ is_first rev.now self.now.revisions }
     {
-        match self.revisions.first() {
-            Some(head) => rev.is_same(head),
-            None => false,
-        }
+        self.run.is_at(0, rev)
     }
 
     /// Whether the revision stands behind the newest. Constant time.
     pub(crate) fn has_behind(&self, rev: &RevId) -> bool
-        requires { IsPath self.now.revisions.items }
-        ensures { result ≡ names (drop 1 self.now.revisions.items) rev.now }
+        requires { IsPath self.now.revisions }
+        ensures { result ≡ names (drop 1 self.now.revisions) rev.now }
     {
         self.position(rev).is_some() && !self.is_head(rev)
+    }
+
+    /// As `Run::append_from`.
+    pub(crate) fn append_from(&self, at: u16, line: &mut Vec<RevId>) -> Result<(), AllocError>
+        requires { IsPath self.now.revisions }
+        ensures { OnOk result (line.new.items ≡ line.old.items ++ drop at self.now.revisions) }
+    {
+        self.run.append_from(usize::from(at), line)
+    }
+
+    /// As `Run::rest_behind`.
+    pub(crate) fn rest_behind<'a>(&self, at: u16, revisions: &'a [RevId]) -> Option<&'a [RevId]>
+        requires { IsPath self.now.revisions }
+        ensures found { IfSome result (λ rest. revisions.now ≡ drop at self.now.revisions ++ rest.now) }
+        ensures none { IfNone result ((rest : List Revision) → ¬ (revisions.now ≡ drop at self.now.revisions ++ rest)) }
+    {
+        self.run.rest_behind(usize::from(at), revisions)
     }
 }

@@ -49,11 +49,12 @@ pub(crate) fn place_up_to(stems: &[Stem], highest: u16, rev: &RevId) -> Option<P
 
 // Whether the revision is the one at the place. Constant time.
 fn is_at(stems: &[Stem], place: Option<Place>, rev: &RevId) -> bool
-    requires { IfSome place (IsWithin stems.now) }
+    requires stems { AreStems stems.now }
+    requires within { IfSome place (IsWithin stems.now) }
     ensures { result ≡ is_revision_at stems.now rev.now place }
 {
     match place {
-        Some(place) => rev.is_same(&stems[place.stem].revisions[place.at]),
+        Some(place) => stems[place.stem].is_at(place.at, rev),
         None => false,
     }
 }
@@ -64,7 +65,7 @@ pub(crate) fn is_behind(stems: &[Stem], rev: &RevId) -> bool
     ensures { result ≡ list_any (is_behind_newest stems.now rev.now) stems.now }
 {
     for stem in stems {
-        if stem.has_behind(rev) || is_at(stems, stem.parent, rev) {
+        if stem.has_behind(rev) || is_at(stems, stem.parent(), rev) {
             return true;
         }
     }
@@ -78,7 +79,7 @@ pub(crate) fn is_behind_last(stems: &[Stem], rev: &RevId) -> bool
     ensures { result ≡ list_any (is_behind_newest stems.now rev.now) stems.now }
 {
     match stems.last() {
-        Some(last) => last.has_behind(rev) || is_at(stems, last.parent, rev),
+        Some(last) => last.has_behind(rev) || is_at(stems, last.parent(), rev),
         None => false,
     }
 }
@@ -86,7 +87,7 @@ pub(crate) fn is_behind_last(stems: &[Stem], rev: &RevId) -> bool
 /// The stem whose newest revision this is. One look an edit, from the newest on up to that one.
 pub(crate) fn headed<'a>(stems: &'a [Stem], rev: &RevId) -> Option<&'a Stem>
     requires { AreStems stems.now }
-    ensures { option_map (λ s. s.now) result ≡ find (λ s. is_first rev.now s.revisions.items) stems.now }
+    ensures { option_map (λ s. s.now) result ≡ find (λ s. is_first rev.now s.revisions) stems.now }
 {
     for number in (0..stems.len()).rev() {
         let stem = &stems[number];
@@ -111,27 +112,10 @@ pub(crate) fn append_from(
     let mut next = Some(place);
     while let Some(place) = next {
         let stem = &stems[place.stem];
-        line.extend_from_slice(&stem.revisions.as_slice()[place.at..])?;
-        next = stem.parent;
+        stem.append_from(place.at, line)?;
+        next = stem.parent();
     }
     Ok(())
-}
-
-// What stands behind the first of these revisions, where they begin with the others. It costs the
-// others' number.
-fn behind_prefix<'a>(revisions: &'a [RevId], prefix: &[RevId]) -> Option<&'a [RevId]>
-    ensures found { IfSome result (λ rest. revisions.now ≡ prefix.now ++ rest.now) }
-    ensures none { IfNone result ((rest : List Revision) → ¬ (revisions.now ≡ prefix.now ++ rest)) }
-{
-    let mut rest = revisions;
-    for rev in prefix {
-        let (first, others) = rest.split_first()?;
-        if !first.is_same(rev) {
-            return None;
-        }
-        rest = others;
-    }
-    Some(rest)
 }
 
 /// Whether these are the revision at the place and all that stands behind it. It costs their number.
@@ -144,11 +128,11 @@ pub(crate) fn is_line(stems: &[Stem], place: Place, revisions: &[RevId]) -> bool
     let mut next = Some(place);
     while let Some(place) = next {
         let stem = &stems[place.stem];
-        let Some(behind) = behind_prefix(rest, &stem.revisions.as_slice()[place.at..]) else {
+        let Some(behind) = stem.rest_behind(place.at, rest) else {
             return false;
         };
         rest = behind;
-        next = stem.parent;
+        next = stem.parent();
     }
     rest.is_empty()
 }

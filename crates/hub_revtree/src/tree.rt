@@ -11,6 +11,7 @@ ghost use Rattle.hub_revtree.specs.Winner.{winner_of};
 use crate::branches::Branches;
 use crate::fault::{MergeFault, Merged};
 use crate::leaf::{Winner, best_with_newest};
+use crate::run::Run;
 use hub_document::{Body, Path, RevId};
 use std::alloc::{AllocError, Global};
 use std::marker::Model;
@@ -42,8 +43,8 @@ impl Model for RevTree {
 #[derive(Debug, Drop)]
 pub struct Ready {
     path: Path,
-    /// Memory for those of the path's revisions that are new, and for no more.
-    room: Vec<RevId>,
+    /// Those of the path's revisions that were new at the look, in the form in which the tree keeps them.
+    run: Run,
     deleted: bool,
     body: Body,
 }
@@ -56,6 +57,10 @@ impl Model for Ready {
     ghost use Rattle.hub_revtree.specs.Tree.{nameless};
 
     ghost view = { λ a. nameless a.path a.deleted a.body };
+
+    ghost use Rattle.std.specs.Prelude.{◌≡◌, length, take};
+
+    ghost invariant = { λ a. a.run ≡ take (length a.run) a.path };
 }
 
 impl Ready {
@@ -91,7 +96,7 @@ impl RevTree {
         self.branches.allocator()
     }
 
-    // The edit, with memory for it, and for so many of its revisions, which are new.
+    // The edit, with memory for it, and the first of its revisions, so many, which are new.
     pub(crate) fn made_ready(
         &mut self,
         path: Path,
@@ -99,6 +104,7 @@ impl RevTree {
         deleted: bool,
         body: Body,
     ) -> Result<Ready, AllocError>
+        requires { new ≤ length path }
         ensures edits { self.new.edits ≡ self.old.edits }
         ensures ready { IfOk result (λ ready. ready ≡ nameless path deleted body) }
         ensures room { IfOk result (λ ready. length ready.path ≤ self.new.room) }
@@ -107,11 +113,10 @@ impl RevTree {
         let head = path.head();
         let _revisions_at_most = head.generation();
         self.branches.make_room()?;
-        let alloc = self.allocator();
-        let room = Vec::with_capacity(alloc, new)?;
+        let run = Run::front(self.allocator(), path.revisions(), new)?;
         Ok(Ready {
             path,
-            room,
+            run,
             deleted,
             body,
         })
@@ -153,8 +158,10 @@ impl RevTree {
         ensures mark { IfSome result (IsMarked self.now.edits [] rev.now) }
         ensures none { IfNone result ((mark : Bool) → ¬ IsMarked self.now.edits [] rev.now mark) }
     {
-        let edit = self.branches.headed(rev)?;
-        Some(edit.deleted)
+        match self.branches.headed(rev) {
+            Some(edit) => Some(edit.deleted),
+            None => None,
+        }
     }
 
     /// The best leaf, with its mark. Constant time.
@@ -176,7 +183,7 @@ impl RevTree {
     }
 
     /// Looks what becomes of an edit: `None` where its revision is known, else the edit, with
-    /// memory for it: a place, and room for those of the path's revisions that are new. It costs a look an
+    /// memory for it: a place, and those of the path's revisions that are new. It costs a look an
     /// edit for each of these, but for those of a generation above all others; a look at each edit from the
     /// newest on up to the one that brought the first that is known; and the path's length.
     pub fn look_merge(
@@ -206,8 +213,8 @@ impl RevTree {
     }
 
     /// Takes an edit that `look_merge` or `look_extend` made ready. It takes no memory, and gives back the
-    /// path's: the revisions that are new move into the room that the look made for them. Where that is for
-    /// more or fewer, as it may be for a tree that was not looked at, the path's memory is cut to them instead.
+    /// path's: the tree keeps the revisions that are new as the look made them. Where the look found more or
+    /// fewer, as it may in a tree that is not this one, the path's memory is cut to them instead.
     /// It costs what `look_merge` does. The winner takes constant time where it is the edit's revision, or the
     /// old one which the edit does not stand on; else it is found anew: each head is looked for in each edit
     /// where it would be the best so far. So an edit on the newest one of a line takes the path's length alone.
@@ -218,11 +225,11 @@ impl RevTree {
     {
         let Ready {
             path,
-            room,
+            run,
             deleted,
             body,
         } = ready;
-        self.branches.push(path, room, deleted, body);
+        self.branches.push(path, run, deleted, body);
         self.best = best_with_newest(&self.branches, self.best);
     }
 

@@ -11,5 +11,5 @@ returns-then-is_head c =
 
 pub returns : goal.returns
 returns c =
-    none_found (λ s. is_first c.args.rev.now s.revisions.items) c.args.stems.now
+    none_found (λ s. is_first c.args.rev.now s.revisions) c.args.stems.now
     (let start : c.loop-number.number ≡ 0 = omega (arith, c.loop-number-test.false) in rw start at c.loop-number.invariant)

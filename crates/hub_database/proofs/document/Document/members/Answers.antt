@@ -8,4 +8,4 @@ returns-in_default-headed c = absurd (members_none c.args.self.now.tree.edits c.
 pub returns : goal.returns
 returns c =
     rw c.in_ok-copy.ensures
-    (members_found c.args.self.now.tree.edits c.requires.tree c.in-Some.winner (sym c.in-Some.is ∙ c.requires.winner) c.in-Some-headed.edit.rev.now c.in-Some-headed.edit.deleted c.in-Some-headed.edit.body.now c.in-Some-headed.ensures.tip)
+    (members_found c.args.self.now.tree.edits c.requires.tree c.in-Some.winner (sym c.in-Some.is ∙ c.requires.winner) c.in-Some-headed.edit.rev c.in-Some-headed.edit.deleted c.in-Some-headed.edit.body.now c.in-Some-headed.ensures.tip)

@@ -14,5 +14,5 @@ pub returns : goal.returns
 returns c =
     let found = rw c.as_slice.ensures.value at c.in_ok-stem.ensures.lookup.3 in
     rw (sym c.self.view_is)
-    (some_edit c.self.inside.stems.items c.self.invariant.0 c.args.at c.in_ok-stem.stem.now c.stored.result.rev.now c.stored.result.deleted c.stored.result.body.now
+    (some_edit c.self.inside.stems.items c.self.invariant.0 c.args.at c.in_ok-stem.stem.now c.stored.result.rev c.stored.result.deleted c.stored.result.body.now
     (read_stem c.self.inside.stems.items c.args.at c.in_ok-stem.stem.now found.0 (found.1 c.in_ok-stem.stem.now)) c.stored.ensures.rev c.stored.ensures.deleted c.stored.ensures.body)

@@ -14,4 +14,4 @@ stored-edit-requires c =
 pub returns : goal.returns
 returns c =
     let low = low_stem c.self.inside.stems.items c.args.self.now.list c.args.at (ap (λ (z : Storage). z.list) c.self.view_is) c.requires in
-    rw (sym c.self.view_is, c.stored-edit.ensures.deleted) (head_at c.self.inside.stems.items c.self.invariant.0 c.args.at c.index.result.now c.stored-edit.result.rev.now (read_stem c.self.inside.stems.items c.args.at c.index.result.now low c.index.ensures) c.stored-edit.ensures.rev)
+    rw (sym c.self.view_is, c.stored-edit.ensures.deleted) (head_at c.self.inside.stems.items c.self.invariant.0 c.args.at c.index.result.now c.stored-edit.result.rev (read_stem c.self.inside.stems.items c.args.at c.index.result.now low c.index.ensures) c.stored-edit.ensures.rev)

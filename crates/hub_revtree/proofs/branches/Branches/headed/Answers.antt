@@ -11,5 +11,5 @@ stored-requires c = found_falls c.self.inside.stems.items c.self.invariant.0 c.a
 pub returns : goal.returns
 returns c =
     rw (sym c.self.view_is)
-    (some_headed c.self.inside.stems.items c.self.invariant.0 c.args.rev.now c.in_ok-stem.stem.now c.stored.result.rev.now c.stored.result.deleted c.stored.result.body.now
+    (some_headed c.self.inside.stems.items c.self.invariant.0 c.args.rev.now c.in_ok-stem.stem.now c.stored.result.rev c.stored.result.deleted c.stored.result.body.now
     (rw c.as_slice.ensures.value at c.in_ok-stem.ensures) c.stored.ensures.rev c.stored.ensures.deleted c.stored.ensures.body)

@@ -1,19 +1,19 @@
 use Rattle.std.proofs.Common.{◌≡◌, ◌∙◌, length, sym, ap, take, arith}
 use Rattle.std.proofs.lemmas.List.{take_all}
-use Rattle.hub_revtree.specs.declared.stem.Stem.{Stem}
+use Rattle.hub_revtree.specs.Stem.{Stem}
 use Rattle.hub_revtree.proofs.HighestLemmas.{up_to_more}
 use Rattle.hub_revtree.proofs.JoinLemmas.{Brings, brought_edit, brought_stems, met_brings, met_within, new_brings}
 use Rattle.hub_revtree.proofs.branches.Branches.push.Goals as goal
 use Rattle.hub_revtree.proofs.branches.Branches.push.Goals.{After-push_reserved, in-Some, in_default}
 
 -- the stem brings what is new of the path
-brings : (c : After-push_reserved) → Brings c.self.inside.stems.items c.args.path (record { revisions = c.kept-revisions.result; parent = c.match-met.parent; deleted = c.args.deleted; body = c.args.body })
+brings : (c : After-push_reserved) → Brings c.self.inside.stems.items c.args.path (record { revisions = c.kept-run.result; parent = c.match-met.parent; deleted = c.args.deleted; body = c.args.body })
 brings c =
     let xs = c.self.inside.stems.items in
     let legal = rw (sym c.self.view_is) at c.requires.legal in
     let ok = rw (sym c.self.view_is) at c.requires.acceptable in
-    let stem : Stem = record { revisions = c.kept-revisions.result; parent = c.match-met.parent; deleted = c.args.deleted; body = c.args.body } in
-    let own : c.kept-revisions.result.items ≡ take c.match-met.new c.args.path = c.kept-revisions.ensures ∙ ap (take c.match-met.new) c.into_revisions-all.ensures in
+    let stem : Stem = record { revisions = c.kept-run.result; parent = c.match-met.parent; deleted = c.args.deleted; body = c.args.body } in
+    let own : c.kept-run.result ≡ take c.match-met.new c.args.path = c.kept-run.ensures ∙ ap (take c.match-met.new) c.into_revisions-all.ensures in
     elim c.match-met.branch [
       | in-Some w ↦
           let met = rw c.as_slice.ensures.value at w.in-Some.ensures in
@@ -26,8 +26,8 @@ brings c =
           w.parent-is
     ]
 
-pub kept-revisions-requires : goal.kept-revisions-requires
-kept-revisions-requires c =
+pub kept-run-requires-clause-within : goal.kept-run-requires-clause-within
+kept-run-requires-clause-within c =
     elim c.match-met.branch [
       | in-Some w ↦
           let met = rw c.as_slice.ensures.value at w.in-Some.ensures in
@@ -40,7 +40,7 @@ invariant_of-self c =
     let xs = c.self.inside.stems.items in
     let path = brings c in
     let more = brought_stems xs c.self.invariant.0 (rw (sym c.self.view_is) at c.requires.legal) c.args.path _ path in
-    rw c.push_reserved.ensures.items (
+    rw (c.push_reserved.ensures.items, c.new.ensures) (
       more,
       up_to_more xs _ c.args.path c.head-head.result c.self.inside.highest c.max-self-inside.result c.self.invariant.0 more c.self.invariant.1 c.head-head.ensures.good.falls c.head-head.ensures.value path.whole
           (rw c.generation.ensures.value at c.max-self-inside.ensures),
@@ -48,5 +48,5 @@ invariant_of-self c =
 
 pub returns : goal.returns
 returns c =
-    rw (c.push_reserved.ensures.items, sym c.self.view_is)
+    rw (c.push_reserved.ensures.items, c.new.ensures, sym c.self.view_is)
     (brought_edit c.self.inside.stems.items c.self.invariant.0 (rw (sym c.self.view_is) at c.requires.legal) c.args.path _ (brings c))

@@ -8,5 +8,5 @@ returns-clause-tip c = c.edit.ensures ∙ numbered_by c.branches.result.now.list
 
 pub returns-clause-path : goal.returns-clause-path
 returns-clause-path c =
-    numbered_path {A = StoredEdit} c.args.self.now.edits c.branches.ensures.tree (λ e. e.rev.now) (λ e. e.deleted) (λ e. e.body.now) c.edit.result c.args.at
+    numbered_path {A = StoredEdit} c.args.self.now.edits c.branches.ensures.tree (λ e. e.rev) (λ e. e.deleted) (λ e. e.body.now) c.edit.result c.args.at
     (c.edit.ensures ∙ numbered_by c.branches.result.now.list c.args.self.now.edits c.args.at c.branches.ensures.edits)

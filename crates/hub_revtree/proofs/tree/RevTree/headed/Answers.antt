@@ -8,5 +8,5 @@ returns-clause-tip c = c.headed.ensures ∙ headed_by c.branches.result.now.list
 
 pub returns-clause-path : goal.returns-clause-path
 returns-clause-path c =
-    headed_path {A = StoredEdit} c.args.self.now.edits c.branches.ensures.tree (λ e. e.rev.now) (λ e. e.deleted) (λ e. e.body.now) c.headed.result c.args.rev.now
+    headed_path {A = StoredEdit} c.args.self.now.edits c.branches.ensures.tree (λ e. e.rev) (λ e. e.deleted) (λ e. e.body.now) c.headed.result c.args.rev.now
     (c.headed.ensures ∙ headed_by c.branches.result.now.list c.args.self.now.edits c.args.rev.now c.branches.ensures.edits)

@@ -1,4 +1,6 @@
-use Rattle.std.proofs.Common.{false, true, sym, refl}
+use Rattle.std.proofs.Common.{false, true, sym, refl, arith}
+use Rattle.hub_revtree.specs.Branch.{edits_in}
+use Rattle.hub_revtree.proofs.CountLemmas.{missing_within}
 use Rattle.hub_revtree.proofs.TreeLemmas.{rev_tree, head_known, head_new, acceptable, contradicts}
 use Rattle.hub_revtree.proofs.tree.RevTree.look_merge.Goals as goal
 
@@ -11,6 +13,9 @@ returns-then-is_named-clause-known c =
       λ _. head_known c.self.inside.branches.list c.args.path c.head-head.result c.head-head.ensures.value c.is_named.result c.is_named.ensures c.if-is_named.true,
       λ _. refl,
     )
+
+pub made_ready-requires : goal.made_ready-requires
+made_ready-requires c = omega (arith, c.in-Some.ensures.new, missing_within (edits_in c.self.inside.branches.list) c.args.path)
 
 pub returns-in_default-clause-tree : goal.returns-in_default-clause-tree
 returns-in_default-clause-tree c = rw (sym c.self.view_is) (rev_tree _ c.self.invariant.legal)

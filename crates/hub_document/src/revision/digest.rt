@@ -1,0 +1,72 @@
+//! Revision ids whose hashes are digests.
+
+ghost use Rattle.std.specs.Prelude.{◌≡◌, ◌≤◌, ◌&&◌, ◌/◌, ◌%◌, List, ℕ, length, nat_eq, slice_index, IfSome, IfNone};
+ghost use Rattle.std.specs.Str.{bytes_eq};
+ghost use Rattle.hex.specs.Hex.{IsBytes, encode_lower, lower_digits};
+
+use crate::revision::RevId;
+use hex::{FromHex, encode_to_slice};
+
+/// The sixteen digits.
+const DIGITS: &[u8; 16] = b"0123456789abcdef";
+
+// Whether these are the two digits of the byte.
+fn are_digits(high: u8, low: u8, byte: u8) -> bool
+    ensures { result ≡ (nat_eq high (slice_index lower_digits (byte / 16)) && nat_eq low (slice_index lower_digits (byte % 16))) }
+{
+    high == DIGITS[usize::from(byte / 16)] && low == DIGITS[usize::from(byte % 16)]
+}
+
+// Whether these 32 letters are the text of the digest. It stops at the first difference.
+fn is_text(letters: &[u8], digest: &[u8; 16]) -> bool
+    requires { length letters.now ≡ 32 }
+    ensures { result ≡ bytes_eq letters.now (encode_lower digest.now) }
+{
+    for at in 0..16usize {
+        if !are_digits(letters[2 * at], letters[2 * at + 1], digest[at]) {
+            return false;
+        }
+    }
+    true
+}
+
+impl RevId {
+    ghost use Rattle.hub_model.specs.Revision.{Revision};
+
+    /// The 16 bytes whose hexadecimal text in lower-case digits the hash is; None where it is no such
+    /// text. Constant time.
+    pub fn digest(&self) -> Option<[u8; 16]>
+        ensures found { IfSome result (λ digest. self.now.hash ≡ encode_lower digest) }
+        ensures none { IfNone result ((digest : List ℕ) → length digest ≡ 16 → IsBytes digest → ¬ (self.now.hash ≡ encode_lower digest)) }
+    {
+        let digest = <[u8; 16] as FromHex>::from_hex(self.hash()).ok()?;
+        if self.has_digest(&digest) {
+            Some(digest)
+        } else {
+            None
+        }
+    }
+
+    /// The revision of this generation whose hash is the hexadecimal text of the digest, in lower-case
+    /// digits. Constant time.
+    pub fn from_digest(generation: u16, digest: &[u8; 16]) -> RevId
+        requires { 1 ≤ generation }
+        ensures { result ≡ record { generation = generation; hash = encode_lower digest.now } }
+    {
+        let mut bytes = [0u8; 64];
+        encode_to_slice(digest.as_slice(), &mut bytes[..32]).unwrap();
+        RevId {
+            number: generation,
+            len: 32,
+            bytes,
+        }
+    }
+
+    /// Whether the hash is the hexadecimal text of the digest, in lower-case digits. It makes no text,
+    /// and stops at the first difference.
+    pub fn has_digest(&self, digest: &[u8; 16]) -> bool
+        ensures { result ≡ bytes_eq self.now.hash (encode_lower digest.now) }
+    {
+        self.len == 32 && is_text(self.hash(), digest)
+    }
+}

@@ -1,0 +1,182 @@
+-- The revisions that a run keeps.
+use Rattle.std.proofs.Common.{◌≡◌, ℕ, zero, suc, ◌+◌, ◌-◌, ◌<◌, ◌≤◌, List, [], ◌∷◌, ◌++◌, length, get_or, drop, take, map, Bool, true, false, ◌&&◌, ◌⊎◌, inl, inr, refl, sym, ap, ap₂, ◌∙◌, subst, add-one, arith}
+use Rattle.std.specs.Prelude.{Option, Some, None, IfSome, IfNone, ◌↔◌, slice_get, option_map, nat_eq}
+use Rattle.std.specs.Bool.{then_some}
+use Rattle.std.specs.Str.{bytes_eq}
+use Rattle.std.proofs.lemmas.Bool.{both_ways, cases_Bool, eq-eqb, eqb-true}
+use Rattle.std.proofs.lemmas.List.{append_assoc}
+use Rattle.std.proofs.lemmas.Option.{same_Some, slice_get_read}
+use Rattle.hub_model.proofs.Tests.{same_is, same_self}
+use Rattle.hub_document.proofs.PlaceLemmas.{above_head, not_named, past_end}
+use Rattle.hex.specs.Hex.{encode_lower}
+use Rattle.hub_model.specs.Revision.{Revision, is_same}
+use Rattle.hub_model.specs.Path.{Falls, IsPath, names, is_first}
+use Rattle.hub_revtree.specs.Run.{revisions_from}
+
+-- each generation of a path is above 0
+pub least : (y : Revision) (q : List Revision) → Falls y q → 1 ≤ y.generation
+least y [] f = f
+least y (z ∷ q) f = omega (arith, f.0)
+
+-- the revision that is read at a place
+pub first_drop : (p : List Revision) (k : ℕ) (r x : Revision) → slice_get p k ≡ Some x → is_first r (drop k p) ≡ is_same r x
+first_drop [] k r x e = absurd (cc)
+first_drop (y ∷ p) zero r x e = ap (is_same r) (same_Some y x e)
+first_drop (y ∷ p) (suc k) r x e = first_drop p k r x e
+
+-- lists by place
+pub get_some : {A : Type 0} (xs : List A) (k : ℕ) → k < length xs → (x : A) × (slice_get xs k ≡ Some x)
+get_some [] k low = absurd (omega arith)
+get_some (x ∷ xs) zero low = (x, refl)
+get_some (x ∷ xs) (suc k) low = get_some xs k (omega arith)
+
+pub dropped_one : {A : Type 0} (xs : List A) (k : ℕ) (x : A) → slice_get xs k ≡ Some x → drop k xs ≡ x ∷ drop (suc k) xs
+dropped_one [] k x e = absurd (cc)
+dropped_one (y ∷ xs) zero x e = ap (λ z. z ∷ xs) (same_Some y x e)
+dropped_one (y ∷ xs) (suc k) x e = dropped_one xs k x e
+
+-- there are as many as digests
+pub as_many_digests : (n : ℕ) (ds : List (List ℕ)) → length (revisions_from n ds) ≡ length ds
+as_many_digests n [] = refl
+as_many_digests n (d ∷ ds) = ap suc (as_many_digests (n - 1) ds)
+
+-- a run of digests
+module _ (p : List Revision) (n : ℕ) (ds : List (List ℕ)) (is : revisions_from n ds ≡ p) where
+  pub digest_length : length p ≡ length ds
+  digest_length = ap length (sym is) ∙ as_many_digests n ds
+
+  -- the generations stay above 0
+  pub digest_low : (k : ℕ) → IsPath p → k < length p → k < n
+  digest_low k path low = from n ds k (subst IsPath (sym is) path) (omega (arith, low, digest_length))
+    where
+      from : (n : ℕ) (ds : List (List ℕ)) (k : ℕ) → IsPath (revisions_from n ds) → k < length ds → k < n
+      from n [] k path low = absurd (omega arith)
+      from n (d ∷ ds) zero path low = least _ (revisions_from (n - 1) ds) path
+      from n (d ∷ []) (suc k) path low = absurd (omega arith)
+      from n (d ∷ e ∷ ds) (suc k) path low = omega (arith, path.0, from (n - 1) (e ∷ ds) k path.1 (omega arith))
+
+  -- the one at a place
+  pub digest_read : (k : ℕ) (d : List ℕ) → k < length p → d ≡ get_or ds k d → slice_get p k ≡ Some (record { generation = n - k; hash = encode_lower d })
+  digest_read k d low read = ap (λ q. slice_get q k) (sym is) ∙ from n ds k (omega (arith, low, digest_length)) read
+    where
+      from : (n : ℕ) (ds : List (List ℕ)) (k : ℕ) → k < length ds → d ≡ get_or ds k d → slice_get (revisions_from n ds) k ≡ Some (record { generation = n - k; hash = encode_lower d })
+      from n [] k low read = absurd (omega arith)
+      from n (e ∷ ds) zero low read =
+          let same : n ≡ n - 0 = omega arith in
+          ap₂ (λ (g : ℕ) (h : List ℕ). Some (record { generation = g; hash = encode_lower h })) same (sym read)
+      from n (e ∷ ds) (suc k) low read =
+          let down : n - 1 - k ≡ n - suc k = omega arith in
+          from (n - 1) ds k (omega arith) read ∙ ap (λ g. Some (record { generation = g; hash = encode_lower d })) down
+
+  pub digest_first : (k : ℕ) (d : List ℕ) (r : Revision) → k < length p → d ≡ get_or ds k d → is_first r (drop k p) ≡ (nat_eq r.generation (n - k) && bytes_eq r.hash (encode_lower d))
+  digest_first k d r low read = first_drop p k r _ (digest_read k d low read)
+
+  pub same_generation : (k : ℕ) (d : List ℕ) (r : Revision) (g : ℕ) (b : Bool) → k < length p → d ≡ get_or ds k d → g ≡ r.generation → g ≡ n - k → b ≡ bytes_eq r.hash (encode_lower d) → b ≡ is_first r (drop k p)
+  same_generation k d r g b low read own up is =
+      let t : nat_eq r.generation (n - k) ≡ true = eq-eqb r.generation (n - k) (sym own ∙ up) in
+      is ∙ sym (digest_first k d r low read ∙ ap (λ x. x && bytes_eq r.hash (encode_lower d)) t)
+
+  pub other_generation : (k : ℕ) (r : Revision) (g : ℕ) → k < length p → g ≡ r.generation → ¬ (g ≡ n - k) → nat_eq g (n - k) ≡ is_first r (drop k p)
+  other_generation k r g low own other =
+      let i = some_item ds k (omega (arith, low, digest_length)) in
+      no (cases_Bool (nat_eq g (n - k)))
+      ∙ sym (digest_first k i.0 r low i.1 ∙ ap (λ x. x && bytes_eq r.hash (encode_lower i.0)) (ap (λ z. nat_eq z (n - k)) (sym own) ∙ no (cases_Bool (nat_eq g (n - k)))))
+    where
+      no : (nat_eq g (n - k) ≡ true) ⊎ (nat_eq g (n - k) ≡ false) → nat_eq g (n - k) ≡ false
+      no (inl t) = absurd (other (eqb-true g (n - k) t))
+      no (inr f) = f
+
+      some_item : (ds : List (List ℕ)) (k : ℕ) → k < length ds → (d : List ℕ) × (d ≡ get_or ds k d)
+      some_item [] k low = absurd (omega arith)
+      some_item (d ∷ ds) zero low = (d, refl)
+      some_item (d ∷ ds) (suc k) low = some_item ds k (omega arith)
+
+  pub digest_newest : IsPath p → option_map (λ r. r.generation) (slice_get p 0) ≡ Some n
+  digest_newest path = ap (λ q. option_map (λ (r : Revision). r.generation) (slice_get q 0)) (sym is) ∙ from ds (subst IsPath (sym is) path)
+    where
+      from : (ds : List (List ℕ)) → IsPath (revisions_from n ds) → option_map (λ (r : Revision). r.generation) (slice_get (revisions_from n ds) 0) ≡ Some n
+      from [] path = absurd path
+      from (d ∷ ds) path = refl
+
+-- a run of texts
+pub texts_read : (p q : List Revision) (k : ℕ) (x : Revision) → q ≡ p → k < length p → x ≡ get_or q k x → slice_get p k ≡ Some x
+texts_read p q k x is low read =
+    let same : length q ≡ length p = ap length is in
+    subst (λ z. slice_get z k ≡ Some x) is (slice_get_read q _ k x refl (omega (arith, low, same)) read)
+
+-- the newest one, by its generation
+pub newest_of : (p : List Revision) (n : ℕ) → option_map (λ r. r.generation) (slice_get p 0) ≡ Some n → (x : Revision) × (slice_get p 0 ≡ Some x) × (x.generation ≡ n)
+newest_of [] n e = absurd (cc)
+newest_of (x ∷ p) n e = (x, refl, same_Some x.generation n e)
+
+-- a revision stands where its generation tells, or nowhere
+module _ (p : List Revision) (path : IsPath p) (n : ℕ) (newest : option_map (λ r. r.generation) (slice_get p 0) ≡ Some n) (r : Revision) where
+  pub too_new : n < r.generation → names p r ≡ false
+  too_new high = let x = newest_of p n newest in above_head p x.0 r path x.1 (omega (arith, high, x.2))
+
+  module _ (k : ℕ) (down : k ≡ n - r.generation) where
+    pub too_old : length p ≤ k → names p r ≡ false
+    too_old past = let x = newest_of p n newest in past_end p x.0 r k path x.1 (omega (arith, down, x.2)) past
+
+    pub is_there : (b : Bool) → b ≡ is_first r (drop k p) → k < length p → IfSome (then_some b k) (λ j. slice_get p j ≡ Some r)
+    is_there false is low = tt
+    is_there true is low =
+        let x = get_some p k low in
+        x.1 ∙ ap Some (sym (same_is r x.0 (sym (first_drop p k r x.0 x.1) ∙ sym is)))
+
+    pub is_absent : (b : Bool) → b ≡ is_first r (drop k p) → IfNone (then_some b k) (names p r ≡ false)
+    is_absent true is = tt
+    is_absent false is =
+        let x = newest_of p n newest in
+        not_named p x.0 r k path x.1 (omega (arith, down, x.2)) (λ e. both_ways (is_first r (drop k p)) (sym is) (first_drop p k r r e ∙ same_self r))
+
+-- one revision on
+pub one_on : (p line : List Revision) (k : ℕ) (r : Revision) → slice_get p k ≡ Some r → (line ++ r ∷ []) ++ drop (k + 1) p ≡ line ++ drop k p
+one_on p line k r e = rw (add-one k) (append_assoc line (r ∷ []) (drop (suc k) p) ∙ ap (λ z. line ++ z) (sym (dropped_one p k r e)))
+
+-- what stands behind the front of some revisions, one more at a time
+module _ (rest others p tail : List Revision) (k : ℕ) (first : Revision) (low : k < length p) (split : rest ≡ first ∷ others) (b : Bool) (is : b ≡ is_first first (drop k p)) where
+  next_one : (x : Revision) × (drop k p ++ tail ≡ x ∷ (drop (k + 1) p ++ tail)) × (b ≡ is_same first x)
+  next_one = let x = get_some p k low in (x.0, rw (add-one k) (ap (λ z. z ++ tail) (dropped_one p k x.0 x.1)), is ∙ first_drop p k first x.0 x.1)
+
+  pub front_more : b ≡ true → (rest ≡ drop k p ++ tail) ↔ (others ≡ drop (k + 1) p ++ tail)
+  front_more t =
+      let x = next_one in
+      let next = x.1 in
+      let same : first ≡ x.0 = same_is first x.0 (sym x.2 ∙ t) in
+      (λ e. (cc), λ e. (cc))
+
+  pub front_other : b ≡ false → ¬ (rest ≡ drop k p ++ tail)
+  front_other f = λ e.
+      let x = next_one in
+      let next = x.1 in
+      let same : first ≡ x.0 = (cc) in
+      both_ways b f (x.2 ∙ subst (λ z. is_same first z ≡ true) same (same_self first))
+
+-- the digests of a path's front are a run of it
+nothing_left : (ds : List (List ℕ)) (k : ℕ) → map encode_lower ds ≡ map (λ (r : Revision). r.hash) (take k []) → ds ≡ []
+nothing_left [] k e = refl
+nothing_left (d ∷ ds) zero e = absurd (cc)
+nothing_left (d ∷ ds) (suc k) e = absurd (cc)
+
+none_taken : (k : ℕ) → [] ≡ take {A = Revision} k []
+none_taken zero = refl
+none_taken (suc k) = refl
+
+front_kept : (x : Revision) (p : List Revision) (ds : List (List ℕ)) (k : ℕ) → Falls x p → map encode_lower ds ≡ map (λ r. r.hash) (take k (x ∷ p)) → revisions_from x.generation ds ≡ take k (x ∷ p)
+front_kept x p [] zero f e = refl
+front_kept x p [] (suc k) f e = absurd (cc)
+front_kept x p (d ∷ ds) zero f e = absurd (cc)
+front_kept x [] (d ∷ ds) (suc k) f e =
+    let h : encode_lower d ≡ x.hash = (cc) in
+    let tail : map encode_lower ds ≡ map (λ (r : Revision). r.hash) (take k []) = (cc) in
+    ap₂ (λ (h : List ℕ) (q : List Revision). record { generation = x.generation; hash = h } ∷ q) h (ap (revisions_from (x.generation - 1)) (nothing_left ds k tail) ∙ none_taken k)
+front_kept x (y ∷ p) (d ∷ ds) (suc k) f e =
+    let h : encode_lower d ≡ x.hash = (cc) in
+    let tail : map encode_lower ds ≡ map (λ (r : Revision). r.hash) (take k (y ∷ p)) = (cc) in
+    let down : x.generation - 1 ≡ y.generation = omega (arith, f.0) in
+    ap₂ (λ (h : List ℕ) (q : List Revision). record { generation = x.generation; hash = h } ∷ q) h (ap (λ g. revisions_from g ds) down ∙ front_kept y p ds k f.1 tail)
+
+pub digests_kept : (p : List Revision) (x : Revision) (n : ℕ) (ds : List (List ℕ)) (k : ℕ) → IsPath p → x ≡ get_or p 0 x → n ≡ x.generation → map encode_lower ds ≡ map (λ r. r.hash) (take k p) → revisions_from n ds ≡ take k p
+digests_kept [] x n ds k path first up e = absurd path
+digests_kept (y ∷ p) x n ds k path first up e = ap (λ g. revisions_from g ds) (up ∙ ap (λ (z : Revision). z.generation) first) ∙ front_kept y p ds k path e

@@ -1,0 +1,196 @@
+//! Runs of revisions, in little memory.
+
+ghost use Rattle.std.specs.Prelude.{◌≡◌, ◌≤◌, ◌<◌, ◌++◌, List, length, Some, false, drop, map, option_map, slice_get, take, IfSome, IfNone, IfOk, OnOk};
+ghost use Rattle.hex.specs.Hex.{encode_lower};
+ghost use Rattle.hub_model.specs.Revision.{Revision};
+ghost use Rattle.hub_model.specs.Path.{IsPath, is_first, names};
+ghost use Rattle.hub_revtree.specs.Run.{kept_in};
+
+use hub_document::RevId;
+use std::alloc::{AllocError, Global};
+use std::marker::Model;
+
+// How the revisions are kept: by the newest one's generation and the digests whose texts the hashes are; or
+// themselves, where a hash is no digest's text.
+#[derive(Debug, Drop)]
+enum Kept {
+    One(u16, [u8; 16]),
+    Digests(u16, Vec<[u8; 16]>),
+    Texts(Vec<RevId>),
+}
+
+/// Revisions, newest first, of which each is the parent of the one before it. One whose hash is 32
+/// lower-case hexadecimal digits takes 16 bytes, and where it stands alone no memory of its own; where a
+/// hash is another, each takes 68 bytes. The value itself takes 32.
+#[derive(Debug, Drop)]
+pub(crate) struct Run {
+    kept: Kept,
+}
+
+impl Model for Run {
+    ghost use Rattle.std.specs.Prelude.{List};
+    ghost use Rattle.hub_model.specs.Revision.{Revision};
+    ghost use Rattle.hub_revtree.specs.Run.{kept_in};
+
+    ghost Value = { List Revision };
+
+    ghost view = { λ a. kept_in a.kept };
+}
+
+// The digests whose texts the hashes are; None where a hash is another text. It costs their number.
+fn digests_of(alloc: Global, revisions: &[RevId]) -> Result<Option<Vec<[u8; 16]>>, AllocError>
+    ensures { IfOk result (λ found. IfSome found (λ digests. map encode_lower digests.items ≡ map (λ r. r.hash) revisions.now)) }
+{
+    let mut digests = Vec::with_capacity(alloc, revisions.len())?;
+    for rev in revisions {
+        let Some(digest) = rev.digest() else {
+            return Ok(None);
+        };
+        digests.push(digest)?;
+    }
+    Ok(Some(digests))
+}
+
+// The first revision where it is the only one and its hash is a digest's text, else those of all.
+fn kept_of(alloc: Global, revisions: &[RevId], count: usize) -> Result<Kept, AllocError>
+    requires path { IsPath revisions.now }
+    requires within { count ≤ length revisions.now }
+    ensures { IfOk result (λ kept. kept_in kept ≡ take count revisions.now) }
+{
+    let newest = &revisions[0];
+    if count == 1 {
+        if let Some(digest) = newest.digest() {
+            return Ok(Kept::One(newest.generation(), digest));
+        }
+    }
+    let front = &revisions[..count];
+    match digests_of(alloc, front)? {
+        Some(digests) => Ok(Kept::Digests(newest.generation(), digests)),
+        None => Ok(Kept::Texts(Vec::from_slice(alloc, front)?)),
+    }
+}
+
+impl Run {
+    /// The first of a path's revisions, so many. It takes memory of just the size that they need; none
+    /// where there is one whose hash is a digest's text. It costs their number.
+    pub(crate) fn front(alloc: Global, revisions: &[RevId], count: usize) -> Result<Run, AllocError>
+        requires path { IsPath revisions.now }
+        requires within { count ≤ length revisions.now }
+        ensures { IfOk result (λ run. run ≡ take count revisions.now) }
+    {
+        let kept = kept_of(alloc, revisions, count)?;
+        Ok(Run { kept })
+    }
+
+    /// The same in the vector's own memory, which gives the rest of it back: it takes none.
+    pub(crate) fn cut(mut revisions: Vec<RevId>, count: usize) -> Run
+        requires { count ≤ length revisions.items }
+        ensures { result ≡ take count revisions.items }
+    {
+        revisions.truncate(count);
+        revisions.shrink_to_fit();
+        Run {
+            kept: Kept::Texts(revisions),
+        }
+    }
+
+    /// How many there are. Constant time.
+    pub(crate) fn len(&self) -> usize
+        ensures { result ≡ length self.now }
+    {
+        match &self.kept {
+            Kept::One(_, _) => 1,
+            Kept::Digests(_, digests) => digests.len(),
+            Kept::Texts(revisions) => revisions.len(),
+        }
+    }
+
+    // The newest one's generation.
+    fn generation(&self) -> u16
+        requires { IsPath self.now }
+        ensures { option_map (λ r. r.generation) (slice_get self.now 0) ≡ Some result }
+    {
+        match &self.kept {
+            Kept::One(newest, _) => *newest,
+            Kept::Digests(newest, _) => *newest,
+            Kept::Texts(revisions) => revisions[0].generation(),
+        }
+    }
+
+    /// The revision at this place, counted from the newest. Constant time.
+    pub(crate) fn at(&self, place: usize) -> RevId
+        requires path { IsPath self.now }
+        requires within { place < length self.now }
+        ensures { slice_get self.now place ≡ Some result }
+    {
+        match &self.kept {
+            Kept::One(newest, digest) => RevId::from_digest(*newest, digest),
+            Kept::Digests(newest, digests) => {
+                RevId::from_digest(*newest - place as u16, &digests[place])
+            }
+            Kept::Texts(revisions) => revisions[place],
+        }
+    }
+
+    /// Whether the revision is the one at this place. It compares no hashes where the generations differ.
+    pub(crate) fn is_at(&self, place: usize, rev: &RevId) -> bool
+        requires path { IsPath self.now }
+        requires within { place < length self.now }
+        ensures { result ≡ is_first rev.now (drop place self.now) }
+    {
+        match &self.kept {
+            Kept::One(newest, digest) => rev.generation() == *newest && rev.has_digest(digest),
+            Kept::Digests(newest, digests) => {
+                rev.generation() == *newest - place as u16 && rev.has_digest(&digests[place])
+            }
+            Kept::Texts(revisions) => rev.is_same(&revisions[place]),
+        }
+    }
+
+    /// Where the revision stands, counted from the newest. Constant time.
+    pub(crate) fn position(&self, rev: &RevId) -> Option<u16>
+        requires { IsPath self.now }
+        ensures found { IfSome result (λ k. slice_get self.now k ≡ Some rev.now) }
+        ensures absent { IfNone result (names self.now rev.now ≡ false) }
+    {
+        let newest = self.generation();
+        if rev.generation() > newest {
+            return None;
+        }
+        let place = newest - rev.generation();
+        if usize::from(place) >= self.len() {
+            return None;
+        }
+        self.is_at(usize::from(place), rev).then_some(place)
+    }
+
+    /// Puts the revision at this place, and those behind it, behind what the vector holds. It costs their
+    /// number.
+    pub(crate) fn append_from(&self, at: usize, line: &mut Vec<RevId>) -> Result<(), AllocError>
+        requires { IsPath self.now }
+        ensures { OnOk result (line.new.items ≡ line.old.items ++ drop at self.now) }
+    {
+        for place in at..self.len() {
+            line.push(self.at(place))?;
+        }
+        Ok(())
+    }
+
+    /// What stands behind the first of these revisions, where they begin with the one at this place and
+    /// those behind it. It costs their number.
+    pub(crate) fn rest_behind<'a>(&self, at: usize, revisions: &'a [RevId]) -> Option<&'a [RevId]>
+        requires { IsPath self.now }
+        ensures found { IfSome result (λ rest. revisions.now ≡ drop at self.now ++ rest.now) }
+        ensures none { IfNone result ((rest : List Revision) → ¬ (revisions.now ≡ drop at self.now ++ rest)) }
+    {
+        let mut rest = revisions;
+        for place in at..self.len() {
+            let (first, others) = rest.split_first()?;
+            if !self.is_at(place, first) {
+                return None;
+            }
+            rest = others;
+        }
+        Some(rest)
+    }
+}
