@@ -1,6 +1,6 @@
 //! The feeds that something keeps, by their numbers.
 
-ghost use Rattle.std.specs.Prelude.{◌≡◌, ◌<◌, ◌^◌, ◌+◌, ◌-◌, ◌||◌, ◌++◌, ◌∷◌, [], ℕ, length, map, nat_le, Some, None, option_map, IfOk, OnOk, OnErr};
+ghost use Rattle.std.specs.Prelude.{◌≡◌, ◌<◌, ◌^◌, ◌+◌, ◌-◌, ◌||◌, ◌++◌, ◌∷◌, [], ℕ, length, map, nat_le, Some, None, option_map, IfSome, IfOk, OnOk, OnErr};
 ghost use Rattle.hub_model.specs.Entries.{changed, entry_in, without};
 ghost use Rattle.hub_model.specs.Feed.{begin, expire};
 ghost use Rattle.hub_params.specs.FeedModel.{params_of};
@@ -157,7 +157,8 @@ impl Feeds {
     /// A feed, if there is one of this number. A binary search, unless the last call was for the same
     /// feed.
     pub fn state(&self, feed: FeedId) -> Option<&FeedState>
-        ensures { option_map (λ f. f.now) result ≡ entry_in feed.number self.now.feeds }
+        ensures found { option_map (λ f. f.now) result ≡ entry_in feed.number self.now.feeds }
+        ensures given { IfSome result (λ f. feed.number < self.now.next) }
     {
         let Some(at) = place_near(self.list.as_slice(), self.near, feed.number) else {
             return None;
