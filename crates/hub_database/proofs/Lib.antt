@@ -14,3 +14,4 @@ pub mod InfoLemmas
 pub mod LocalLemmas
 pub mod FeedLemmas
 pub mod FallingLemmas
+pub mod ListingLemmas

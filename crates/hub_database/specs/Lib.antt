@@ -9,6 +9,7 @@ pub mod Hosting
 pub mod Indexed
 pub mod Kept
 pub mod Laid
+pub mod Listing
 pub mod Locals
 pub mod Looked
 pub mod Reads

@@ -22,6 +22,7 @@ use crate::answers::{Diff, Info, Lookup, OpenRev};
 use crate::batch::{Batch, DbFault, Replies};
 use crate::contents::Contents;
 use crate::descending::Descending;
+use crate::listing::Listing;
 use crate::local::Local;
 use hub_document::{Asked, Doc, Limits, LocalDoc, OpenRevs, RevId};
 use hub_feed::Feeds;
@@ -39,6 +40,8 @@ pub struct DbState {
     pub(crate) deleted: bool,
     /// The feeds that are not finished.
     pub(crate) feeds: Feeds,
+    /// The rows of one feed of listed documents, kept in order until the next write.
+    pub(crate) listing: Listing,
 }
 
 impl Model for DbState {
@@ -48,6 +51,7 @@ impl Model for DbState {
 
     ghost use Rattle.std.specs.Prelude.{length};
     ghost use Rattle.hub_feed.specs.Feeds.{AreBehind};
+    ghost use Rattle.hub_database.specs.Listing.{IsListing};
 
     ghost view = { λ a. record {
       journal = a.contents.journal;
@@ -58,7 +62,8 @@ impl Model for DbState {
       limits = a.contents.limits;
     } };
 
-    ghost invariant = { λ a. AreBehind (length a.contents.journal) a.feeds.feeds };
+    ghost invariant = { λ a. AreBehind (length a.contents.journal) a.feeds.feeds
+        × IsListing a.contents.journal a.feeds.feeds a.feeds.next a.listing };
 }
 
 // Refuses as many documents of a deleted database.
@@ -88,6 +93,7 @@ impl DbState {
             contents: Contents::new(alloc, limits),
             deleted: false,
             feeds: Feeds::new(alloc),
+            listing: Listing::new(alloc),
         }
     }
 
@@ -265,6 +271,7 @@ impl DbState {
         if self.deleted {
             return refuse_all(self.contents.alloc(), docs.len());
         }
+        self.listing.forget();
         self.contents.write_edits(docs, new_edits)
     }
 
@@ -287,6 +294,7 @@ impl DbState {
             → (self.old.deleted ≡ false) × HasNextRevision self.old.journal (draft_of doc) }
     {
         self.standing()?;
+        self.listing.forget();
         self.contents.write_one(doc)
     }
 

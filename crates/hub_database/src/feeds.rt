@@ -1,11 +1,13 @@
 //! The feeds of a database.
 
-ghost use Rattle.std.specs.Prelude.{◌≡◌, ◌⊎◌, Some, None, Err, option_map, IfOk, IfErr, OnErr};
+ghost use Rattle.std.specs.Prelude.{◌≡◌, ◌⊎◌, Some, None, Err, option_map, IfSome, IfOk, IfErr, OnErr};
+ghost use Rattle.hub_model.specs.Current.{current};
 ghost use Rattle.hub_model.specs.Entries.{entry_in};
 ghost use Rattle.hub_model.specs.Row.{ChangeRow as Shown};
 ghost use Rattle.hub_feed.specs.Host.{is_full, refuses, opened, is_beat_due, expired, item_due, answered, behind_answer, handed, finished, due_to};
 ghost use Rattle.hub_feed.specs.Mark.{mark_of};
 ghost use Rattle.hub_feed.specs.Next.{IsRowDue};
+ghost use Rattle.hub_feed.specs.Reach.{IsFirst};
 ghost use Rattle.hub_params.specs.FeedModel.{params_of};
 ghost use Rattle.hub_database.specs.Hosting.{hosted_of, with_hosted};
 
@@ -50,18 +52,50 @@ impl DbState {
         }
     }
 
+    // The sequence of the first row in reach of a feed, if there is one, where the feed is open and
+    // shows listed documents, its rows are kept, and more edits lie above its place than ids are
+    // listed. It costs what `Listing::holds` and `Listing::first_between` do.
+    fn first_listed(&mut self, feed: FeedId) -> Option<Option<u64>>
+        ensures same { self.new ≡ self.old }
+        ensures first { IfSome result (λ first. IsFirst first (current self.old.journal)
+            (entry_in feed.number self.old.feeds)) }
+    {
+        let state = self.feeds.state(feed)?;
+        let ids = state.listed()?;
+        let few = state.place().saturating_add(ids.len() as u64);
+        if !state.is_open() || self.contents.update_seq() <= few {
+            return None;
+        }
+        let rows = self.contents.rows();
+        if !self.listing.holds(feed.number, &rows, ids) {
+            return None;
+        }
+        Some(self.listing.first_between(state.place(), state.bound()))
+    }
+
     /// What a feed has to hand now. An item is made and nothing changes: `accept_item` goes on. A
     /// feed that has nothing to hand goes to the journal's length. It costs what
     /// `FeedState::next_item` does, and a binary search among the feeds unless the last call was for
-    /// the same feed.
+    /// the same feed. A feed of listed documents that asks again with no write between costs a look in
+    /// the map of ids for each id and a sort of their rows, once until the next write, and then a
+    /// binary search among those rows and what the row costs.
     pub fn next_item(&mut self, feed: FeedId) -> Result<Next<ChangeRow>, AllocError>
         ensures ok { IfOk result (λ next. (next ≡ answered (hosted_of self.old) feed.number)
             × (self.new ≡ with_hosted self.old (behind_answer (hosted_of self.old) feed.number next))) }
         ensures err { OnErr result ((self.new ≡ self.old)
             × IsRowDue (due_to (hosted_of self.old) feed.number)) }
     {
-        let rows = self.contents.rows();
-        self.feeds.next_item(&rows, feed)
+        self.feeds.seek(feed);
+        match self.first_listed(feed) {
+            Some(first) => {
+                let rows = self.contents.rows();
+                self.feeds.next_item_at(&rows, feed, first)
+            }
+            None => {
+                let rows = self.contents.rows();
+                self.feeds.next_item(&rows, feed)
+            }
+        }
     }
 
     /// Goes on behind the item that `next_item` gives now. It takes no memory, and constant time where

@@ -8,6 +8,8 @@ mod feed_tests;
 #[cfg(test)]
 mod host_tests;
 #[cfg(test)]
+mod listed_tests;
+#[cfg(test)]
 mod local_tests;
 #[cfg(test)]
 mod made_tests;

@@ -24,6 +24,8 @@ pub(crate) enum Step {
     /// A batch of one document `a` that another database made, with 65,535 revisions `x`, which is
     /// the longest history that there is.
     LongHistory(Outcome<&'static str>),
+    /// So many documents that another database made, whose ids are the numbers from 1 on.
+    Many(u64),
     /// A document whose revision is made here, and that revision.
     Make(&'static str, Result<&'static str, DbFault>),
     /// How many documents there are, how many deleted ones, and how many edits.
@@ -129,6 +131,24 @@ fn tells_long(alloc: Global, state: &mut DbState, told: Outcome<&str>) -> bool {
     }
 }
 
+// Whether a document with this number as its id is stored.
+fn stores_numbered(alloc: Global, state: &mut DbState, number: u64) -> bool {
+    match format!(in alloc; r#"{{"_id":"{number}","_rev":"1-a"}}"#) {
+        Ok(text) => tells(alloc, state, &[text.as_str()], false, &[Stored("1-a")]),
+        Err(AllocError) => false,
+    }
+}
+
+// Whether so many documents are stored, numbered from 1.
+fn stores_many(alloc: Global, state: &mut DbState, count: u64) -> bool {
+    for number in 1..=count {
+        if !stores_numbered(alloc, state, number) {
+            return false;
+        }
+    }
+    true
+}
+
 // Whether an edit is made with this answer.
 fn makes(alloc: Global, state: &mut DbState, text: &str, answer: Result<&str, DbFault>) -> bool {
     let Ok(doc) = Doc::read(alloc, text.as_bytes(), true) else {
@@ -160,6 +180,7 @@ fn holds(alloc: Global, state: &mut DbState, step: &Step) -> bool {
         Step::Batch(texts, told) => tells(alloc, state, texts, false, told),
         Step::Edits(texts, told) => tells(alloc, state, texts, true, told),
         Step::LongHistory(told) => tells_long(alloc, state, *told),
+        Step::Many(count) => stores_many(alloc, state, *count),
         Step::Make(text, answer) => makes(alloc, state, text, *answer),
         Step::Counts(answer) => has_counts(state, *answer),
         Step::Seq(seq) => state.update_seq() == *seq,

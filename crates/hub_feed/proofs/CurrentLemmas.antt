@@ -44,12 +44,13 @@ edit_of_row J c h =
     let i = any_at (λ (e : Edit). bytes_eq c.id e.id) J (row_edited 1 J c h) in
     (i.0, i.1, sym ((bytes_eq-Decides c.id i.0.id).0 i.2))
 
-contains_shown : (show : ℕ × ℕ → Current) (index : List (ℕ × ℕ)) (r : ℕ × ℕ) → Contains index r → Contains (map show index) (show r)
-contains_shown show [] r h = absurd (contains_none r h)
-contains_shown show (x ∷ index) r h =
-    elim (contains_cases x r index h) [
-      | inl e ↦ subst (λ (z : ℕ × ℕ). Contains (map show (x ∷ index)) (show z)) e (contains_here (show x) (map show index))
-      | inr i ↦ contains_there (show x) (show r) (map show index) (contains_shown show index r i)
+-- what a map gives of an element is in what it gives of the list
+pub contains_map : {X Y : Type 0} (f : X → Y) (xs : List X) (x : X) → Contains xs x → Contains (map f xs) (f x)
+contains_map f [] x h = absurd (contains_none x h)
+contains_map f (y ∷ xs) x h =
+    elim (contains_cases y x xs h) [
+      | inl e ↦ subst (λ z. Contains (map f (y ∷ xs)) (f z)) e (contains_here (f y) (map f xs))
+      | inr i ↦ contains_there (f y) (f x) (map f xs) (contains_map f xs x i)
     ]
 
 -- the row of a number, among rows that are shown with their ids
@@ -62,7 +63,7 @@ row_there show index rows k seq id all at shown = from (find (λ (r : ℕ × ℕ
     from (Some r) e a =
         let i = find_is (λ (z : ℕ × ℕ). nat_eq z.1 k) index r e in
         let is : show r ≡ record { seq = seq; id = id } = shown r (eqb-true r.1 k i.0) ∙ ap (λ (n : ℕ). record { seq = n; id = id }) (same_Some r.0 seq a) in
-        subst (λ (cs : List Current). Contains cs (record { seq = seq; id = id })) all (subst (λ (c : Current). Contains (map show index) c) is (contains_shown show index r i.1))
+        subst (λ (cs : List Current). Contains cs (record { seq = seq; id = id })) all (subst (λ (c : Current). Contains (map show index) c) is (contains_map show index r i.1))
 
 -- what is found of one document, of which there is a current row
 module _ (J : List Edit) (id : List ℕ) (seq place : ℕ) (bound : Option ℕ) (here : Contains (current J) (record { seq = seq; id = id })) where

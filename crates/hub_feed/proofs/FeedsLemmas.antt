@@ -1,16 +1,18 @@
 -- The feeds that something keeps: how they change, and that they stay behind the last edit.
-use Rattle.std.proofs.Common.{◌≡◌, ℕ, suc, ◌<◌, ◌≤◌, List, [], ◌∷◌, ◌++◌, Bool, true, false, not, refl, subst, arith, find, map, nat_eq, Contains, AllPairs, IfSome}
-use Rattle.std.specs.Prelude.{IfOk, OnErr, Result, Ok, Err, Option, Some, None, slice_set, get_or, position, ◌&&◌, if◌then◌else◌}
+use Rattle.std.proofs.Common.{◌≡◌, ◌∙◌, sym, inl, inr, All, ℕ, suc, ◌<◌, ◌≤◌, List, [], ◌∷◌, ◌++◌, Bool, true, false, not, refl, subst, arith, find, map, nat_eq, Contains, AllPairs, IfSome}
+use Rattle.std.specs.Prelude.{IfOk, OnErr, Result, Ok, Err, Option, Some, None, slice_set, get_or, position, nat_lt, ◌&&◌, if◌then◌else◌}
+use Rattle.std.proofs.lemmas.Bool.{cases_Bool, ltb-true, ltb-false}
 use Rattle.std.proofs.lemmas.List.Elements.{All-map, All-filter, All-push}
 use Rattle.std.proofs.lemmas.List.Kept.{AllPairs-cons}
+use Rattle.std.proofs.lemmas.Option.{none-some}
 use Rattle.hub_model.specs.Current.{Current}
-use Rattle.hub_model.specs.Entries.{changed, without, AreRising}
+use Rattle.hub_model.specs.Entries.{changed, entry_in, without, AreRising}
 use Rattle.hub_model.specs.Feed.{Feed, Params, Status, Open, Ending, Ended, Finished, Due, DueRow, DueEnd, DueNothing, DueGone, begin, due, due_at, due_open, is_in_reach, is_open, waits, expire, end, bound_of, bound_after, after_due, after_nothing, since_of}
 use Rattle.hub_model.specs.declared.feeds.Mode.{Mode}
 use Rattle.hub_model.specs.declared.feeds.Mode.TheVariants.{Normal, Longpoll, Continuous}
 use Rattle.hub_model.specs.declared.feeds.Since.{Since}
 use Rattle.hub_model.specs.declared.feeds.Since.TheVariants.{From, Now}
-use Rattle.hub_model.proofs.Entries.{changed_here, stays_here, rising_changed, rising_without, below_changed, below_without}
+use Rattle.hub_model.proofs.Entries.{changed_here, none_above, stays_here, rising_changed, rising_without, below_changed, below_without}
 use Rattle.hub_model.proofs.Shown.{find_is}
 use Rattle.hub_feed.specs.Feeds.{AreBehind, AreNumbered, IsBehind, ended}
 use Rattle.hub_feed.specs.Host.{feeds_behind}
@@ -23,6 +25,15 @@ numbered_left next id feeds x = record { rising = rising_without id feeds x.risi
 
 pub behind_left : (len id : ℕ) (feeds : List (ℕ × Feed)) → AreBehind len feeds → AreBehind len (without id feeds)
 behind_left len id feeds behind = All-filter (λ (p : ℕ × Feed). not (nat_eq p.0 id)) (λ (p : ℕ × Feed). IsBehind len p.1) feeds behind
+
+-- a feed that is there has a number that was given
+pub entry_given : (next id : ℕ) (feeds : List (ℕ × Feed)) (f : Feed) → All (λ (p : ℕ × Feed). p.0 < next) feeds → entry_in id feeds ≡ Some f → id < next
+entry_given next id feeds f given there =
+    elim (cases_Bool (nat_lt id next)) [
+      | inl low ↦ ltb-true id next low
+      | inr high ↦ let above : next ≤ id = ltb-false id next high in
+          absurd (none-some f (sym (none_above id feeds (λ k d l. let h = given k d l in omega (arith, h, above))) ∙ there))
+    ]
 
 -- one feed changes
 module _ (id : ℕ) (change : Feed → Feed) where
@@ -98,7 +109,8 @@ ended_behind len f h = from (is_open f.status)
     from true = h
     from false = h
 
-pairs_map : {A B : Type 0} (R : B → B → Type 0) (f : A → B) (xs : List A) → AllPairs (λ a b. R (f a) (f b)) xs → AllPairs R (map f xs)
+-- what holds of each element and a later one, of what a map gives
+pub pairs_map : {A B : Type 0} (R : B → B → Type 0) (f : A → B) (xs : List A) → AllPairs (λ a b. R (f a) (f b)) xs → AllPairs R (map f xs)
 pairs_map R f [] pairs = λ i j d a b. absurd (omega arith)
 pairs_map R f (x ∷ xs) pairs =
     AllPairs-cons R (f x) (map f xs) (All-map (R (f x)) f xs (λ k d l. pairs 0 (suc k) d (omega arith) (omega arith)))

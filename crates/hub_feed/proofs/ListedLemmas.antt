@@ -80,7 +80,7 @@ listed_none place bound rows = rw (find_nothing (is_listed_within place bound []
     never false b t = absurd (cc)
 
 -- a row of one listed document lies in reach, and has its id
-one_parts : (place : ℕ) (bound : Option ℕ) (id : List ℕ) (c : Current) → is_listed_within place bound (id ∷ []) c ≡ true → ((nat_lt place c.seq && is_within bound c.seq) ≡ true) × (c.id ≡ id)
+pub one_parts : (place : ℕ) (bound : Option ℕ) (id : List ℕ) (c : Current) → is_listed_within place bound (id ∷ []) c ≡ true → ((nat_lt place c.seq && is_within bound c.seq) ≡ true) × (c.id ≡ id)
 one_parts place bound id c t =
     let p = and_parts (nat_lt place c.seq) (is_within bound c.seq && list_any (bytes_eq c.id) (id ∷ [])) t in
     let q = and_parts (is_within bound c.seq) (list_any (bytes_eq c.id) (id ∷ [])) p.1 in

@@ -1,9 +1,10 @@
 -- The rows that a step of a feed looks at (CouchDB API reference, _changes with since).
-use Rattle.std.specs.Prelude.{ℕ, List, ◌&&◌, min, Bool, Option, Some, None, find, nat_lt}
+use Rattle.std.specs.Prelude.{◌≡◌, ℕ, List, ◌&&◌, min, Bool, Option, Some, None, option_map, find, nat_lt, IfSome}
 use Rattle.std.specs.List.{list_any}
 use Rattle.std.specs.Str.{bytes_eq}
 use Rattle.hub_model.specs.Current.{Current}
-use Rattle.hub_model.specs.Feed.{is_within}
+use Rattle.hub_model.specs.Feed.{Feed, Open, is_in_reach, is_within}
+use Rattle.hub_model.specs.Filter.{Filter, Everything, DocIds, Design}
 
 -- the first row above a place and not above the bound, if there is one
 abbrev pub first_within : ℕ → Option ℕ → List Current → Option Current
@@ -23,3 +24,14 @@ abbrev pub lesser : Option ℕ → Option ℕ → Option ℕ
 lesser None other = other
 lesser (Some n) None = Some n
 lesser (Some n) (Some other) = Some (min n other)
+
+-- the ids that a filter lists, where it shows listed documents alone
+abbrev pub listed_in : Filter → Option (List (List ℕ))
+listed_in Everything = None
+listed_in (DocIds ids) = Some ids
+listed_in Design = None
+
+-- of these rows the first in reach of a feed, if the feed is there and open, has this sequence, if there is one
+abbrev pub IsFirst : Option ℕ → List Current → Option Feed → Type 0
+IsFirst first rows feed =
+    IfSome feed (λ f. f.status ≡ Open → first ≡ option_map (λ c. c.seq) (find (is_in_reach f) rows))

@@ -1,14 +1,14 @@
 //! A feed's state.
 
 ghost use Rattle.std.specs.Prelude.{◌≡◌, ◌<◌, ◌≤◌, map, option_map, find, Some, string_bytes, IfSome, IfOk, OnErr};
-ghost use Rattle.hub_model.specs.Feed.{Open, begin, due, is_in_reach, bound_of, bound_after, status_after, after_due, after_row, beat_due, expire, end};
+ghost use Rattle.hub_model.specs.Feed.{Open, begin, due, is_in_reach, is_open, bound_of, bound_after, status_after, after_due, after_row, beat_due, expire, end};
 ghost use Rattle.hub_model.specs.Hand.{item_of};
 ghost use Rattle.hub_model.specs.declared.feeds.Item.TheVariants.{End};
 ghost use Rattle.hub_model.specs.Current.{pending};
 ghost use Rattle.hub_params.specs.FeedModel.{params_of};
 ghost use Rattle.hub_feed.specs.Mark.{mark_of};
 ghost use Rattle.hub_feed.specs.Next.{next_of, after_next, IsRowDue};
-ghost use Rattle.hub_feed.specs.Reach.{first_listed, lesser};
+ghost use Rattle.hub_feed.specs.Reach.{first_listed, lesser, listed_in};
 ghost use Rattle.hub_feed.specs.Shown.{status_of};
 
 use crate::mark::Mark;
@@ -182,15 +182,30 @@ impl FeedState {
         }
     }
 
-    // What an open feed has to hand.
-    fn next_of_open<S: Source>(&mut self, source: &S) -> Result<Next<S::Row>, AllocError>
+    /// The sequence of the first row in reach of a feed that is open. It costs what `next_item` says.
+    pub(crate) fn first_of_open<S: Source>(&self, source: &S) -> Option<u64>
+        ensures { self.now.status ≡ Open → result ≡ option_map (λ c. c.seq) (find (is_in_reach self.now) (S.current source.now)) }
+    {
+        match self.status {
+            Status::Open => self.first_in_reach(source),
+            Status::Ending | Status::Ended => None,
+        }
+    }
+
+    // What an open feed has to hand, whose first row in reach, if there is one, has this sequence.
+    fn next_of_open<S: Source>(
+        &mut self,
+        source: &S,
+        first: Option<u64>,
+    ) -> Result<Next<S::Row>, AllocError>
         requires open { self.old.status ≡ Open }
         requires reached { self.old.place ≤ S.length source.now }
+        requires first { first ≡ option_map (λ c. c.seq) (find (is_in_reach self.old) (S.current source.now)) }
         ensures ok { IfOk result (λ next. next ≡ next_of (S.shown source.now self.old.params.style self.old.params.include_docs) (S.current source.now) (due (S.current source.now) self.old)) }
         ensures new { IfOk result (λ next. self.new ≡ after_next self.old (due (S.current source.now) self.old) (S.length source.now)) }
         ensures err { OnErr result ((self.new ≡ self.old) × IsRowDue (due (S.current source.now) self.old)) }
     {
-        if let Some(seq) = self.first_in_reach(source) {
+        if let Some(seq) = first {
             let row = source.row(seq, self.params.style, self.params.include_docs)?;
             return Ok(Next::Give(Item::Row(row)));
         }
@@ -214,8 +229,25 @@ impl FeedState {
         ensures new { IfOk result (λ next. self.new ≡ after_next self.old (due (S.current source.now) self.old) (S.length source.now)) }
         ensures err { OnErr result ((self.new ≡ self.old) × IsRowDue (due (S.current source.now) self.old)) }
     {
+        let first = self.first_of_open(source);
+        self.next_item_at(source, first)
+    }
+
+    /// What `next_item` says, where the first row in reach of an open feed is known: it has this
+    /// sequence, if there is one. It costs what the row does, or the count of the rows above an end.
+    pub fn next_item_at<S: Source>(
+        &mut self,
+        source: &S,
+        first: Option<u64>,
+    ) -> Result<Next<S::Row>, AllocError>
+        requires reached { self.old.place ≤ S.length source.now }
+        requires first { self.old.status ≡ Open → first ≡ option_map (λ c. c.seq) (find (is_in_reach self.old) (S.current source.now)) }
+        ensures ok { IfOk result (λ next. next ≡ next_of (S.shown source.now self.old.params.style self.old.params.include_docs) (S.current source.now) (due (S.current source.now) self.old)) }
+        ensures new { IfOk result (λ next. self.new ≡ after_next self.old (due (S.current source.now) self.old) (S.length source.now)) }
+        ensures err { OnErr result ((self.new ≡ self.old) × IsRowDue (due (S.current source.now) self.old)) }
+    {
         match self.status {
-            Status::Open => self.next_of_open(source),
+            Status::Open => self.next_of_open(source, first),
             Status::Ending => Ok(Next::Give(end_at(source, self.place))),
             Status::Ended => Ok(Next::Gone),
         }
@@ -255,6 +287,38 @@ impl FeedState {
                 self.place = last_seq;
                 self.status = Status::Ended;
             }
+        }
+    }
+
+    /// Whether it may hand rows. Constant time.
+    pub fn is_open(&self) -> bool
+        ensures { result ≡ is_open self.now.status }
+    {
+        self.status == Status::Open
+    }
+
+    /// The sequence up to which it has shown what passes. Constant time.
+    pub fn place(&self) -> u64
+        ensures { result ≡ self.now.place }
+    {
+        self.place
+    }
+
+    /// The sequence that it shows nothing above, if there is one. Constant time.
+    pub fn bound(&self) -> Option<u64>
+        ensures { result ≡ self.now.bound }
+    {
+        self.bound
+    }
+
+    /// The ids that it lists, in byte order, where it shows listed documents alone. One may stand
+    /// twice. Constant time.
+    pub fn listed(&self) -> Option<&[String]>
+        ensures { option_map (λ ids. map string_bytes ids.now) result ≡ listed_in self.now.params.filter }
+    {
+        match &self.params.filter {
+            Filter::DocIds(ids) => Some(ids.as_slice()),
+            Filter::All | Filter::Design => None,
         }
     }
 

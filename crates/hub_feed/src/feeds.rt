@@ -1,6 +1,6 @@
 //! The feeds that something keeps, by their numbers.
 
-ghost use Rattle.std.specs.Prelude.{◌≡◌, ◌<◌, ◌^◌, ◌+◌, ◌-◌, ◌||◌, ◌++◌, ◌∷◌, [], ℕ, length, map, nat_le, Some, None, option_map, IfOk, OnOk, OnErr};
+ghost use Rattle.std.specs.Prelude.{◌≡◌, ◌<◌, ◌^◌, ◌+◌, ◌-◌, ◌||◌, ◌++◌, ◌∷◌, [], ℕ, length, map, nat_le, Some, None, option_map, IfSome, IfOk, OnOk, OnErr};
 ghost use Rattle.hub_model.specs.Entries.{changed, entry_in, without};
 ghost use Rattle.hub_model.specs.Feed.{begin, expire};
 ghost use Rattle.hub_params.specs.FeedModel.{params_of};
@@ -8,6 +8,7 @@ ghost use Rattle.hub_feed.specs.Feeds.{AreBehind, ended, feeds_of, over};
 ghost use Rattle.hub_feed.specs.Host.{answered, behind_answer, due_to, handed, is_beat_due, item_due};
 ghost use Rattle.hub_feed.specs.Mark.{mark_of};
 ghost use Rattle.hub_feed.specs.Next.{IsRowDue};
+ghost use Rattle.hub_feed.specs.Reach.{IsFirst};
 
 use crate::feed::FeedState;
 use crate::host::FeedId;
@@ -112,8 +113,58 @@ impl Feeds {
             return Ok(Next::Gone);
         };
         self.near = at;
+        let first = self.list[at].1.first_of_open(source);
+        self.next_item_at(source, feed, first)
+    }
+
+    /// What `next_item` says, where the first row in reach of the feed is known, if it is there and
+    /// open: the row has this sequence, if there is one. It costs what `FeedState::next_item_at` does,
+    /// and a binary search unless the last call was for the same feed.
+    pub fn next_item_at<S: Source>(
+        &mut self,
+        source: &S,
+        feed: FeedId,
+        first: Option<u64>,
+    ) -> Result<Next<S::Row>, AllocError>
+        requires behind { AreBehind (S.length source.now) self.old.feeds }
+        requires first { IsFirst first (S.current source.now) (entry_in feed.number self.old.feeds) }
+        ensures ok { IfOk result (λ next. next ≡ answered
+            (over (S.length source.now) (S.current source.now) (S.shown source.now) self.old) feed.number) }
+        ensures new { IfOk result (λ next. self.new ≡ feeds_of (behind_answer
+            (over (S.length source.now) (S.current source.now) (S.shown source.now) self.old) feed.number next)) }
+        ensures err { OnErr result ((self.new ≡ self.old) × IsRowDue (due_to
+            (over (S.length source.now) (S.current source.now) (S.shown source.now) self.old) feed.number)) }
+        ensures behind { AreBehind (S.length source.now) self.new.feeds }
+    {
+        let Some(at) = place_near(self.list.as_slice(), self.near, feed.number) else {
+            return Ok(Next::Gone);
+        };
+        self.near = at;
         let feed = &mut self.list[at];
-        feed.1.next_item(source)
+        feed.1.next_item_at(source, first)
+    }
+
+    /// Looks for a feed, so that the next call for it finds it in constant time. A binary search,
+    /// unless the last call was for the same feed.
+    pub fn seek(&mut self, feed: FeedId)
+        ensures { self.new ≡ self.old }
+    {
+        if let Some(at) = place_near(self.list.as_slice(), self.near, feed.number) {
+            self.near = at;
+        }
+    }
+
+    /// A feed, if there is one of this number. A binary search, unless the last call was for the same
+    /// feed.
+    pub fn state(&self, feed: FeedId) -> Option<&FeedState>
+        ensures found { option_map (λ f. f.now) result ≡ entry_in feed.number self.now.feeds }
+        ensures given { IfSome result (λ f. feed.number < self.now.next) }
+    {
+        let Some(at) = place_near(self.list.as_slice(), self.near, feed.number) else {
+            return None;
+        };
+        let feed = &self.list[at];
+        Some(&feed.1)
     }
 
     /// Goes on behind the item that `next_item` gives now, of which this is the mark. It takes no

@@ -6,7 +6,7 @@ use Rattle.hub_model.specs.Current.{pending}
 use Rattle.hub_feed.specs.declared.next.Next.TheVariants.{Give}
 use Rattle.hub_feed.specs.Shown.{status_of}
 use Rattle.hub_feed.proofs.DueLemmas.{ending_end}
-use Rattle.hub_feed.proofs.feed.FeedState.next_item.Goals as goal
+use Rattle.hub_feed.proofs.feed.FeedState.next_item_at.Goals as goal
 
 pub returns-in-Ending-clause-ok : goal.returns-in-Ending-clause-ok
 returns-in-Ending-clause-ok g c =

@@ -1,0 +1,124 @@
+//! The rows of a feed of listed documents, kept in order while nothing is written.
+
+ghost use Rattle.std.specs.Prelude.{◌≡◌, ◌<◌, ◌&&◌, ◌++◌, ℕ, [], find, map, nat_lt, string_bytes, Contains, None, Some, IsTrue, OnOk, OnErr};
+ghost use Rattle.std.specs.List.{AllPairs, cons_option, filter_map};
+ghost use Rattle.hub_model.specs.Feed.{is_within};
+ghost use Rattle.hub_model.specs.Filter.{DocIds};
+ghost use Rattle.hub_database.specs.Listing.{KeepsOrLists, passing, seq_of_row};
+
+use crate::rows::Rows;
+use hub_feed::{Source, is_ahead};
+use std::alloc::{AllocError, Global};
+
+/// The rows of one feed of listed documents: found by its ids once, they serve each of its steps
+/// until the next write.
+#[derive(Debug, Drop)]
+pub(crate) struct Listing {
+    /// The number of the feed that was asked last, of those of listed documents, if nothing was
+    /// written since.
+    asked: Option<u64>,
+    /// The number of the feed whose rows are kept, if those of one are.
+    pub(crate) feed: Option<u64>,
+    /// The sequences of the current rows that the feed's filter passes, rising.
+    pub(crate) rows: Vec<u64>,
+}
+
+// Puts a sequence behind the others, if there is one.
+fn push_some(list: &mut Vec<u64>, seq: Option<u64>) -> Result<(), AllocError>
+    ensures { OnOk result (list.new.items ≡ list.old.items ++ cons_option seq []) }
+{
+    if let Some(seq) = seq {
+        list.push(seq)?;
+    }
+    Ok(())
+}
+
+// The sequences of the current rows of the documents with these ids, in the order of the ids. A look
+// in the map of ids for each.
+fn gather(list: &mut Vec<u64>, rows: &Rows<'_>, ids: &[String]) -> Result<(), AllocError>
+    ensures { OnOk result (list.new.items ≡ filter_map (seq_of_row rows.now) (map string_bytes ids.now)) }
+{
+    list.clear();
+    for id in ids {
+        push_some(list, rows.next_of(id.as_str(), 0, None))?;
+    }
+    Ok(())
+}
+
+// Brings sequences in order, each once. It takes no memory.
+fn arrange(list: &mut Vec<u64>)
+    ensures rises { AllPairs (λ m n. m < n) list.new.items }
+    ensures keeps { (n : ℕ) → Contains list.old.items n → Contains list.new.items n }
+    ensures adds_none { (n : ℕ) → Contains list.new.items n → Contains list.old.items n }
+{
+    list.sort_unstable();
+    list.dedup();
+}
+
+impl Listing {
+    /// No rows are kept. It takes no memory yet.
+    pub(crate) fn new(alloc: Global) -> Listing
+        ensures { result.feed ≡ None }
+    {
+        Listing {
+            asked: None,
+            feed: None,
+            rows: Vec::new(alloc),
+        }
+    }
+
+    /// No rows are kept any more, as a write is to change them. The list keeps its memory. Constant
+    /// time.
+    pub(crate) fn forget(&mut self)
+        ensures { self.new.feed ≡ None }
+    {
+        self.asked = None;
+        self.feed = None;
+    }
+
+    // Finds the rows of the feed of this number, which lists these ids.
+    fn list(&mut self, number: u64, rows: &Rows<'_>, ids: &[String]) -> Result<(), AllocError>
+        ensures ok { OnOk result ((self.new.feed ≡ Some number)
+            × (self.new.rows.items ≡ passing (DocIds (map string_bytes ids.now)) rows.now)) }
+        ensures err { OnErr result (self.new.feed ≡ None) }
+    {
+        self.feed = None;
+        gather(&mut self.rows, rows, ids)?;
+        arrange(&mut self.rows);
+        self.feed = Some(number);
+        Ok(())
+    }
+
+    /// Whether the rows are kept of the feed of this number, which lists these ids. They are found
+    /// once the feed asks twice with no write and no other such feed between, so that feeds that ask
+    /// by turns don't find theirs for one step alone: a look in the map of ids for each id, and a sort
+    /// of what is found. Where memory is short they are not kept. Once they are: constant time.
+    pub(crate) fn holds(&mut self, number: u64, rows: &Rows<'_>, ids: &[String]) -> bool
+        requires kept { self.old.feed ≡ Some number
+            → self.old.rows.items ≡ passing (DocIds (map string_bytes ids.now)) rows.now }
+        ensures held { IsTrue result
+            → self.new.rows.items ≡ passing (DocIds (map string_bytes ids.now)) rows.now }
+        ensures new { KeepsOrLists number (DocIds (map string_bytes ids.now)) rows.now self.old self.new }
+    {
+        let again = self.asked == Some(number);
+        self.asked = Some(number);
+        if self.feed == Some(number) {
+            return true;
+        }
+        again && self.list(number, rows, ids).is_ok()
+    }
+
+    /// The first of the sequences above a place and not above a bound, if there is one. A binary
+    /// search.
+    pub(crate) fn first_between(&self, place: u64, bound: Option<u64>) -> Option<u64>
+        requires { AllPairs (λ m n. m < n) self.now.rows.items }
+        ensures { result ≡ find (λ n. nat_lt place n && is_within bound n) self.now.rows.items }
+    {
+        let at = self.rows.partition_point(|seq| *seq <= place);
+        let seq = *self.rows.get(at)?;
+        if is_ahead(place, bound, seq) {
+            return Some(seq);
+        }
+        None
+    }
+}
