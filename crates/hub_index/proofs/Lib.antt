@@ -3,3 +3,5 @@ pub mod IndexLemmas
 pub mod IndexedLemmas
 pub mod PageLemmas
 pub mod SlotLemmas
+pub mod OrderLemmas
+pub mod IdPageLemmas

@@ -11,17 +11,19 @@ use Rattle.std.specs.Set.{unique_keys, is_member}
 use Rattle.std.specs.Cmp.{nat_cmp_is}
 use Rattle.std.specs.declared.cmp.Ordering.TheVariants.{Less, Equal, Greater}
 use Rattle.std.specs.declared.ops.Bound.TheVariants.{Included, Unbounded}
-use Rattle.std.proofs.lemmas.Bool.{cases_Bool, cases_order, both_ways, le-ltb, eq-eqb, ne_eqb}
+use Rattle.std.proofs.lemmas.Bool.{cases_Bool, cases_order, both_ways, eqb-true, false_from_ne_true, le-ltb, eq-eqb, ne_eqb}
 use Rattle.std.proofs.lemmas.List.{append-nil, append_assoc, reverse-append, length-set, length-append, length-map, map-append}
-use Rattle.std.proofs.lemmas.List.Elements.{All-tail, All-cons, All-nil, All-append, All-push, All-map, filter-append}
+use Rattle.std.proofs.lemmas.List.Elements.{All-tail, All-cons, All-nil, All-append, All-push, All-map, All-filter, filter-append}
+use Rattle.std.proofs.lemmas.List.Kept.{AllPairs-filter}
 use Rattle.std.proofs.lemmas.List.Folds.{find-append}
 use Rattle.std.proofs.lemmas.List.Sums.{length-filter, sum_by-append}
 use Rattle.std.proofs.lemmas.Map.Keys.{sorted_head, sorted_tail}
 use Rattle.std.proofs.lemmas.Grind.{flat_map-append}
 use Rattle.std.proofs.lemmas.Option.{none-some}
 use Rattle.hub_index.specs.Pages.{slot_rows, page_rows, rows_of, IsPage, ArePages, page_of, page_count}
-use Rattle.hub_index.proofs.IndexLemmas.{find_first, find_no_first, filter_reverse, insert_last, of_head, of_tail, same_Some}
-use Rattle.hub_index.proofs.SlotLemmas.{rows_within, rows_filled, rows_cleared, length_rows, at_seq, not_at, remove_left, remove_right, All_removed}
+use Rattle.hub_index.specs.Rows.{IsIndex}
+use Rattle.hub_index.proofs.IndexLemmas.{filter_keeps, find_first, find_no_first, filter_reverse, insert_last, of_head, of_tail, same_Some}
+use Rattle.hub_index.proofs.SlotLemmas.{rows_within, rows_filled, rows_cleared, length_rows, at_seq, not_at, is_at_same, remove_left, remove_right, All_removed}
 
 -- a page, as lemmas name it
 abbrev pub Numbered : Type 0
@@ -401,3 +403,31 @@ module _ (p : ℕ × ℕ → Bool) (e : Numbered) (es : List Numbered) where
 
   pub counted_first : count_by p (rows_of (e ∷ es)) ≡ count_by p (page_rows e) + count_by p (rows_of es)
   counted_first = sum_by-append (λ r. cond (p r) 1 0) (page_rows e) (rows_of es)
+
+-- ---- rows without one
+
+-- the rows of an index without that at a sequence
+pub removed_is : (seq : ℕ) (rows : List (ℕ × ℕ)) → AllPairs (λ (a b : ℕ × ℕ). a.0 < b.0) rows
+    → remove_entry (at_seq seq) rows ≡ filter (λ (r : ℕ × ℕ). not (nat_eq r.0 seq)) rows
+removed_is seq [] rising = refl
+removed_is seq (x ∷ xs) rising =
+    let rest = of_tail (λ (a b : ℕ × ℕ). a.0 < b.0) x xs rising in
+    elim (cases_Bool (nat_eq x.0 seq)) [
+      | inl t ↦ ap (λ b. cond b xs (x ∷ remove_entry (at_seq seq) xs)) (is_at_same seq x.0 (eqb-true x.0 seq t))
+          ∙ (sym (filter_keeps (λ (r : ℕ × ℕ). not (nat_eq r.0 seq)) xs (others (eqb-true x.0 seq t)))
+          ∙ ap (λ b. cond (not b) (x ∷ filter (λ (r : ℕ × ℕ). not (nat_eq r.0 seq)) xs) (filter (λ (r : ℕ × ℕ). not (nat_eq r.0 seq)) xs)) (sym t))
+      | inr f ↦ ap (λ b. cond b xs (x ∷ remove_entry (at_seq seq) xs)) (false_from_ne_true (at_seq seq x.0) (λ h. both_ways (nat_eq x.0 seq) f (eq-eqb x.0 seq (at_is seq x.0 h))))
+          ∙ (ap (λ l. x ∷ l) (removed_is seq xs rest)
+          ∙ ap (λ b. cond (not b) (x ∷ filter (λ (r : ℕ × ℕ). not (nat_eq r.0 seq)) xs) (filter (λ (r : ℕ × ℕ). not (nat_eq r.0 seq)) xs)) (sym f))
+    ]
+  where
+    others : x.0 ≡ seq → All (λ (r : ℕ × ℕ). not (nat_eq r.0 seq) ≡ true) xs
+    others e k d l =
+        ap not (ne_eqb (get_or xs k d).0 seq (λ q. let above = of_head (λ (a b : ℕ × ℕ). a.0 < b.0) x xs rising k d l in omega (arith, e, q, above)))
+
+pub index_less : (p : ℕ × ℕ → Bool) (rows : List (ℕ × ℕ)) → IsIndex rows → IsIndex (filter p rows)
+index_less p rows index = record {
+  rising = AllPairs-filter (λ (a b : ℕ × ℕ). a.0 < b.0) p rows index.rising;
+  once = AllPairs-filter (λ (a b : ℕ × ℕ). a.1 ≢ b.1) p rows index.once;
+  positive = All-filter p (λ (r : ℕ × ℕ). 0 < r.0) rows index.positive;
+}

@@ -1,7 +1,11 @@
 //! The rows of a feed by sequence: which document stands at which sequence, and which row comes
-//! next (CouchDB API reference, `_changes`).
+//! next (CouchDB API reference, `_changes`); and the numbers of documents in the order of their ids.
 #![tactic(auto)]
 
+mod id_order;
+mod id_pages;
+#[cfg(test)]
+mod id_tests;
 mod page;
 mod page_index;
 #[cfg(test)]
@@ -11,6 +15,7 @@ mod seq_index;
 mod tests;
 mod tree_index;
 
+pub use id_order::{IdOrder, Named};
 pub use page_index::PageIndex;
 pub use seq_index::SeqIndex;
 pub use tree_index::TreeIndex;

@@ -1,6 +1,6 @@
 //! Rows in pages.
 
-ghost use Rattle.std.specs.Prelude.{◌≡◌, ℕ, ◌+◌, ◌*◌, ◌<◌, ◌++◌, ◌∷◌, [], nat_lt, find, reverse, count_by, OnOk, OnErr, IfOk};
+ghost use Rattle.std.specs.Prelude.{◌≡◌, ℕ, ◌+◌, ◌*◌, ◌<◌, ◌++◌, ◌∷◌, [], nat_eq, nat_lt, not, find, filter, reverse, count_by, OnOk, OnErr, IfOk};
 ghost use Rattle.std.specs.List.{All};
 ghost use Rattle.std.specs.Map.{remove_entry};
 ghost use Rattle.std.specs.BTreeMap.{is_at};
@@ -133,6 +133,15 @@ impl PageIndex {
             alloc,
             pages: BTreeMap::new(alloc),
         }
+    }
+
+    /// Removes the row at a sequence, if there is one. Logarithmic in the number of pages. It takes no
+    /// memory, and gives a page back where the row was its only one.
+    pub fn remove(&mut self, seq: u64)
+        requires { 0 < seq }
+        ensures { self.new ≡ filter (λ r. not (nat_eq r.0 seq)) self.old }
+    {
+        remove_row(&mut self.pages, seq);
     }
 
     /// How many pages it has: those on which a row lies, and no other. It takes no memory, and

@@ -1,0 +1,60 @@
+-- Numbers in the byte order of the ids that they stand for (own).
+use Rattle.std.specs.Prelude.{◌≡◌, ℕ, ◌+◌, ◌<◌, ◌≤◌, List, [], ◌∷◌, ◌++◌, length, get_or, take, Bool, false, not}
+use Rattle.std.specs.Prelude.{Option, filter, find, Vec}
+use Rattle.std.specs.Cmp.Lexicographic.{slice_cmp}
+use Rattle.std.specs.List.{All, AllPairs, flat_map}
+use Rattle.std.specs.Ordering.{nat_cmp, is_lt, is_le}
+use Rattle.std.specs.Str.{bytes_eq}
+use Rattle.std.specs.declared.cmp.Ordering.{Ordering}
+use Rattle.std.specs.declared.cmp.Ordering.TheVariants.{Less}
+
+-- the id of a number, of ids by number; a number above all has the empty text
+abbrev pub id_at : List (List ℕ) → ℕ → List ℕ
+id_at ids number = get_or ids number []
+
+-- how the id of a number stands to an id: a text lies below another where its first byte that differs is
+-- lower, or where it ends first
+abbrev pub id_cmp : List (List ℕ) → List ℕ → ℕ → Ordering
+id_cmp ids id number = slice_cmp nat_cmp (id_at ids number) id
+
+-- each number has an id, and the ids rise: so no id stands twice. Where 0 is b, 1 is a and 2 is ab, the order
+-- of all is 1, 2, 0.
+pub record IsOrder (ids : List (List ℕ)) (numbers : List ℕ) : Type 0 where
+  pub known : All (λ n. n < length ids) numbers
+  pub rising : AllPairs (λ m n. id_cmp ids (id_at ids n) m ≡ Less) numbers
+
+-- whether the id of a number is this one
+abbrev pub has_id : List (List ℕ) → List ℕ → ℕ → Bool
+has_id ids id number = bytes_eq (id_at ids number) id
+
+-- the number that has this id
+abbrev pub number_in : List (List ℕ) → List ℕ → List ℕ → Option ℕ
+number_in ids numbers id = find (has_id ids id) numbers
+
+-- whether the id of a number lies below an id
+abbrev pub lies_below : List (List ℕ) → List ℕ → ℕ → Bool
+lies_below ids id number = is_lt (id_cmp ids id number)
+
+-- the numbers, and one more, of this id: behind those whose ids lie below it, and before the others
+abbrev pub with_number : List (List ℕ) → List ℕ → List ℕ → ℕ → List ℕ
+with_number ids numbers id number =
+    filter (lies_below ids id) numbers ++ number ∷ filter (λ n. not (lies_below ids id n)) numbers
+
+-- the numbers of pages, one page behind the other
+abbrev pub numbers_of : {Y : Type 0} → List (Vec ℕ Y) → List ℕ
+numbers_of pages = flat_map (λ page. page.items) pages
+
+-- a page of numbers: it has some, and at most 256
+pub record IsNumberPage {Y : Type 0} (page : Vec ℕ Y) : Type 0 where
+  pub some : 0 < length page.items
+  pub few : length page.items ≤ 256
+
+-- Where a place of a page lies among the numbers of all: where the pages 0 and 1 have 200 numbers each, place 3
+-- of page 2 is place 403 of all.
+abbrev pub place_of : {Y : Type 0} → List (Vec ℕ Y) → ℕ → ℕ → ℕ
+place_of pages page at = length (numbers_of (take page pages)) + at
+
+-- whether the first number's id is this one or lies below it
+abbrev pub begins_up_to : List (List ℕ) → List ℕ → List ℕ → Bool
+begins_up_to ids id [] = false
+begins_up_to ids id (first ∷ rest) = is_le (id_cmp ids id first)

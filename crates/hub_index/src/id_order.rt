@@ -1,0 +1,81 @@
+//! Numbers in the order of the ids that they stand for.
+
+ghost use Rattle.std.specs.Prelude.{◌≡◌, ℕ, List, [], ◌++◌, ◌∷◌, length, None, OnOk, OnErr};
+ghost use Rattle.hub_index.specs.Order.{IsOrder, id_at, number_in, with_number};
+
+use crate::id_pages::{number_of, page_at, place_in, push_page, put};
+use std::alloc::{AllocError, Global};
+use std::marker::Model;
+
+/// What has ids by number.
+pub trait Named {
+    ghost ids: { Self → List (List ℕ) };
+
+    /// The id of a number, and the empty text where the number is above all. It takes no memory, and
+    /// constant time.
+    fn id(&self, number: u32) -> &str
+        ensures { result.now ≡ id_at (ids self.now) number };
+}
+
+/// Numbers in the byte order of their ids, seen as the list of them. The ids stand elsewhere: each
+/// call is given them. A number takes four bytes, and pages that are not full some two more.
+#[derive(Debug, Drop)]
+pub struct IdOrder {
+    alloc: Global,
+    /// Pages of numbers, none of them empty.
+    pages: Vec<Vec<u32>>,
+}
+
+impl Model for IdOrder {
+    ghost use Rattle.std.specs.Prelude.{List, ℕ};
+    ghost use Rattle.std.specs.List.{All};
+    ghost use Rattle.hub_index.specs.Order.{IsNumberPage, numbers_of};
+
+    ghost Value = { List ℕ };
+
+    ghost view = { λ a. numbers_of a.pages.items };
+
+    ghost invariant = { λ a. All IsNumberPage a.pages.items };
+}
+
+impl IdOrder {
+    /// No number. It takes no memory yet; `insert` takes it from this allocator.
+    pub fn new(alloc: Global) -> IdOrder
+        ensures { result ≡ [] }
+    {
+        IdOrder {
+            alloc,
+            pages: Vec::new(alloc),
+        }
+    }
+
+    /// The number of this id. It compares ids logarithmically many times, and takes no memory.
+    pub fn find<N: Named>(&self, names: &N, id: &str) -> Option<u32>
+        requires order { IsOrder (N.ids names.now) self.now }
+        ensures { result ≡ number_in (N.ids names.now) self.now id.now }
+    {
+        let page = page_at(names, self.pages.as_slice(), id);
+        let numbers = self.pages.get(page)?;
+        number_of(names, numbers.as_slice(), id)
+    }
+
+    /// Takes in a number of a new id: the next after those that have ids, whose own id joins them
+    /// later. It compares ids logarithmically many times, and moves the numbers behind it on its
+    /// page; a full page is halved before, and ids that come in order fill pages whole. An error
+    /// leaves all numbers as they were.
+    pub fn insert<N: Named>(&mut self, names: &N, number: u32, id: &str) -> Result<(), AllocError>
+        requires order { IsOrder (N.ids names.now) self.old }
+        requires next { number ≡ length (N.ids names.now) }
+        requires new { number_in (N.ids names.now) self.old id.now ≡ None }
+        ensures ok { OnOk result (self.new ≡ with_number (N.ids names.now) self.old id.now number) }
+        ensures order { OnOk result (IsOrder (N.ids names.now ++ id.now ∷ []) self.new) }
+        ensures err { OnErr result (self.new ≡ self.old) }
+    {
+        let page = page_at(names, self.pages.as_slice(), id);
+        if page == self.pages.len() {
+            return push_page(&mut self.pages, self.alloc, number);
+        }
+        let at = place_in(names, self.pages[page].as_slice(), id);
+        put(&mut self.pages, self.alloc, page, at, number)
+    }
+}

@@ -1,0 +1,177 @@
+//! Pages of numbers, in the order of the ids that the numbers stand for.
+
+ghost use Rattle.std.specs.Prelude.{◌≡◌, ◌+◌, ◌<◌, ◌≤◌, ◌++◌, ◌∷◌, [], length, filter, not, true, take, drop, slice_get, IsSomeAnd, OnOk, OnErr};
+ghost use Rattle.std.specs.List.{All, insert};
+ghost use Rattle.std.specs.Ordering.{is_gt};
+ghost use Rattle.hub_index.specs.Order.{IsNumberPage, IsOrder, begins_up_to, id_cmp, lies_below, number_in, numbers_of, place_of};
+
+use crate::id_order::Named;
+use std::alloc::{AllocError, Global};
+
+/// How many numbers a page has at most.
+const PAGE_SIZE: usize = 256;
+
+/// Where a full page is cut.
+const HALF: usize = 128;
+
+/// How many numbers more a page takes memory for, where it has none left.
+const STEP: usize = 32;
+
+// Whether the first id of a page is this one or lies below it.
+fn begins_up_to<N: Named>(names: &N, numbers: &[u32], id: &str) -> bool
+    ensures { result ≡ begins_up_to (N.ids names.now) id.now numbers.now }
+{
+    match numbers.first() {
+        Some(first) => names.id(*first).cmp(id).is_le(),
+        None => false,
+    }
+}
+
+/// The page where an id stands or belongs: the last that begins with it or with one below it, and
+/// the first where none does. It compares logarithmically many ids.
+pub(crate) fn page_at<N: Named>(names: &N, pages: &[Vec<u32>], id: &str) -> usize
+    requires order { IsOrder (N.ids names.now) (numbers_of pages.now) }
+    requires pages { All IsNumberPage pages.now }
+    ensures within { 0 < length pages.now → result < length pages.now }
+    ensures first { length pages.now ≡ 0 → result ≡ 0 }
+    ensures below { All (λ n. lies_below (N.ids names.now) id.now n ≡ true) (numbers_of (take result pages.now)) }
+    ensures above { All (λ n. is_gt (id_cmp (N.ids names.now) id.now n) ≡ true)
+        (numbers_of (drop (result + 1) pages.now)) }
+{
+    pages
+        .partition_point(|page| begins_up_to(names, page.as_slice(), id))
+        .saturating_sub(1)
+}
+
+/// Where the number of an id stands or belongs on a page: behind those whose ids lie below it. It
+/// compares logarithmically many ids.
+pub(crate) fn place_in<N: Named>(names: &N, numbers: &[u32], id: &str) -> usize
+    requires order { IsOrder (N.ids names.now) numbers.now }
+    ensures within { result ≤ length numbers.now }
+    ensures before { take result numbers.now ≡ filter (lies_below (N.ids names.now) id.now) numbers.now }
+    ensures behind { drop result numbers.now
+        ≡ filter (λ n. not (lies_below (N.ids names.now) id.now n)) numbers.now }
+{
+    numbers.partition_point(|number| names.id(*number).cmp(id).is_lt())
+}
+
+/// The number of an id on a page. It compares logarithmically many ids.
+pub(crate) fn number_of<N: Named>(names: &N, numbers: &[u32], id: &str) -> Option<u32>
+    requires order { IsOrder (N.ids names.now) numbers.now }
+    ensures { result ≡ number_in (N.ids names.now) numbers.now id.now }
+{
+    let at = place_in(names, numbers, id);
+    let number = *numbers.get(at)?;
+    if names.id(number) == id {
+        Some(number)
+    } else {
+        None
+    }
+}
+
+/// A page behind all, with this number alone.
+pub(crate) fn push_page(
+    pages: &mut Vec<Vec<u32>>,
+    alloc: Global,
+    number: u32,
+) -> Result<(), AllocError>
+    requires pages { All IsNumberPage pages.old.items }
+    ensures ok { OnOk result (numbers_of pages.new.items ≡ numbers_of pages.old.items ++ number ∷ []) }
+    ensures err { OnErr result (numbers_of pages.new.items ≡ numbers_of pages.old.items) }
+    ensures pages { All IsNumberPage pages.new.items }
+{
+    let mut page = Vec::new(alloc);
+    page.try_reserve_exact(STEP)?;
+    page.push(number)?;
+    pages.push(page)?;
+    Ok(())
+}
+
+// Keeps the numbers below `HALF`, and the memory for them.
+fn cut(numbers: &mut Vec<u32>)
+    ensures { numbers.new.items ≡ take 128 numbers.old.items }
+{
+    numbers.truncate(HALF);
+    numbers.shrink_to(HALF);
+}
+
+// Cuts a full page in two.
+fn split(pages: &mut Vec<Vec<u32>>, alloc: Global, page: usize) -> Result<(), AllocError>
+    requires full { IsSomeAnd (slice_get pages.old.items page) (λ numbers. length numbers.items ≡ 256) }
+    requires pages { All IsNumberPage pages.old.items }
+    ensures numbers { numbers_of pages.new.items ≡ numbers_of pages.old.items }
+    ensures pages { All IsNumberPage pages.new.items }
+    ensures before { take page pages.new.items ≡ take page pages.old.items }
+    ensures lower { OnOk result
+        (IsSomeAnd (slice_get pages.new.items page) (λ numbers. length numbers.items ≡ 128)) }
+    ensures upper { OnOk result
+        (IsSomeAnd (slice_get pages.new.items (page + 1)) (λ numbers. length numbers.items ≡ 128)) }
+{
+    let upper = Vec::from_slice(alloc, &pages[page][HALF..])?;
+    pages.insert(page + 1, upper)?;
+    cut(&mut pages[page]);
+    Ok(())
+}
+
+// Puts a number at a place. Memory grows by a few numbers, and not to the double: a page stays small.
+fn insert_at(numbers: &mut Vec<u32>, at: usize, number: u32) -> Result<(), AllocError>
+    requires { at ≤ length numbers.old.items }
+    ensures ok { OnOk result (numbers.new.items ≡ insert numbers.old.items at number) }
+    ensures err { OnErr result (numbers.new.items ≡ numbers.old.items) }
+{
+    if numbers.len() == numbers.capacity() {
+        numbers.try_reserve_exact(STEP)?;
+    }
+    numbers.insert(at, number)?;
+    Ok(())
+}
+
+// Puts a number at a place of a page that is not full.
+fn put_within(
+    pages: &mut Vec<Vec<u32>>,
+    page: usize,
+    at: usize,
+    number: u32,
+) -> Result<(), AllocError>
+    requires place { IsSomeAnd (slice_get pages.old.items page)
+        (λ numbers. (at ≤ length numbers.items) × (length numbers.items < 256)) }
+    requires pages { All IsNumberPage pages.old.items }
+    ensures ok { OnOk result (numbers_of pages.new.items
+        ≡ insert (numbers_of pages.old.items) (place_of pages.old.items page at) number) }
+    ensures err { OnErr result (numbers_of pages.new.items ≡ numbers_of pages.old.items) }
+    ensures pages { All IsNumberPage pages.new.items }
+{
+    insert_at(&mut pages[page], at, number)
+}
+
+/// Puts a number at a place of a page. A full page is halved before; but a number that goes behind
+/// all begins a page. It moves the numbers behind the place on the page, and where a page is new
+/// the pages behind it.
+pub(crate) fn put(
+    pages: &mut Vec<Vec<u32>>,
+    alloc: Global,
+    page: usize,
+    at: usize,
+    number: u32,
+) -> Result<(), AllocError>
+    requires place { IsSomeAnd (slice_get pages.old.items page) (λ numbers. at ≤ length numbers.items) }
+    requires pages { All IsNumberPage pages.old.items }
+    ensures ok { OnOk result (numbers_of pages.new.items
+        ≡ insert (numbers_of pages.old.items) (place_of pages.old.items page at) number) }
+    ensures err { OnErr result (numbers_of pages.new.items ≡ numbers_of pages.old.items) }
+    ensures pages { All IsNumberPage pages.new.items }
+{
+    let count = pages[page].len();
+    if count < PAGE_SIZE {
+        return put_within(pages, page, at, number);
+    }
+    if at == count && page + 1 == pages.len() {
+        return push_page(pages, alloc, number);
+    }
+    split(pages, alloc, page)?;
+    if at <= HALF {
+        put_within(pages, page, at, number)
+    } else {
+        put_within(pages, page + 1, at - HALF, number)
+    }
+}
