@@ -1,5 +1,6 @@
 //! Trees as tables: what is done to one, what it is asked, and what it answers.
 
+mod digests;
 mod edits;
 mod keeps;
 mod lines;
