@@ -1,11 +1,15 @@
 -- The rows of a feed of listed documents: how they are found and searched, and what they outlast.
-use Rattle.std.proofs.Common.{◌≡◌, ◌≢◌, ℕ, suc, zero, ◌+◌, ◌<◌, ◌≤◌, List, [], ◌∷◌, ◌++◌, length, map, Bool, true, false, ◌&&◌, nat_lt, nat_le, nat_eq, inl, inr, refl, sym, ◌∙◌, ap, subst, arith, take, String, Global, string_bytes, Bor, HoldsAt, MatchOption}
-use Rattle.std.specs.Prelude.{Option, Some, None, option_map, filter, find, Contains, IfSome, get_or, slice_get, ◌⊎◌, if◌then◌else◌}
+use Rattle.std.proofs.Common.{◌≡◌, ◌≢◌, ℕ, suc, zero, ◌+◌, ◌<◌, ◌≤◌, List, [], ◌∷◌, ◌++◌, length, map, Bool}
+use Rattle.std.proofs.Common.{true, false, ◌&&◌, nat_lt, nat_le, nat_eq, inl, inr, refl, sym, ◌∙◌, ap}
+use Rattle.std.proofs.Common.{subst, arith, take, String, Global, string_bytes, Bor, HoldsAt, MatchOption}
+use Rattle.std.specs.Prelude.{Option, Some, None, option_map, filter, find, Contains, IfSome, get_or}
+use Rattle.std.specs.Prelude.{slice_get, ◌⊎◌, if◌then◌else◌}
 use Rattle.std.specs.List.{AllPairs, cons_option, filter_map, list_any}
 use Rattle.std.specs.Option.{option_copied}
 use Rattle.std.specs.List.Sorted.{IsPartitionPoint, IsPartitionedBy}
 use Rattle.std.specs.Str.{bytes_eq}
-use Rattle.std.proofs.lemmas.Bool.{cases_Bool, both_ways, and_parts, lt-ltb, le-ltb, leb-true, leb-false, le-leb}
+use Rattle.std.proofs.lemmas.Bool.{cases_Bool, both_ways, and_parts, lt-ltb, le-ltb, leb-true, leb-false}
+use Rattle.std.proofs.lemmas.Bool.{le-leb}
 use Rattle.std.proofs.lemmas.List.{map-append, take_more}
 use Rattle.std.proofs.lemmas.List.Elements.{filter_map-append}
 use Rattle.std.proofs.lemmas.List.Kept.{AllPairs-filter}
@@ -13,7 +17,8 @@ use Rattle.std.proofs.lemmas.Option.{none-some, same_Some}
 use Rattle.std.proofs.lemmas.Slice.Eq.{bytes_eq-Decides}
 use Rattle.hub_model.specs.Current.{Current, current}
 use Rattle.hub_model.specs.Entries.{changed, entry_in, without}
-use Rattle.hub_model.specs.Feed.{Due, DueEnd, DueGone, DueNothing, DueRow, Ending, Feed, Params, after_due, after_nothing, due, end, expire, is_in_reach, is_open, is_within, waits}
+use Rattle.hub_model.specs.Feed.{Due, DueEnd, DueGone, DueNothing, DueRow, Ending, Feed, Params, after_due}
+use Rattle.hub_model.specs.Feed.{after_nothing, due, end, expire, is_in_reach, is_open, is_within, waits}
 use Rattle.hub_model.specs.Filter.{Design, DocIds, Everything, Filter, passes}
 use Rattle.hub_model.specs.Journal.{Edit}
 use Rattle.hub_document.proofs.PlaceLemmas.{copied_at}
@@ -72,7 +77,8 @@ same_rising [] (y ∷ ys) a b f g = absurd (contains_none y (g y (contains_here 
 same_rising (x ∷ xs) [] a b f g = absurd (contains_none x (f x (contains_here x xs)))
 same_rising (x ∷ xs) (y ∷ ys) a b f g =
     let e = first_same x y xs ys a b (f x (contains_here x xs)) (g y (contains_here y ys)) in
-    let rest = same_rising xs ys (rest_rises x xs a) (rest_rises y ys b) (rest_in x y xs ys e a f) (rest_in y x ys xs (sym e) b g) in
+    let rest = same_rising xs ys (rest_rises x xs a) (rest_rises y ys b) (rest_in x y xs ys e a f)
+    (rest_in y x ys xs (sym e) b g) in
     ap (λ z. z ∷ xs) e ∙ ap (λ zs. y ∷ zs) rest
 
 -- from which element a map, and a map that may leave out, give what they do
@@ -106,7 +112,8 @@ module _ {A B : Type 0} where
   some_in h [] a b m e = absurd (contains_none a m)
   some_in h (x ∷ xs) a b m e = from (h x) refl (contains_cases x a xs m) (λ k. some_in h xs a b k e)
     where
-      from : (o : Option B) → h x ≡ o → (x ≡ a) ⊎ Contains xs a → (Contains xs a → Contains (filter_map h xs) b)
+      from : (o : Option B) → h x ≡ o → (x ≡ a) ⊎ Contains xs a
+          → (Contains xs a → Contains (filter_map h xs) b)
           → Contains (cons_option o (filter_map h xs)) b
       from None i (inl s) later = absurd (none-some b (sym i ∙ (ap h s ∙ e)))
       from None i (inr k) later = later k
@@ -118,15 +125,18 @@ module _ {A B : Type 0} where
 -- the sequences that pass rise
 pub passing_rises : (shows : Filter) (J : List Edit) → AllPairs (λ m n. m < n) (passing shows J)
 passing_rises shows J =
-    pairs_map (λ m n. m < n) (λ (c : Current). c.seq) (filter (λ (c : Current). passes shows c.id) (current J))
-    (AllPairs-filter (λ (c d : Current). c.seq < d.seq) (λ (c : Current). passes shows c.id) (current J) (rows_rise J))
+    pairs_map (λ m n. m < n) (λ (c : Current). c.seq)
+    (filter (λ (c : Current). passes shows c.id) (current J))
+    (AllPairs-filter (λ (c d : Current). c.seq < d.seq) (λ (c : Current). passes shows c.id) (current J)
+    (rows_rise J))
 
 -- those of listed documents are the sequences of their rows
 row_found : (J : List Edit) (id : List ℕ) (n : ℕ) → seq_of_row J id ≡ Some n
     → (c : Current) × Contains (current J) c × (c.id ≡ id) × (c.seq ≡ n)
 row_found J id n e = from (first_listed 0 None (id ∷ []) (current J)) refl e
   where
-    from : (o : Option Current) → first_listed 0 None (id ∷ []) (current J) ≡ o → option_map (λ (c : Current). c.seq) o ≡ Some n
+    from : (o : Option Current) → first_listed 0 None (id ∷ []) (current J) ≡ o
+        → option_map (λ (c : Current). c.seq) o ≡ Some n
         → (c : Current) × Contains (current J) c × (c.id ≡ id) × (c.seq ≡ n)
     from None i k = absurd (none-some n k)
     from (Some c) i k =
@@ -148,12 +158,14 @@ found_passing J ids n h =
     at_any (bytes_eq r.0.id) ids i.0 i.1 ((bytes_eq-Decides r.0.id i.0).1 r.2) in
     let kept = in_filter (λ (c : Current). passes (DocIds ids) c.id) (current J) r.0 r.1 listed in
     subst (Contains (passing (DocIds ids) J)) r.3
-    (contains_map (λ (c : Current). c.seq) (filter (λ (c : Current). passes (DocIds ids) c.id) (current J)) r.0 kept)
+    (contains_map (λ (c : Current). c.seq)
+    (filter (λ (c : Current). passes (DocIds ids) c.id) (current J)) r.0 kept)
 
 passing_found : (J : List Edit) (ids : List (List ℕ)) (n : ℕ) → Contains (passing (DocIds ids) J) n
     → Contains (filter_map (seq_of_row J) ids) n
 passing_found J ids n h =
-    let i = in_map (λ (c : Current). c.seq) (filter (λ (c : Current). passes (DocIds ids) c.id) (current J)) n h in
+    let i = in_map (λ (c : Current). c.seq)
+    (filter (λ (c : Current). passes (DocIds ids) c.id) (current J)) n h in
     let kept = filter_in (λ (c : Current). passes (DocIds ids) c.id) (current J) i.0 i.1 in
     let listed = any_at (bytes_eq i.0.id) ids kept.1 in
     let same : i.0.id ≡ listed.0 = (bytes_eq-Decides i.0.id listed.0).0 listed.2 in
@@ -179,8 +191,10 @@ gathered J texts i d low found seq before here =
     let ids = map string_bytes (take i texts) in
     let id = string_bytes (get_or texts i d) in
     let more : map string_bytes (take (i + 1) texts) ≡ ids ++ id ∷ [] =
-    ap (map string_bytes) (take_more texts i d low) ∙ map-append string_bytes (take i texts) (get_or texts i d ∷ []) in
-    rw (before, here) (sym (ap (filter_map (seq_of_row J)) more ∙ filter_map-append (seq_of_row J) ids (id ∷ [])))
+    ap (map string_bytes) (take_more texts i d low)
+    ∙ map-append string_bytes (take i texts) (get_or texts i d ∷ []) in
+    rw (before, here) (sym
+    (ap (filter_map (seq_of_row J)) more ∙ filter_map-append (seq_of_row J) ids (id ∷ [])))
 
 -- numbers that rise are parted by a place
 pub parted : (xs : List ℕ) (place : ℕ) → AllPairs (λ m n. m < n) xs → IsPartitionedBy (λ n. nat_le n place) xs
@@ -203,12 +217,14 @@ taken place bound (Some n) = if nat_lt place n && is_within bound n then Some n 
 none_between : (place : ℕ) (bound : Option ℕ) (x : ℕ) (xs : List ℕ) → AllPairs (λ m n. m < n) (x ∷ xs)
     → is_within bound x ≡ false → find (is_between place bound) xs ≡ None
 none_between place bound x xs rise over =
-    find_nothing (is_between place bound) xs (λ k d l. out (get_or xs k d) (rise 0 (suc k) d (omega arith) (omega arith)))
+    find_nothing (is_between place bound) xs
+    (λ k d l. out (get_or xs k d) (rise 0 (suc k) d (omega arith) (omega arith)))
   where
     out : (n : ℕ) → x < n → is_between place bound n ≡ false
     out n above =
         elim (cases_Bool (is_between place bound n)) [
-          | inl t ↦ absurd (both_ways _ over (within_below bound x n (and_parts (nat_lt place n) (is_within bound n) t).1 (omega arith)))
+          | inl t ↦ absurd (both_ways _ over
+              (within_below bound x n (and_parts (nat_lt place n) (is_within bound n) t).1 (omega arith)))
           | inr f ↦ f
         ]
 
@@ -232,7 +248,8 @@ searched place bound (x ∷ xs) (suc at) rise point =
     ))
 
 pub taken_at : (place : ℕ) (bound : Option ℕ) (xs : List ℕ) (at : ℕ) (o : Option (Bor ℕ))
-    → AllPairs (λ m n. m < n) xs → IsPartitionPoint (λ n. nat_le n place ≡ true) (λ n. nat_le n place ≡ false) xs at
+    → AllPairs (λ m n. m < n) xs
+    → IsPartitionPoint (λ n. nat_le n place ≡ true) (λ n. nat_le n place ≡ false) xs at
     → MatchOption o (length xs ≤ at) (λ x. (at < length xs) × HoldsAt (λ y. x.now ≡ y) xs at)
     → taken place bound (option_copied o) ≡ find (λ n. nat_lt place n && is_within bound n) xs
 taken_at place bound xs at o rise point got =
@@ -240,7 +257,8 @@ taken_at place bound xs at o rise point got =
 
 -- that of a feed's passing rows is the first in its reach
 reach_taken : (f : Feed) (rows : List Current)
-    → find (is_between f.place f.bound) (map (λ (c : Current). c.seq) (filter (λ (c : Current). passes f.params.filter c.id) rows))
+    → find (is_between f.place f.bound)
+    (map (λ (c : Current). c.seq) (filter (λ (c : Current). passes f.params.filter c.id) rows))
     ≡ option_map (λ (c : Current). c.seq) (find (is_in_reach f) rows)
 reach_taken f [] = refl
 reach_taken f (c ∷ rows) =
@@ -267,13 +285,15 @@ listed_is Everything ids e = absurd (cc)
 listed_is (DocIds listed) ids e = ap DocIds (sym (same_Some ids listed e))
 listed_is Design ids e = absurd (cc)
 
-pub first_is : (f : Feed) (J : List Edit) (ids : List (List ℕ)) (place : ℕ) (bound : Option ℕ) (rows : List ℕ) (first : Option ℕ)
+pub first_is : (f : Feed) (J : List Edit) (ids : List (List ℕ)) (place : ℕ) (bound : Option ℕ)
+    (rows : List ℕ) (first : Option ℕ)
     → Some ids ≡ listed_in f.params.filter → place ≡ f.place → bound ≡ f.bound → rows ≡ passing (DocIds ids) J
     → first ≡ find (λ n. nat_lt place n && is_within bound n) rows → IsFirst first (current J) (Some f)
 first_is f J ids place bound rows first lists p b r is waits =
     is ∙ (ap (λ z. find (λ n. nat_lt z n && is_within bound n) rows) p
     ∙ (ap (λ z. find (λ n. nat_lt f.place n && is_within z n) rows) b
-    ∙ (ap (find (is_between f.place f.bound)) (r ∙ ap (λ z. passing z J) (sym (listed_is f.params.filter ids lists)))
+    ∙ (ap (find (is_between f.place f.bound))
+    (r ∙ ap (λ z. passing z J) (sym (listed_is f.params.filter ids lists)))
     ∙ reach_taken f (current J))))
 
 -- each feed that is there, of those whose numbers were given, was there before and asks for the same
@@ -309,7 +329,8 @@ one_goes id next feeds q low =
       | inr n ↦ rw (other_without id q n feeds) (one_stays (entry_in q feeds))
     ]
 
-pub one_comes : (next : ℕ) (new : Feed) (feeds : List (ℕ × Feed)) → AskTheSame next feeds (feeds ++ (next, new) ∷ [])
+pub one_comes : (next : ℕ) (new : Feed) (feeds : List (ℕ × Feed))
+    → AskTheSame next feeds (feeds ++ (next, new) ∷ [])
 one_comes next new feeds q low =
     rw (other_added next new q (λ e. omega (arith, low, e)) feeds) (one_stays (entry_in q feeds))
 
@@ -348,7 +369,8 @@ answers_asking id next len Nothing feeds = one_asks id next (λ f. after_nothing
 answers_asking id next len Gone feeds = all_stay next feeds
 
 -- then the rows that are kept of one go on to be its
-module _ (J : List Edit) (old new : List (ℕ × Feed)) (next next' : ℕ) (later : next ≤ next') (same : AskTheSame next old new) (listing : Listing) where
+module _ (J : List Edit) (old new : List (ℕ × Feed)) (next next' : ℕ) (later : next ≤ next')
+    (same : AskTheSame next old new) (listing : Listing) where
   given_on : (o : Option ℕ) → IfSome o (λ n. n < next) → IfSome o (λ n. n < next')
   given_on None h = tt
   given_on (Some n) h = omega (arith, h, later)
@@ -359,7 +381,8 @@ module _ (J : List Edit) (old new : List (ℕ × Feed)) (next next' : ℕ) (late
   rows_on None given h = tt
   rows_on (Some n) given h = from (entry_in n new) (same n given)
     where
-      from : (e : Option Feed) → IfSome e (λ g. (f : Feed) × (entry_in n old ≡ Some f) × (g.params ≡ f.params))
+      from : (e : Option Feed)
+          → IfSome e (λ g. (f : Feed) × (entry_in n old ≡ Some f) × (g.params ≡ f.params))
           → IfSome e (λ g. listing.rows.items ≡ passing g.params.filter J)
       from None k = tt
       from (Some g) (f, is, asks) = (rw is at h) ∙ ap (λ (p : Params). passing p.filter J) (sym asks)
@@ -383,16 +406,19 @@ found_kept J feeds next number f old new given there x (inr (inr (is, rows))) =
     record { given = rw is given; rows = rw (is, there) rows }
 
 -- so do those of feeds of which one answered
-pub answer_kept : {R : Type 0} (J : List Edit) (len : ℕ) (rows : List Current) (shown : Style → Bool → Current → R)
+pub answer_kept : {R : Type 0} (J : List Edit) (len : ℕ) (rows : List Current)
+    (shown : Style → Bool → Current → R)
     (old new : FeedList) (id : ℕ) (answer : Next R) (listing : Listing)
     → new ≡ feeds_of (behind_answer (over len rows shown old) id answer)
     → IsListing J old.feeds old.next listing → IsListing J new.feeds new.next listing
 answer_kept J len rows shown old new id answer listing is x =
     subst (λ (z : FeedList). IsListing J z.feeds z.next listing) (sym is)
-    (kept_on J old.feeds (feeds_behind id len answer old.feeds) old.next old.next (omega arith) (answers_asking id old.next len answer old.feeds) listing x)
+    (kept_on J old.feeds (feeds_behind id len answer old.feeds) old.next old.next (omega arith)
+    (answers_asking id old.next len answer old.feeds) listing x)
 
 -- or handed what was due to it
-pub handed_kept : {R : Type 0} (J : List Edit) (len : ℕ) (rows : List Current) (shown : Style → Bool → Current → R)
+pub handed_kept : {R : Type 0} (J : List Edit) (len : ℕ) (rows : List Current)
+    (shown : Style → Bool → Current → R)
     (old new : FeedList) (id : ℕ) (listing : Listing) → new ≡ feeds_of (handed (over len rows shown old) id)
     → IsListing J old.feeds old.next listing → IsListing J new.feeds new.next listing
 handed_kept J len rows shown old new id listing is x =

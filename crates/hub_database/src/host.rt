@@ -81,8 +81,7 @@ impl FeedHost for DbState {
         }
     }
 
-    /// It costs what `FeedState::next_item` does, and a binary search among the feeds unless the last
-    /// call was for the same feed.
+    /// It costs what `DbState::next_item` does.
     fn next_item(&mut self, feed: FeedId) -> Result<Next<ChangeRow>, AllocError> {
         DbState::next_item(self, feed)
     }

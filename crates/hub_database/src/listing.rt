@@ -14,7 +14,7 @@ use std::alloc::{AllocError, Global};
 /// until the next write.
 #[derive(Debug, Drop)]
 pub(crate) struct Listing {
-    /// The number of the feed that was asked last, of those of listed documents, if nothing was
+    /// The number of the feed that was asked last, of those whose rows may be kept, if nothing was
     /// written since.
     asked: Option<u64>,
     /// The number of the feed whose rows are kept, if those of one are.

@@ -10,5 +10,6 @@ invariant_of-self c =
     let J = c.self.inside.contents.journal in (
       c.end_all.ensures.behind (length J) c.self.invariant.0,
       subst (λ (z : FeedList). IsListing J z.feeds z.next c.self.inside.listing) (sym c.end_all.ensures.new)
-          (kept_on J list.feeds (map ended list.feeds) list.next list.next (omega arith) (all_end list.next list.feeds) c.self.inside.listing c.self.invariant.1),
+          (kept_on J list.feeds (map ended list.feeds) list.next list.next (omega arith)
+          (all_end list.next list.feeds) c.self.inside.listing c.self.invariant.1),
     )

@@ -11,7 +11,8 @@ use Rattle.hub_database.proofs.database.DbState.first_listed.Goals as goal
 
 pub first_between-requires : goal.first_between-requires
 first_between-requires c =
-    subst (AllPairs (λ m n. m < n)) (sym (c.if-not-holds.ensures.held refl)) (passing_rises (DocIds (map string_bytes c.in_ok-ids.ids.now)) c.rows-rows.result)
+    subst (AllPairs (λ m n. m < n)) (sym (c.if-not-holds.ensures.held refl))
+    (passing_rises (DocIds (map string_bytes c.in_ok-ids.ids.now)) c.rows-rows.result)
 
 pub returns-clause-first : goal.returns-clause-first
 returns-clause-first c =
@@ -19,8 +20,12 @@ returns-clause-first c =
     let first = c.first_between.result in
     let J = c.rows-rows.result in
     let is =
-    first_is c.in_ok-state.state.now J (map string_bytes c.in_ok-ids.ids.now) c.place-2.result c.bound.result c.holds.new.self.rows.items first
-    c.in_ok-ids.ensures c.place-2.ensures c.bound.ensures (c.if-not-holds.ensures.held refl) c.first_between.ensures in
+    first_is c.in_ok-state.state.now J
+    (map string_bytes c.in_ok-ids.ids.now) c.place-2.result c.bound.result c.holds.new.self.rows.items
+    first
+    c.in_ok-ids.ensures c.place-2.ensures c.bound.ensures
+    (c.if-not-holds.ensures.held refl) c.first_between.ensures in
     let there = subst (IsFirst first (current J)) c.in_ok-state.ensures.found is in
-    let here = subst (λ (edits : List Edit). IsFirst first (current edits) (entry_in id c.self.inside.feeds.feeds)) c.rows-rows.ensures there in
+    let here = subst (λ (edits : List Edit). IsFirst first (current edits)
+    (entry_in id c.self.inside.feeds.feeds)) c.rows-rows.ensures there in
     subst (λ (db : Database). IsFirst first (current db.journal) (entry_in id db.feeds)) c.self.view_is here

@@ -13,10 +13,13 @@ invariant_of-self-in-Some c =
     let db = c.self-2.inside in
     let new = c.next_item_at.new.self in
     let J = c.rows-rows.result in (
-      subst (λ (edits : List Edit). AreBehind (length edits) new.feeds) c.rows-rows.ensures c.next_item_at.ensures.behind,
+      subst (λ (edits : List Edit). AreBehind (length edits) new.feeds) c.rows-rows.ensures
+          c.next_item_at.ensures.behind,
       ok_or_err {P = IsListing db.contents.journal new.feeds new.next db.listing} c.next_item_at.result
-          (λ answer is. answer_kept {R = ChangeRow} db.contents.journal (length J) (current J) (row_of J) db.feeds new c.args.feed.number answer db.listing is c.self-2.invariant.1)
-          (λ w. subst (λ (z : FeedList). IsListing db.contents.journal z.feeds z.next db.listing) (sym w.0) c.self-2.invariant.1)
+          (λ answer is. answer_kept {R = ChangeRow} db.contents.journal (length J) (current J)
+          (row_of J) db.feeds new c.args.feed.number answer db.listing is c.self-2.invariant.1)
+          (λ w. subst (λ (z : FeedList). IsListing db.contents.journal z.feeds z.next db.listing)
+          (sym w.0) c.self-2.invariant.1)
           c.next_item_at.ensures.new c.next_item_at.ensures.err,
     )
 
@@ -25,9 +28,12 @@ invariant_of-self-in-None c =
     let db = c.self-2.inside in
     let new = c.next_item.new.self in
     let J = c.rows-rows-in-None.result in (
-      subst (λ (edits : List Edit). AreBehind (length edits) new.feeds) c.rows-rows-in-None.ensures c.next_item.ensures.behind,
+      subst (λ (edits : List Edit). AreBehind (length edits) new.feeds) c.rows-rows-in-None.ensures
+          c.next_item.ensures.behind,
       ok_or_err {P = IsListing db.contents.journal new.feeds new.next db.listing} c.next_item.result
-          (λ answer is. answer_kept {R = ChangeRow} db.contents.journal (length J) (current J) (row_of J) db.feeds new c.args.feed.number answer db.listing is c.self-2.invariant.1)
-          (λ w. subst (λ (z : FeedList). IsListing db.contents.journal z.feeds z.next db.listing) (sym w.0) c.self-2.invariant.1)
+          (λ answer is. answer_kept {R = ChangeRow} db.contents.journal (length J) (current J)
+          (row_of J) db.feeds new c.args.feed.number answer db.listing is c.self-2.invariant.1)
+          (λ w. subst (λ (z : FeedList). IsListing db.contents.journal z.feeds z.next db.listing)
+          (sym w.0) c.self-2.invariant.1)
           c.next_item.ensures.new c.next_item.ensures.err,
     )
