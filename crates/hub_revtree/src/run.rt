@@ -10,12 +10,14 @@ use hub_document::RevId;
 use std::alloc::{AllocError, Global};
 use std::marker::Model;
 
-// How the revisions are kept: by the newest one's generation and the digests whose texts the hashes are; or
-// themselves, where a hash is no digest's text.
+// How revisions are kept, newest first. A digest stands for the hash that is its hexadecimal text.
 #[derive(Debug, Drop)]
 enum Kept {
+    // One revision: its generation, and its digest.
     One(u16, [u8; 16]),
+    // The newest one's generation, and the digests of all. The generations fall by one.
     Digests(u16, Vec<[u8; 16]>),
+    // The revisions themselves.
     Texts(Vec<RevId>),
 }
 
@@ -51,7 +53,7 @@ fn digests_of(alloc: Global, revisions: &[RevId]) -> Result<Option<Vec<[u8; 16]>
     Ok(Some(digests))
 }
 
-// The first revision where it is the only one and its hash is a digest's text, else those of all.
+// The first of the revisions, so many, as they take the least memory.
 fn kept_of(alloc: Global, revisions: &[RevId], count: usize) -> Result<Kept, AllocError>
     requires path { IsPath revisions.now }
     requires within { count ≤ length revisions.now }
