@@ -1,5 +1,5 @@
 -- The rows of a feed of listed documents: how they are found and searched, and what they outlast.
-use Rattle.std.proofs.Common.{◌≡◌, ◌≢◌, ℕ, suc, zero, ◌+◌, ◌<◌, ◌≤◌, List, [], ◌∷◌, ◌++◌, length, map, Bool}
+use Rattle.std.proofs.Common.{◌≡◌, ℕ, suc, zero, ◌+◌, ◌<◌, ◌≤◌, List, [], ◌∷◌, ◌++◌, length, map, Bool}
 use Rattle.std.proofs.Common.{true, false, ◌&&◌, nat_lt, nat_le, nat_eq, inl, inr, refl, sym, ◌∙◌, ap}
 use Rattle.std.proofs.Common.{subst, arith, take, String, Global, string_bytes, Bor, HoldsAt, MatchOption}
 use Rattle.std.specs.Prelude.{Option, Some, None, option_map, filter, find, Contains, IfSome, get_or}
@@ -39,7 +39,7 @@ use Rattle.hub_feed.specs.declared.next.Next.TheVariants.{Give, Gone, Nothing}
 use Rattle.hub_feed.proofs.CurrentLemmas.{contains_map, next_ahead}
 use Rattle.hub_feed.proofs.FeedsLemmas.{pairs_map}
 use Rattle.hub_feed.proofs.ListedLemmas.{one_parts}
-use Rattle.hub_database.specs.Listing.{IsListing, KeepsOrLists, passing, seq_of_row}
+use Rattle.hub_database.specs.Listing.{IsListing, passing, seq_of_row}
 use Rattle.hub_database.specs.declared.listing.Listing.{Listing}
 
 -- a number behind the first of rising ones is above it, and those behind it rise
@@ -389,21 +389,6 @@ module _ (J : List Edit) (old new : List (ℕ × Feed)) (next next' : ℕ) (late
 
   pub kept_on : IsListing J old next listing → IsListing J new next' listing
   kept_on x = record { given = given_on listing.feed x.given; rows = rows_on listing.feed x.given x.rows }
-
--- where none are kept nothing is asked
-pub none_kept : (J : List Edit) (feeds : List (ℕ × Feed)) (next : ℕ) (listing : Listing) → listing.feed ≡ None
-    → IsListing J feeds next listing
-none_kept J feeds next listing none = record { given = rw none tt; rows = rw none tt }
-
--- and those of a feed that is there, once its rows are found
-pub found_kept : (J : List Edit) (feeds : List (ℕ × Feed)) (next number : ℕ) (f : Feed) (old new : Listing)
-    → number < next → entry_in number feeds ≡ Some f → IsListing J feeds next old
-    → KeepsOrLists number f.params.filter J old new → IsListing J feeds next new
-found_kept J feeds next number f old new given there x (inl (same, rows)) =
-    record { given = rw same x.given; rows = rw (same, rows) x.rows }
-found_kept J feeds next number f old new given there x (inr (inl none)) = none_kept J feeds next new none
-found_kept J feeds next number f old new given there x (inr (inr (is, rows))) =
-    record { given = rw is given; rows = rw (is, there) rows }
 
 -- so do those of feeds of which one answered
 pub answer_kept : {R : Type 0} (J : List Edit) (len : ℕ) (rows : List Current)

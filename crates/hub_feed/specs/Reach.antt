@@ -32,7 +32,8 @@ listed_in Everything = None
 listed_in (DocIds ids) = Some ids
 listed_in Design = None
 
--- of these rows the first in reach of a feed, if the feed is there and open, has this sequence, if there is one
+-- of these rows the first in reach of a feed, if the feed is there and open, has this sequence, if there is
+-- one
 abbrev pub IsFirst : Option ℕ → List Current → Option Feed → Type 0
 IsFirst first rows feed =
     IfSome feed (λ f. f.status ≡ Open → first ≡ option_map (λ c. c.seq) (find (is_in_reach f) rows))

@@ -1,4 +1,4 @@
-use Rattle.std.proofs.Common.{◌≡◌, ◌∙◌, ap, sym, string_bytes}
+use Rattle.std.proofs.Common.{◌∙◌, ap, string_bytes}
 use Rattle.hub_database.specs.Listing.{seq_of_row}
 use Rattle.hub_database.proofs.ListingLemmas.{gathered}
 use Rattle.hub_database.proofs.listing.gather.Goals as goal

@@ -1,4 +1,4 @@
-use Rattle.std.proofs.Common.{length, ◌++◌, ◌∷◌, [], ◌+◌, sym, subst, arith}
+use Rattle.std.proofs.Common.{◌++◌, ◌∷◌, [], ◌+◌, sym, subst, arith}
 use Rattle.hub_model.specs.Feed.{begin}
 use Rattle.hub_params.specs.FeedModel.{params_of}
 use Rattle.hub_feed.specs.Feeds.{AreBehind, FeedList}

@@ -1,7 +1,6 @@
 -- The binary search ends at the first number above the place.
-use Rattle.std.proofs.Common.{◌≡◌, ◌∙◌, ◌<◌, ℕ, AllPairs, None, Option, Some, ap, nat_le, of_calls, refl}
+use Rattle.std.proofs.Common.{◌≡◌, ◌∙◌, ◌<◌, AllPairs, None, Some, nat_le, of_calls, refl}
 use Rattle.std.proofs.Common.{rules, subst, sym}
-use Rattle.std.specs.Option.{option_copied}
 use Rattle.std.proofs.lemmas.Fn.{always_returns_same}
 use Rattle.hub_database.proofs.ListingLemmas.{parted, taken, taken_at}
 use Rattle.hub_database.proofs.listing.Listing.first_between.Goals as goal
