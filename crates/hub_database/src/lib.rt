@@ -13,6 +13,7 @@ mod entries;
 mod entry;
 mod feeds;
 mod host;
+mod ids;
 mod local;
 mod open;
 mod reads;
