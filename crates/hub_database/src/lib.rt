@@ -17,6 +17,7 @@ mod ids;
 mod local;
 mod open;
 mod reads;
+mod room;
 mod rows;
 mod store;
 

@@ -11,8 +11,9 @@ ghost use Rattle.hub_database.specs.Store.{IsStore, IsCounted, HasRows, IsSameSt
 
 use crate::document::{Document, Incoming, Looked, Origin, look};
 use crate::entry::Entry;
-use hub_document::{Doc, DocId, Limits, RevId};
 use crate::ids::Ids;
+use crate::room::reserve_one;
+use hub_document::{Doc, DocId, Limits, RevId};
 use hub_index::{IdOrder, PageIndex, SeqIndex};
 use hub_model::{Fault, Outcome};
 use std::alloc::{AllocError, Global};
@@ -119,8 +120,8 @@ impl Store {
             Looked::Known => Ok(Outcome::Known),
             Looked::Refused(fault) => Ok(Outcome::Refused(fault)),
             Looked::Ready(ready) => {
-                self.documents.try_reserve(1)?;
-                self.journal.try_reserve(1)?;
+                reserve_one(&mut self.documents)?;
+                reserve_one(&mut self.journal)?;
                 let number = self.documents.len() as u32;
                 let seq = self.journal.len() as u64 + 1;
                 enter(
