@@ -2,18 +2,20 @@
 use Rattle.std.proofs.Common.{◌≡◌, ◌≢◌, ℕ, ◌+◌, ◌<◌, ◌≤◌, List, [], ◌∷◌, ◌++◌, length, Bool, true}
 use Rattle.std.proofs.Common.{false, ap, refl, sym, ◌∙◌, subst, arith, inl, inr}
 use Rattle.std.specs.Prelude.{IfOk, OnErr, Result, Ok, Err, Option, Some, None, slice_get, slice_set}
-use Rattle.std.specs.Prelude.{map, get_or, option_map, nat_le, unwrap_or, if◌then◌else◌}
-use Rattle.std.specs.BTreeMap.{get_by_text}
+use Rattle.std.specs.Prelude.{map, get_or, option_map, filter, not, nat_eq, nat_le, unwrap_or, if◌then◌else◌}
 use Rattle.std.specs.Map.{update}
 use Rattle.std.specs.Str.{bytes_eq}
 use Rattle.std.specs.declared.alloc.AllocError.{AllocError}
-use Rattle.std.proofs.lemmas.Bool.{leb-false}
+use Rattle.std.specs.List.{All}
+use Rattle.std.proofs.lemmas.Bool.{leb-false, eq-eqb, ne_eqb}
 use Rattle.std.proofs.lemmas.Option.{same_Some, none-some, slice_get-map, slice_get_past, slice_get_within}
 use Rattle.std.proofs.lemmas.Option.{get_or_from_slice_get}
-use Rattle.std.proofs.lemmas.List.{length-map, length_push}
+use Rattle.std.proofs.lemmas.List.{append-nil, get_or-map, length-map, length_push, map_push}
+use Rattle.std.proofs.lemmas.Simd.{map-map}
 use Rattle.std.proofs.lemmas.List.Elements.{filter-append}
 use Rattle.std.proofs.Math.Seq.{map-set_same}
 use Rattle.std.proofs.Math.ListN.{length-set}
+use Rattle.hub_index.specs.Order.{IsOrder, id_at, number_in, with_number}
 use Rattle.hub_index.specs.Rows.{moved, seq_of}
 use Rattle.hub_model.specs.Revision.{Revision}
 use Rattle.hub_model.specs.Journal.{Edit, edits_of, head_of}
@@ -28,15 +30,18 @@ use Rattle.hub_database.specs.declared.document.Incoming.{Incoming}
 use Rattle.hub_database.specs.declared.document.Looked.{Looked}
 use Rattle.hub_database.specs.declared.document.Looked.TheVariants.{Known, Refused, Ready}
 use Rattle.hub_database.specs.declared.store.Store.{Store}
-use Rattle.hub_database.specs.Filed.{Filed, named, edit_at, journal_of, IsFiled}
+use Rattle.hub_database.specs.Filed.{Filed, named, edit_at, ids_of, journal_of, IsFiled}
 use Rattle.hub_database.specs.Looked.{Setting, IsWritten, NeedsRoomFor, IsStorable, stores_edit, look_at}
 use Rattle.hub_database.specs.Looked.{look_in, unless_full, outcome_of, document_after, documents_after}
 use Rattle.hub_database.specs.Looked.{entries_after, journal_after, numbers_after, rows_after}
 use Rattle.hub_database.specs.Indexed.{IsIndexed, latest_of}
 use Rattle.hub_database.specs.Store.{filed, files, IsStore, IsCounted, HasRows, IsSameStore, IsInserted}
 use Rattle.hub_database.specs.Store.{edits_of_store, deleted_in, first_setting, one_if, setting_of, unwritten}
+use Rattle.hub_database.specs.Store.{ids_in, number_by}
 use Rattle.hub_index.proofs.ListLemmas.{at_place, get_push, get_push_other, get_set, get_set_other, text_same}
 use Rattle.hub_index.proofs.ListLemmas.{text_apart}
+use Rattle.hub_index.proofs.OrderLemmas.{number_more}
+use Rattle.hub_index.proofs.IndexLemmas.{filter_keeps, moved_new}
 use Rattle.hub_database.proofs.ListLemmas.{count_filter}
 use Rattle.hub_database.proofs.CountLemmas.{deleted_more, deleted_some}
 use Rattle.hub_database.proofs.NamedLemmas.{leaves_named, deleted_named}
@@ -278,14 +283,14 @@ module _ (limit : ℕ) (numbers : List ℕ → Option ℕ) (documents : List Doc
 
 -- the first edit of a document
 module _ (old : Store) (st : IsStore old) (ix : HasRows old) (id : List ℕ)
-    (absent : get_by_text old.numbers id ≡ None) where
+    (absent : number_by old id ≡ None) where
   inserted : (l : Looked) (room : (e : Edit) → l ≡ Ready e → length old.journal.items < old.limits.journal)
       (numbers' : List ℕ → Option ℕ) (documents' : List Document) (entries' : List Entry)
       (index' : List (ℕ × ℕ))
       → IsStorable [] l
       → files documents' ≡ documents_after l (first_setting id old) (files old.documents.items)
       → entries' ≡ entries_after l (first_setting id old)
-      → ((q : List ℕ) → numbers' q ≡ numbers_after l id (length old.documents.items) (get_by_text old.numbers) q)
+      → ((q : List ℕ) → numbers' q ≡ numbers_after l id (length old.documents.items) (number_by old) q)
       → index' ≡ rows_after l (first_setting id old)
       → Leaves old.limits.journal (files old.documents.items) old.journal.items id l numbers'
       (files documents') entries' index'
@@ -300,26 +305,26 @@ module _ (old : Store) (st : IsStore old) (ix : HasRows old) (id : List ℕ)
 
       at : (l : Looked) → IsStorable [] l
           → ((e : Edit) → l ≡ Ready e → length old.journal.items < old.limits.journal)
-          → ((q : List ℕ) → numbers' q ≡ numbers_after l id (length old.documents.items) (get_by_text old.numbers) q)
+          → ((q : List ℕ) → numbers' q ≡ numbers_after l id (length old.documents.items) (number_by old) q)
           → Leaves old.limits.journal (files old.documents.items) old.journal.items id l numbers'
           (documents_after l (first_setting id old) (files old.documents.items))
           (entries_after l (first_setting id old)) (rows_after l (first_setting id old))
       at (Ready e) s room ns =
           let new : Filed = record { id = id; latest = length old.journal.items + 1; edits = e ∷ [] } in
-          stores old.limits.journal (get_by_text old.numbers) (files old.documents.items) old.journal.items st
+          stores old.limits.journal (number_by old) (files old.documents.items) old.journal.items st.filed
           old.index ix id (length old.documents.items) [] (inr (absent, past, refl)) refl e s (room e refl)
           numbers' (files old.documents.items ++ new ∷ [])
           (subst (λ n. slice_get (files old.documents.items ++ new ∷ []) n ≡ Some new) many_files (get_push (files old.documents.items) new))
           (λ j n. get_push_other (files old.documents.items) new j (λ e. n (e ∙ many_files)))
-          (ns id ∙ ap (λ b. if b then Some (length old.documents.items) else get_by_text old.numbers id) (text_same id id refl))
-          (λ q n. ns q ∙ ap (λ b. if b then Some (length old.documents.items) else get_by_text old.numbers q) (text_apart id q (λ e. n (sym e))))
+          (ns id ∙ ap (λ b. if b then Some (length old.documents.items) else number_by old id) (text_same id id refl))
+          (λ q n. ns q ∙ ap (λ b. if b then Some (length old.documents.items) else number_by old q) (text_apart id q (λ e. n (sym e))))
           (λ d g. absurd (none-some d (sym past ∙ g))) (λ g. length_push (files old.documents.items) new)
       at Known s room ns =
-          let same : numbers' ≡ get_by_text old.numbers = λ i q. ns q i in
-          (subst (λ f. IsFiled old.limits.journal f (files old.documents.items) old.journal.items) (sym same) st, refl, ix)
+          let same : numbers' ≡ number_by old = λ i q. ns q i in
+          (subst (λ f. IsFiled old.limits.journal f (files old.documents.items) old.journal.items) (sym same) st.filed, refl, ix)
       at (Refused fault) s room ns =
-          let same : numbers' ≡ get_by_text old.numbers = λ i q. ns q i in
-          (subst (λ f. IsFiled old.limits.journal f (files old.documents.items) old.journal.items) (sym same) st, refl, ix)
+          let same : numbers' ≡ number_by old = λ i q. ns q i in
+          (subst (λ f. IsFiled old.limits.journal f (files old.documents.items) old.journal.items) (sym same) st.filed, refl, ix)
 
 -- the count after it
 first_counted : (J J' : List Edit) (id : List ℕ) (l : Looked) (s : Setting) (count count' : ℕ)
@@ -372,12 +377,26 @@ pub first_stored : (id : List ℕ) (edit : Incoming) (old new : Store) (none d :
     → number ≡ length old.documents.items
     → files new.documents.items ≡ files old.documents.items ++ d ∷ []
     → new.journal.items ≡ old.journal.items ++ record { document = number; revision = length none.edits } ∷ []
-    → ((q : List ℕ) → get_by_text new.numbers q ≡ update bytes_eq (get_by_text old.numbers) id (Some number) q)
+    → IsOrder (ids_in old) old.numbers → number_by old id ≡ None
+    → new.numbers ≡ with_number (ids_in old) old.numbers id number
+    → IsOrder (ids_in old ++ id ∷ []) new.numbers
     → new.deleted ≡ old.deleted + one_if (is_deleted (leaves_of d.edits []))
     → new.index ≡ moved old.index number (length old.journal.items + 1)
     → IsInserted id (look_in old.limits.journal (first_setting id old) edit) old new (outcome.Stored r)
-first_stored id edit old new none d look e r number first looked ready storable head now place fs js ns count
-    rows =
+first_stored id edit old new none d look e r number first looked ready storable head now place fs js order
+    absent ns sorted count rows =
+    let more : ids_in new ≡ ids_in old ++ id ∷ [] =
+    ap ids_of fs
+    ∙ (map_push (λ (z : Filed). z.id) (files old.documents.items) d
+    ∙ ap (λ (i : List ℕ). ids_in old ++ i ∷ [])
+    (ap (λ (z : Filed). z.id) now ∙ ap (λ (z : Filed). z.id) first)) in
+    let next : number ≡ length (ids_in old) =
+    omega (
+      arith,
+      place,
+      length-map (files old.documents.items) (λ (z : Filed). z.id),
+      length-map old.documents.items filed,
+    ) in
     let s : Setting = first_setting id old in
     let is : look_in old.limits.journal s edit ≡ Ready e =
     sym
@@ -409,9 +428,12 @@ first_stored id edit old new none d look e r number first looked ready storable 
           ∙ (ap (λ n. moved old.index n (length old.journal.items + 1)) place
           ∙ sym (ap (λ k. rows_after k s) is));
       numbers =
-          λ q. ns q
-          ∙ (ap (λ n. update bytes_eq (get_by_text old.numbers) id (Some n) q) place
-          ∙ sym (ap (λ k. numbers_after k id (length old.documents.items) (get_by_text old.numbers) q) is));
+          λ q. ap (λ z. number_in z new.numbers q) more
+          ∙ (ap (λ l. number_in (ids_in old ++ id ∷ []) l q) ns
+          ∙ number_more (ids_in old) old.numbers id number order next absent q)
+          ∙ (ap (λ n. update bytes_eq (number_by old) id (Some n) q) place
+          ∙ sym (ap (λ k. numbers_after k id (length old.documents.items) (number_by old) q) is));
+      order = subst (λ z. IsOrder z new.numbers) (sym more) sorted;
       deleted =
           count
           ∙ (ap (λ (z : Filed). old.deleted + one_if (is_deleted (leaves_of z.edits []))) filed_now
@@ -423,7 +445,7 @@ first_stored id edit old new none d look e r number first looked ready storable 
 
 -- what storing it leaves
 pub inserted_so : (old new : Store) → IsStore old → IsCounted old → HasRows old → (id : List ℕ)
-    → get_by_text old.numbers id ≡ None → (edit : Incoming) (o : Outcome Revision)
+    → number_by old id ≡ None → (edit : Incoming) (o : Outcome Revision)
     → IsInserted id (look_in old.limits.journal (first_setting id old) edit) old new o
     → new.limits ≡ old.limits
     → IsStore new
@@ -436,16 +458,16 @@ inserted_so old new st counted ix id absent edit o x stay =
     let left =
     inserted old st ix id absent l
     (λ e r. room_in old.limits.journal (length old.journal.items) (look_at id [] edit) e r)
-    (get_by_text new.numbers) new.documents.items new.journal.items new.index x.storable x.files x.entries
+    (number_by new) new.documents.items new.journal.items new.index x.storable x.files x.entries
     x.numbers x.rows in
-    let none : edits_of (edits_of_store old) id ≡ [] = st.others id absent in
+    let none : edits_of (edits_of_store old) id ≡ [] = st.filed.others id absent in
     let full : nat_le old.limits.journal (length (edits_of_store old))
     ≡ nat_le old.limits.journal (length old.journal.items) =
     ap (nat_le old.limits.journal) (length-map old.journal.items (edit_at (files old.documents.items))) in
     let said =
     stores_by (edits_of_store old) id [] none refl old.limits.journal
     (nat_le old.limits.journal (length old.journal.items)) full edit in (
-      rw stay left.0,
+      record { filed = rw stay left.0; order = x.order },
       said
           ∙ (ap (λ (a : Outcome Revision). record { outcome = a; journal = journal_after l id (edits_of_store old) })
           (sym x.answer)
@@ -461,8 +483,14 @@ pub same_store : (old new : Store) → IsStore old → IsCounted old → HasRows
     → new.limits ≡ old.limits
     → IsStore new × IsCounted new × (edits_of_store new ≡ edits_of_store old) × HasRows new
 same_store old new st counted ix w stay =
-    let same : get_by_text new.numbers ≡ get_by_text old.numbers = λ i q. w.numbers q i in (
-      rw (stay, same, w.documents, w.journal) st,
+    let same : (q : List ℕ) → number_by new q ≡ number_by old q =
+    λ q. ap (λ ds. number_in (ids_of ds) new.numbers q) w.documents
+    ∙ ap (λ l. number_in (ids_in old) l q) w.numbers in
+    let numbers : number_by new ≡ number_by old = λ i q. same q i in (
+      record {
+        filed = rw stay (rw (numbers, w.documents, w.journal) st.filed);
+        order = rw (w.documents, w.numbers) st.order;
+      },
       rw (w.deleted, w.documents, w.journal) counted,
       rw (w.documents, w.journal) refl,
       rw (w.documents, w.journal, w.index) ix,
@@ -470,7 +498,7 @@ same_store old new st counted ix w stay =
 
 -- what the call leaves
 pub inserted_all : (old new : Store) → IsStore old → IsCounted old → HasRows old → (id : List ℕ)
-    → get_by_text old.numbers id ≡ None → (edit : Incoming) (result : Result (Outcome Revision) AllocError)
+    → number_by old id ≡ None → (edit : Incoming) (result : Result (Outcome Revision) AllocError)
     → IfOk result (IsInserted id (look_in old.limits.journal (first_setting id old) edit) old new)
     → OnErr result (IsSameStore old new) → new.limits ≡ old.limits
     → IsStore new
@@ -492,12 +520,12 @@ number_below limit numbers documents entries st id k there =
 
 -- and the document is there
 pub document_there : (store : Store) → IsStore store → (id : List ℕ) (k : ℕ)
-    → get_by_text store.numbers id ≡ Some k
+    → number_by store id ≡ Some k
     → (d : Document) → d ≡ get_or store.documents.items k d → slice_get store.documents.items k ≡ Some d
 document_there store st id k there d is =
-    let numbers = get_by_text store.numbers in
+    let numbers = number_by store in
     let low =
-    number_below store.limits.journal numbers store.documents.items store.journal.items st id k there in
+    number_below store.limits.journal numbers store.documents.items store.journal.items st.filed id k there in
     at_place store.documents.items k d low is
 
 -- what follows from what holds of an error
@@ -506,11 +534,11 @@ err_then (Ok x) f p = tt
 err_then (Err e) f p = f p
 
 -- what takes memory of a new document takes it in the journal
-pub needs_first : (store : Store) → IsStore store → (id : List ℕ) → get_by_text store.numbers id ≡ None
+pub needs_first : (store : Store) → IsStore store → (id : List ℕ) → number_by store id ≡ None
     → (edit : Incoming) → NeedsRoomFor [] [] edit → NeedsRoomFor (edits_of_store store) id edit
 needs_first store st id absent edit n =
-    needs_in (edits_of_store store) id [] (st.others id absent) refl edit.origin edit.deleted edit.body
-    st.legal n
+    needs_in (edits_of_store store) id [] (st.filed.others id absent) refl edit.origin edit.deleted edit.body
+    st.filed.legal n
 
 -- a number past the documents has no row
 pub no_row : (store : Store) → HasRows store → seq_of (length store.documents.items) store.index ≡ None
@@ -519,3 +547,62 @@ no_row store ix =
     let many : length (files store.documents.items) ≡ n = length-map store.documents.items filed in
     ix.none n
     (ap (option_map latest_of) (slice_get_past (files store.documents.items) n (omega (arith, many))))
+
+-- ---- the ids of a store
+
+-- a document that keeps its id
+pub ids_stay : (documents : List Document) (k : ℕ) (d d' : Document) → slice_get documents k ≡ Some d
+    → d'.id ≡ d.id → ids_of (files (slice_set documents k d')) ≡ ids_of (files documents)
+ids_stay documents k d d' at same =
+    map-map (λ (z : Filed). z.id) filed (slice_set documents k d')
+    ∙ (map-set_same (λ (z : Document). z.id) documents k d' d
+    (same ∙ ap (λ (z : Document). z.id) (sym (get_or_from_slice_get documents k d d at)))
+    ∙ sym (map-map (λ (z : Filed). z.id) filed documents))
+
+-- an edit that is written keeps its document's id
+pub id_kept : (l : Looked) (k : ℕ) (d d' : Document) (entries : List Entry) (index : List (ℕ × ℕ))
+    → filed d' ≡ document_after l (setting_of k d entries index) → d'.id ≡ d.id
+id_kept Known k d d' entries index e = ap (λ (z : Filed). z.id) e
+id_kept (Refused fault) k d d' entries index e = ap (λ (z : Filed). z.id) e
+id_kept (Ready x) k d d' entries index e = ap (λ (z : Filed). z.id) e
+
+-- a store one of whose documents changed, and kept its id
+pub store_stays : (old new : Store) (k : ℕ) (d d' : Document) → IsStore old
+    → slice_get old.documents.items k ≡ Some d → d'.id ≡ d.id
+    → new.documents.items ≡ slice_set old.documents.items k d' → new.numbers ≡ old.numbers
+    → IsFiled new.limits.journal (number_by old) (files new.documents.items) new.journal.items → IsStore new
+store_stays old new k d d' st at same documents numbers filed_now =
+    let ids : ids_in new ≡ ids_in old =
+    ap (λ ds. ids_of (files ds)) documents ∙ ids_stay old.documents.items k d d' at same in
+    let each : (q : List ℕ) → number_by new q ≡ number_by old q =
+    λ q. ap (λ z. number_in z new.numbers q) ids ∙ ap (λ l. number_in (ids_in old) l q) numbers in
+    let found : number_by new ≡ number_by old = λ i q. each q i in
+    record {
+      filed = subst (λ f. IsFiled new.limits.journal f (files new.documents.items) new.journal.items) (sym found) filed_now;
+      order = rw (ids, numbers) st.order;
+    }
+
+-- the id of the document of a number
+pub id_here : (documents : List Document) (k : ℕ) (d : Document) → k < length documents
+    → d ≡ get_or documents k d → d.id ≡ id_at (ids_of (files documents)) k
+id_here documents k d low is =
+    let within : k < length (files documents) = omega (arith, length-map documents filed) in
+    sym
+    (get_or-map (λ (z : Filed). z.id) (files documents) k (filed d) [] within
+    ∙ (ap (λ (z : Filed). z.id) (get_or-map filed documents k d (filed d) low)
+    ∙ ap (λ (z : Document). z.id) (sym is)))
+
+-- the row of a new document, taken back
+pub row_taken : (rows : List (ℕ × ℕ)) (number seq : ℕ) → seq_of number rows ≡ None
+    → All (λ (r : ℕ × ℕ). r.0 < seq) rows
+    → filter (λ (r : ℕ × ℕ). not (nat_eq r.0 seq)) (moved rows number seq) ≡ rows
+row_taken rows number seq none above =
+    let p : ℕ × ℕ → Bool = λ r. not (nat_eq r.0 seq) in
+    ap (filter p) (sym (moved_new number rows seq none))
+    ∙ (filter-append p rows ((seq, number) ∷ [])
+    ∙ (ap (λ b. filter p rows ++ (if not b then ((seq, number) ∷ []) else [])) (eq-eqb seq seq refl)
+    ∙ (append-nil (filter p rows)
+    ∙ filter_keeps p rows (λ k d l. ap not (ne_eqb (get_or rows k d).0 seq (λ e. below k d l e))))))
+  where
+    below : (k : ℕ) (d : ℕ × ℕ) → k < length rows → (get_or rows k d).0 ≡ seq → ⊥
+    below k d l e = let low = above k d l in omega (arith, e, low)

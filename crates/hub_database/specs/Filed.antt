@@ -11,6 +11,10 @@ pub record Filed : Type 0 where
   pub latest : ℕ
   pub edits : List Edit
 
+-- the documents' ids, by number
+abbrev pub ids_of : List Filed → List (List ℕ)
+ids_of documents = map (λ (d : Filed). d.id) documents
+
 -- the edit with this id
 abbrev pub named : List ℕ → Edit → Edit
 named id e = record { id = id; path = e.path; deleted = e.deleted; body = e.body }

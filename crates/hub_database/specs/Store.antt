@@ -1,6 +1,6 @@
 -- The documents of a store, and its journal (own).
-use Rattle.std.specs.Prelude.{◌≡◌, ◌+◌, ℕ, List, length, [], map, count_by, Bool, true, false}
-use Rattle.std.specs.BTreeMap.{get_by_text}
+use Rattle.std.specs.Prelude.{◌≡◌, ◌+◌, ℕ, List, length, [], map, count_by, Bool, true, false, Option}
+use Rattle.hub_index.specs.Order.{IsOrder, number_in}
 use Rattle.hub_model.specs.Journal.{Edit}
 use Rattle.hub_model.specs.Leaves.{leaves_of}
 use Rattle.hub_model.specs.Current.{current}
@@ -13,7 +13,7 @@ use Rattle.hub_database.specs.declared.document.Document.{Document}
 use Rattle.hub_database.specs.declared.document.Looked.{Looked}
 use Rattle.hub_database.specs.declared.entry.Entry.{Entry}
 use Rattle.hub_database.specs.declared.store.Store.{Store}
-use Rattle.hub_database.specs.Filed.{Filed, IsFiled, journal_of}
+use Rattle.hub_database.specs.Filed.{Filed, IsFiled, ids_of, journal_of}
 use Rattle.hub_database.specs.Indexed.{IsIndexed}
 
 -- a document without what its tree has memory for
@@ -28,10 +28,18 @@ files documents = map filed documents
 abbrev pub edits_of_store : Store → List Edit
 edits_of_store store = journal_of (files store.documents.items) store.journal.items
 
--- what holds of every store
-abbrev pub IsStore : Store → Type 0
-IsStore store =
-    IsFiled store.limits.journal (get_by_text store.numbers) (files store.documents.items) store.journal.items
+-- the ids of a store's documents, by number
+abbrev pub ids_in : Store → List (List ℕ)
+ids_in store = ids_of (files store.documents.items)
+
+-- the number of the document with this id
+abbrev pub number_by : Store → List ℕ → Option ℕ
+number_by store id = number_in (ids_in store) store.numbers id
+
+-- what holds of every store: its documents are filed by its numbers, which stand in the order of their ids
+pub record IsStore (store : Store) : Type 0 where
+  pub filed : IsFiled store.limits.journal (number_by store) (files store.documents.items) store.journal.items
+  pub order : IsOrder (ids_in store) store.numbers
 
 -- how many documents of a journal have a deleted winner
 abbrev pub deleted_in : List Edit → ℕ
@@ -53,7 +61,7 @@ one_if false = 0
 -- both stores show the same documents, numbers, entries, count and rows
 pub record IsSameStore (old new : Store) : Type 0 where
   pub documents : files new.documents.items ≡ files old.documents.items
-  pub numbers : (id : List ℕ) → get_by_text new.numbers id ≡ get_by_text old.numbers id
+  pub numbers : new.numbers ≡ old.numbers
   pub journal : new.journal.items ≡ old.journal.items
   pub deleted : new.deleted ≡ old.deleted
   pub index : new.index ≡ old.index
@@ -88,8 +96,8 @@ pub record IsInserted (id : List ℕ) (look : Looked) (old new : Store) (reply :
     pub entries : new.journal.items ≡ entries_after look (first_setting id old)
     pub rows : new.index ≡ rows_after look (first_setting id old)
     pub numbers : (q : List ℕ)
-        → get_by_text new.numbers q
-        ≡ numbers_after look id (length old.documents.items) (get_by_text old.numbers) q
+        → number_by new q ≡ numbers_after look id (length old.documents.items) (number_by old) q
+    pub order : IsOrder (ids_in new) new.numbers
     pub deleted : new.deleted
         ≡ old.deleted + one_if (is_deleted (leaves_of (document_after look (first_setting id old)).edits []))
     pub storable : IsStorable [] look

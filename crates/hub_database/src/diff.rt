@@ -40,7 +40,7 @@ impl Contents {
     }
 
     /// Which of the revisions asked for are missing, of the documents alone of which some are, in
-    /// the order asked. It costs a look in the map of ids for each document, and what
+    /// the order asked. It costs a search of the id for each document, and what
     /// `RevTree::missing` and `RevTree::possible_ancestors` do.
     pub fn revs_diff(&self, asked: Vec<Asked>) -> Result<Vec<Diff>, AllocError>
         ensures ok { IfOk result (λ found. found.items ≡ diffs self.now.journal asked.items) }

@@ -12,6 +12,7 @@ ghost use Rattle.hub_database.specs.Store.{filed, setting_of};
 ghost use Rattle.hub_database.specs.declared.document.Origin.TheVariants.{Elsewhere, Here};
 
 use crate::entry::Entry;
+use crate::room::reserve_one;
 use hub_document::{Body, DocId, Path, RevId};
 use hub_index::{PageIndex, SeqIndex};
 use hub_model::{Fault, Outcome};
@@ -198,8 +199,8 @@ impl Document {
         rev
     }
 
-    /// Stores one more edit of a document that is there, which has this number. It costs what `look`
-    /// and `SeqIndex::move_to` do.
+    /// Stores one more edit of a document that is there, which has this number. It costs what `look`,
+    /// `reserve_one` and `SeqIndex::move_to` do.
     pub(crate) fn extend(
         &mut self,
         journal: &mut Vec<Entry>,
@@ -225,7 +226,7 @@ impl Document {
             Looked::Known => Ok(Outcome::Known),
             Looked::Refused(fault) => Ok(Outcome::Refused(fault)),
             Looked::Ready(ready) => {
-                journal.try_reserve(1)?;
+                reserve_one(journal)?;
                 let latest = u64::from(self.latest);
                 index.move_to(number, Some(latest), journal.len() as u64 + 1)?;
                 Ok(Outcome::Stored(self.take(journal, number, ready)))

@@ -13,10 +13,12 @@ mod entries;
 mod entry;
 mod feeds;
 mod host;
+mod ids;
 mod listing;
 mod local;
 mod open;
 mod reads;
+mod room;
 mod rows;
 mod store;
 

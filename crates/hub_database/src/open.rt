@@ -88,8 +88,8 @@ fn all_missing(alloc: Global, asked: &[RevId]) -> Result<Vec<OpenRev>, AllocErro
 
 impl Contents {
     /// The revisions of a document that are asked for, each with its history where `revs` asks for
-    /// it. Of an unknown document there is no leaf, and each listed revision is missing. A look in
-    /// the map of ids, and for each revision a look an edit and a copy.
+    /// it. Of an unknown document there is no leaf, and each listed revision is missing. A search of
+    /// the id, and for each revision a look an edit and a copy.
     pub fn open_revs(
         &self,
         id: &str,

@@ -16,21 +16,21 @@ use hub_revtree::Winner;
 use std::alloc::AllocError;
 
 impl Store {
-    /// The document with this id. One look in the map.
+    /// The document with this id. It compares ids logarithmically many times.
     pub(crate) fn document(&self, id: &str) -> Option<&Document>
         requires { IsStore self.now }
         ensures found { IfSome result (λ d. IsFound (edits_of_store self.now) id.now d.now) }
         ensures none { IfNone result (edits_of (edits_of_store self.now) id.now ≡ []) }
     {
-        let number = self.numbers.get(id).copied()?;
+        let number = self.number_of(id)?;
         let document = &self.documents[number as usize];
         Some(document)
     }
 }
 
 impl Contents {
-    /// The winner of a document, with its mark; None where there is no such document. A look in the
-    /// map of ids, and what `RevTree::best` costs.
+    /// The winner of a document, with its mark; None where there is no such document. A
+    /// search of the id, and what `RevTree::best` costs.
     pub fn winner(&self, id: &str) -> Option<Winner>
         ensures { result ≡ winner_of (leaves_of self.now.journal id.now) }
     {
@@ -38,7 +38,7 @@ impl Contents {
         document.tree.best()
     }
 
-    /// A document: its winner, with its history where `revs` asks for it. A look in the map of ids,
+    /// A document: its winner, with its history where `revs` asks for it. A search of the id,
     /// what `RevTree::best` costs, and a copy of the document.
     pub fn get(&self, id: &str, revs: bool) -> Result<Lookup, AllocError>
         ensures found { IfOk result (λ found. found ≡ lookup self.now.journal id.now revs) }

@@ -83,7 +83,7 @@ impl Source for Rows<'_> {
         Some((seq, document.id.as_str()))
     }
 
-    /// It costs a look in the map of ids.
+    /// It costs a search of the id.
     fn next_of(&self, id: &str, place: u64, bound: Option<u64>) -> Option<u64> {
         let Some(number) = self.store.number_of(id) else {
             return None;

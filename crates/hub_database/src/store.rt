@@ -1,28 +1,29 @@
 //! Documents with their trees, and the journal.
 
-ghost use Rattle.std.specs.Prelude.{ℕ, List, [], false, ◌≡◌, ◌+◌, ◌<◌, ◌≤◌, ◌^◌, length, string_bytes, IfOk, OnOk, OnErr};
-ghost use Rattle.std.specs.BTreeMap.{get_by_text};
+ghost use Rattle.std.specs.Prelude.{[], ◌∷◌, ◌++◌, false, ◌≡◌, ◌+◌, ◌<◌, ◌≤◌, ◌^◌, length, None, IfOk, OnOk, OnErr};
 ghost use Rattle.std.specs.List.{All};
-ghost use Rattle.std.specs.Map.{update};
-ghost use Rattle.std.specs.Str.{bytes_eq};
+ghost use Rattle.hub_index.specs.Order.{IsOrder, number_in, with_number};
 ghost use Rattle.hub_index.specs.Rows.{seq_of, moved};
 ghost use Rattle.hub_database.specs.Edits.{NeedsRoom, stores_doc};
 ghost use Rattle.hub_database.specs.Looked.{NeedsRoomFor, look_in, stores_edit};
-ghost use Rattle.hub_database.specs.Store.{IsStore, IsCounted, HasRows, IsSameStore, IsInserted, edits_of_store, first_setting, one_if};
+ghost use Rattle.hub_database.specs.Filed.{ids_of};
+ghost use Rattle.hub_database.specs.Store.{IsStore, IsCounted, HasRows, IsSameStore, IsInserted, edits_of_store, files, first_setting, ids_in, number_by, one_if};
 
 use crate::document::{Document, Incoming, Looked, Origin, look};
 use crate::entry::Entry;
+use crate::ids::Ids;
+use crate::room::reserve_one;
 use hub_document::{Doc, DocId, Limits, RevId};
-use hub_index::{PageIndex, SeqIndex};
+use hub_index::{IdOrder, PageIndex, SeqIndex};
 use hub_model::{Fault, Outcome};
 use std::alloc::{AllocError, Global};
-use std::collections::BTreeMap;
 
-/// The documents by number, the numbers by id, the journal, the rows of feeds, and the limits.
+/// The documents by number, the numbers in the order of the ids, the journal, the rows of feeds, and
+/// the limits.
 #[derive(Debug, Drop)]
 pub(crate) struct Store {
     pub(crate) documents: Vec<Document>,
-    pub(crate) numbers: BTreeMap<String, u32>,
+    pub(crate) numbers: IdOrder,
     pub(crate) journal: Vec<Entry>,
     /// The documents' numbers by the sequences of their latest edits.
     pub(crate) index: PageIndex,
@@ -48,29 +49,32 @@ fn recounted(count: u64, was: bool, is: bool) -> u64
     count - 1
 }
 
-// Takes in a new document: its number by its id, and its row. An error leaves both as they were.
+// Takes in the next document: its number in the order of the ids, and its row. An error leaves both
+// as they were.
 fn enter(
-    numbers: &mut BTreeMap<String, u32>,
+    documents: &[Document],
+    numbers: &mut IdOrder,
     index: &mut PageIndex,
     id: &DocId,
-    key: String,
     number: u32,
     seq: u64,
 ) -> Result<(), AllocError>
-    requires key { string_bytes key ≡ id.now }
-    requires new { get_by_text numbers.old id.now ≡ None }
+    requires order { IsOrder (ids_of (files documents.now)) numbers.old }
+    requires next { number ≡ length documents.now }
+    requires new { number_in (ids_of (files documents.now)) numbers.old id.now ≡ None }
     requires own { seq_of number index.old ≡ None }
     requires positive { 0 < seq }
     requires above { All (λ r. r.0 < seq) index.old }
-    ensures numbers { OnOk result ((q : List ℕ)
-        → get_by_text numbers.new q ≡ update bytes_eq (get_by_text numbers.old) id.now (Some number) q) }
+    ensures numbers { OnOk result (numbers.new
+        ≡ with_number (ids_of (files documents.now)) numbers.old id.now number) }
+    ensures order { OnOk result (IsOrder (ids_of (files documents.now) ++ id.now ∷ []) numbers.new) }
     ensures index { OnOk result (index.new ≡ moved index.old number seq) }
-    ensures err { OnErr result (((q : List ℕ) → get_by_text numbers.new q ≡ get_by_text numbers.old q)
-        × (index.new ≡ index.old)) }
+    ensures err { OnErr result ((numbers.new ≡ numbers.old) × (index.new ≡ index.old)) }
 {
-    numbers.insert(key, number)?;
-    if let Err(AllocError) = index.move_to(number, None, seq) {
-        numbers.remove(id.as_str());
+    index.move_to(number, None, seq)?;
+    let ids = Ids { documents };
+    if let Err(AllocError) = numbers.insert(&ids, number, id.as_str()) {
+        index.remove(seq);
         return Err(AllocError);
     }
     Ok(())
@@ -86,7 +90,7 @@ impl Store {
     {
         Store {
             documents: Vec::new(alloc),
-            numbers: BTreeMap::new(alloc),
+            numbers: IdOrder::new(alloc),
             journal: Vec::new(alloc),
             index: PageIndex::new(alloc),
             deleted: 0,
@@ -95,12 +99,13 @@ impl Store {
         }
     }
 
-    // Stores the first edit of a document. The maps grow last, and what comes after them takes no
-    // memory.
+    // Stores the first edit of a document. The order of ids and the rows grow last, and what comes
+    // after them takes no memory.
     fn insert(&mut self, id: DocId, edit: Incoming) -> Result<Outcome<RevId>, AllocError>
         requires few { length self.old.documents.items ≤ length self.old.journal.items }
         requires count { self.old.deleted ≤ length self.old.documents.items }
-        requires new { get_by_text self.old.numbers id ≡ None }
+        requires order { IsOrder (ids_in self.old) self.old.numbers }
+        requires new { number_by self.old id ≡ None }
         requires own { seq_of (length self.old.documents.items) self.old.index ≡ None }
         requires above { All (λ r. r.0 < length self.old.journal.items + 1) self.old.index }
         ensures inserted { let look = look_in self.old.limits.journal (first_setting id self.old) edit in
@@ -115,16 +120,15 @@ impl Store {
             Looked::Known => Ok(Outcome::Known),
             Looked::Refused(fault) => Ok(Outcome::Refused(fault)),
             Looked::Ready(ready) => {
-                self.documents.try_reserve(1)?;
-                self.journal.try_reserve(1)?;
+                reserve_one(&mut self.documents)?;
+                reserve_one(&mut self.journal)?;
                 let number = self.documents.len() as u32;
-                let key = String::from_str(self.alloc, document.id.as_str())?;
                 let seq = self.journal.len() as u64 + 1;
                 enter(
+                    self.documents.as_slice(),
                     &mut self.numbers,
                     &mut self.index,
                     &document.id,
-                    key,
                     number,
                     seq,
                 )?;
@@ -136,11 +140,15 @@ impl Store {
         }
     }
 
-    /// The number of the document with this id. One look in the map.
+    /// The number of the document with this id. It compares ids logarithmically many times.
     pub(crate) fn number_of(&self, id: &str) -> Option<u32>
-        ensures { result ≡ get_by_text self.now.numbers id.now }
+        requires { IsStore self.now }
+        ensures { result ≡ number_by self.now id.now }
     {
-        self.numbers.get(id).copied()
+        let ids = Ids {
+            documents: self.documents.as_slice(),
+        };
+        self.numbers.find(&ids, id)
     }
 
     // Stores an edit of the document with this id.
@@ -176,7 +184,7 @@ impl Store {
         }
     }
 
-    /// Stores one document: with `new_edits` its revision is made here. It costs a look in the map,
+    /// Stores one document: with `new_edits` its revision is made here. It costs a search of the id,
     /// what `RevTree::look_extend` or `RevTree::look_merge` does, what `SeqIndex::move_to` does, and
     /// what `RevTree::best` does.
     pub(crate) fn write(&mut self, doc: Doc, new_edits: bool) -> Result<Outcome<RevId>, AllocError>

@@ -12,7 +12,7 @@ pub returns-in_err-leaves-in-Some-All-clause-memory :
 returns-in_err-leaves-in-Some-All-clause-memory c =
     rw (sym c.self.view_is, c.in-Some-All.is-1)
     (on_err c.from_residual.result _
-    (edits_open (edits_of_store c.self.inside.store) c.args.id.now c.in-Some-All.document.now c.in-Some-All.ensures.found c.args.revs c.self.invariant.0.legal c.in_err-leaves-in-Some-All.ensures.memory))
+    (edits_open (edits_of_store c.self.inside.store) c.args.id.now c.in-Some-All.document.now c.in-Some-All.ensures.found c.args.revs c.self.invariant.0.filed.legal c.in_err-leaves-in-Some-All.ensures.memory))
 
 pub returns-in_ok-leaves-in-Some-All-clause-ok : goal.returns-in_ok-leaves-in-Some-All-clause-ok
 returns-in_ok-leaves-in-Some-All-clause-ok c =

@@ -1,13 +1,12 @@
 use Rattle.std.proofs.Common.{◌≡◌, ◌∙◌, ◌-◌, List, length, arith, sym, subst, ap, Contains}
 use Rattle.std.specs.Prelude.{IfOk}
-use Rattle.std.specs.BTreeMap.{get_by_text}
 use Rattle.std.proofs.lemmas.List.{length-map}
 use Rattle.hub_index.proofs.IndexedLemmas.{row_lies}
 use Rattle.hub_model.specs.Current.{Current, current}
 use Rattle.hub_model.specs.Journal.{Edit}
 use Rattle.hub_model.specs.Row.{row_of}
 use Rattle.hub_database.specs.Filed.{edit_at}
-use Rattle.hub_database.specs.Store.{files, edits_of_store}
+use Rattle.hub_database.specs.Store.{files, edits_of_store, number_by}
 use Rattle.hub_database.proofs.RowLemmas.{entry_low, row_answer}
 use Rattle.hub_database.proofs.rows.RowsSource.row.Goals as goal
 
@@ -24,12 +23,12 @@ pub index-document-requires : goal.index-document-requires
 index-document-requires c =
     let s = c.self.inside.store.now in
     let l = row_lies (edits_of_store s) c.args.seq (rw (sym c.self.view_is) at c.requires) in
-    omega (arith, entry_low s.limits.journal (get_by_text s.numbers) s.documents.items s.journal.items c.self.invariant.0 (c.args.seq - 1) c.index-entry.result.now (omega (arith, l.0, l.1, length-map s.journal.items (edit_at (files s.documents.items)))) c.index-entry.ensures, s.documents.ok.0)
+    omega (arith, entry_low s.limits.journal (number_by s) s.documents.items s.journal.items c.self.invariant.0.filed (c.args.seq - 1) c.index-entry.result.now (omega (arith, l.0, l.1, length-map s.journal.items (edit_at (files s.documents.items)))) c.index-entry.ensures, s.documents.ok.0)
 
 pub returns : goal.returns
 returns c =
     let s = c.self.inside.store.now in
     let l = row_lies (edits_of_store s) c.args.seq (rw (sym c.self.view_is) at c.requires) in
     subst (λ (J : List Edit). IfOk c.row.result (λ r. (c' : Current) → Contains (current J) c' → c'.seq ≡ c.args.seq → r ≡ row_of J c.args.style c.args.include_docs c')) c.self.view_is
-    (row_answer s.limits.journal (get_by_text s.numbers) s.documents.items s.journal.items c.self.invariant.0 c.row.result c.args.seq c.length.result (c.args.seq - 1) c.index-entry.result.now (omega (arith, l.0)) (omega (arith, l.0, l.1, length-map s.journal.items (edit_at (files s.documents.items)))) c.index-entry.ensures
+    (row_answer s.limits.journal (number_by s) s.documents.items s.journal.items c.self.invariant.0.filed c.row.result c.args.seq c.length.result (c.args.seq - 1) c.index-entry.result.now (omega (arith, l.0)) (omega (arith, l.0, l.1, length-map s.journal.items (edit_at (files s.documents.items)))) c.index-entry.ensures
     c.index-document.result.now c.index-document.ensures c.args.style c.args.include_docs c.row.ensures.row c.row.ensures.tree (c.length.ensures ∙ sym (ap (λ (J : List Edit). length J) c.self.view_is)))

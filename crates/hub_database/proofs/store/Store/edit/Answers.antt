@@ -1,10 +1,9 @@
 use Rattle.std.proofs.Common.{◌≡◌, Some, false, suc, arith, refl, sym, ap, ◌∙◌}
 use Rattle.std.specs.Prelude.{option_map, slice_get}
-use Rattle.std.specs.BTreeMap.{get_by_text}
 use Rattle.hub_revtree.specs.Extend.{path_to}
 use Rattle.hub_revtree.specs.declared.heads.StoredEdit.{StoredEdit}
 use Rattle.hub_database.specs.Reads.{doc_shown}
-use Rattle.hub_database.specs.Store.{edits_of_store}
+use Rattle.hub_database.specs.Store.{edits_of_store, number_by}
 use Rattle.hub_database.proofs.RowLemmas.{get_default}
 use Rattle.hub_database.proofs.EntryLemmas.{bare_lent, edit_found, at_sequence, none_lent, path_lent}
 use Rattle.hub_database.proofs.store.Store.edit.Goals as goal
@@ -13,7 +12,7 @@ pub returns-in_default-clause-edit : goal.returns-in_default-clause-edit
 returns-in_default-clause-edit c =
     let look = c.in_ok-entry.ensures.lookup in
     let here : slice_get c.args.self.now.journal.items c.in_ok-at.at ≡ Some c.in_ok-entry.entry.now = get_default c.args.self.now.journal.items c.deref.result.now c.in_ok-at.at c.in_ok-entry.entry.now c.deref.ensures.value look.3.0 ∙ ap Some (sym look.1) in
-    let found = edit_found c.args.self.now.limits.journal (get_by_text c.args.self.now.numbers) c.args.self.now.documents.items c.args.self.now.journal.items c.requires c.in_ok-at.at c.in_ok-entry.entry.now here c.index-document.result.now c.index-document.ensures in
+    let found = edit_found c.args.self.now.limits.journal (number_by c.args.self.now) c.args.self.now.documents.items c.args.self.now.journal.items c.requires.filed c.in_ok-at.at c.in_ok-entry.entry.now here c.index-document.result.now c.index-document.ensures in
     let a = c.in_ok-at.ensures in
     let next : c.args.seq ≡ suc c.in_ok-at.at = omega (arith, a) in
     let entry = found ∙ sym (at_sequence (edits_of_store c.args.self.now) c.args.seq c.in_ok-at.at next) in
@@ -24,7 +23,7 @@ pub returns-in_default-clause-path : goal.returns-in_default-clause-path
 returns-in_default-clause-path c =
     let look = c.in_ok-entry.ensures.lookup in
     let here : slice_get c.args.self.now.journal.items c.in_ok-at.at ≡ Some c.in_ok-entry.entry.now = get_default c.args.self.now.journal.items c.deref.result.now c.in_ok-at.at c.in_ok-entry.entry.now c.deref.ensures.value look.3.0 ∙ ap Some (sym look.1) in
-    let found = edit_found c.args.self.now.limits.journal (get_by_text c.args.self.now.numbers) c.args.self.now.documents.items c.args.self.now.journal.items c.requires c.in_ok-at.at c.in_ok-entry.entry.now here c.index-document.result.now c.index-document.ensures in
+    let found = edit_found c.args.self.now.limits.journal (number_by c.args.self.now) c.args.self.now.documents.items c.args.self.now.journal.items c.requires.filed c.in_ok-at.at c.in_ok-entry.entry.now here c.index-document.result.now c.index-document.ensures in
     let a = c.in_ok-at.ensures in
     let next : c.args.seq ≡ suc c.in_ok-at.at = omega (arith, a) in
     let entry = found ∙ sym (at_sequence (edits_of_store c.args.self.now) c.args.seq c.in_ok-at.at next) in
@@ -35,7 +34,7 @@ pub returns-clause-edit : goal.returns-clause-edit
 returns-clause-edit c =
     let look = c.in_ok-entry.ensures.lookup in
     let here : slice_get c.args.self.now.journal.items c.in_ok-at.at ≡ Some c.in_ok-entry.entry.now = get_default c.args.self.now.journal.items c.deref.result.now c.in_ok-at.at c.in_ok-entry.entry.now c.deref.ensures.value look.3.0 ∙ ap Some (sym look.1) in
-    let found = edit_found c.args.self.now.limits.journal (get_by_text c.args.self.now.numbers) c.args.self.now.documents.items c.args.self.now.journal.items c.requires c.in_ok-at.at c.in_ok-entry.entry.now here c.index-document.result.now c.index-document.ensures in
+    let found = edit_found c.args.self.now.limits.journal (number_by c.args.self.now) c.args.self.now.documents.items c.args.self.now.journal.items c.requires.filed c.in_ok-at.at c.in_ok-entry.entry.now here c.index-document.result.now c.index-document.ensures in
     let a = c.in_ok-at.ensures in
     let next : c.args.seq ≡ suc c.in_ok-at.at = omega (arith, a) in
     let entry = found ∙ sym (at_sequence (edits_of_store c.args.self.now) c.args.seq c.in_ok-at.at next) in
@@ -46,7 +45,7 @@ pub returns-clause-path : goal.returns-clause-path
 returns-clause-path c =
     let look = c.in_ok-entry.ensures.lookup in
     let here : slice_get c.args.self.now.journal.items c.in_ok-at.at ≡ Some c.in_ok-entry.entry.now = get_default c.args.self.now.journal.items c.deref.result.now c.in_ok-at.at c.in_ok-entry.entry.now c.deref.ensures.value look.3.0 ∙ ap Some (sym look.1) in
-    let found = edit_found c.args.self.now.limits.journal (get_by_text c.args.self.now.numbers) c.args.self.now.documents.items c.args.self.now.journal.items c.requires c.in_ok-at.at c.in_ok-entry.entry.now here c.index-document.result.now c.index-document.ensures in
+    let found = edit_found c.args.self.now.limits.journal (number_by c.args.self.now) c.args.self.now.documents.items c.args.self.now.journal.items c.requires.filed c.in_ok-at.at c.in_ok-entry.entry.now here c.index-document.result.now c.index-document.ensures in
     let a = c.in_ok-at.ensures in
     let next : c.args.seq ≡ suc c.in_ok-at.at = omega (arith, a) in
     let entry = found ∙ sym (at_sequence (edits_of_store c.args.self.now) c.args.seq c.in_ok-at.at next) in

@@ -1,12 +1,13 @@
-use Rattle.std.proofs.Common.{◌≡◌, ◌∙◌, Some, ap, sym}
+use Rattle.std.proofs.Common.{◌≡◌, ◌∙◌, Some, ap, refl, sym}
 use Rattle.std.specs.Prelude.{option_map}
-use Rattle.std.specs.BTreeMap.{get_by_text}
 use Rattle.hub_database.specs.Indexed.{latest_of}
-use Rattle.hub_database.specs.Store.{deleted_in, filed, files}
+use Rattle.hub_database.specs.Filed.{Filed}
+use Rattle.hub_database.specs.Looked.{look_in}
+use Rattle.hub_database.specs.Store.{deleted_in, filed, files, number_by, setting_of}
 use Rattle.hub_database.proofs.IndexedLemmas.{rows_below}
 use Rattle.hub_database.proofs.StoreLemmas.{filed_at, no_row, document_there, few_edits, mark_counted}
 use Rattle.hub_database.proofs.StoreLemmas.{unchanged, extended, inserted_all, err_then, needs_at}
-use Rattle.hub_database.proofs.StoreLemmas.{needs_first}
+use Rattle.hub_database.proofs.StoreLemmas.{needs_first, store_stays, id_kept}
 use Rattle.hub_database.proofs.store.Store.store.Goals as goal
 use Rattle.hub_revtree.proofs.BranchLemmas.{on_err}
 
@@ -15,10 +16,10 @@ extend-requires-clause-few c =
     let s = c.args.self.now in
     let k = c.in-Some.number in
     let d = c.index_mut-document.result.now in
-    let there : get_by_text s.numbers c.args.id ≡ Some k =
+    let there : number_by s c.args.id ≡ Some k =
     sym (rw c.as_str.ensures.value at c.in-Some.ensures) in
     let at = document_there s c.requires.state c.args.id k there d c.index_mut-document.ensures.value in
-    few_edits s.limits.journal (get_by_text s.numbers) s.documents.items s.journal.items c.requires.state k d
+    few_edits s.limits.journal (number_by s) s.documents.items s.journal.items c.requires.state.filed k d
     at
 
 pub returns-in_err-outcome-in-Some-clause-state : goal.returns-in_err-outcome-in-Some-clause-state
@@ -26,11 +27,12 @@ returns-in_err-outcome-in-Some-clause-state c =
     let s = c.args.self.now in
     let k = c.in-Some.number in
     let d = c.index_mut-document.result.now in
-    let there : get_by_text s.numbers c.args.id ≡ Some k =
+    let there : number_by s c.args.id ≡ Some k =
     sym (rw c.as_str.ensures.value at c.in-Some.ensures) in
     let at = document_there s c.requires.state c.args.id k there d c.index_mut-document.ensures.value in
     let e = c.in_err-outcome-in-Some.ensures.err in
-    (unchanged s.limits.journal (get_by_text s.numbers) s.documents.items s.journal.items c.requires.state k d
+    store_stays s _ k d c.extend.new.self c.requires.state at (ap (λ (z : Filed). z.id) e.0) refl refl
+    (unchanged s.limits.journal (number_by s) s.documents.items s.journal.items c.requires.state.filed k d
     at s.index c.extend.new.index c.requires.rows c.extend.new.self c.extend.new.journal.items e.0 e.1 e.2).0
 
 pub returns-in_err-outcome-in-Some-clause-rows : goal.returns-in_err-outcome-in-Some-clause-rows
@@ -38,11 +40,11 @@ returns-in_err-outcome-in-Some-clause-rows c =
     let s = c.args.self.now in
     let k = c.in-Some.number in
     let d = c.index_mut-document.result.now in
-    let there : get_by_text s.numbers c.args.id ≡ Some k =
+    let there : number_by s c.args.id ≡ Some k =
     sym (rw c.as_str.ensures.value at c.in-Some.ensures) in
     let at = document_there s c.requires.state c.args.id k there d c.index_mut-document.ensures.value in
     let e = c.in_err-outcome-in-Some.ensures.err in
-    (unchanged s.limits.journal (get_by_text s.numbers) s.documents.items s.journal.items c.requires.state k d
+    (unchanged s.limits.journal (number_by s) s.documents.items s.journal.items c.requires.state.filed k d
     at s.index c.extend.new.index c.requires.rows c.extend.new.self c.extend.new.journal.items e.0 e.1 e.2).2
 
 pub returns-in_err-outcome-in-Some-clause-counted : goal.returns-in_err-outcome-in-Some-clause-counted
@@ -50,13 +52,13 @@ returns-in_err-outcome-in-Some-clause-counted c =
     let s = c.args.self.now in
     let k = c.in-Some.number in
     let d = c.index_mut-document.result.now in
-    let there : get_by_text s.numbers c.args.id ≡ Some k =
+    let there : number_by s c.args.id ≡ Some k =
     sym (rw c.as_str.ensures.value at c.in-Some.ensures) in
     let at = document_there s c.requires.state c.args.id k there d c.index_mut-document.ensures.value in
     let e = c.in_err-outcome-in-Some.ensures.err in
     c.requires.counted
-    ∙ ap deleted_in (sym (unchanged s.limits.journal (get_by_text s.numbers) s.documents.items s.journal.items
-    c.requires.state k d at s.index c.extend.new.index c.requires.rows c.extend.new.self
+    ∙ ap deleted_in (sym (unchanged s.limits.journal (number_by s) s.documents.items s.journal.items
+    c.requires.state.filed k d at s.index c.extend.new.index c.requires.rows c.extend.new.self
     c.extend.new.journal.items e.0 e.1 e.2).1)
 
 pub returns-in_err-outcome-in-Some-clause-err : goal.returns-in_err-outcome-in-Some-clause-err
@@ -64,12 +66,12 @@ returns-in_err-outcome-in-Some-clause-err c =
     let s = c.args.self.now in
     let k = c.in-Some.number in
     let d = c.index_mut-document.result.now in
-    let there : get_by_text s.numbers c.args.id ≡ Some k =
+    let there : number_by s c.args.id ≡ Some k =
     sym (rw c.as_str.ensures.value at c.in-Some.ensures) in
     let at = document_there s c.requires.state c.args.id k there d c.index_mut-document.ensures.value in
     let e = c.in_err-outcome-in-Some.ensures.err in
     on_err c.from_residual.result _
-    ((unchanged s.limits.journal (get_by_text s.numbers) s.documents.items s.journal.items c.requires.state k
+    ((unchanged s.limits.journal (number_by s) s.documents.items s.journal.items c.requires.state.filed k
     d at s.index c.extend.new.index c.requires.rows c.extend.new.self c.extend.new.journal.items e.0 e.1 e.2).1)
 
 pub recounted-self-requires-clause-some : goal.recounted-self-requires-clause-some
@@ -77,11 +79,11 @@ recounted-self-requires-clause-some c =
     let s = c.args.self.now in
     let k = c.in-Some.number in
     let d = c.index_mut-document.result.now in
-    let there : get_by_text s.numbers c.args.id ≡ Some k =
+    let there : number_by s c.args.id ≡ Some k =
     sym (rw c.as_str.ensures.value at c.in-Some.ensures) in
     let at = document_there s c.requires.state c.args.id k there d c.index_mut-document.ensures.value in
     rw c.is_deleted-was.ensures.mark
-    (mark_counted s.limits.journal (get_by_text s.numbers) s.documents.items s.journal.items c.requires.state
+    (mark_counted s.limits.journal (number_by s) s.documents.items s.journal.items c.requires.state.filed
     k d at c.is_deleted-was.ensures.tree s.deleted c.requires.counted)
 
 pub returns-in_ok-outcome-in-Some-clause-state : goal.returns-in_ok-outcome-in-Some-clause-state
@@ -89,11 +91,14 @@ returns-in_ok-outcome-in-Some-clause-state c =
     let s = c.args.self.now in
     let k = c.in-Some.number in
     let d = c.index_mut-document.result.now in
-    let there : get_by_text s.numbers c.args.id ≡ Some k =
+    let there : number_by s c.args.id ≡ Some k =
     sym (rw c.as_str.ensures.value at c.in-Some.ensures) in
     let at = document_there s c.requires.state c.args.id k there d c.index_mut-document.ensures.value in
     let count = rw (c.is_deleted-was.ensures.mark, c.is_deleted.ensures.mark) at c.recounted-self.ensures in
-    (extended s.limits.journal (get_by_text s.numbers) s.documents.items s.journal.items c.requires.state k d
+    let look = look_in s.limits.journal (setting_of k d s.journal.items s.index) c.args.edit in
+    let same = id_kept look k d c.extend.new.self s.journal.items s.index c.in_ok-outcome-in-Some.ensures.written.document in
+    store_stays s _ k d c.extend.new.self c.requires.state at same refl refl
+    (extended s.limits.journal (number_by s) s.documents.items s.journal.items c.requires.state.filed k d
     at s.index c.extend.new.index c.requires.rows c.args.id there c.is_deleted-was.ensures.tree c.args.edit
     c.extend.new.self c.extend.new.journal.items c.in_ok-outcome-in-Some.outcome
     c.in_ok-outcome-in-Some.ensures.written c.is_deleted.ensures.tree s.deleted c.recounted-self.result
@@ -104,11 +109,11 @@ returns-in_ok-outcome-in-Some-clause-rows c =
     let s = c.args.self.now in
     let k = c.in-Some.number in
     let d = c.index_mut-document.result.now in
-    let there : get_by_text s.numbers c.args.id ≡ Some k =
+    let there : number_by s c.args.id ≡ Some k =
     sym (rw c.as_str.ensures.value at c.in-Some.ensures) in
     let at = document_there s c.requires.state c.args.id k there d c.index_mut-document.ensures.value in
     let count = rw (c.is_deleted-was.ensures.mark, c.is_deleted.ensures.mark) at c.recounted-self.ensures in
-    (extended s.limits.journal (get_by_text s.numbers) s.documents.items s.journal.items c.requires.state k d
+    (extended s.limits.journal (number_by s) s.documents.items s.journal.items c.requires.state.filed k d
     at s.index c.extend.new.index c.requires.rows c.args.id there c.is_deleted-was.ensures.tree c.args.edit
     c.extend.new.self c.extend.new.journal.items c.in_ok-outcome-in-Some.outcome
     c.in_ok-outcome-in-Some.ensures.written c.is_deleted.ensures.tree s.deleted c.recounted-self.result
@@ -119,11 +124,11 @@ returns-in_ok-outcome-in-Some-clause-ok c =
     let s = c.args.self.now in
     let k = c.in-Some.number in
     let d = c.index_mut-document.result.now in
-    let there : get_by_text s.numbers c.args.id ≡ Some k =
+    let there : number_by s c.args.id ≡ Some k =
     sym (rw c.as_str.ensures.value at c.in-Some.ensures) in
     let at = document_there s c.requires.state c.args.id k there d c.index_mut-document.ensures.value in
     let count = rw (c.is_deleted-was.ensures.mark, c.is_deleted.ensures.mark) at c.recounted-self.ensures in
-    (extended s.limits.journal (get_by_text s.numbers) s.documents.items s.journal.items c.requires.state k d
+    (extended s.limits.journal (number_by s) s.documents.items s.journal.items c.requires.state.filed k d
     at s.index c.extend.new.index c.requires.rows c.args.id there c.is_deleted-was.ensures.tree c.args.edit
     c.extend.new.self c.extend.new.journal.items c.in_ok-outcome-in-Some.outcome
     c.in_ok-outcome-in-Some.ensures.written c.is_deleted.ensures.tree s.deleted c.recounted-self.result
@@ -134,11 +139,11 @@ returns-in_ok-outcome-in-Some-clause-counted c =
     let s = c.args.self.now in
     let k = c.in-Some.number in
     let d = c.index_mut-document.result.now in
-    let there : get_by_text s.numbers c.args.id ≡ Some k =
+    let there : number_by s c.args.id ≡ Some k =
     sym (rw c.as_str.ensures.value at c.in-Some.ensures) in
     let at = document_there s c.requires.state c.args.id k there d c.index_mut-document.ensures.value in
     let count = rw (c.is_deleted-was.ensures.mark, c.is_deleted.ensures.mark) at c.recounted-self.ensures in
-    (extended s.limits.journal (get_by_text s.numbers) s.documents.items s.journal.items c.requires.state k d
+    (extended s.limits.journal (number_by s) s.documents.items s.journal.items c.requires.state.filed k d
     at s.index c.extend.new.index c.requires.rows c.args.id there c.is_deleted-was.ensures.tree c.args.edit
     c.extend.new.self c.extend.new.journal.items c.in_ok-outcome-in-Some.outcome
     c.in_ok-outcome-in-Some.ensures.written c.is_deleted.ensures.tree s.deleted c.recounted-self.result
@@ -177,11 +182,11 @@ extend-requires-clause-own c =
     let s = c.args.self.now in
     let k = c.in-Some.number in
     let d = c.index_mut-document.result.now in
-    let there : get_by_text s.numbers c.args.id ≡ Some k =
+    let there : number_by s c.args.id ≡ Some k =
     sym (rw c.as_str.ensures.value at c.in-Some.ensures) in
     let at = document_there s c.requires.state c.args.id k there d c.index_mut-document.ensures.value in
-    let numbers = get_by_text s.numbers in
-    let now = filed_at s.limits.journal numbers s.documents.items s.journal.items c.requires.state k d at in
+    let numbers = number_by s in
+    let now = filed_at s.limits.journal numbers s.documents.items s.journal.items c.requires.state.filed k d at in
     c.requires.rows.key k (latest_of (filed d)) (ap (option_map latest_of) now)
 
 pub extend-requires-clause-above : goal.extend-requires-clause-above
@@ -200,11 +205,11 @@ returns-in_err-outcome-in-Some-clause-memory c =
     let s = c.args.self.now in
     let k = c.in-Some.number in
     let d = c.index_mut-document.result.now in
-    let there : get_by_text s.numbers c.args.id ≡ Some k =
+    let there : number_by s c.args.id ≡ Some k =
     sym (rw c.as_str.ensures.value at c.in-Some.ensures) in
     let at = document_there s c.requires.state c.args.id k there d c.index_mut-document.ensures.value in
     on_err c.from_residual.result _
-    (needs_at s.limits.journal (get_by_text s.numbers) s.documents.items s.journal.items c.requires.state k d
+    (needs_at s.limits.journal (number_by s) s.documents.items s.journal.items c.requires.state.filed k d
     at c.args.id there c.is_deleted-was.ensures.tree c.args.edit c.in_err-outcome-in-Some.ensures.memory)
 
 pub returns-in-None-clause-memory : goal.returns-in-None-clause-memory
