@@ -17,7 +17,8 @@ use Rattle.std.proofs.lemmas.List.Elements.{All-weaker, filter-append}
 use Rattle.hub_index.specs.Order.{IsOrder, id_at, id_cmp, has_id, number_in, lies_below, with_number}
 use Rattle.hub_index.specs.Order.{begins_up_to, IsNumberPage}
 use Rattle.hub_index.proofs.OrderLemmas.{Rises, less_up_to, greater_less, pairs_right, pairs_across}
-use Rattle.hub_index.proofs.OrderLemmas.{order_left, order_right, find_behind, find_before, filter_drops}
+use Rattle.hub_index.proofs.OrderLemmas.{order_left, order_right, find_before, filter_drops}
+use Rattle.hub_index.proofs.SlotLemmas.{find_behind}
 use Rattle.hub_index.proofs.OrderLemmas.{not_below, not_above}
 use Rattle.hub_index.proofs.IndexLemmas.{of_head, filter_keeps}
 use Rattle.hub_index.proofs.ListLemmas.{at_place}
@@ -157,13 +158,6 @@ pub insert_inside : (xs ys zs : List ℕ) (at n : ℕ) → at ≤ length ys
     → insert (xs ++ (ys ++ zs)) (length xs + at) n ≡ xs ++ (insert ys at n ++ zs)
 insert_inside xs ys zs at n l =
     insert_behind xs (ys ++ zs) at n (length xs + at) refl ∙ ap (λ l. xs ++ l) (insert_before ys zs at n l)
-
--- behind all
-pub insert_last : (xs : List ℕ) (n place : ℕ) → place ≡ length xs → insert xs place n ≡ xs ++ n ∷ []
-insert_last [] n zero e = refl
-insert_last [] n (suc place) e = absurd (omega arith)
-insert_last (x ∷ xs) n zero e = absurd (omega arith)
-insert_last (x ∷ xs) n (suc place) e = ap (λ l. x ∷ l) (insert_last xs n place (omega arith))
 
 -- ---- a page that changes
 

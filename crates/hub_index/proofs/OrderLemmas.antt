@@ -20,8 +20,10 @@ use Rattle.std.proofs.lemmas.List.Elements.{All-nil, All-cons, All-head, All-tai
 use Rattle.std.proofs.lemmas.List.Elements.{Contains-get_or, Contains-append_right, filter_passes}
 use Rattle.std.proofs.lemmas.List.Kept.{AllPairs-filter, AllPairs-cons}
 use Rattle.hub_model.proofs.Lists.{same_text}
+use Rattle.hub_model.proofs.Tests.{not_true}
 use Rattle.hub_index.specs.Order.{IsOrder, id_at, id_cmp, has_id, number_in, lies_below, with_number}
 use Rattle.hub_index.proofs.ListLemmas.{text_apart, text_same}
+use Rattle.hub_index.proofs.SlotLemmas.{find_behind}
 use Rattle.hub_index.proofs.IndexLemmas.{find_nothing, filter_keeps, of_head, of_tail}
 
 -- ---- texts in order
@@ -90,11 +92,6 @@ module _ {X : Type 0} (p : X → Bool) where
   filter_drops [] all = refl
   filter_drops (y ∷ xs) all =
       rw (All-head (λ x. p x ≡ false) y xs all) (filter_drops xs (All-tail (λ x. p x ≡ false) y xs all))
-
-  pub find_behind : (xs ys : List X) → All (λ x. p x ≡ false) xs → find p (xs ++ ys) ≡ find p ys
-  find_behind [] ys all = refl
-  find_behind (x ∷ xs) ys all =
-      rw (All-head (λ x. p x ≡ false) x xs all) (find_behind xs ys (All-tail (λ x. p x ≡ false) x xs all))
 
   pub find_before : (xs ys : List X) → All (λ x. p x ≡ false) ys → find p (xs ++ ys) ≡ find p xs
   find_before [] ys all = find_nothing p ys all
@@ -221,10 +218,6 @@ module _ (ids : List (List ℕ)) where
           above : has_id ids id n ≡ false → is_gt (id_cmp ids id n) ≡ true
           above =
               above_else n (not_true (lies_below ids id n) (All-head (λ m. not (lies_below ids id m) ≡ true) n rest passes))
-            where
-              not_true : (b : Bool) → not b ≡ true → b ≡ false
-              not_true true h = absurd (cc)
-              not_true false h = refl
 
           later : AllPairs Rises (n ∷ rest)
           later =
@@ -290,10 +283,6 @@ module _ (ids : List (List ℕ)) (numbers : List ℕ) (id : List ℕ) (n : ℕ) 
     less_is (id_cmp ids id (get_or (filter (lies_below ids id) numbers) k d))
         (filter_passes (lies_below ids id) numbers k d l),
   )
-
-  not_true : (b : Bool) → not b ≡ true → b ≡ false
-  not_true true h = absurd (cc)
-  not_true false h = refl
 
   high : All High (filter (λ m. not (lies_below ids id m)) numbers)
   high k d l =
