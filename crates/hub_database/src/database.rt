@@ -244,8 +244,8 @@ impl DbState {
     /// one that contradicts. Once the database is deleted each is refused as that. The call fails
     /// only where the list of replies finds no memory; where it runs out at a document, the batch
     /// stops there, and the documents before it stay stored: only a document that is to be stored, or
-    /// whose revision is to be made, needs any. Each document costs a look in the map
-    /// of ids, what `RevTree::look_extend` or `RevTree::look_merge` does, a move in the index of
+    /// whose revision is to be made, needs any. Each document costs a search
+    /// of its id, what `RevTree::look_extend` or `RevTree::look_merge` does, a move in the index of
     /// rows, and what `RevTree::best` does.
     pub fn write_edits(&mut self, docs: Vec<Doc>, new_edits: bool) -> Result<Batch, DbFault>
         ensures ok { IfOk result (λ batch.
@@ -279,7 +279,7 @@ impl DbState {
     /// PUT and DELETE of a document). Of these the first refuses it: the database was deleted
     /// (`Deleted`), no leaf is named or chosen (`Conflict`), the leaf has the last generation
     /// (`GenerationLimit`), the made revision is known (`Conflict`), the journal is full
-    /// (`SequenceFull`). It costs a look in the map of ids, what `RevTree::look_extend` does, a move
+    /// (`SequenceFull`). It costs a search of the id, what `RevTree::look_extend` does, a move
     /// in the index of rows, and what `RevTree::best` does.
     pub fn write_one(&mut self, doc: Doc) -> Result<RevId, DbFault>
         ensures ok { IfOk result (λ rev.

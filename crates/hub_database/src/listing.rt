@@ -33,8 +33,8 @@ fn push_some(list: &mut Vec<u64>, seq: Option<u64>) -> Result<(), AllocError>
     Ok(())
 }
 
-// The sequences of the current rows of the documents with these ids, in the order of the ids. A look
-// in the map of ids for each.
+// The sequences of the current rows of the documents with these ids, in the order of the ids. A search
+// for each.
 fn gather(list: &mut Vec<u64>, rows: &Rows<'_>, ids: &[String]) -> Result<(), AllocError>
     ensures { OnOk result (list.new.items ≡ filter_map (seq_of_row rows.now) (map string_bytes ids.now)) }
 {
@@ -91,8 +91,8 @@ impl Listing {
 
     /// Whether the rows are kept of the feed of this number, which lists these ids. They are found
     /// once the feed asks twice with no write and no other such feed between, so that feeds that ask
-    /// by turns don't find theirs for one step alone: a look in the map of ids for each id, and a sort
-    /// of what is found. Where memory is short they are not kept. Once they are: constant time.
+    /// by turns don't find theirs for one step alone: a search for each id, and a sort of what is
+    /// found. Where memory is short they are not kept. Once they are: constant time.
     pub(crate) fn holds(&mut self, number: u64, rows: &Rows<'_>, ids: &[String]) -> bool
         requires kept { self.old.feed ≡ Some number
             → self.old.rows.items ≡ passing (DocIds (map string_bytes ids.now)) rows.now }
