@@ -1,6 +1,6 @@
 -- What stems show of their branches.
-use Rattle.std.proofs.Common.{◌≡◌, ℕ, zero, suc, ◌+◌, ◌<◌, ◌≤◌, List, [], ◌∷◌, ◌++◌, length, drop, take, add-one, Bool, true, false, ◌⊎◌, inl, inr, refl, sym, ap, ◌∙◌, subst, append_assoc, append-nil, ◌||◌, not, arith}
-use Rattle.std.specs.Prelude.{Option, Some, None, slice_get, IfSome, is_some}
+use Rattle.std.proofs.Common.{◌≡◌, ℕ, zero, suc, ◌+◌, ◌<◌, ◌≤◌, List, [], ◌∷◌, ◌++◌, length, drop, take, add-one, Bool, true, false, ◌⊎◌, inl, inr, refl, sym, ap, ◌∙◌, subst, append_assoc, append-nil, ◌||◌, arith}
+use Rattle.std.specs.Prelude.{Option, Some, None, slice_get}
 use Rattle.std.specs.List.{list_any}
 use Rattle.std.proofs.lemmas.Bool.{cases_Bool}
 use Rattle.std.proofs.lemmas.List.{drop_all, drop-append-le, length-append, take-append-drop, take-append-le}
@@ -8,23 +8,12 @@ use Rattle.std.proofs.Math.Seq.{take-append_seam}
 use Rattle.std.proofs.lemmas.List.Folds.{list_any-append}
 use Rattle.std.proofs.lemmas.Option.{same_Some, slice_get_within}
 use Rattle.hub_model.specs.Revision.{Revision, is_same}
-use Rattle.hub_model.specs.Path.{IsPath, names, is_first}
+use Rattle.hub_model.specs.Path.{IsPath, names}
 use Rattle.hub_model.proofs.Tests.{or_left, or_right, or_false, same_is}
-use Rattle.hub_document.proofs.PlaceLemmas.{named}
 use Rattle.hub_revtree.specs.declared.stem.Place.{Place}
 use Rattle.hub_revtree.specs.Branch.{Branch}
 use Rattle.hub_revtree.specs.Stem.{Stem, AreStems, IsWithin, branch_of, branches_after, branches_of, has_revision, path_from, path_in, revisions_in}
-use Rattle.hub_revtree.proofs.BranchLemmas.{apart}
 use Rattle.hub_revtree.proofs.RunLemmas.{dropped_one, get_some}
-
--- a revision that a path has stands behind its first one where it is another
-pub behind_newest : (p : List Revision) (r : Revision) (o : Option ℕ) → IsPath p → IfSome o (λ k. slice_get p k ≡ Some r) → is_some o ≡ true → not (is_first r p) ≡ names (drop 1 p) r
-behind_newest [] r o f found some = absurd f
-behind_newest (y ∷ p) r None f found some = absurd (cc)
-behind_newest (y ∷ p) r (Some k) f found some = elim (cases_Bool (is_same r y)) [
-  | inl t ↦ rw t (sym (apart y p r f t))
-  | inr t ↦ rw t (sym (rw t at (named (y ∷ p) k r found)))
-]
 
 -- lists by place
 pub get_front : {A : Type 0} (xs ys : List A) (k : ℕ) (x : A) → slice_get xs k ≡ Some x → slice_get (xs ++ ys) k ≡ Some x

@@ -4,14 +4,14 @@ use Rattle.std.specs.Prelude.{Option, Some, None, IfSome, slice_get, ◌↔◌, 
 use Rattle.std.specs.List.{list_any}
 use Rattle.std.specs.Option.{option_or}
 use Rattle.std.proofs.lemmas.Bool.{cases_Bool, both_ways}
-use Rattle.std.proofs.lemmas.List.{drop-append-le, drop_more, length-drop, length-take, take_all}
+use Rattle.std.proofs.lemmas.List.{drop-append-le, length-drop, length-take, take_all}
 use Rattle.std.proofs.lemmas.List.Folds.{list_any-append, find-append}
 use Rattle.std.proofs.lemmas.Option.{get_or_from_slice_get, same_Some, slice_get_past, slice_get_read, slice_get_within}
 use Rattle.hub_model.specs.Revision.{Revision, is_same}
 use Rattle.hub_model.specs.Path.{IsPath, names, is_first}
 use Rattle.hub_model.specs.Leaves.{is_behind_head}
 use Rattle.hub_model.proofs.Shown.{find_is}
-use Rattle.hub_model.proofs.Tests.{or_false, or_left, or_right, same_is, same_self}
+use Rattle.hub_model.proofs.Tests.{or_false, or_left, or_right}
 use Rattle.hub_revtree.specs.declared.stem.Place.{Place}
 use Rattle.hub_revtree.specs.Branch.{Branch, earlier_branches, edit_of}
 use Rattle.hub_revtree.specs.Stem.{Stem, AreStems, IsWithin, branch_of, branches_after, branches_of, has_revision, is_at, is_behind_newest, path_from}

@@ -166,6 +166,15 @@ impl Run {
         self.is_at(usize::from(place), rev).then_some(place)
     }
 
+    /// Whether the revision stands behind the newest. Constant time; it compares no hashes where the
+    /// generation is not below the newest one's.
+    pub(crate) fn has_behind(&self, rev: &RevId) -> bool
+        requires { IsPath self.now }
+        ensures { result ≡ names (drop 1 self.now) rev.now }
+    {
+        rev.generation() < self.generation() && self.position(rev).is_some()
+    }
+
     /// Puts the revision at this place, and those behind it, behind what the vector holds. It costs their
     /// number.
     pub(crate) fn append_from(&self, at: usize, line: &mut Vec<RevId>) -> Result<(), AllocError>

@@ -130,7 +130,7 @@ impl Stem {
         requires { IsPath self.now.revisions }
         ensures { result ≡ names (drop 1 self.now.revisions) rev.now }
     {
-        self.position(rev).is_some() && !self.is_head(rev)
+        self.run.has_behind(rev)
     }
 
     /// As `Run::append_from`.
