@@ -245,26 +245,33 @@ module _ (xs : List Stem) (a : AreStems xs) (legal : IsLegal (edits_in (branches
     pub none_agrees : list_any (has_revision xs) q ≡ false → true ≡ list_all (λ c. agrees path c.path) (branches_of xs)
     none_agrees f = sym (none_met xs a legal path history (subst (λ z. list_any (has_revision xs) z ≡ false) again f))
 
-  -- the stem of an edit that may be stored
-  module _ (path q : List Revision) (deleted : Bool) (body : List ℕ) (ok : IsAcceptable (edits_in (branches_of xs)) (nameless path deleted body)) (again : q ≡ path) (s : Stem) where
-    pub met_brings : (at : ℕ) (p : Place) → list_any (has_revision xs) (take at q) ≡ false → IsWithin xs p → slice_get q at ≡ slice_get (revisions_at xs p.stem) p.at → s.revisions ≡ take at path → s.parent ≡ Some p → Brings xs path s
+  -- an edit that may be stored meets them behind its first revision
+  pub met_later : (path : List Revision) (deleted : Bool) (body : List ℕ) → IsAcceptable (edits_in (branches_of xs)) (nameless path deleted body) → (at : ℕ) (p : Place) → IsWithin xs p → slice_get path at ≡ slice_get (revisions_at xs p.stem) p.at → 1 ≤ at
+  met_later path deleted body ok at p within same =
+      let r = get_some (revisions_at xs p.stem) p.at within in
+      let some : at ≢ 0 = not_first xs a legal path deleted body ok at p r.0 (same ∙ r.1) r.1 in
+      omega arith
+
+  -- its stem
+  module _ (path : List Revision) (deleted : Bool) (body : List ℕ) (ok : IsAcceptable (edits_in (branches_of xs)) (nameless path deleted body)) (s : Stem) where
+    pub met_brings : (at : ℕ) (p : Place) → list_any (has_revision xs) (take at path) ≡ false → IsWithin xs p → slice_get path at ≡ slice_get (revisions_at xs p.stem) p.at → s.revisions ≡ take at path → s.parent ≡ Some p → Brings xs path s
     met_brings at p first within same own stands =
         let r = get_some (revisions_at xs p.stem) p.at within in
-        let read : slice_get path at ≡ Some r.0 = subst (λ z. slice_get z at ≡ Some r.0) again (same ∙ r.1) in
+        let read : slice_get path at ≡ Some r.0 = same ∙ r.1 in
         record {
           falling = rw own (take_falls at path (not_first xs a legal path deleted body ok at p r.0 read r.1) ok.history.falls);
-          fresh = subst (λ z. list_any (has_revision xs) z ≡ false) (sym own) (subst (λ z. list_any (has_revision xs) (take at z) ≡ false) again first);
+          fresh = subst (λ z. list_any (has_revision xs) z ≡ false) (sym own) first;
           within = λ o e. subst (IsWithin xs) (same_Some p o (sym stands ∙ e)) within;
           whole =
               ap₂ (λ (xs : List Revision) (ys : List Revision). xs ++ ys) own (ap (path_from (branches_of xs)) stands ∙ sym (goes_on xs a legal path deleted body ok at p r.0 read r.1))
               ∙ take-append-drop at path;
         }
 
-    pub new_brings : list_any (has_revision xs) q ≡ false → s.revisions ≡ path → s.parent ≡ None → Brings xs path s
+    pub new_brings : list_any (has_revision xs) path ≡ false → s.revisions ≡ path → s.parent ≡ None → Brings xs path s
     new_brings none own stands =
         record {
           falling = rw own ok.history.falls;
-          fresh = subst (λ z. list_any (has_revision xs) z ≡ false) (sym (own)) (subst (λ z. list_any (has_revision xs) z ≡ false) again none);
+          fresh = subst (λ z. list_any (has_revision xs) z ≡ false) (sym own) none;
           within = λ o e. absurd (let none : ◌≡◌ {A = Option Place} None (Some o) = sym stands ∙ e in cc);
           whole = ap₂ (λ (xs : List Revision) (ys : List Revision). xs ++ ys) own (ap (path_from (branches_of xs)) stands) ∙ append-nil path;
         }

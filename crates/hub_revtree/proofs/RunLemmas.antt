@@ -4,7 +4,7 @@ use Rattle.std.specs.Prelude.{Option, Some, None, IfSome, IfNone, ◌↔◌, sli
 use Rattle.std.specs.Bool.{then_some}
 use Rattle.std.specs.Str.{bytes_eq}
 use Rattle.std.proofs.lemmas.Bool.{both_ways, cases_Bool, eq-eqb, eqb-true}
-use Rattle.std.proofs.lemmas.List.{append_assoc}
+use Rattle.std.proofs.lemmas.List.{append_assoc, length-drop, map-append, take_all}
 use Rattle.std.proofs.lemmas.Option.{same_Some, slice_get_read}
 use Rattle.hub_model.proofs.Tests.{same_is, same_self}
 use Rattle.hub_document.proofs.PlaceLemmas.{above_head, named, not_named, past_end}
@@ -97,6 +97,28 @@ module _ (p : List Revision) (n : ℕ) (ds : List (List ℕ)) (is : revisions_fr
       from : (ds : List (List ℕ)) → IsPath (revisions_from n ds) → option_map (λ (r : Revision). r.generation) (slice_get (revisions_from n ds) 0) ≡ Some n
       from [] path = absurd path
       from (d ∷ ds) path = refl
+
+  -- the texts of the digests from a place on
+  pub digests_more : (new old q : List (List ℕ)) (k : ℕ) → q ≡ ds → new ≡ old ++ take (length q - k) (drop k q) → map encode_lower new ≡ map encode_lower old ++ map (λ r. r.hash) (drop k p)
+  digests_more new old q k same more =
+      ap (map encode_lower) (more ∙ ap (λ z. old ++ z) (take_all (length q - k) (drop k q) (omega (arith, length-drop k q)) ∙ ap (drop k) same))
+      ∙ map-append encode_lower old (drop k ds)
+      ∙ ap (λ z. map encode_lower old ++ z) (from n ds k ∙ ap (λ q. map (λ (r : Revision). r.hash) (drop k q)) is)
+    where
+      from : (n : ℕ) (ds : List (List ℕ)) (k : ℕ) → map encode_lower (drop k ds) ≡ map (λ (r : Revision). r.hash) (drop k (revisions_from n ds))
+      from n [] zero = refl
+      from n [] (suc k) = refl
+      from n (d ∷ ds) zero = ap (λ z. encode_lower d ∷ z) (from (n - 1) ds 0)
+      from n (d ∷ ds) (suc k) = from (n - 1) ds k
+
+  -- the first of the digests
+  pub digests_cut : (k : ℕ) → revisions_from n (take k ds) ≡ take k p
+  digests_cut k = from n ds k ∙ ap (take k) is
+    where
+      from : (n : ℕ) (ds : List (List ℕ)) (k : ℕ) → revisions_from n (take k ds) ≡ take k (revisions_from n ds)
+      from n ds zero = refl
+      from n [] (suc k) = refl
+      from n (d ∷ ds) (suc k) = ap (λ z. record { generation = n; hash = encode_lower d } ∷ z) (from (n - 1) ds k)
 
 -- a run of texts
 pub texts_read : (p q : List Revision) (k : ℕ) (x : Revision) → q ≡ p → k < length p → x ≡ get_or q k x → slice_get p k ≡ Some x
@@ -199,6 +221,11 @@ front_kept x (y ∷ p) (d ∷ ds) (suc k) f e =
     let tail : map encode_lower ds ≡ map (λ (r : Revision). r.hash) (take k (y ∷ p)) = (cc) in
     let down : x.generation - 1 ≡ y.generation = omega (arith, f.0) in
     ap₂ (λ (h : List ℕ) (q : List Revision). record { generation = x.generation; hash = h } ∷ q) h (ap (λ g. revisions_from g ds) down ∙ front_kept y p ds k f.1 tail)
+
+pub digests_whole : (x : Revision) (p : List Revision) (n : ℕ) (ds : List (List ℕ)) → IsPath (x ∷ p) → n ≡ x.generation → map encode_lower ds ≡ map (λ r. r.hash) (x ∷ p) → revisions_from n ds ≡ x ∷ p
+digests_whole x p n ds path up e =
+    let all : take (length (x ∷ p)) (x ∷ p) ≡ x ∷ p = take_all (length (x ∷ p)) (x ∷ p) (omega arith) in
+    ap (λ g. revisions_from g ds) up ∙ front_kept x p ds (length (x ∷ p)) path (e ∙ ap (map (λ r. r.hash)) (sym all)) ∙ all
 
 pub digests_kept : (p : List Revision) (x : Revision) (n : ℕ) (ds : List (List ℕ)) (k : ℕ) → IsPath p → x ≡ get_or p 0 x → n ≡ x.generation → map encode_lower ds ≡ map (λ r. r.hash) (take k p) → revisions_from n ds ≡ take k p
 digests_kept [] x n ds k path first up e = absurd path

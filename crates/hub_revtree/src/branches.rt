@@ -1,7 +1,8 @@
 //! The stored edits of a document, which share what stands behind them.
 
-ghost use Rattle.std.specs.Prelude.{◌≡◌, ◌≤◌, ◌<◌, ◌++◌, ◌∷◌, Some, [], ◌-◌, ◌^◌, length, min, take, is_some, false, find, option_map, option_and_then, slice_get, IfSome, IfOk, OnOk, OnErr};
+ghost use Rattle.std.specs.Prelude.{◌≡◌, ◌≤◌, ◌<◌, ◌++◌, ◌∷◌, Some, [], ◌-◌, ◌^◌, length, map, min, take, is_some, false, find, option_map, option_and_then, slice_get, IfSome, IfOk, IsTrue, OnOk, OnErr};
 ghost use Rattle.std.specs.List.{list_any, list_all};
+ghost use Rattle.hex.specs.Hex.{encode_lower};
 ghost use Rattle.hub_model.specs.Journal.{IsAcceptable, IsLegal};
 ghost use Rattle.hub_model.specs.Leaves.{is_behind_head as stands_behind_head};
 ghost use Rattle.hub_model.specs.Missing.{highest as highest_of, missing as missing_from};
@@ -17,7 +18,8 @@ use crate::leaf::Winner;
 use crate::run::Run;
 use crate::stem::Stem;
 use crate::stems::{
-    append_from, first_known, headed, is_behind, is_behind_last, is_line, place_of, place_up_to,
+    append_digests, append_from, first_known, first_known_of, headed, is_behind, is_behind_last,
+    is_line, place_of, place_up_to,
 };
 use hub_document::{Body, Path, RevId};
 use std::alloc::{AllocError, Global};
@@ -59,17 +61,18 @@ fn stored(stem: &Stem) -> StoredEdit<'_>
     }
 }
 
-// The run where it is of just so many; else the first of the revisions, so many, in their own vector. It
-// takes no memory.
-fn kept(run: Run, revisions: Vec<RevId>, count: usize) -> Run
-    requires within { count ≤ length revisions.items }
-    requires front { run ≡ take (length run) revisions.items }
-    ensures { result ≡ take count revisions.items }
+// The run where it is of just so many; else the first of the path's revisions, so many, in its own memory.
+// It takes none.
+fn kept(run: Run, path: Run, count: usize) -> Run
+    requires some { 1 ≤ count }
+    requires within { count ≤ length path }
+    requires front { run ≡ take (length run) path }
+    ensures { result ≡ take count path }
 {
     if run.len() == count {
         run
     } else {
-        Run::cut(revisions, count)
+        path.cut(count)
     }
 }
 
@@ -183,6 +186,24 @@ impl Branches {
         }
     }
 
+    /// Puts the digests of the revision and of all that stands behind it behind what the vector holds;
+    /// false, and nothing or some of them, where one is kept otherwise; nothing where no path names it. It
+    /// costs a look an edit, from the newest on up to the one that brought it, and a copy of 16 bytes for
+    /// each.
+    pub(crate) fn append_digests(
+        &self,
+        rev: &RevId,
+        digests: &mut Vec<[u8; 16]>,
+    ) -> Result<bool, AllocError>
+        requires { IsLegal (edits_in self.now.list) }
+        ensures { IfOk result (λ all. IsTrue all → map encode_lower digests.new.items ≡ map encode_lower digests.old.items ++ map (λ r. r.hash) (line_to (edits_in self.now.list) (Some rev.now))) }
+    {
+        match place_of(self.stems.as_slice(), rev) {
+            Some(place) => append_digests(self.stems.as_slice(), place, digests),
+            None => Ok(true),
+        }
+    }
+
     /// How many revisions are new of a path that agrees with all stored ones; None where it does not agree.
     /// It costs a look an edit for each of the path's revisions that no path names, but for those of a
     /// generation above all others; a look at each edit from the newest on up to the one that brought the
@@ -216,7 +237,7 @@ impl Branches {
     /// Takes an edit, in the place that was made for it: it takes no new memory. The run is the front of its
     /// path; where it is of just those that are new, it is kept, and the path's memory is given back, else that
     /// memory is cut to what they need. It costs what `new_count` does.
-    pub(crate) fn push(&mut self, path: Path, run: Run, deleted: bool, body: Body)
+    pub(crate) fn push(&mut self, path: Run, run: Run, deleted: bool, body: Body)
         requires legal { IsLegal (edits_in self.old.list) }
         requires acceptable { IsAcceptable (edits_in self.old.list) (nameless path deleted body) }
         requires front { run ≡ take (length run) path }
@@ -224,16 +245,15 @@ impl Branches {
         ensures { edits_in self.new.list ≡ edits_in self.old.list ++ nameless path deleted body ∷ [] }
     {
         let mut parent = None;
-        let met = first_known(self.stems.as_slice(), self.highest, path.revisions());
-        let head = path.head();
+        let met = first_known_of(self.stems.as_slice(), self.highest, &path);
+        let head = path.at(0);
         self.highest = head.generation().max(self.highest);
-        let all = path.into_revisions();
-        let mut new = all.len();
+        let mut new = path.len();
         if let Some(met) = met {
             new = met.at;
             parent = Some(met.place);
         }
-        let run = kept(run, all, new);
+        let run = kept(run, path, new);
         self.stems
             .push_reserved(Stem::new(run, parent, deleted, body));
     }

@@ -1,17 +1,19 @@
 //! Edits that are made here.
 
-ghost use Rattle.std.specs.Prelude.{◌≡◌, ◌⊎◌, ◌≤◌, ◌<◌, ◌++◌, ◌∷◌, [], length, option_map, Some, None, Ok, Err, IfOk, IfErr, OnOk};
+ghost use Rattle.std.specs.Prelude.{◌≡◌, ◌⊎◌, ◌≤◌, ◌<◌, ◌++◌, ◌∷◌, [], length, map, option_map, Some, None, Ok, Err, IfOk, IfErr, IfSome, IsTrue, OnOk};
 ghost use Rattle.std.specs.Result.{result_ok};
+ghost use Rattle.hex.specs.Hex.{encode_lower};
 ghost use Rattle.hub_model.specs.Draft.{HasNextRevision, extended as extended_in, generation_of, made, parent_of};
 ghost use Rattle.hub_model.specs.Journal.{Edit, IsAcceptable, head_of};
 ghost use Rattle.hub_model.specs.Leaves.{leaves_of};
 ghost use Rattle.hub_model.specs.Path.{IsHistory};
 ghost use Rattle.hub_revtree.specs.Extend.{draft, extends, line_to};
-ghost use Rattle.hub_revtree.specs.Tree.{IsRevTree};
+ghost use Rattle.hub_revtree.specs.Tree.{IsRevTree, nameless};
 
 use crate::fault::EditFault;
+use crate::run::Run;
 use crate::tree::{Ready, RevTree};
-use hub_document::{Body, DocId, Path, RevId, rev_of_edit};
+use hub_document::{Body, DocId, RevId, rev_of_edit};
 use std::alloc::{AllocError, Global};
 
 // The revision of an edit on this one, or on nothing.
@@ -92,25 +94,98 @@ impl RevTree {
         }
     }
 
-    // The path with the revision in front of the one that it extends, in memory of its own size.
-    fn path_on(&self, alloc: Global, rev: RevId, older: &Option<RevId>) -> Result<Path, AllocError>
-        requires { IsHistory (rev ∷ line_to self.now.edits older.now) }
-        ensures { IfOk result (λ path. path ≡ rev ∷ line_to self.now.edits older.now) }
+    // Puts the digests of the revision, if there is one, and of all that stands behind it behind what the
+    // vector holds; false where one of the revisions is kept otherwise.
+    fn append_digests(
+        &self,
+        rev: &Option<RevId>,
+        digests: &mut Vec<[u8; 16]>,
+    ) -> Result<bool, AllocError>
+        ensures { IfOk result (λ all. IsTrue all → map encode_lower digests.new.items ≡ map encode_lower digests.old.items ++ map (λ r. r.hash) (line_to self.now.edits rev.now)) }
+    {
+        match rev {
+            Some(rev) => self.branches().append_digests(rev, digests),
+            None => Ok(true),
+        }
+    }
+
+    // The path with the revision in front of the one that it extends, as digests; None where one of the
+    // revisions is kept otherwise.
+    fn digests_on(
+        &self,
+        alloc: Global,
+        rev: &RevId,
+        older: &Option<RevId>,
+    ) -> Result<Option<Run>, AllocError>
+        requires { IsHistory (rev.now ∷ line_to self.now.edits older.now) }
+        ensures { IfOk result (λ found. IfSome found (λ path. path ≡ rev.now ∷ line_to self.now.edits older.now)) }
+    {
+        let Some(digest) = rev.digest() else {
+            return Ok(None);
+        };
+        let mut digests = Vec::with_capacity(alloc, usize::from(rev.generation()))?;
+        digests.push(digest)?;
+        if !self.append_digests(older, &mut digests)? {
+            return Ok(None);
+        }
+        Ok(Some(Run::from_digests(rev.generation(), digests)))
+    }
+
+    // The same as revisions.
+    fn revisions_on(
+        &self,
+        alloc: Global,
+        rev: &RevId,
+        older: &Option<RevId>,
+    ) -> Result<Run, AllocError>
+        ensures { IfOk result (λ path. path ≡ rev.now ∷ line_to self.now.edits older.now) }
     {
         let mut revisions = Vec::with_capacity(alloc, usize::from(rev.generation()))?;
-        revisions.push(rev)?;
+        revisions.push(*rev)?;
         if let Some(older) = older {
             self.branches().append_line(older, &mut revisions)?;
         }
-        Ok(Path::new(revisions))
+        Ok(Run::whole(revisions))
+    }
+
+    // The path with the revision in front of the one that it extends, in memory of its own size.
+    fn path_on(&self, alloc: Global, rev: &RevId, older: &Option<RevId>) -> Result<Run, AllocError>
+        requires { IsHistory (rev.now ∷ line_to self.now.edits older.now) }
+        ensures { IfOk result (λ path. path ≡ rev.now ∷ line_to self.now.edits older.now) }
+    {
+        match self.digests_on(alloc, rev, older)? {
+            Some(path) => Ok(path),
+            None => self.revisions_on(alloc, rev, older),
+        }
+    }
+
+    // The edit with the revision in front of the one that it extends, with memory for it. The revision alone
+    // is new: what it stands on is known.
+    fn ready_on(
+        &mut self,
+        rev: &RevId,
+        older: &Option<RevId>,
+        deleted: bool,
+        body: Body,
+    ) -> Result<Ready, AllocError>
+        requires { IsHistory (rev.now ∷ line_to self.old.edits older.now) }
+        ensures edits { self.new.edits ≡ self.old.edits }
+        ensures ready { IfOk result (λ ready. ready ≡ nameless (rev.now ∷ line_to self.old.edits older.now) deleted body) }
+        ensures room { IfOk result (λ ready. length ready.path ≤ self.new.room) }
+    {
+        let alloc = self.allocator();
+        let path = self.path_on(alloc, rev, older)?;
+        let run = Run::front(alloc, &[*rev], 1)?;
+        self.ready_with(path, run, deleted, body)
     }
 
     /// Looks what becomes of an edit that is made here, on the leaf that is named, or, without a
     /// name, on nothing where the document is unknown and on its winner where that is deleted: the
     /// edit with the revision that is made for it, with memory for it. `id` is the document's, which
     /// the revision's hash has in it. It costs a look an edit, and the lengths of the path and the
-    /// body; where no generation is above that of the leaf, it looks only from the newest edit on up to the
-    /// one that brought the leaf.
+    /// body: of the path a copy of 16 bytes a revision where the hashes are digests, else of 68. Where no
+    /// generation is above that of the leaf, it looks only from the newest edit on up to the one that brought
+    /// the leaf.
     pub fn look_extend(
         &mut self,
         id: &DocId,
@@ -135,9 +210,7 @@ impl RevTree {
         if self.knows(&rev) {
             return Err(EditFault::Conflict);
         }
-        let path = self.path_on(alloc, rev, &older)?;
-        // The revision alone is new: what it stands on is known.
-        let ready = self.made_ready(path, 1, deleted, body)?;
+        let ready = self.ready_on(&rev, &older, deleted, body)?;
         Ok(ready)
     }
 

@@ -1,10 +1,10 @@
 //! Runs of revisions, in little memory.
 
-ghost use Rattle.std.specs.Prelude.{◌≡◌, ◌≤◌, ◌<◌, ◌++◌, List, length, Some, false, drop, map, option_map, slice_get, take, IfSome, IfNone, IfOk, OnOk};
+ghost use Rattle.std.specs.Prelude.{◌≡◌, ◌≤◌, ◌<◌, ◌++◌, List, length, Some, false, drop, map, option_map, slice_get, take, IfSome, IfNone, IfOk, IsTrue, OnOk};
 ghost use Rattle.hex.specs.Hex.{encode_lower};
 ghost use Rattle.hub_model.specs.Revision.{Revision};
 ghost use Rattle.hub_model.specs.Path.{IsPath, is_first, names};
-ghost use Rattle.hub_revtree.specs.Run.{kept_in};
+ghost use Rattle.hub_revtree.specs.Run.{kept_in, revisions_from};
 
 use hub_document::RevId;
 use std::alloc::{AllocError, Global};
@@ -72,6 +72,27 @@ fn kept_of(alloc: Global, revisions: &[RevId], count: usize) -> Result<Kept, All
     }
 }
 
+// The first of a list, so many, in its own memory, which gives the rest back.
+fn cut_list<T: Drop>(mut list: Vec<T>, count: usize) -> Vec<T>
+    ensures { result.items ≡ take count list.items }
+{
+    list.truncate(count);
+    list.shrink_to_fit();
+    list
+}
+
+// What keeps the first of the revisions, so many. It takes no memory.
+fn cut_kept(kept: Kept, count: usize) -> Kept
+    requires { 1 ≤ count }
+    ensures { kept_in result ≡ take count (kept_in kept) }
+{
+    match kept {
+        Kept::One(newest, digest) => Kept::One(newest, digest),
+        Kept::Digests(newest, digests) => Kept::Digests(newest, cut_list(digests, count)),
+        Kept::Texts(revisions) => Kept::Texts(cut_list(revisions, count)),
+    }
+}
+
 impl Run {
     /// The first of a path's revisions, so many. It takes memory of just the size that they need; none
     /// where there is one whose hash is a digest's text. It costs their number.
@@ -84,15 +105,33 @@ impl Run {
         Ok(Run { kept })
     }
 
-    /// The same in the vector's own memory, which gives the rest of it back: it takes none.
-    pub(crate) fn cut(mut revisions: Vec<RevId>, count: usize) -> Run
-        requires { count ≤ length revisions.items }
-        ensures { result ≡ take count revisions.items }
+    /// All of them, in their own vector. It takes no memory.
+    pub(crate) fn whole(revisions: Vec<RevId>) -> Run
+        ensures { result ≡ revisions.items }
     {
-        revisions.truncate(count);
-        revisions.shrink_to_fit();
         Run {
             kept: Kept::Texts(revisions),
+        }
+    }
+
+    /// The revisions whose hashes are the texts of the digests, from this generation down. It takes no
+    /// memory.
+    pub(crate) fn from_digests(newest: u16, digests: Vec<[u8; 16]>) -> Run
+        ensures { result ≡ revisions_from newest digests.items }
+    {
+        Run {
+            kept: Kept::Digests(newest, digests),
+        }
+    }
+
+    /// The first of them, so many, in the memory that they all have, which gives the rest of it back: it
+    /// takes none.
+    pub(crate) fn cut(self, count: usize) -> Run
+        requires { 1 ≤ count }
+        ensures { result ≡ take count self }
+    {
+        Run {
+            kept: cut_kept(self.kept, count),
         }
     }
 
@@ -185,6 +224,24 @@ impl Run {
             line.push(self.at(place))?;
         }
         Ok(())
+    }
+
+    /// Puts the digests of the revision at this place, and of those behind it, behind what the vector holds;
+    /// false, and nothing, where they are kept otherwise. It costs a copy of 16 bytes for each.
+    pub(crate) fn append_digests(
+        &self,
+        at: usize,
+        digests: &mut Vec<[u8; 16]>,
+    ) -> Result<bool, AllocError>
+        requires { at < length self.now }
+        ensures { IfOk result (λ all. IsTrue all → map encode_lower digests.new.items ≡ map encode_lower digests.old.items ++ map (λ r. r.hash) (drop at self.now)) }
+    {
+        match &self.kept {
+            Kept::One(_, digest) => digests.push(*digest)?,
+            Kept::Digests(_, all) => digests.extend_from_slice(&all[at..])?,
+            Kept::Texts(_) => return Ok(false),
+        }
+        Ok(true)
     }
 
     /// What stands behind the first of these revisions, where they begin with the one at this place and

@@ -1,6 +1,7 @@
 //! What one edit of a tree brought.
 
-ghost use Rattle.std.specs.Prelude.{◌≡◌, ◌<◌, ◌++◌, List, Some, false, drop, length, slice_get, IfSome, IfNone, OnOk};
+ghost use Rattle.std.specs.Prelude.{◌≡◌, ◌<◌, ◌++◌, List, Some, false, drop, length, map, slice_get, IfSome, IfNone, IfOk, IsTrue, OnOk};
+ghost use Rattle.hex.specs.Hex.{encode_lower};
 ghost use Rattle.hub_model.specs.Path.{IsPath, names, is_first};
 ghost use Rattle.hub_model.specs.Revision.{Revision};
 
@@ -139,6 +140,18 @@ impl Stem {
         ensures { OnOk result (line.new.items ≡ line.old.items ++ drop at self.now.revisions) }
     {
         self.run.append_from(usize::from(at), line)
+    }
+
+    /// As `Run::append_digests`.
+    pub(crate) fn append_digests(
+        &self,
+        at: u16,
+        digests: &mut Vec<[u8; 16]>,
+    ) -> Result<bool, AllocError>
+        requires { at < length self.now.revisions }
+        ensures { IfOk result (λ all. IsTrue all → map encode_lower digests.new.items ≡ map encode_lower digests.old.items ++ map (λ r. r.hash) (drop at self.now.revisions)) }
+    {
+        self.run.append_digests(usize::from(at), digests)
     }
 
     /// As `Run::rest_behind`.

@@ -1,11 +1,13 @@
 //! The revisions of a tree, as its edits brought them.
 
-ghost use Rattle.std.specs.Prelude.{◌≡◌, ◌-◌, ◌++◌, ◌↔◌, List, length, Some, false, take, find, slice_get, option_map, IsTrue, IfSome, IfNone, OnOk};
+ghost use Rattle.std.specs.Prelude.{◌≡◌, ◌-◌, ◌++◌, ◌↔◌, List, length, Some, false, map, take, find, slice_get, option_map, IsTrue, IfSome, IfNone, IfOk, OnOk};
 ghost use Rattle.std.specs.List.{list_any};
+ghost use Rattle.hex.specs.Hex.{encode_lower};
 ghost use Rattle.hub_model.specs.Revision.{Revision};
-ghost use Rattle.hub_model.specs.Path.{is_first};
+ghost use Rattle.hub_model.specs.Path.{IsPath, is_first};
 ghost use Rattle.hub_revtree.specs.Stem.{AreStems, AreUpTo, IsWithin, branches_of, has_revision, is_at as is_revision_at, is_behind_newest, path_from, revisions_at};
 
+use crate::run::Run;
 use crate::stem::{Place, Stem};
 use hub_document::RevId;
 use std::alloc::AllocError;
@@ -118,6 +120,28 @@ pub(crate) fn append_from(
     Ok(())
 }
 
+/// Puts the digests of the same revisions behind what the vector holds; false, and nothing or some of
+/// them, where one is kept otherwise. It costs a copy of 16 bytes for each.
+pub(crate) fn append_digests(
+    stems: &[Stem],
+    place: Place,
+    digests: &mut Vec<[u8; 16]>,
+) -> Result<bool, AllocError>
+    requires stems { AreStems stems.now }
+    requires within { IsWithin stems.now place }
+    ensures { IfOk result (λ all. IsTrue all → map encode_lower digests.new.items ≡ map encode_lower digests.old.items ++ map (λ r. r.hash) (path_from (branches_of stems.now) (Some place))) }
+{
+    let mut next = Some(place);
+    while let Some(place) = next {
+        let stem = &stems[place.stem];
+        if !stem.append_digests(place.at, digests)? {
+            return Ok(false);
+        }
+        next = stem.parent();
+    }
+    Ok(true)
+}
+
 /// Whether these are the revision at the place and all that stands behind it. It costs their number.
 pub(crate) fn is_line(stems: &[Stem], place: Place, revisions: &[RevId]) -> bool
     requires stems { AreStems stems.now }
@@ -149,6 +173,25 @@ pub(crate) fn first_known(stems: &[Stem], highest: u16, revisions: &[RevId]) -> 
 {
     for (at, rev) in revisions.iter().enumerate() {
         if let Some(place) = place_up_to(stems, highest, rev) {
+            return Some(Meeting { at, place });
+        }
+    }
+    None
+}
+
+/// The same of the revisions of a run.
+pub(crate) fn first_known_of(stems: &[Stem], highest: u16, path: &Run) -> Option<Meeting>
+    requires stems { AreStems stems.now }
+    requires highest { AreUpTo stems.now highest }
+    requires path { IsPath path.now }
+    ensures new { IfSome result (λ m. list_any (has_revision stems.now) (take m.at path.now) ≡ false) }
+    ensures within { IfSome result (λ m. IsWithin stems.now m.place) }
+    ensures same { IfSome result (λ m. slice_get path.now m.at ≡ slice_get (revisions_at stems.now m.place.stem) m.place.at) }
+    ensures none { IfNone result (list_any (has_revision stems.now) path.now ≡ false) }
+{
+    for at in 0..path.len() {
+        let rev = path.at(at);
+        if let Some(place) = place_up_to(stems, highest, &rev) {
             return Some(Meeting { at, place });
         }
     }

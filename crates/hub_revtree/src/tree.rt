@@ -1,8 +1,9 @@
 //! The tree of a document's revisions.
 
-ghost use Rattle.std.specs.Prelude.{Bool, ◌≡◌, ◌≤◌, ◌-◌, ◌^◌, min, ◌++◌, ◌∷◌, ◌↔◌, [], length, slice_get, IsTrue, IsSome, IsNone, IfSome, IfNone, IfOk, OnOk, OnErr, option_map, None, Some};
+ghost use Rattle.std.specs.Prelude.{Bool, ◌≡◌, ◌≤◌, ◌-◌, ◌^◌, min, ◌++◌, ◌∷◌, ◌↔◌, [], length, slice_get, take, IsTrue, IsSome, IsNone, IfSome, IfNone, IfOk, OnOk, OnErr, option_map, None, Some};
 ghost use Rattle.hub_model.specs.Journal.{IsKnown, IsAcceptable, head_of};
 ghost use Rattle.hub_model.specs.Leaves.{IsMarked, IsWinner, leaves_of, revisions_of};
+ghost use Rattle.hub_model.specs.Path.{IsHistory};
 ghost use Rattle.hub_revtree.specs.Branch.{edits_in};
 ghost use Rattle.hub_revtree.specs.Count.{revision_count};
 ghost use Rattle.hub_revtree.specs.Tree.{HasKnownHead, IsRevTree, nameless};
@@ -42,7 +43,7 @@ impl Model for RevTree {
 /// An edit that a tree can take, and has memory for.
 #[derive(Debug, Drop)]
 pub struct Ready {
-    path: Path,
+    path: Run,
     /// Those of the path's revisions that were new at the look, in the form in which the tree keeps them.
     run: Run,
     deleted: bool,
@@ -59,8 +60,9 @@ impl Model for Ready {
     ghost view = { λ a. nameless a.path a.deleted a.body };
 
     ghost use Rattle.std.specs.Prelude.{◌≡◌, length, take};
+    ghost use Rattle.hub_model.specs.Path.{IsHistory};
 
-    ghost invariant = { λ a. a.run ≡ take (length a.run) a.path };
+    ghost invariant = { λ a. (a.run ≡ take (length a.run) a.path) × IsHistory a.path };
 }
 
 impl Ready {
@@ -68,7 +70,7 @@ impl Ready {
     pub fn rev(&self) -> RevId
         ensures { head_of self.now ≡ Some result }
     {
-        self.path.head()
+        self.path.at(0)
     }
 }
 
@@ -109,11 +111,29 @@ impl RevTree {
         ensures ready { IfOk result (λ ready. ready ≡ nameless path deleted body) }
         ensures room { IfOk result (λ ready. length ready.path ≤ self.new.room) }
     {
+        let _head = path.head();
+        let run = Run::front(self.allocator(), path.revisions(), new)?;
+        self.ready_with(Run::whole(path.into_revisions()), run, deleted, body)
+    }
+
+    // The edit on a path, of which the run is the front, with a place for it.
+    pub(crate) fn ready_with(
+        &mut self,
+        path: Run,
+        run: Run,
+        deleted: bool,
+        body: Body,
+    ) -> Result<Ready, AllocError>
+        requires history { IsHistory path }
+        requires front { run ≡ take (length run) path }
+        ensures edits { self.new.edits ≡ self.old.edits }
+        ensures ready { IfOk result (λ ready. ready ≡ nameless path deleted body) }
+        ensures room { IfOk result (λ ready. length ready.path ≤ self.new.room) }
+    {
         // A path has no more revisions than its head's generation, so that one place has room for it.
-        let head = path.head();
+        let head = path.at(0);
         let _revisions_at_most = head.generation();
         self.branches.make_room()?;
-        let run = Run::front(self.allocator(), path.revisions(), new)?;
         Ok(Ready {
             path,
             run,
@@ -217,7 +237,8 @@ impl RevTree {
     /// fewer, as it may in a tree that is not this one, the path's memory is cut to them instead.
     /// It costs what `look_merge` does. The winner takes constant time where it is the edit's revision, or the
     /// old one which the edit does not stand on; else it is found anew: each head is looked for in each edit
-    /// where it would be the best so far. So an edit on the newest one of a line takes the path's length alone.
+    /// where it would be the best so far. So an edit that `look_extend` made on the newest one of a line takes
+    /// constant time, but that its path's memory is given back.
     pub fn adopt(&mut self, ready: Ready)
         requires acceptable { IsAcceptable self.old.edits ready }
         requires room { length ready.path ≤ self.old.room }

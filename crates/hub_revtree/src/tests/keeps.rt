@@ -95,12 +95,12 @@ fn winner_line(alloc: Global, tree: &RevTree) -> Result<usize, AllocError> {
 fn line_of_edits_is_kept_once(rt: HostRuntime) -> Result<(), Fail> {
     let alloc = rt.alloc();
     let mut tree = RevTree::new(alloc);
-    let grown = grow(alloc, &mut tree, 3000)?;
+    let grown = grow(alloc, &mut tree, 5000)?;
     assert!(rt; grown);
-    assert_eq!(rt; tree.len(), 3000);
-    assert_eq!(rt; tree.nodes(), 3000);
+    assert_eq!(rt; tree.len(), 5000);
+    assert_eq!(rt; tree.nodes(), 5000);
     let len = winner_line(alloc, &tree)?;
-    assert_eq!(rt; len, 3000);
+    assert_eq!(rt; len, 5000);
     Ok(())
 }
 

@@ -1,8 +1,9 @@
-use Rattle.std.proofs.Common.{◌≡◌, ◌∙◌, length, sym, ap, take, arith}
+use Rattle.std.proofs.Common.{◌≡◌, ◌∙◌, sym, ap, take, arith}
 use Rattle.std.proofs.lemmas.List.{take_all}
 use Rattle.hub_revtree.specs.Stem.{Stem}
+use Rattle.hub_revtree.proofs.BranchLemmas.{some_history}
 use Rattle.hub_revtree.proofs.HighestLemmas.{up_to_more}
-use Rattle.hub_revtree.proofs.JoinLemmas.{Brings, brought_edit, brought_stems, met_brings, met_within, new_brings}
+use Rattle.hub_revtree.proofs.JoinLemmas.{Brings, brought_edit, brought_stems, met_brings, met_later, met_within, new_brings}
 use Rattle.hub_revtree.proofs.branches.Branches.push.Goals as goal
 use Rattle.hub_revtree.proofs.branches.Branches.push.Goals.{After-push_reserved, in-Some, in_default}
 
@@ -13,17 +14,34 @@ brings c =
     let legal = rw (sym c.self.view_is) at c.requires.legal in
     let ok = rw (sym c.self.view_is) at c.requires.acceptable in
     let stem : Stem = record { revisions = c.kept-run.result; parent = c.match-met.parent; deleted = c.args.deleted; body = c.args.body } in
-    let own : c.kept-run.result ≡ take c.match-met.new c.args.path = c.kept-run.ensures ∙ ap (take c.match-met.new) c.into_revisions-all.ensures in
+    let own : c.kept-run.result ≡ take c.match-met.new c.args.path = c.kept-run.ensures in
     elim c.match-met.branch [
       | in-Some w ↦
           let met = rw c.as_slice.ensures.value at w.in-Some.ensures in
-          met_brings xs c.self.invariant.0 legal c.args.path c.revisions.result.now c.args.deleted c.args.body ok c.revisions.ensures stem w.in-Some.met.at w.in-Some.met.place met.new met.within met.same
+          met_brings xs c.self.invariant.0 legal c.args.path c.args.deleted c.args.body ok stem w.in-Some.met.at w.in-Some.met.place met.new met.within met.same
           (own ∙ ap (λ n. take n c.args.path) w.new-is)
           w.parent-is
       | in_default w ↦
-          new_brings xs c.self.invariant.0 legal c.args.path c.revisions.result.now c.args.deleted c.args.body ok c.revisions.ensures stem (rw c.as_slice.ensures.value at w.in_default.ensures.none)
-          (own ∙ take_all c.match-met.new c.args.path (omega (arith, w.new-is, c.len-new.ensures, c.into_revisions-all.result.ok.0, ap length c.into_revisions-all.ensures)))
+          new_brings xs c.self.invariant.0 legal c.args.path c.args.deleted c.args.body ok stem (rw c.as_slice.ensures.value at w.in_default.ensures.none)
+          (own ∙ take_all c.match-met.new c.args.path (omega (arith, w.new-is, c.len-new.ensures)))
           w.parent-is
+    ]
+
+pub first_known_of-met-requires-clause-path : goal.first_known_of-met-requires-clause-path
+first_known_of-met-requires-clause-path c = c.requires.acceptable.history.falls
+
+pub at-head-requires : goal.at-head-requires
+at-head-requires c = record { path = c.requires.acceptable.history.falls; within = some_history c.args.path c.requires.acceptable.history }
+
+pub kept-run-requires-clause-some : goal.kept-run-requires-clause-some
+kept-run-requires-clause-some c =
+    let legal = rw (sym c.self.view_is) at c.requires.legal in
+    let ok = rw (sym c.self.view_is) at c.requires.acceptable in
+    elim c.match-met.branch [
+      | in-Some w ↦
+          let met = rw c.as_slice.ensures.value at w.in-Some.ensures in
+          rw w.new-is (met_later c.self.inside.stems.items c.self.invariant.0 legal c.args.path c.args.deleted c.args.body ok w.in-Some.met.at w.in-Some.met.place met.within met.same)
+      | in_default w ↦ omega (arith, w.new-is, c.len-new.ensures, some_history c.args.path c.requires.acceptable.history)
     ]
 
 pub kept-run-requires-clause-within : goal.kept-run-requires-clause-within
@@ -31,8 +49,8 @@ kept-run-requires-clause-within c =
     elim c.match-met.branch [
       | in-Some w ↦
           let met = rw c.as_slice.ensures.value at w.in-Some.ensures in
-          rw (w.new-is, c.into_revisions-all.ensures, sym c.revisions.ensures) (met_within c.self.inside.stems.items c.revisions.result.now w.in-Some.met.at w.in-Some.met.place met.within met.same)
-      | in_default w ↦ omega (arith, w.new-is, c.len-new.ensures, c.into_revisions-all.result.ok.0)
+          rw w.new-is (met_within c.self.inside.stems.items c.args.path w.in-Some.met.at w.in-Some.met.place met.within met.same)
+      | in_default w ↦ omega (arith, w.new-is, c.len-new.ensures)
     ]
 
 pub invariant_of-self : goal.invariant_of-self
@@ -42,7 +60,7 @@ invariant_of-self c =
     let more = brought_stems xs c.self.invariant.0 (rw (sym c.self.view_is) at c.requires.legal) c.args.path _ path in
     rw (c.push_reserved.ensures.items, c.new.ensures) (
       more,
-      up_to_more xs _ c.args.path c.head-head.result c.self.inside.highest c.max-self-inside.result c.self.invariant.0 more c.self.invariant.1 c.head-head.ensures.good.falls c.head-head.ensures.value path.whole
+      up_to_more xs _ c.args.path c.at-head.result c.self.inside.highest c.max-self-inside.result c.self.invariant.0 more c.self.invariant.1 c.requires.acceptable.history.falls c.at-head.ensures path.whole
           (rw c.generation.ensures.value at c.max-self-inside.ensures),
     )
 

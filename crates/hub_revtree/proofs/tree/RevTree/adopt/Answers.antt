@@ -11,7 +11,7 @@ push-requires c =
     record {
       legal = c.self.invariant.legal;
       acceptable = ok;
-      front = c.ready.invariant;
+      front = c.ready.invariant.0;
       room = omega (arith, room, some_history c.args.ready.path c.requires.acceptable.history);
     }
 

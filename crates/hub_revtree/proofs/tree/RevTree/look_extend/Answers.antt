@@ -16,8 +16,8 @@ returns-then-knows-clause-err c =
     inr (known_conflicts c.args.self.now.edits c.in_ok-older.ensures.tree c.args.id.now c.args.parent c.args.deleted c.args.body line (sym c.in_ok-older.ensures.line) (subst (λ z. generation_of z < 65535) (sym first) c.in-Ok.ensures.below)
     (is_taken c.args.self.now.edits c.in-Ok.rev _ c.knows.result c.knows.ensures rev c.if-knows.true))
 
-pub path_on-requires : goal.path_on-requires
-path_on-requires c =
+pub ready_on-requires : goal.ready_on-requires
+ready_on-requires c =
     let line = line_to c.args.self.now.edits c.in_ok-older.older in
     let rev = c.in-Ok.ensures.ok ∙ ap (made (draft c.args.id.now c.args.parent c.args.deleted c.args.body)) (sym c.in_ok-older.ensures.first) in
     subst (λ z. IsHistory (z ∷ line)) (sym rev)
@@ -30,7 +30,7 @@ returns-clause-ok c =
     let rev = c.in-Ok.ensures.ok ∙ ap (made (draft c.args.id.now c.args.parent c.args.deleted c.args.body)) (sym first) in
     let new = is_new c.args.self.now.edits c.in-Ok.rev _ c.knows.result c.knows.ensures rev c.if-knows.false in
     new_extends c.args.self.now.edits c.in_ok-older.ensures.tree c.args.id.now c.args.parent c.args.deleted c.args.body line (sym c.in_ok-older.ensures.line) (subst (λ z. generation_of z < 65535) (sym first) c.in-Ok.ensures.below) new
-    ∙ sym (ap Ok (c.in_ok-ready.ensures.ready ∙ ap (λ p. nameless p c.args.deleted c.args.body) (c.in_ok-path.ensures ∙ ap (λ z. z ∷ line) rev)))
+    ∙ sym (ap Ok (c.in_ok-ready.ensures.ready ∙ ap (λ z. nameless (z ∷ line) c.args.deleted c.args.body) rev))
 
 pub returns-clause-acceptable : goal.returns-clause-acceptable
 returns-clause-acceptable c =
@@ -38,5 +38,5 @@ returns-clause-acceptable c =
     let rev = c.in-Ok.ensures.ok ∙ ap (made (draft c.args.id.now c.args.parent c.args.deleted c.args.body)) (sym c.in_ok-older.ensures.first) in
     let new = is_new c.args.self.now.edits c.in-Ok.rev _ c.knows.result c.knows.ensures rev c.if-knows.false in
     subst (IsAcceptable c.args.self.now.edits)
-    (sym (c.in_ok-ready.ensures.ready ∙ ap (λ p. nameless p c.args.deleted c.args.body) (c.in_ok-path.ensures ∙ ap (λ z. z ∷ line) rev)))
+    (sym (c.in_ok-ready.ensures.ready ∙ ap (λ z. nameless (z ∷ line) c.args.deleted c.args.body) rev))
     (next_acceptable c.args.self.now.edits c.in_ok-older.ensures.tree c.args.id.now c.args.parent c.args.deleted c.args.body line (sym c.in_ok-older.ensures.line) new)

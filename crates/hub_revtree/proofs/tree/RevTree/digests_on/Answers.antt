@@ -1,0 +1,16 @@
+use Rattle.std.proofs.Common.{◌++◌, ◌∷◌, [], ◌∙◌, ap, sym, map}
+use Rattle.hex.specs.Hex.{encode_lower}
+use Rattle.hub_model.specs.Revision.{Revision}
+use Rattle.hub_revtree.specs.Extend.{line_to}
+use Rattle.hub_revtree.proofs.RunLemmas.{digests_whole}
+use Rattle.hub_revtree.proofs.tree.RevTree.digests_on.Goals as goal
+
+pub returns : goal.returns
+returns c =
+    let line = line_to c.args.self.now.edits c.args.older.now in
+    let hashes = map (λ (r : Revision). r.hash) line in
+    c.from_digests.ensures
+    ∙ digests_whole c.args.rev.now line c.generation-2.result c.append_digests.new.digests.items c.requires.falls c.generation-2.ensures.value
+    (c.in_ok-append_digests.ensures c.if-not-branch.false
+    ∙ ap (λ z. map encode_lower z ++ hashes) (c.in_ok-push.ensures.items ∙ ap (λ z. z ++ c.in-Some.digest ∷ []) c.in_ok-digests.ensures.items)
+    ∙ ap (λ z. z ∷ hashes) (sym c.in-Some.ensures.found))

@@ -1,6 +1,0 @@
-use Rattle.std.proofs.Common.{arith}
-use Rattle.hub_revtree.proofs.BranchLemmas.{within_generation}
-use Rattle.hub_revtree.proofs.tree.RevTree.made_ready.Goals as goal
-
-pub returns-clause-room : goal.returns-clause-room
-returns-clause-room c = omega (arith, within_generation c.args.path c.head-head.result c.head-head.ensures.good c.head-head.ensures.value, c.generation-revisions_at_most.ensures.good.below, c.in_ok-make_room.ensures.room)
