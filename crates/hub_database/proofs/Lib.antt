@@ -15,3 +15,4 @@ pub mod LocalLemmas
 pub mod FeedLemmas
 pub mod FallingLemmas
 pub mod ListingLemmas
+pub mod ReadyLemmas

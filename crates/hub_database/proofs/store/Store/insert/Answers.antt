@@ -1,4 +1,4 @@
-use Rattle.std.proofs.Common.{◌≡◌, ◌∙◌, ◌+◌, ◌∷◌, ◌++◌, [], ap, Some, length, nat_le, arith, subst}
+use Rattle.std.proofs.Common.{◌≡◌, ◌∙◌, ◌+◌, ◌∷◌, ◌++◌, [], ap, length, nat_le, arith, subst}
 use Rattle.std.proofs.lemmas.List.{map-append}
 use Rattle.hub_index.specs.Order.{IsOrder, with_number}
 use Rattle.hub_index.specs.Rows.{moved}
