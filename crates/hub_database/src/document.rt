@@ -160,15 +160,12 @@ impl Document {
         }
     }
 
-    /// Whether the winner is deleted. It costs what `RevTree::best` does.
+    /// Whether the winner is deleted. Constant time.
     pub(crate) fn is_deleted(&self) -> bool
         ensures mark { result ≡ is_deleted (leaves_of self.now.tree.edits []) }
         ensures tree { IsRevTree self.now.tree.edits }
     {
-        match self.tree.best() {
-            Some(winner) => winner.deleted,
-            None => false,
-        }
+        self.tree.is_deleted()
     }
 
     /// Takes an edit that was looked at, and says its revision. The journal has room for it. It takes

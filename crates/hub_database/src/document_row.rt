@@ -8,57 +8,26 @@ ghost use Rattle.hub_revtree.specs.Tree.{IsRevTree};
 ghost use Rattle.hub_revtree.specs.Winner.{winner_of};
 
 use crate::document::Document;
-use hub_document::{Body, ChangeRow, Revisions};
+use hub_document::{Body, ChangeRow, Changes};
 use hub_model::{Style, by_style};
-use hub_revtree::Winner;
 use std::alloc::{AllocError, Global};
 
-// The winner alone.
-fn main_change(alloc: Global, winner: Option<Winner>) -> Result<Revisions, AllocError>
-    ensures { IfOk result (λ revs. revs ≡ option_to_list (option_map (λ w. w.rev) winner)) }
-{
-    let mut list = Vec::new(alloc);
-    if let Some(winner) = winner {
-        list.try_reserve_exact(1)?;
-        list.push(winner.rev)?;
-    }
-    Ok(Revisions::new(list))
-}
-
-// Whether the winner is deleted.
-fn mark_of(winner: Option<Winner>) -> bool
-    ensures { result ≡ unwrap_or (option_map (λ w. w.deleted) winner) false }
-{
-    match winner {
-        Some(winner) => winner.deleted,
-        None => false,
-    }
-}
-
 impl Document {
-    // The revisions that a row lists, where this is the winner.
-    fn changes(
-        &self,
-        alloc: Global,
-        style: Style,
-        winner: Option<Winner>,
-    ) -> Result<Revisions, AllocError>
-        requires winner { winner ≡ winner_of (leaves_of self.now.tree.edits []) }
-        ensures { IfOk result (λ revs. revs ≡ changes_of style (leaves_of self.now.tree.edits [])) }
+    // The revisions that a row lists.
+    fn changes(&self, alloc: Global, style: Style) -> Result<Changes, AllocError>
+        ensures { IfOk result (λ changes. changes ≡ changes_of style (leaves_of self.now.tree.edits [])) }
     {
         by_style!(style,
-            main_only: main_change(alloc, winner),
-            all_docs: self.tree.leaves(alloc),
+            main_only: self.tree.winner_alone(alloc),
+            all_docs: Ok(Changes::new(self.tree.leaves(alloc)?)),
         )
     }
 
     // The members of the winner.
-    fn members(&self, alloc: Global, winner: Option<Winner>) -> Result<Option<Body>, AllocError>
-        requires winner { winner ≡ winner_of (leaves_of self.now.tree.edits []) }
-        requires tree { IsRevTree self.now.tree.edits }
+    fn members(&self, alloc: Global) -> Result<Option<Body>, AllocError>
         ensures { IfOk result (λ body. body ≡ doc_of true (leaves_of self.now.tree.edits [])) }
     {
-        let Some(winner) = winner else {
+        let Some(winner) = self.tree.best() else {
             return Ok(None);
         };
         let Some(edit) = self.tree.headed(&winner.rev) else {
@@ -68,18 +37,11 @@ impl Document {
     }
 
     // The document that a row brings, where it is asked for.
-    fn row_doc(
-        &self,
-        alloc: Global,
-        include_docs: bool,
-        winner: Option<Winner>,
-    ) -> Result<Option<Body>, AllocError>
-        requires winner { winner ≡ winner_of (leaves_of self.now.tree.edits []) }
-        requires tree { IsRevTree self.now.tree.edits }
+    fn row_doc(&self, alloc: Global, include_docs: bool) -> Result<Option<Body>, AllocError>
         ensures { IfOk result (λ body. body ≡ doc_of include_docs (leaves_of self.now.tree.edits [])) }
     {
         if include_docs {
-            self.members(alloc, winner)
+            self.members(alloc)
         } else {
             Ok(None)
         }
@@ -107,13 +69,12 @@ impl Document {
             }) }
         ensures tree { OnOk result (IsRevTree self.now.tree.edits) }
     {
-        let winner = self.tree.best();
         Ok(ChangeRow {
             seq,
             id: self.id.copy(alloc)?,
-            changes: self.changes(alloc, style, winner)?,
-            deleted: mark_of(winner),
-            doc: self.row_doc(alloc, include_docs, winner)?,
+            changes: self.changes(alloc, style)?,
+            deleted: self.tree.is_deleted(),
+            doc: self.row_doc(alloc, include_docs)?,
             seen,
         })
     }

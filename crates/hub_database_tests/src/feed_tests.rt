@@ -6,7 +6,7 @@ use crate::read_tests::ReadStep::Descending;
 use crate::tests::Step::{Batch, Feed, Read};
 use crate::tests::{Step, all_are, assert_steps, assert_within};
 use hub_database::DbState;
-use hub_document::{ChangeRow, Limits, RevId};
+use hub_document::{ChangeRow, Changes, Limits, RevId};
 use hub_feed::{FeedId, Next, OpenFault};
 use hub_model::Item;
 use hub_model::Outcome::{self, Stored};
@@ -79,6 +79,17 @@ pub(crate) fn are_revs(revs: &[RevId], texts: &[&str]) -> bool {
     all_are(revs, texts, is_rev)
 }
 
+// Whether these are the revisions that a row lists.
+fn lists(changes: &Changes, texts: &[&str]) -> bool {
+    for (at, text) in texts.iter().enumerate() {
+        match changes.get(at) {
+            Some(rev) if is_rev(&rev, text) => {}
+            _ => return false,
+        }
+    }
+    changes.len() == texts.len()
+}
+
 // Whether a row brings these members.
 fn brings(row: &ChangeRow, members: Option<&str>) -> bool {
     match (&row.doc, members) {
@@ -92,7 +103,7 @@ fn brings(row: &ChangeRow, members: Option<&str>) -> bool {
 fn shows(row: &ChangeRow, shown: &ShownRow) -> bool {
     row.seq == shown.seq
         && row.id.as_str() == shown.id
-        && are_revs(row.changes.as_slice(), shown.revs)
+        && lists(&row.changes, shown.revs)
         && row.deleted == shown.deleted
         && brings(row, shown.members)
 }

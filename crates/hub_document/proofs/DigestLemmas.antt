@@ -1,5 +1,5 @@
 -- A digest and the text of it.
-use Rattle.std.proofs.Common.{◌⊎◌, inl, inr, ◌≡◌, ℕ, ◌+◌, ◌-◌, ◌*◌, ◌/◌, ◌%◌, ◌<◌, ◌≤◌, ◌^◌, Bool, true, false, ◌&&◌, List, ◌∷◌, ◌++◌, length, drop, take, replicate, slice_index, refl, sym, ap, ◌∙◌, subst, arith}
+use Rattle.std.proofs.Common.{◌⊎◌, inl, inr, ◌≡◌, ℕ, ◌+◌, ◌-◌, ◌*◌, ◌/◌, ◌%◌, ◌<◌, ◌≤◌, ◌^◌, Bool, true, false, ◌&&◌, List, ◌∷◌, ◌++◌, length, drop, take, replicate, slice_index, refl, sym, ap, ◌∙◌, subst, arith, [], append_assoc, decimal}
 use Rattle.std.specs.Prelude.{nat_eq, Option, Some, None, Result}
 use Rattle.std.specs.Str.{bytes_eq}
 use Rattle.std.proofs.lemmas.Bool.{both_ways, cases_Bool, eqb-true}
@@ -14,7 +14,10 @@ use Rattle.hex.proofs.HexLemmas.{length-encode_with, decode_sized-encode_lower}
 use Rattle.hex.proofs.Pairs.{encode_with-drop}
 use Rattle.hub_document.specs.Fields.{IsLaidOut}
 use Rattle.hub_document.proofs.MadeLemmas.{is_hash_of}
-use Rattle.hub_document.proofs.RevisionLemmas.{laid_out}
+use Rattle.hub_model.specs.Revision.{text_of}
+use Rattle.json.specs.Print.{quoted}
+use Rattle.hub_document.proofs.RevisionLemmas.{hash_revision, laid_out}
+use Rattle.hub_document.proofs.WriteLemmas.{five_parts, quoted_text}
 
 -- the text of a digest has 32 letters
 pub text_length : (d : List ℕ) → length d ≡ 16 → length (encode_lower d) ≡ 32
@@ -24,6 +27,14 @@ text_length d sized = length-encode_with lower_digits d ∙ ap (λ n. 2 * n) siz
 pub text_laid_out : (n : ℕ) (d out : List ℕ) → 1 ≤ n → n < 2 ^ 16 → IsBytes d → length d ≡ 16 → out ≡ encode_lower d → IsLaidOut n 32 (out ++ replicate 32 0)
 text_laid_out n d out low high fits sized written =
     rw written (subst (λ k. IsLaidOut n k (encode_lower d ++ replicate (64 - k) 0)) (text_length d sized) (laid_out n (encode_lower d) low high (is_hash_of d fits sized)))
+
+-- and is the hash of a revision, whose text in quotes is made of these parts
+pub digest_quoted : (o d out new : List ℕ) (n : ℕ) → 1 ≤ n → n < 2 ^ 16 → IsBytes d → length d ≡ 16 → out ≡ encode_lower d
+    → new ≡ ((((o ++ 34 ∷ []) ++ decimal n) ++ 45 ∷ []) ++ out) ++ 34 ∷ []
+    → new ≡ o ++ quoted (text_of (record { generation = n; hash = encode_lower d }))
+digest_quoted o d out new n low high fits sized written parts =
+    rw (quoted_text (record { generation = n; hash = encode_lower d }) (hash_revision n (encode_lower d) low high (is_hash_of d fits sized)), ← written)
+    (parts ∙ five_parts o (34 ∷ []) (decimal n) (45 ∷ []) out (34 ∷ []) ∙ ap (λ l. o ++ 34 ∷ l) (sym (append_assoc (decimal n) (45 ∷ out) (34 ∷ []))))
 
 -- and is the hash there
 pub text_kept : (d out zeros : List ℕ) → length d ≡ 16 → out ≡ encode_lower d → take 32 (out ++ zeros) ≡ encode_lower d

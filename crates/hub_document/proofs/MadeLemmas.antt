@@ -1,12 +1,12 @@
 -- The hash of a revision that is made here.
-use Rattle.std.proofs.Common.{◌≡◌, ℕ, zero, suc, ◌*◌, ◌/◌, ◌%◌, ◌<◌, Bool, true, List, [], ◌∷◌, length, slice_index, Option, Result, Ok, OnOk, inl, inr, refl, ap, ◌∙◌, arith}
-use Rattle.std.specs.Prelude.{◌&&◌, IsSome}
+use Rattle.std.proofs.Common.{◌≡◌, ℕ, zero, suc, ◌*◌, ◌/◌, ◌%◌, ◌<◌, Bool, true, List, [], ◌∷◌, length, slice_index, inl, inr, refl, ap, ◌∙◌, arith}
+use Rattle.std.specs.Prelude.{◌&&◌}
 use Rattle.std.specs.List.{list_all}
 use Rattle.std.proofs.lemmas.Bool.{and_parts, cases_lt}
 use Rattle.hex.specs.Hex.{encode_lower, encode_with, lower_digits}
 use Rattle.hex.proofs.HexLemmas.{length-encode_with}
-use Rattle.hub_model.specs.Revision.{Revision, is_hash_byte}
-use Rattle.hub_document.specs.RevisionText.{is_hash, with_hash}
+use Rattle.hub_model.specs.Revision.{is_hash_byte}
+use Rattle.hub_document.specs.RevisionText.{is_hash}
 
 -- whether the first n of the sixteen digits are letters of a hash, which computes
 abbrev are_letters_below : ℕ → Bool
@@ -37,10 +37,3 @@ pub is_hash_of : (bs : List ℕ) → ((i : ℕ) → slice_index bs i < 256) → 
 is_hash_of bs fits sized =
     let len : length (encode_lower bs) ≡ 32 = length-encode_with lower_digits bs ∙ ap (λ n. 2 * n) sized in
     rw len (letters_of bs fits)
-
-pub made_from_digest : {E : Type 0} (n : ℕ) (bs digits : List ℕ) (o : Option Revision) (r : Result (Unit {0}) E) (u : Unit {0}) → ((i : ℕ) → slice_index bs i < 256) → length bs ≡ 16
-    → r ≡ Ok u → OnOk r (digits ≡ encode_lower bs) → o ≡ with_hash n digits → IsSome o
-made_from_digest n bs digits o r u fits sized done written is =
-    let w : digits ≡ encode_lower bs = rw done at written in
-    let good : is_hash digits ≡ true = ap is_hash w ∙ is_hash_of bs fits sized in
-    rw (is, good) refl

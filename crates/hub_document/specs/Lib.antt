@@ -1,5 +1,6 @@
 pub mod Asking
 pub mod BodyText
+pub mod Changes
 pub mod DocText
 pub mod DraftText
 pub mod Fields

@@ -4,8 +4,8 @@ ghost use Rattle.std.specs.Prelude.{◌≡◌, ◌++◌, length, take, IfOk, OnO
 ghost use Rattle.hub_document.specs.DocText.{doc_text, row_doc};
 
 use crate::body::Body;
+use crate::changes::Changes;
 use crate::doc_id::DocId;
-use crate::revisions::Revisions;
 use crate::text::{put_deleted, put_head, put_rest, put_rev};
 use std::alloc::{AllocError, Global};
 use std::marker::Model;
@@ -18,7 +18,7 @@ pub struct ChangeRow {
     /// The document's id.
     pub id: DocId,
     /// The winner, or every leaf, best first.
-    pub changes: Revisions,
+    pub changes: Changes,
     /// Whether the winner is deleted.
     pub deleted: bool,
     /// The members of the winner's document, where they are asked for: its id, its revision and its
@@ -70,7 +70,7 @@ impl ChangeRow {
         ensures ok { OnOk result (out.new.items ≡ out.old.items ++ doc_text (row_doc self.now body.now)) }
         ensures front { take (length out.old.items) out.new.items ≡ out.old.items }
     {
-        let winner = self.changes.as_slice().first().copied();
+        let winner = self.changes.get(0);
         put_head(out, self.id.as_str())?;
         put_rev(out, &winner)?;
         put_deleted(out, self.deleted)?;

@@ -2,16 +2,13 @@
 
 ghost use Rattle.std.specs.Prelude.{◌≡◌, ◌<◌, ◌≤◌, ◌++◌, codes, IfOk, OnOk};
 ghost use Rattle.md5.specs.Md5.{md5};
-ghost use Rattle.hex.specs.Hex.{encode_lower};
 ghost use Rattle.hub_model.specs.Draft.{made, generation_of as generation_in, bool_text, parent_text};
 ghost use Rattle.hub_document.specs.DraftText.{front_text};
-ghost use Rattle.hub_document.specs.RevisionText.{with_hash};
 
 use crate::body::Body;
 use crate::doc_id::DocId;
-use crate::revision::RevId;
+use crate::revision::{DigestRev, RevId};
 use crate::text::put_quoted;
-use hex::encode_to_slice;
 use md5::{Digest, Md5};
 use std::alloc::{AllocError, Global};
 
@@ -68,16 +65,6 @@ fn digest_of(front: &[u8], body: &[u8]) -> [u8; 16]
     hasher.finalize()
 }
 
-// The revision whose hash is the digest, in lower-case digits.
-fn hashed(generation: u16, digest: &[u8; 16]) -> RevId
-    requires { 1 ≤ generation }
-    ensures { with_hash generation (encode_lower digest.now) ≡ Some result }
-{
-    let mut digits = [0u8; 32];
-    encode_to_slice(digest.as_slice(), &mut digits).unwrap();
-    RevId::from_parts(generation, &digits).unwrap()
-}
-
 /// The revision of an edit that is made here: its generation is one above its parent's, and its hash
 /// the MD5 (RFC 1321) of `[deleted,parent,id,body]`, in 32 lower-case digits (own). It costs the
 /// body's length.
@@ -87,11 +74,11 @@ pub fn rev_of_edit(
     parent: Option<RevId>,
     id: &DocId,
     body: &Body,
-) -> Result<RevId, AllocError>
+) -> Result<DigestRev, AllocError>
     requires { generation_in parent < 65535 }
     ensures { IfOk result (λ r. r ≡ made (record { id = id.now; rev = parent; deleted = deleted; body = body.now }) parent) }
 {
     let front = draft_front(alloc, deleted, parent, id.as_str())?;
     let digest = digest_of(front.as_slice(), body.as_bytes());
-    Ok(hashed(generation_of(&parent) + 1, &digest))
+    Ok(DigestRev::new(generation_of(&parent) + 1, digest))
 }

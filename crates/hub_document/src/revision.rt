@@ -1,6 +1,7 @@
 //! Revision ids.
 
 mod digest;
+mod digest_rev;
 
 ghost use Rattle.std.specs.Prelude.{◌≡◌, ◌≤◌, ◌-◌, ◌<◌, ◌^◌, ◌++◌, length, take, replicate, option_map, IfSome, IfNone, OnOk, OnErr};
 ghost use Rattle.std.specs.List.{list_all};
@@ -9,6 +10,7 @@ ghost use Rattle.hub_model.specs.Revision.{IsRevision, text_of, is_hash_byte as 
 ghost use Rattle.hub_document.specs.RevisionLaws.{TextsRead, ReadsAreTexts};
 ghost use Rattle.hub_document.specs.RevisionText.{number_of, is_hash as is_hash_text, with_hash, revision_of};
 
+pub use digest_rev::DigestRev;
 use itoa::Buffer;
 use std::alloc::AllocError;
 use std::marker::Model;

@@ -47,7 +47,7 @@ fn revisions_of_rows(alloc: Global, rows: Vec<ChangeRow>) -> Result<Vec<Asked>, 
     for row in rows {
         asked.push(Asked {
             id: row.id.into_string(),
-            revs: row.changes,
+            revs: row.changes.into_revisions(alloc)?,
         })?;
     }
     Ok(asked)

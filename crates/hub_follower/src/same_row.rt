@@ -4,17 +4,20 @@ ghost use Rattle.std.specs.Prelude.{◌≡◌};
 ghost use Rattle.std.specs.List.{list_any};
 ghost use Rattle.hub_follower.specs.Handed.{same_doc, same_revs, same_row};
 
-use hub_document::{Body, ChangeRow, RevId};
+use hub_document::{Body, ChangeRow, Changes};
 
 // Whether two lists of revisions are one.
-fn same_revs(revs: &[RevId], others: &[RevId]) -> bool
+fn same_revs(revs: &Changes, others: &Changes) -> bool
     ensures { result ≡ same_revs revs.now others.now }
 {
     if revs.len() != others.len() {
         return false;
     }
-    for (at, rev) in revs.iter().enumerate() {
-        if !rev.is_same(&others[at]) {
+    for at in 0..revs.len() {
+        let (Some(rev), Some(other)) = (revs.get(at), others.get(at)) else {
+            unreachable!()
+        };
+        if !rev.is_same(&other) {
             return false;
         }
     }
@@ -41,7 +44,7 @@ fn same_row(row: &ChangeRow, other: &ChangeRow) -> bool
         && row.seen == other.seen
         && row.deleted == other.deleted
         && row.id.as_str() == other.id.as_str()
-        && same_revs(row.changes.as_slice(), other.changes.as_slice())
+        && same_revs(&row.changes, &other.changes)
         && same_doc(&row.doc, &other.doc)
 }
 

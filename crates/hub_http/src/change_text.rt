@@ -4,7 +4,7 @@ ghost use Rattle.std.specs.Prelude.{◌≡◌, ◌++◌, length, take, OnOk};
 ghost use Rattle.hub_http.specs.ChangeTexts.{revision_text, revisions_text, row_mark, doc_member, row_end, row_head, change_row_text, change_end_text};
 
 use crate::row_text::RowText;
-use hub_document::{ChangeRow, RevId, put_quoted};
+use hub_document::{ChangeRow, Changes, DigestRev, LentChanges, RevId, put_quoted};
 use itoa::Buffer;
 use std::alloc::AllocError;
 
@@ -16,6 +16,27 @@ fn put_revision(out: &mut Vec<u8>, rev: &RevId) -> Result<(), AllocError>
     rev.print_quoted(out)?;
     out.extend_from_slice(b"}")?;
     Ok(())
+}
+
+// One revision whose hash is a digest's text.
+fn put_digest_revision(out: &mut Vec<u8>, rev: &DigestRev) -> Result<(), AllocError>
+    ensures ok { OnOk result (out.new.items ≡ out.old.items ++ revision_text rev.now) }
+    ensures front { take (length out.old.items) out.new.items ≡ out.old.items }
+{
+    out.extend_from_slice(b"{\"rev\":")?;
+    rev.print_quoted(out)?;
+    out.extend_from_slice(b"}")?;
+    Ok(())
+}
+
+fn put_changes(out: &mut Vec<u8>, changes: &Changes) -> Result<(), AllocError>
+    ensures ok { OnOk result (out.new.items ≡ out.old.items ++ revisions_text changes.now) }
+    ensures front { take (length out.old.items) out.new.items ≡ out.old.items }
+{
+    match changes.lent() {
+        LentChanges::One(rev) => put_digest_revision(out, rev),
+        LentChanges::Many(revs) => put_revisions(out, revs),
+    }
 }
 
 fn put_revisions(out: &mut Vec<u8>, revs: &[RevId]) -> Result<(), AllocError>
@@ -83,7 +104,7 @@ impl RowText for ChangeRow {
     fn put_row(&self, out: &mut Vec<u8>) -> Result<(), AllocError> {
         put_row_head(out, self.seq, self.id.as_str())?;
         out.extend_from_slice(b",\"changes\":[")?;
-        put_revisions(out, self.changes.as_slice())?;
+        put_changes(out, &self.changes)?;
         put_row_end(out, self)?;
         Ok(())
     }

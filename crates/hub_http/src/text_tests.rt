@@ -3,7 +3,7 @@ use crate::{
     stream_head_text,
 };
 use http::StatusCode;
-use hub_document::{ChangeRow, Doc, DocFault, RevId, Revisions};
+use hub_document::{ChangeRow, Changes, Doc, DocFault, RevId, Revisions};
 use hub_model::{Fault, Item, Mode};
 use std::alloc::{AllocError, Global};
 use std::process::Abort;
@@ -327,7 +327,7 @@ fn changes(
     alloc: Global,
     first: Option<RevId>,
     second: Option<RevId>,
-) -> Result<Revisions, AllocError> {
+) -> Result<Changes, AllocError> {
     let mut changes = Vec::new(alloc);
     if let Some(rev) = first {
         changes.push(rev)?;
@@ -335,7 +335,7 @@ fn changes(
     if let Some(rev) = second {
         changes.push(rev)?;
     }
-    Ok(Revisions::new(changes))
+    Ok(Changes::new(Revisions::new(changes)))
 }
 
 fn row(

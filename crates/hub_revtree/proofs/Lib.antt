@@ -1,3 +1,4 @@
+pub mod AloneLemmas
 pub mod BranchLemmas
 pub mod HeadLemmas
 pub mod LeafLemmas

@@ -41,7 +41,7 @@ names_behind zero (x ∷ p) r h f = rw f at h
 names_behind (suc n) [] r h f = absurd (cc)
 names_behind (suc n) (x ∷ p) r h f = names_drop n p r h
 
-some_path : (p : List Revision) → IsPath p → 0 < length p
+pub some_path : (p : List Revision) → IsPath p → 0 < length p
 some_path [] f = absurd f
 some_path (x ∷ p) f = omega arith
 

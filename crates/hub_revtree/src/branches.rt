@@ -21,7 +21,7 @@ use crate::stems::{
     append_digests, append_from, first_known, first_known_of, headed, is_behind, is_behind_last,
     is_line, place_of, place_up_to,
 };
-use hub_document::{Body, Path, RevId};
+use hub_document::{Body, Changes, Path, RevId};
 use std::alloc::{AllocError, Global};
 use std::marker::Model;
 
@@ -149,6 +149,24 @@ impl Branches {
         }
     }
 
+    /// The revision of the edit of this number, as a row lists it. It takes memory only where its hash is no
+    /// digest's text. Constant time.
+    pub(crate) fn head_alone(&self, alloc: Global, at: usize) -> Result<Changes, AllocError>
+        requires { at < length self.now.list }
+        ensures { IfOk result (λ changes. option_map (λ w. w.rev ∷ []) (option_and_then head_in (slice_get self.now.list at)) ≡ Some changes) }
+    {
+        let changes = self.stems[at].newest(alloc)?;
+        Ok(changes)
+    }
+
+    /// Whether the edit of this number deletes the document. Constant time.
+    pub(crate) fn is_head_deleted(&self, at: usize) -> bool
+        requires { at < length self.now.list }
+        ensures { option_map (λ w. w.deleted) (option_and_then head_in (slice_get self.now.list at)) ≡ Some result }
+    {
+        self.stems[at].deleted()
+    }
+
     /// Whether a path names the revision. One look an edit, from the newest on up to the one that brought
     /// it; constant time where its generation is above all others.
     pub(crate) fn is_named(&self, rev: &RevId) -> bool
@@ -246,8 +264,8 @@ impl Branches {
     {
         let mut parent = None;
         let met = first_known_of(self.stems.as_slice(), self.highest, &path);
-        let head = path.at(0);
-        self.highest = head.generation().max(self.highest);
+        let newest = path.generation();
+        self.highest = newest.max(self.highest);
         let mut new = path.len();
         if let Some(met) = met {
             new = met.at;

@@ -13,7 +13,7 @@ ghost use Rattle.hub_revtree.specs.Tree.{IsRevTree, nameless};
 use crate::fault::EditFault;
 use crate::run::Run;
 use crate::tree::{Ready, RevTree};
-use hub_document::{Body, DocId, RevId, rev_of_edit};
+use hub_document::{Body, DigestRev, DocId, RevId, rev_of_edit};
 use std::alloc::{AllocError, Global};
 
 // The revision of an edit on this one, or on nothing.
@@ -23,7 +23,7 @@ fn next_rev(
     parent: Option<RevId>,
     deleted: bool,
     body: &Body,
-) -> Result<RevId, EditFault>
+) -> Result<DigestRev, EditFault>
     ensures ok { IfOk result (λ rev. rev ≡ made (draft id.now parent deleted body.now) parent) }
     ensures below { OnOk result (generation_of parent < 65535) }
     ensures err { IfErr result (λ e. (e ≡ EditFault.NoMemory) ⊎ ((e ≡ EditFault.GenerationLimit) × (65535 ≤ generation_of parent))) }
@@ -114,17 +114,14 @@ impl RevTree {
     fn digests_on(
         &self,
         alloc: Global,
-        rev: &RevId,
+        rev: &DigestRev,
         older: &Option<RevId>,
     ) -> Result<Option<Run>, AllocError>
         requires { IsHistory (rev.now ∷ line_to self.now.edits older.now) }
         ensures { IfOk result (λ found. IfSome found (λ path. path ≡ rev.now ∷ line_to self.now.edits older.now)) }
     {
-        let Some(digest) = rev.digest() else {
-            return Ok(None);
-        };
         let mut digests = Vec::with_capacity(alloc, usize::from(rev.generation()))?;
-        digests.push(digest)?;
+        digests.push(rev.digest())?;
         if !self.append_digests(older, &mut digests)? {
             return Ok(None);
         }
@@ -135,13 +132,13 @@ impl RevTree {
     fn revisions_on(
         &self,
         alloc: Global,
-        rev: &RevId,
+        rev: &DigestRev,
         older: &Option<RevId>,
     ) -> Result<Run, AllocError>
         ensures { IfOk result (λ path. path ≡ rev.now ∷ line_to self.now.edits older.now) }
     {
         let mut revisions = Vec::with_capacity(alloc, usize::from(rev.generation()))?;
-        revisions.push(*rev)?;
+        revisions.push(rev.rev())?;
         if let Some(older) = older {
             self.branches().append_line(older, &mut revisions)?;
         }
@@ -149,7 +146,12 @@ impl RevTree {
     }
 
     // The path with the revision in front of the one that it extends, in memory of its own size.
-    fn path_on(&self, alloc: Global, rev: &RevId, older: &Option<RevId>) -> Result<Run, AllocError>
+    fn path_on(
+        &self,
+        alloc: Global,
+        rev: &DigestRev,
+        older: &Option<RevId>,
+    ) -> Result<Run, AllocError>
         requires { IsHistory (rev.now ∷ line_to self.now.edits older.now) }
         ensures { IfOk result (λ path. path ≡ rev.now ∷ line_to self.now.edits older.now) }
     {
@@ -163,7 +165,7 @@ impl RevTree {
     // is new: what it stands on is known.
     fn ready_on(
         &mut self,
-        rev: &RevId,
+        rev: &DigestRev,
         older: &Option<RevId>,
         deleted: bool,
         body: Body,
@@ -175,8 +177,7 @@ impl RevTree {
     {
         let alloc = self.allocator();
         let path = self.path_on(alloc, rev, older)?;
-        let run = Run::front(alloc, &[*rev], 1)?;
-        self.ready_with(path, run, deleted, body)
+        self.ready_with(path, Run::of_one(rev), deleted, body)
     }
 
     /// Looks what becomes of an edit that is made here, on the leaf that is named, or, without a
@@ -207,7 +208,7 @@ impl RevTree {
             Ok(rev) => rev,
             Err(e) => return Err(e),
         };
-        if self.knows(&rev) {
+        if self.knows(&rev.rev()) {
             return Err(EditFault::Conflict);
         }
         let ready = self.ready_on(&rev, &older, deleted, body)?;

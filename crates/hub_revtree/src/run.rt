@@ -1,12 +1,12 @@
 //! Runs of revisions, in little memory.
 
-ghost use Rattle.std.specs.Prelude.{◌≡◌, ◌≤◌, ◌<◌, ◌++◌, List, length, Some, false, drop, map, option_map, slice_get, take, IfSome, IfNone, IfOk, IsTrue, OnOk};
+ghost use Rattle.std.specs.Prelude.{◌≡◌, ◌≤◌, ◌<◌, ◌++◌, ◌∷◌, [], List, length, Some, false, drop, map, option_map, slice_get, take, IfSome, IfNone, IfOk, IsTrue, OnOk};
 ghost use Rattle.hex.specs.Hex.{encode_lower};
 ghost use Rattle.hub_model.specs.Revision.{Revision};
 ghost use Rattle.hub_model.specs.Path.{IsPath, is_first, names};
 ghost use Rattle.hub_revtree.specs.Run.{kept_in, revisions_from};
 
-use hub_document::RevId;
+use hub_document::{Changes, DigestRev, RevId};
 use std::alloc::{AllocError, Global};
 use std::marker::Model;
 
@@ -105,6 +105,15 @@ impl Run {
         Ok(Run { kept })
     }
 
+    /// One revision. It takes no memory.
+    pub(crate) fn of_one(rev: &DigestRev) -> Run
+        ensures { result ≡ rev.now ∷ [] }
+    {
+        Run {
+            kept: Kept::One(rev.generation(), rev.digest()),
+        }
+    }
+
     /// All of them, in their own vector. It takes no memory.
     pub(crate) fn whole(revisions: Vec<RevId>) -> Run
         ensures { result ≡ revisions.items }
@@ -146,8 +155,8 @@ impl Run {
         }
     }
 
-    // The newest one's generation.
-    fn generation(&self) -> u16
+    /// The newest one's generation.
+    pub(crate) fn generation(&self) -> u16
         requires { IsPath self.now }
         ensures { option_map (λ r. r.generation) (slice_get self.now 0) ≡ Some result }
     {
@@ -170,6 +179,22 @@ impl Run {
                 RevId::from_digest(*newest - place as u16, &digests[place])
             }
             Kept::Texts(revisions) => revisions[place],
+        }
+    }
+
+    /// The newest revision alone, as a row lists it. It takes memory only where a hash is no digest's text.
+    pub(crate) fn newest(&self, alloc: Global) -> Result<Changes, AllocError>
+        requires { IsPath self.now }
+        ensures { IfOk result (λ changes. changes ≡ take 1 self.now) }
+    {
+        match &self.kept {
+            Kept::One(newest, digest) => {
+                Ok(Changes::of_digest(DigestRev::new(*newest, *digest)))
+            }
+            Kept::Digests(newest, digests) => {
+                Ok(Changes::of_digest(DigestRev::new(*newest, digests[0])))
+            }
+            Kept::Texts(revisions) => Changes::one(alloc, revisions[0]),
         }
     }
 

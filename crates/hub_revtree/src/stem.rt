@@ -1,13 +1,13 @@
 //! What one edit of a tree brought.
 
-ghost use Rattle.std.specs.Prelude.{◌≡◌, ◌<◌, ◌++◌, List, Some, false, drop, length, map, slice_get, IfSome, IfNone, IfOk, IsTrue, OnOk};
+ghost use Rattle.std.specs.Prelude.{◌≡◌, ◌<◌, ◌++◌, List, Some, false, drop, length, map, slice_get, take, IfSome, IfNone, IfOk, IsTrue, OnOk};
 ghost use Rattle.hex.specs.Hex.{encode_lower};
 ghost use Rattle.hub_model.specs.Path.{IsPath, names, is_first};
 ghost use Rattle.hub_model.specs.Revision.{Revision};
 
 use crate::run::Run;
-use hub_document::{Body, RevId};
-use std::alloc::AllocError;
+use hub_document::{Body, Changes, RevId};
+use std::alloc::{AllocError, Global};
 use std::marker::Model;
 use std::mem::size_of;
 
@@ -98,6 +98,14 @@ impl Stem {
         ensures { slice_get self.now.revisions 0 ≡ Some result }
     {
         self.run.at(0)
+    }
+
+    /// As `Run::newest`.
+    pub(crate) fn newest(&self, alloc: Global) -> Result<Changes, AllocError>
+        requires { IsPath self.now.revisions }
+        ensures { IfOk result (λ changes. changes ≡ take 1 self.now.revisions) }
+    {
+        self.run.newest(alloc)
     }
 
     /// Where the revision stands, counted from the newest. Constant time.

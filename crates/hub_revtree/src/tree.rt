@@ -4,6 +4,7 @@ ghost use Rattle.std.specs.Prelude.{Bool, ◌≡◌, ◌≤◌, ◌-◌, ◌^◌
 ghost use Rattle.hub_model.specs.Journal.{IsKnown, IsAcceptable, head_of};
 ghost use Rattle.hub_model.specs.Leaves.{IsMarked, IsWinner, leaves_of, revisions_of};
 ghost use Rattle.hub_model.specs.Path.{IsHistory};
+ghost use Rattle.hub_model.specs.Row.{is_deleted};
 ghost use Rattle.hub_revtree.specs.Branch.{edits_in};
 ghost use Rattle.hub_revtree.specs.Count.{revision_count};
 ghost use Rattle.hub_revtree.specs.Tree.{HasKnownHead, IsRevTree, nameless};
@@ -13,7 +14,7 @@ use crate::branches::Branches;
 use crate::fault::{MergeFault, Merged};
 use crate::leaf::{Winner, best_with_newest};
 use crate::run::Run;
-use hub_document::{Body, Path, RevId};
+use hub_document::{Body, Changes, Path, RevId, Revisions};
 use std::alloc::{AllocError, Global};
 use std::marker::Model;
 
@@ -131,8 +132,7 @@ impl RevTree {
         ensures room { IfOk result (λ ready. length ready.path ≤ self.new.room) }
     {
         // A path has no more revisions than its head's generation, so that one place has room for it.
-        let head = path.at(0);
-        let _revisions_at_most = head.generation();
+        let _revisions_at_most = path.generation();
         self.branches.make_room()?;
         Ok(Ready {
             path,
@@ -190,6 +190,29 @@ impl RevTree {
         ensures tree { IsRevTree self.now.edits }
     {
         self.branches.head_if_any(self.best)
+    }
+
+    /// The revision of the best leaf, as a row lists it; none of a tree with no edit. It takes memory only
+    /// where its hash is no digest's text. Constant time.
+    pub fn winner_alone(&self, alloc: Global) -> Result<Changes, AllocError>
+        ensures { IfOk result (λ changes. changes ≡ take 1 (revisions_of (leaves_of self.now.edits []))) }
+    {
+        if self.best < self.branches.len() {
+            self.branches.head_alone(alloc, self.best)
+        } else {
+            Ok(Changes::new(Revisions::new(Vec::new(alloc))))
+        }
+    }
+
+    /// Whether the best leaf deletes the document; false of a tree with no edit. Constant time.
+    pub fn is_deleted(&self) -> bool
+        ensures mark { result ≡ is_deleted (leaves_of self.now.edits []) }
+        ensures tree { IsRevTree self.now.edits }
+    {
+        if self.best >= self.branches.len() {
+            return false;
+        }
+        self.branches.is_head_deleted(self.best)
     }
 
     /// The revision of the best leaf; None of a tree with no edit. Constant time.

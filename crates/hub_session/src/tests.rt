@@ -1,6 +1,6 @@
 use crate::{Answer, Closing, Service, StreamEnd, StreamItem, serve, serve_one, stream_feed};
 use http::StatusCode;
-use hub_document::{ChangeRow, Doc, RevId, Revisions};
+use hub_document::{ChangeRow, Changes, Doc, RevId, Revisions};
 use hub_http::{HttpFault, Output, Refusal, Reply, Request, Requests, Tally};
 use hub_model::{Item, Mode};
 use std::alloc::Global;
@@ -43,7 +43,7 @@ fn row(alloc: Global, seq: u64, doc: &str, rev: &str, deleted: bool) -> Option<S
     Some(StreamItem::Change(Item::Row(ChangeRow {
         seq,
         id: doc.id,
-        changes: Revisions::new(revs),
+        changes: Changes::new(Revisions::new(revs)),
         deleted,
         doc: None,
         seen: 2,

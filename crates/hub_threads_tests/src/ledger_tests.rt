@@ -216,7 +216,7 @@ fn take_pumped<L: Ledger + Send + Sync + 'static, R: Threads + Wait + time::Cloc
 fn has_receipt(row: &ChangeRow, receipts: &[Receipt]) -> bool {
     for receipt in receipts {
         if receipt.seq == row.seq {
-            let is_revision = row.changes.as_slice().first() == Some(&receipt.rev);
+            let is_revision = row.changes.get(0) == Some(receipt.rev);
             return is_revision && receipt.id.as_str() == row.id.as_str();
         }
     }

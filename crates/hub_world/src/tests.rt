@@ -112,9 +112,11 @@ fn rev_text(alloc: Global, rev: &RevId) -> Result<String, AllocError> {
 // What a row shows.
 fn row_text(alloc: Global, row: &ChangeRow) -> Result<String, AllocError> {
     let mut text = format!(in alloc; "row {} {}", row.seq, row.id.as_str())?;
-    for rev in row.changes.as_slice() {
-        text.push_str(" ")?;
-        text.push_str(rev_text(alloc, rev)?.as_str())?;
+    for at in 0..row.changes.len() {
+        if let Some(rev) = row.changes.get(at) {
+            text.push_str(" ")?;
+            text.push_str(rev_text(alloc, &rev)?.as_str())?;
+        }
     }
     if row.deleted {
         text.push_str(" deleted")?;

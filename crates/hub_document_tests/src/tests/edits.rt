@@ -30,7 +30,8 @@ fn made(
         return Ok(None);
     }
     let doc = Doc::read(alloc, text.as_bytes(), true)?;
-    Ok(Some(rev_of_edit(alloc, deleted, parent, &doc.id, &doc.body)?))
+    let made = rev_of_edit(alloc, deleted, parent, &doc.id, &doc.body)?;
+    Ok(Some(made.rev()))
 }
 
 #[test]

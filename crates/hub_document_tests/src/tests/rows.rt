@@ -1,4 +1,4 @@
-use hub_document::{Body, ChangeRow, Doc, RevId, Revisions};
+use hub_document::{Body, ChangeRow, Changes, Doc, RevId, Revisions};
 use std::alloc::Global;
 use std::test::Fail;
 
@@ -14,7 +14,7 @@ fn written(alloc: Global, deleted: bool, body: &Body) -> Result<Vec<u8>, Fail> {
     let row = ChangeRow {
         seq: 1,
         id: doc.id,
-        changes: Revisions::new(revisions),
+        changes: Changes::new(Revisions::new(revisions)),
         deleted,
         doc: None,
         seen: 1,
@@ -31,7 +31,7 @@ fn a_copy_of_a_row(rt: HostRuntime) -> Result<(), Fail> {
     let row = ChangeRow {
         seq: 3,
         id: doc.id,
-        changes: Revisions::new(Vec::new(alloc)),
+        changes: Changes::new(Revisions::new(Vec::new(alloc))),
         deleted: true,
         doc: Some(doc.body),
         seen: 4,
@@ -41,7 +41,7 @@ fn a_copy_of_a_row(rt: HostRuntime) -> Result<(), Fail> {
         (copy.seq, copy.id.as_str(), copy.deleted, copy.seen),
         (3, "a", true, 4)
     );
-    assert!(rt; copy.changes.as_slice().is_empty());
+    assert!(rt; copy.changes.len() == 0);
     let body = copy.doc.as_ref().map(Body::as_bytes);
     assert_eq!(rt; body, Some(br#"{"v":7}"#.as_slice()));
     Ok(())

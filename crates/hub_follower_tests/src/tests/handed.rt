@@ -3,7 +3,7 @@
 use crate::tests::FIVE;
 use crate::tests::handed::Shown::{Beat, End, Row};
 use hub_database::DbState;
-use hub_document::{ChangeRow, Doc, DocId, Limits, RevId, Revisions};
+use hub_document::{ChangeRow, Changes, Doc, DocId, Limits, RevId, Revisions};
 use hub_feed::{FeedId, Next};
 use hub_filter::Filter;
 use hub_follower::rightly_handed;
@@ -34,7 +34,7 @@ fn row(alloc: Global, seq: u64, id: &str, revs: &[&str], seen: u64) -> Option<Ch
     Some(ChangeRow {
         seq,
         id,
-        changes: revisions(alloc, revs)?,
+        changes: Changes::new(revisions(alloc, revs)?),
         deleted: revs.len() == 1 && revs[0] == "2-b",
         doc: None,
         seen,

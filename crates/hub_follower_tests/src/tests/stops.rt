@@ -114,7 +114,7 @@ fn has_all<R: Wait>(
     for row in changes.rows {
         asked.push(Asked {
             id: row.id.into_string(),
-            revs: row.changes,
+            revs: row.changes.into_revisions(alloc)?,
         })?;
     }
     match DbPeer::new(rt, alloc, target.handle()?).revs_diff(&asked) {

@@ -2,7 +2,7 @@
 
 use crate::tests::{database, docs, params, write};
 use hub_database::{DbFault, Descending, Diff, Lookup, OpenRev};
-use hub_document::{Asked, LocalDoc, OpenRevs, RevId, Revisions, write_local};
+use hub_document::{Asked, Changes, LocalDoc, OpenRevs, RevId, Revisions, write_local};
 use hub_feed::OpenFault;
 use hub_model::{Fault, Outcome};
 use hub_revtree::Winner;
@@ -105,6 +105,15 @@ fn put_revs(out: &mut Vec<u8>, revs: &[RevId]) -> Result<(), AllocError> {
     Ok(())
 }
 
+fn put_changes(out: &mut Vec<u8>, changes: &Changes) -> Result<(), AllocError> {
+    for at in 0..changes.len() {
+        if let Some(rev) = changes.get(at) {
+            put_revs(out, &[rev])?;
+        }
+    }
+    Ok(())
+}
+
 // The winner of a document, if there is one.
 fn put_winner(out: &mut Vec<u8>, winner: &Option<Winner>) -> Result<(), AllocError> {
     match winner {
@@ -142,7 +151,7 @@ fn put_falling(alloc: Global, out: &mut Vec<u8>, falling: &Descending) -> Result
         put_number(alloc, out, row.seq)?;
         put(out, row.id.as_str())?;
         put(out, " ")?;
-        put_revs(out, row.changes.as_slice())?;
+        put_changes(out, &row.changes)?;
     }
     put(out, "last ")?;
     put_number(alloc, out, falling.last_seq)?;

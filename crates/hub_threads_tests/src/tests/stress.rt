@@ -416,8 +416,8 @@ fn leaves_of(alloc: Global, own: &[Edit]) -> Option<Vec<Edit>> {
 // Whether a leaf is at its place among the revisions of a row, if it has one there.
 fn is_placed(leaves: &[Edit], row: &ChangeRow, leaf: &Edit) -> bool {
     let place = leaves.iter().filter(|other| is_better(other, leaf)).count();
-    let is_shown = match row.changes.as_slice().get(place) {
-        Some(rev) => *rev == leaf.rev,
+    let is_shown = match row.changes.get(place) {
+        Some(rev) => rev == leaf.rev,
         None => true,
     };
     is_shown && (place > 0 || row.deleted == leaf.deleted)
@@ -439,7 +439,7 @@ fn is_right(alloc: Global, all: &[Edit], asked: &Asked, row: &ChangeRow) -> Opti
     let doc = number_of(row.id.as_str())?;
     let own = edits_of(alloc, all, doc, row.seen)?;
     let leaves = leaves_of(alloc, own.as_slice())?;
-    let shown = row.changes.as_slice().len();
+    let shown = row.changes.len();
     let is_asked = asked.docs.contains(&doc) && shown == leaves.len().min(asked.most);
     let is_last = own.last()?.seq == row.seq;
     Some(is_asked && is_last && are_placed(leaves.as_slice(), row))

@@ -1,7 +1,7 @@
-use Rattle.std.proofs.Common.{◌≡◌, ◌∙◌, sym, ap, take, arith}
+use Rattle.std.proofs.Common.{◌≡◌, ◌∙◌, sym, ap, take, max, arith}
 use Rattle.std.proofs.lemmas.List.{take_all}
 use Rattle.hub_revtree.specs.Stem.{Stem}
-use Rattle.hub_revtree.proofs.BranchLemmas.{some_history}
+use Rattle.hub_revtree.proofs.BranchLemmas.{newest_of, some_history}
 use Rattle.hub_revtree.proofs.HighestLemmas.{up_to_more}
 use Rattle.hub_revtree.proofs.JoinLemmas.{Brings, brought_edit, brought_stems, met_brings, met_later, met_within, new_brings}
 use Rattle.hub_revtree.proofs.branches.Branches.push.Goals as goal
@@ -30,8 +30,8 @@ brings c =
 pub first_known_of-met-requires-clause-path : goal.first_known_of-met-requires-clause-path
 first_known_of-met-requires-clause-path c = c.requires.acceptable.history.falls
 
-pub at-head-requires : goal.at-head-requires
-at-head-requires c = record { path = c.requires.acceptable.history.falls; within = some_history c.args.path c.requires.acceptable.history }
+pub generation-newest-requires : goal.generation-newest-requires
+generation-newest-requires c = c.requires.acceptable.history.falls
 
 pub kept-run-requires-clause-some : goal.kept-run-requires-clause-some
 kept-run-requires-clause-some c =
@@ -58,10 +58,11 @@ invariant_of-self c =
     let xs = c.self.inside.stems.items in
     let path = brings c in
     let more = brought_stems xs c.self.invariant.0 (rw (sym c.self.view_is) at c.requires.legal) c.args.path _ path in
+    let head = newest_of c.args.path c.generation-newest.result c.generation-newest.ensures in
     rw (c.push_reserved.ensures.items, c.new.ensures) (
       more,
-      up_to_more xs _ c.args.path c.at-head.result c.self.inside.highest c.max-self-inside.result c.self.invariant.0 more c.self.invariant.1 c.requires.acceptable.history.falls c.at-head.ensures path.whole
-          (rw c.generation.ensures.value at c.max-self-inside.ensures),
+      up_to_more xs _ c.args.path head.0 c.self.inside.highest c.max-self-inside.result c.self.invariant.0 more c.self.invariant.1 c.requires.acceptable.history.falls head.1 path.whole
+          (c.max-self-inside.ensures ∙ ap (λ n. max n c.self.inside.highest) (sym head.2)),
     )
 
 pub returns : goal.returns

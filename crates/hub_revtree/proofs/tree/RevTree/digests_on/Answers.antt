@@ -12,5 +12,5 @@ returns c =
     c.from_digests.ensures
     ∙ digests_whole c.args.rev.now line c.generation-2.result c.append_digests.new.digests.items c.requires.falls c.generation-2.ensures.value
     (c.in_ok-append_digests.ensures c.if-not-branch.false
-    ∙ ap (λ z. map encode_lower z ++ hashes) (c.in_ok-push.ensures.items ∙ ap (λ z. z ++ c.in-Some.digest ∷ []) c.in_ok-digests.ensures.items)
-    ∙ ap (λ z. z ∷ hashes) (sym c.in-Some.ensures.found))
+    ∙ ap (λ z. map encode_lower z ++ hashes) (c.in_ok-push.ensures.items ∙ ap (λ z. z ++ c.digest.result ∷ []) c.in_ok-digests.ensures.items)
+    ∙ ap (λ z. z ∷ hashes) (sym c.digest.ensures))

@@ -14,7 +14,7 @@ returns-then-knows-clause-err c =
     let first = c.in_ok-older.ensures.first in
     let rev = c.in-Ok.ensures.ok ∙ ap (made (draft c.args.id.now c.args.parent c.args.deleted c.args.body)) (sym first) in
     inr (known_conflicts c.args.self.now.edits c.in_ok-older.ensures.tree c.args.id.now c.args.parent c.args.deleted c.args.body line (sym c.in_ok-older.ensures.line) (subst (λ z. generation_of z < 65535) (sym first) c.in-Ok.ensures.below)
-    (is_taken c.args.self.now.edits c.in-Ok.rev _ c.knows.result c.knows.ensures rev c.if-knows.true))
+    (is_taken c.args.self.now.edits c.rev.result _ c.knows.result c.knows.ensures (c.rev.ensures ∙ rev) c.if-knows.true))
 
 pub ready_on-requires : goal.ready_on-requires
 ready_on-requires c =
@@ -28,7 +28,7 @@ returns-clause-ok c =
     let line = line_to c.args.self.now.edits c.in_ok-older.older in
     let first = c.in_ok-older.ensures.first in
     let rev = c.in-Ok.ensures.ok ∙ ap (made (draft c.args.id.now c.args.parent c.args.deleted c.args.body)) (sym first) in
-    let new = is_new c.args.self.now.edits c.in-Ok.rev _ c.knows.result c.knows.ensures rev c.if-knows.false in
+    let new = is_new c.args.self.now.edits c.rev.result _ c.knows.result c.knows.ensures (c.rev.ensures ∙ rev) c.if-knows.false in
     new_extends c.args.self.now.edits c.in_ok-older.ensures.tree c.args.id.now c.args.parent c.args.deleted c.args.body line (sym c.in_ok-older.ensures.line) (subst (λ z. generation_of z < 65535) (sym first) c.in-Ok.ensures.below) new
     ∙ sym (ap Ok (c.in_ok-ready.ensures.ready ∙ ap (λ z. nameless (z ∷ line) c.args.deleted c.args.body) rev))
 
@@ -36,7 +36,7 @@ pub returns-clause-acceptable : goal.returns-clause-acceptable
 returns-clause-acceptable c =
     let line = line_to c.args.self.now.edits c.in_ok-older.older in
     let rev = c.in-Ok.ensures.ok ∙ ap (made (draft c.args.id.now c.args.parent c.args.deleted c.args.body)) (sym c.in_ok-older.ensures.first) in
-    let new = is_new c.args.self.now.edits c.in-Ok.rev _ c.knows.result c.knows.ensures rev c.if-knows.false in
+    let new = is_new c.args.self.now.edits c.rev.result _ c.knows.result c.knows.ensures (c.rev.ensures ∙ rev) c.if-knows.false in
     subst (IsAcceptable c.args.self.now.edits)
     (sym (c.in_ok-ready.ensures.ready ∙ ap (λ z. nameless (z ∷ line) c.args.deleted c.args.body) rev))
     (next_acceptable c.args.self.now.edits c.in_ok-older.ensures.tree c.args.id.now c.args.parent c.args.deleted c.args.body line (sym c.in_ok-older.ensures.line) new)

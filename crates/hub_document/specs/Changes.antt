@@ -1,0 +1,17 @@
+-- The revisions that a row lists, as they are kept (own).
+use Rattle.std.specs.Prelude.{List, [], ◌∷◌}
+use Rattle.hub_model.specs.Revision.{Revision}
+use Rattle.hub_document.specs.declared.changes.Kept.{Kept}
+use Rattle.hub_document.specs.declared.changes.Kept.TheVariants.{One, Many}
+use Rattle.hub_document.specs.declared.changes.LentChanges.{LentChanges}
+use Rattle.hub_document.specs.declared.changes.LentChanges.TheVariants.{One as LentOne, Many as LentMany}
+
+-- the revisions that are kept
+abbrev pub changes_in : Kept → List Revision
+changes_in (One rev) = rev ∷ []
+changes_in (Many revs) = revs
+
+-- the revisions that are lent
+abbrev pub lent_in : LentChanges → List Revision
+lent_in (LentOne rev) = rev.now ∷ []
+lent_in (LentMany revs) = revs.now

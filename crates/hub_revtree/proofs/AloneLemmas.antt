@@ -1,0 +1,46 @@
+-- The winner alone: its revision as a row lists it, and its mark.
+use Rattle.std.proofs.Common.{◌≡◌, ◌≤◌, ℕ, List, [], ◌∷◌, length, take, Bool, false, refl, sym, ap, ◌∙◌}
+use Rattle.std.specs.Prelude.{Some, None, slice_get, option_map, option_and_then}
+use Rattle.std.proofs.lemmas.Option.{same_Some, slice_get_past}
+use Rattle.hub_model.specs.Revision.{Revision}
+use Rattle.hub_model.specs.Path.{IsPath}
+use Rattle.hub_model.specs.Leaves.{Leaf, revisions_of}
+use Rattle.hub_model.specs.Row.{is_deleted}
+use Rattle.hub_revtree.specs.Branch.{Branch}
+use Rattle.hub_revtree.specs.Stem.{Stem, AreStems, branches_of}
+use Rattle.hub_revtree.specs.Winner.{head_in, winner_of}
+use Rattle.hub_revtree.proofs.StemLooks.{head_at}
+
+-- a path has a newest revision
+newest : (p : List Revision) → IsPath p → (r : Revision) × (slice_get p 0 ≡ Some r) × (take 1 p ≡ r ∷ [])
+newest [] path = absurd path
+newest (r ∷ p) path = (r, refl, refl)
+
+-- the newest of a stem is the head of its branch, and the mark is the stem's
+module _ (xs : List Stem) (a : AreStems xs) (k : ℕ) (s : Stem) (at : slice_get xs k ≡ Some s) where
+  pub head_alone : (changes : List Revision) → changes ≡ take 1 s.revisions → option_map (λ w. w.rev ∷ []) (option_and_then head_in (slice_get (branches_of xs) k)) ≡ Some changes
+  head_alone changes is =
+      let r = newest s.revisions (a.falling k s at) in
+      rw (head_at xs a k s r.0 at r.1) (ap Some (sym (is ∙ r.2)))
+
+  pub head_mark : (deleted : Bool) → deleted ≡ s.deleted → option_map (λ w. w.deleted) (option_and_then head_in (slice_get (branches_of xs) k)) ≡ Some deleted
+  head_mark deleted is =
+      let r = newest s.revisions (a.falling k s at) in
+      rw (head_at xs a k s r.0 at r.1) (ap Some (sym is))
+
+-- past the branches stands none
+pub no_head : (bs : List Branch) (k : ℕ) → length bs ≤ k → option_and_then head_in (slice_get bs k) ≡ None
+no_head bs k past = ap (option_and_then head_in) (slice_get_past bs k past)
+
+-- and the head of the winner's branch is the first of the leaves
+pub winner_alone : (ls : List Leaf) (changes : List Revision) → option_map (λ w. w.rev ∷ []) (winner_of ls) ≡ Some changes → changes ≡ take 1 (revisions_of ls)
+winner_alone [] changes is = absurd (cc)
+winner_alone (l ∷ ls) changes is = sym (same_Some _ changes is)
+
+pub winner_mark : (ls : List Leaf) (deleted : Bool) → option_map (λ w. w.deleted) (winner_of ls) ≡ Some deleted → deleted ≡ is_deleted ls
+winner_mark [] deleted is = absurd (cc)
+winner_mark (l ∷ ls) deleted is = sym (same_Some _ deleted is)
+
+pub no_winner : (ls : List Leaf) → winner_of ls ≡ None → (take 1 (revisions_of ls) ≡ []) × (is_deleted ls ≡ false)
+no_winner [] none = (refl, refl)
+no_winner (l ∷ ls) none = absurd (cc)

@@ -1,0 +1,10 @@
+use Rattle.std.proofs.Common.{◌∙◌, ap, sym}
+use Rattle.hub_revtree.specs.Run.{kept_in}
+use Rattle.hub_revtree.proofs.RunLemmas.{digest_low}
+use Rattle.hub_revtree.proofs.StemLooks.{some_path}
+use Rattle.hub_revtree.proofs.run.Run.newest.Goals as goal
+
+pub new-requires-in-Digests : goal.new-requires-in-Digests
+new-requires-in-Digests c =
+    let is = sym (ap kept_in c.in-Digests.is) ∙ c.self.view_is in
+    digest_low c.args.self.now c.in-Digests.newest c.in-Digests.digests.items is 0 c.requires (some_path c.args.self.now c.requires)
