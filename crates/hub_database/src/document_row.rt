@@ -1,7 +1,6 @@
 //! A document's row.
 
-ghost use Rattle.std.specs.Prelude.{[], true, false, ◌≡◌, option_map, unwrap_or, IfOk, OnOk};
-ghost use Rattle.std.specs.Option.{option_to_list};
+ghost use Rattle.std.specs.Prelude.{[], true, ◌≡◌, IfOk, OnOk};
 ghost use Rattle.hub_model.specs.Leaves.{leaves_of};
 ghost use Rattle.hub_model.specs.Row.{changes_of, doc_of, is_deleted};
 ghost use Rattle.hub_revtree.specs.Tree.{IsRevTree};
@@ -10,6 +9,7 @@ ghost use Rattle.hub_revtree.specs.Winner.{winner_of};
 use crate::document::Document;
 use hub_document::{Body, ChangeRow, Changes};
 use hub_model::{Style, by_style};
+use hub_revtree::Winner;
 use std::alloc::{AllocError, Global};
 
 impl Document {
@@ -24,10 +24,12 @@ impl Document {
     }
 
     // The members of the winner.
-    fn members(&self, alloc: Global) -> Result<Option<Body>, AllocError>
+    fn members(&self, alloc: Global, winner: Option<Winner>) -> Result<Option<Body>, AllocError>
+        requires winner { winner ≡ winner_of (leaves_of self.now.tree.edits []) }
+        requires tree { IsRevTree self.now.tree.edits }
         ensures { IfOk result (λ body. body ≡ doc_of true (leaves_of self.now.tree.edits [])) }
     {
-        let Some(winner) = self.tree.best() else {
+        let Some(winner) = winner else {
             return Ok(None);
         };
         let Some(edit) = self.tree.headed(&winner.rev) else {
@@ -41,7 +43,8 @@ impl Document {
         ensures { IfOk result (λ body. body ≡ doc_of include_docs (leaves_of self.now.tree.edits [])) }
     {
         if include_docs {
-            self.members(alloc)
+            let winner = self.tree.best();
+            self.members(alloc, winner)
         } else {
             Ok(None)
         }

@@ -1,12 +1,12 @@
 -- What is decided of items is whether they are an answer to a follower that asks for changes.
-use Rattle.std.proofs.Common.{◌≡◌, ◌∙◌, ℕ, zero, suc, ◌+◌, ◌<◌, ◌≤◌, List, [], ◌∷◌, ◌++◌, length, map, take, get_or, Contains, ◌⊎◌, inl, inr, ⊎_elim, Bool, true, false, refl, sym, ap, subst, arith, Option, Some, None}
+use Rattle.std.proofs.Common.{◌≡◌, ◌∙◌, ℕ, zero, suc, ◌+◌, ◌<◌, ◌≤◌, List, [], ◌∷◌, ◌++◌, length, drop, map, take, get_or, Contains, ◌⊎◌, inl, inr, ⊎_elim, Bool, true, false, refl, sym, ap, subst, arith, Option, Some, None}
 use Rattle.std.proofs.lemmas.Bool.{and_parts, and_from, or_cases, or_left, or_right, ltb-true, leb-true, lt-ltb, le-leb, eqb-true, eq-eqb, cases_lt, cases_Bool, both_ways}
 use Rattle.std.proofs.lemmas.List.Elements.{All-nil, All-cons, All-head, All-tail, All-weaker, All-contains, Contains-get_or}
 use Rattle.std.proofs.lemmas.List.Kept.{AllPairs-cons}
 use Rattle.std.proofs.lemmas.Option.{same_Some, none-some}
 use Rattle.std.proofs.lemmas.Slice.Eq.{bytes_eq-Decides}
 use Rattle.std.specs.List.{list_all, list_any}
-use Rattle.std.specs.Prelude.{All, AllPairs, IfSome, OnErr, Result, Ok, Err, IsTrue, is_some, option_and_then, ◌&&◌, ◌||◌, ◌↔◌, if◌then◌else◌, nat_eq, nat_le, nat_lt}
+use Rattle.std.specs.Prelude.{All, AllPairs, IfSome, OnErr, Result, Ok, Err, IsTrue, is_some, slice_get, option_and_then, ◌&&◌, ◌||◌, ◌↔◌, if◌then◌else◌, nat_eq, nat_le, nat_lt}
 use Rattle.std.specs.Str.{bytes_eq}
 use Rattle.hub_model.specs.Current.{Current, current}
 use Rattle.hub_model.specs.declared.feeds.Item.TheVariants.{Row, Beat, End}
@@ -46,6 +46,26 @@ lengths_differ rs ss h =
       | inl t ↦ absurd (h (ap length (revs_are rs ss t)))
       | inr t ↦ sym t
     ]
+
+-- where each of two lists has one at a place, what is left is compared so
+pub same_step : (rs ss : List Revision) (k : ℕ) (r s : Revision) → slice_get rs k ≡ Some r → slice_get ss k ≡ Some s
+    → same_revs (drop k rs) (drop k ss) ≡ (is_same r s && same_revs (drop (k + 1) rs) (drop (k + 1) ss))
+same_step rs ss k r s a b =
+    let next : suc k ≡ k + 1 = omega arith in
+    from rs ss k a b ∙ ap (λ n. is_same r s && same_revs (drop n rs) (drop n ss)) next
+  where
+    from : (rs ss : List Revision) (k : ℕ) → slice_get rs k ≡ Some r → slice_get ss k ≡ Some s
+        → same_revs (drop k rs) (drop k ss) ≡ (is_same r s && same_revs (drop (suc k) rs) (drop (suc k) ss))
+    from [] ss k a b = absurd (cc)
+    from (x ∷ rs) [] k a b = absurd (cc)
+    from (x ∷ rs) (y ∷ ss) zero a b = rw (same_Some x r a, same_Some y s b) refl
+    from (x ∷ rs) (y ∷ ss) (suc k) a b = from rs ss k a b
+
+-- and each has one below its length
+pub none_below : (rs : List Revision) (k : ℕ) → k < length rs → slice_get rs k ≡ None → ⊥
+none_below [] k low e = absurd (omega (arith, low))
+none_below (x ∷ rs) zero low e = absurd (cc)
+none_below (x ∷ rs) (suc k) low e = none_below rs k (omega (arith, low)) e
 
 doc_is : (a b : Option (List ℕ)) → same_doc a b ≡ true → a ≡ b
 doc_is None None h = refl
