@@ -13,7 +13,7 @@ use Rattle.std.specs.declared.cmp.Ordering.{Ordering}
 use Rattle.std.specs.declared.cmp.Ordering.TheVariants.{Less, Equal, Greater}
 use Rattle.std.proofs.lemmas.Bool.{cases_lt}
 use Rattle.std.proofs.lemmas.Cmp.{nat_list_cmp_total, alike_right, tied_itself}
-use Rattle.std.proofs.lemmas.List.{get_or_append_left, get_or-append-add, length-append}
+use Rattle.std.proofs.lemmas.List.{get_or_default, get_or_append_left, get_or-append-add, length-append}
 use Rattle.std.proofs.lemmas.List.{take-append-drop, drop_more, drop_all, get_or_at, length_push}
 use Rattle.std.proofs.lemmas.Map.Text.{is_eq-slice_cmp}
 use Rattle.std.proofs.lemmas.List.Elements.{All-nil, All-cons, All-head, All-tail, All-append, All-contains, All-filter, All-weaker}
@@ -97,6 +97,14 @@ module _ {X : Type 0} (p : X → Bool) where
   find_before [] ys all = find_nothing p ys all
   find_before (x ∷ xs) ys all =
       ap (λ o. if p x then Some x else o) (find_before xs ys all)
+
+  -- where the last element passes, all do
+  pub whole_parted : (xs : List X) (k : ℕ) (x : X) → IsPartitionedBy p xs → k + 1 ≡ length xs → x ≡ get_or xs k x → p x ≡ true
+      → AllWithin (λ y. p y ≡ true) xs 0 (length xs) × AllWithin (λ y. p y ≡ false) xs (length xs) (length xs)
+  whole_parted xs k x divided last here passes = (
+    (λ i d a b. divided i k d (omega arith) (omega arith) (ap p (get_or_default xs k d x (omega arith) ∙ sym here) ∙ passes)),
+    λ i d a b. absurd (omega arith),
+  )
 
   -- where the elements that pass stand before the others
   pub parted : (xs : List X) (k : ℕ) → k ≤ length xs → AllWithin (λ x. p x ≡ true) xs 0 k

@@ -1,29 +1,24 @@
 -- Lemmas on the rows of pages.
-use Rattle.std.proofs.Common.{◌≡◌, ◌≢◌, ℕ, ◌+◌, ◌*◌, ◌/◌, ◌^◌, ◌<◌, ◌≤◌, List, [], ◌∷◌, ◌++◌, length, get_or, set, Bool, true, false, not, ◌&&◌, ◌||◌, cond, nat_eq, nat_lt, Option, Some, None, find, filter, map, reverse, count_by, is_some, sym, ◌∙◌, ap, refl, subst, inl, inr, arith}
-use Rattle.std.specs.List.{All, AllPairs, AllByRecursion, list_any}
+use Rattle.std.proofs.Common.{◌≡◌, ◌≢◌, ℕ, suc, ◌+◌, ◌*◌, ◌/◌, ◌^◌, ◌<◌, ◌≤◌, List, [], ◌∷◌, ◌++◌, length, get_or, set, take, drop, Bool, true, false, not, ◌||◌, cond, nat_eq, nat_lt, Option, Some, None, find, filter, map, reverse, count_by, is_some, sym, ◌∙◌, ap, refl, subst, inl, inr, arith}
+use Rattle.std.specs.Prelude.{IsSomeAnd, slice_get}
+use Rattle.std.specs.List.{All, AllPairs, AllWithin, list_any, remove}
+use Rattle.std.specs.List.Sorted.{IsPartitionPoint, IsPartitionedBy}
 use Rattle.std.specs.Option.{option_or}
-use Rattle.std.specs.List.Sorted.{IsStrictlySortedBy}
-use Rattle.std.specs.Map.{keys_of, lookup, remove_entry, set_value}
-use Rattle.std.specs.BTreeMap.{insert_entry}
-use Rattle.std.specs.BTreeMap.Range.{range_contains, entries_between}
-use Rattle.std.specs.Ordering.{nat_cmp, is_le, is_lt}
+use Rattle.std.specs.Map.{remove_entry}
 use Rattle.std.specs.Set.{unique_keys, is_member}
-use Rattle.std.specs.Cmp.{nat_cmp_is}
-use Rattle.std.specs.declared.cmp.Ordering.TheVariants.{Less, Equal, Greater}
-use Rattle.std.specs.declared.ops.Bound.TheVariants.{Included, Unbounded}
-use Rattle.std.proofs.lemmas.Bool.{cases_Bool, cases_order, both_ways, eqb-true, false_from_ne_true, le-ltb, eq-eqb, ne_eqb}
-use Rattle.std.proofs.lemmas.List.{append-nil, append_assoc, reverse-append, length-set, length-append, length-map, map-append}
-use Rattle.std.proofs.lemmas.List.Elements.{All-tail, All-cons, All-nil, All-append, All-push, All-map, All-filter, filter-append}
+use Rattle.std.proofs.lemmas.Bool.{cases_Bool, cases_order, both_ways, eqb-true, false_from_ne_true, le-ltb, lt-ltb, ltb-true, ltb-false, eq-eqb, ne_eqb}
+use Rattle.std.proofs.lemmas.List.{append-nil, append_assoc, reverse-append, length-set, length-append, length-map, map-append, take-append-drop, take-set, drop-set-lt, drop_more, drop_all, set_split, get_or_default, get_or-take, get_or-drop, length-take-le, length-drop}
+use Rattle.std.proofs.lemmas.List.Elements.{All-tail, All-cons, All-nil, All-append, All-push, All-map, All-filter, All-set, All-get_or, All-take, All-drop, filter-append}
 use Rattle.std.proofs.lemmas.List.Kept.{AllPairs-filter}
 use Rattle.std.proofs.lemmas.List.Folds.{find-append}
 use Rattle.std.proofs.lemmas.List.Sums.{length-filter, sum_by-append}
-use Rattle.std.proofs.lemmas.Map.Keys.{sorted_head, sorted_tail}
-use Rattle.std.proofs.lemmas.Grind.{flat_map-append}
+use Rattle.std.proofs.lemmas.List.Concat.{flat_map-append}
 use Rattle.std.proofs.lemmas.Option.{none-some}
 use Rattle.hub_index.specs.Pages.{slot_rows, page_rows, rows_of, IsPage, ArePages, page_of, page_count}
 use Rattle.hub_index.specs.Rows.{IsIndex}
-use Rattle.hub_index.proofs.IndexLemmas.{filter_keeps, find_first, find_no_first, filter_reverse, insert_last, of_head, of_tail, same_Some}
-use Rattle.hub_index.proofs.SlotLemmas.{rows_within, rows_filled, rows_cleared, length_rows, at_seq, not_at, is_at_same, remove_left, remove_right, All_removed}
+use Rattle.hub_index.proofs.IdPageLemmas.{some_at}
+use Rattle.hub_index.proofs.IndexLemmas.{filter_keeps, find_first, find_no_first, filter_reverse, of_head, of_tail}
+use Rattle.hub_index.proofs.SlotLemmas.{rows_within, rows_filled, rows_cleared, length_rows, at_seq, not_at, is_at_same, remove_none, remove_left, remove_right, All_removed}
 
 -- a page, as lemmas name it
 abbrev pub Numbered : Type 0
@@ -69,18 +64,6 @@ module _ (P : ℕ × ℕ → Type 0) where
   All_rows [] all = All-nil P
   All_rows (page ∷ pages) all = All-append P (page_rows page) (rows_of pages) (all 0 page (omega arith)) (All_rows pages (All-tail (λ page. All P (page_rows page)) page pages all))
 
--- the pages behind a page have higher numbers
-pub behind : (k : ℕ) (es : List Numbered) → AllByRecursion (λ y. nat_cmp k y ≡ Less) (keys_of es) → All (λ (e : Numbered). k < e.0) es
-behind k [] s = All-nil (λ (e : Numbered). k < e.0)
-behind k (e ∷ es) s = All-cons (λ (e : Numbered). k < e.0) e es (less k e.0 s.0) (behind k es s.1)
-  where
-    less : (k n : ℕ) → nat_cmp k n ≡ Less → k < n
-    less k n h = elim (cases_order k n) [
-      | inl q ↦ absurd (let z : Equal ≡ Less = nat_cmp_is k n Equal q ∙ h in cc)
-      | inr (inl l) ↦ l
-      | inr (inr g) ↦ absurd (let z : Greater ≡ Less = nat_cmp_is k n Greater g ∙ h in cc)
-    ]
-
 pub at_is : (k n : ℕ) → at_seq k n ≡ true → n ≡ k
 at_is k n t = elim (cases_order n k) [
   | inl q ↦ q
@@ -101,188 +84,235 @@ none_live n s e = from (slot_rows n s) refl
     from [] q = q
     from (r ∷ rows) q = absurd (omega (arith, e, length_rows n s, ap (λ (l : List (ℕ × ℕ)). length l) q))
 
--- The page of a number, by a test that it alone passes.
-module _ (t : ℕ → Bool) (k : ℕ) (hit : (n : ℕ) → t n ≡ true → n ≡ k) (own : t k ≡ true) where
-  pub set_is : (es : List Numbered) (w : List (Option ℕ)) → All IsPage es → IsPage (k, w) → All IsPage (set_value t es w)
-  set_is [] w all is = all
-  set_is (e ∷ es) w all is =
-      elim (cases_Bool (t e.0)) [
-        | inl p ↦ rw p (All-cons IsPage (e.0, w) es (subst (λ n. IsPage (n, w)) (sym (hit e.0 p)) is) (All-tail IsPage e es all))
-        | inr f ↦ rw f (All-cons IsPage e (set_value t es w) (all 0 e (omega arith)) (set_is es w (All-tail IsPage e es all) is))
-      ]
+next_place : (n : ℕ) → suc n ≡ n + 1
+next_place n = omega arith
 
-  pub found_is : (P : Numbered → Type 0) (es : List Numbered) (w : List (Option ℕ)) → All P es → lookup t es ≡ Some w → P (k, w)
-  found_is P [] w all q = absurd (none-some w q)
-  found_is P (e ∷ es) w all q =
-      elim (cases_Bool (t e.0)) [
-        | inl p ↦ subst P (ap (λ n. (n, e.1)) (hit e.0 p) ∙ ap (λ s. (k, s)) (same_Some e.1 w (rw p at q))) (all 0 e (omega arith))
-        | inr f ↦ found_is P es w (All-tail P e es all) (rw f at q)
-      ]
+-- pages in the order of their numbers
+abbrev pub Rising : List Numbered → Type 0
+Rising es = AllPairs (λ (a b : Numbered). a.0 < b.0) es
 
-  pub found_rows : (P : ℕ × ℕ → Type 0) (es : List Numbered) (w : List (Option ℕ)) → All P (rows_of es) → lookup t es ≡ Some w → All P (page_rows (k, w))
-  found_rows P es w all q = found_is (λ page. All P (page_rows page)) es w (each es all) q
+-- the page at a place, with those before it and behind it
+module _ (es : List Numbered) (at : ℕ) (x : Numbered) (l : at < length es) (here : x ≡ get_or es at x) where
+  pub cut_rows : rows_of es ≡ rows_of (take at es) ++ (page_rows x ++ rows_of (drop (at + 1) es))
+  cut_rows =
+      ap rows_of (sym (take-append-drop at es) ∙ ap (λ ys. take at es ++ ys) (drop_more es at x l ∙ ap (λ y. y ∷ drop (at + 1) es) (sym here)))
+      ∙ flat_map-append page_rows (take at es) (x ∷ drop (at + 1) es)
+
+  pub set_rows : (y : Numbered) → rows_of (set es at y) ≡ rows_of (take at es) ++ (page_rows y ++ rows_of (drop (at + 1) es))
+  set_rows y = ap rows_of (set_split es at y l ∙ ap (λ n. take at es ++ y ∷ drop n es) (next_place at)) ∙ flat_map-append page_rows (take at es) (y ∷ drop (at + 1) es)
+
+  pub is_page : All IsPage es → IsPage x
+  is_page pages = subst IsPage (sym here) (All-get_or IsPage es at x l pages)
+
+  number : (d : Numbered) → (get_or es at d).0 ≡ x.0
+  number d = ap (λ (e : Numbered). e.0) (get_or_default es at d x l ∙ sym here)
+
+  lower : Rising es → All (λ (e : Numbered). e.0 < x.0) (take at es)
+  lower rising k d m =
+      let below : k < at = omega (arith, length-take-le at es (omega arith), m) in
+      omega (arith, rising k at d below l, number d, ap (λ (e : Numbered). e.0) (get_or-take at es k d below))
+
+  higher : Rising es → All (λ (e : Numbered). x.0 < e.0) (drop (at + 1) es)
+  higher rising k d m =
+      let fits : at + 1 + k < length es = omega (arith, length-drop (at + 1) es, m) in
+      omega (arith, rising at (at + 1 + k) d (omega arith) fits, number d, ap (λ (e : Numbered). e.0) (get_or-drop (at + 1) es k d))
+
+-- a page that was read twice
+pub same_number : (es : List Numbered) (at k : ℕ) (x y : Numbered) → at < length es → x ≡ get_or es at x → y ≡ get_or es at y → y.0 ≡ k → x.0 ≡ k
+same_number es at k x y l here there q = ap (λ (e : Numbered). e.0) (here ∙ (get_or_default es at x y l ∙ sym there)) ∙ q
+
+-- a page that is removed, whatever was written to it before
+pub remove_set : (es : List Numbered) (at : ℕ) (y : Numbered) → remove (set es at y) at ≡ remove es at
+remove_set es at y =
+    ap (λ ys. ys ++ drop (suc at) (set es at y)) (take-set es at y)
+    ∙ ap (λ ys. take at es ++ ys) (drop-set-lt (suc at) es at y (omega arith))
+
+-- what is left of the pages
+left_of : (es : List Numbered) (at : ℕ) → remove es at ≡ take at es ++ drop (at + 1) es
+left_of es at = ap (λ n. take at es ++ drop n es) (next_place at)
+
+pub dropped_is : (es : List Numbered) (at : ℕ) → All IsPage es → All IsPage (remove es at)
+dropped_is es at pages = subst (All IsPage) (sym (left_of es at)) (All-append IsPage (take at es) (drop (at + 1) es) (All-take IsPage at es pages) (All-drop IsPage (at + 1) es pages))
+
+-- where a page of this number is, it parts the pages
+pub place_is : (es : List Numbered) (k at : ℕ) → Rising es → IsSomeAnd (slice_get es at) (λ (e : Numbered). e.0 ≡ k)
+    → (at < length es) × IsPartitionPoint (λ (e : Numbered). e.0 < k) (λ (e : Numbered). k ≤ e.0) es at
+place_is es k at rising there = (is.0, ((λ z d from below. omega (arith, rising z at d below is.0, same d)), λ z d from below. upper z d from below))
+  where
+    is : (at < length es) × ((e : Numbered) → e ≡ get_or es at e → e.0 ≡ k)
+    is = some_at (λ (e : Numbered). e.0 ≡ k) es at there
+
+    same : (d : Numbered) → (get_or es at d).0 ≡ k
+    same d = is.1 (get_or es at d) (get_or_default es at d (get_or es at d) is.0)
+
+    upper : (z : ℕ) (d : Numbered) → at ≤ z → z < length es → k ≤ (get_or es z d).0
+    upper z d from below = elim (cases_order at z) [
+      | inl q ↦ omega (arith, same d, ap (λ n. (get_or es n d).0) q)
+      | inr (inl less) ↦ omega (arith, rising at z d less below, same d)
+      | inr (inr more) ↦ absurd (omega (arith, from, more))
+    ]
+
+-- what a search by number asks of the pages, and what its answer is
+pub numbers_parted : (es : List Numbered) (k : ℕ) → Rising es → IsPartitionedBy (λ (e : Numbered). nat_lt e.0 k) es
+numbers_parted es k rising i j d from below passes =
+    let less : (get_or es j d).0 < k = ltb-true (get_or es j d).0 k passes in
+    lt-ltb (get_or es i d).0 k (elim (cases_order i j) [
+      | inl q ↦ omega (arith, less, ap (λ n. (get_or es n d).0) q)
+      | inr (inl before) ↦ omega (arith, less, rising i j d before below)
+      | inr (inr behind) ↦ absurd (omega (arith, from, behind))
+    ])
+
+pub place_searched : (es : List Numbered) (k at : ℕ) → IsPartitionPoint (λ (e : Numbered). nat_lt e.0 k ≡ true) (λ (e : Numbered). nat_lt e.0 k ≡ false) es at
+    → IsPartitionPoint (λ (e : Numbered). e.0 < k) (λ (e : Numbered). k ≤ e.0) es at
+place_searched es k at point =
+    ((λ z d from below. ltb-true (get_or es z d).0 k (point.0 z d from below)), λ z d from below. ltb-false (get_or es z d).0 k (point.1 z d from below))
+
+-- a page whose number is none, where the pages are parted by that number
+pub none_there : (es : List Numbered) (k at : ℕ) → Rising es → IsPartitionPoint (λ (e : Numbered). e.0 < k) (λ (e : Numbered). k ≤ e.0) es at
+    → ((d : Numbered) → at < length es → (get_or es at d).0 ≢ k) → All (λ (e : Numbered). e.0 ≢ k) es
+none_there es k at rising point apart z d l q =
+    elim (cases_order z at) [
+      | inl same ↦ apart d (omega (arith, same, l)) (omega (arith, q, ap (λ n. (get_or es n d).0) same))
+      | inr (inl less) ↦ omega (arith, q, point.0 z d (omega arith) less)
+      | inr (inr more) ↦ omega (arith, q, rising at z d more l, point.1 at d (omega arith) (omega (arith, more, l)))
+    ]
+
+-- a sequence, the page of its number, and its slot there
+module _ (k i seq : ℕ) (in' : i < 256) (is : 256 * k + i + 1 ≡ seq) where
+  missed : (e : Numbered) → IsPage e → e.0 ≢ k → All (λ (r : ℕ × ℕ). at_seq seq r.0 ≡ false) (page_rows e)
+  missed e page apart z d l =
+      let w = page_within e page.size z d l in
+      not_at seq _ (elim (cases_order e.0 k) [
+        | inl q ↦ absurd (apart q)
+        | inr (inl below) ↦ inr (omega (arith, w.1, is, below))
+        | inr (inr above) ↦ inl (omega (arith, w.0, is, above))
+      ])
+
+  missed_all : (es : List Numbered) → All IsPage es → All (λ (e : Numbered). e.0 ≢ k) es → All (λ (r : ℕ × ℕ). at_seq seq r.0 ≡ false) (rows_of es)
+  missed_all es pages apart = All_rows (λ (r : ℕ × ℕ). at_seq seq r.0 ≡ false) es (λ z d l. missed (get_or es z d) (pages z d l) (apart z d l))
+
+  -- a sequence whose page is not there has no row
+  pub pages_missed : (es : List Numbered) → All IsPage es → All (λ (e : Numbered). e.0 ≢ k) es → rows_of es ≡ remove_entry (at_seq seq) (rows_of es)
+  pages_missed es pages apart = sym (remove_none (at_seq seq) (rows_of es) (missed_all es pages apart))
+
+  -- a row above all, in a slot of its page
+  pub slots_filled : (d : ℕ) (slots : List (Option ℕ)) → length slots ≡ 256 → All (λ (r : ℕ × ℕ). r.0 < seq) (page_rows (k, slots)) → page_rows (k, set slots i (Some d)) ≡ page_rows (k, slots) ++ (seq, d) ∷ []
+  slots_filled d slots size low =
+      rows_filled (256 * k + 1) i d slots (omega (arith, size)) (λ z r l. omega (arith, low z r l, is))
+      ∙ ap (λ m. page_rows (k, slots) ++ (m, d) ∷ []) (omega (arith, is))
+
+  pub filled_is : (d : ℕ) (slots : List (Option ℕ)) → k < 2 ^ 56 → length slots ≡ 256 → seq < 2 ^ 64 → All (λ (r : ℕ × ℕ). r.0 < seq) (page_rows (k, slots)) → IsPage (k, set slots i (Some d))
+  filled_is d slots low size bound below = record {
+    low = low;
+    size = omega (arith, length-set slots i (Some d), size);
+    live = omega (arith, length_rows (256 * k + 1) (set slots i (Some d)), ap (λ (l : List (ℕ × ℕ)). length l) (slots_filled d slots size below), length-append (page_rows (k, slots)) ((seq, d) ∷ []));
+    fits = subst (All (λ (r : ℕ × ℕ). r.0 < 2 ^ 64)) (sym (slots_filled d slots size below)) (All-push (λ (r : ℕ × ℕ). r.0 < 2 ^ 64) (page_rows (k, slots)) (seq, d) (λ z r l. omega (arith, below z r l, bound)) bound);
+  }
+
+  pub cleared_is : (slots : List (Option ℕ)) → IsPage (k, slots) → 0 < count_by is_some (set slots i None) → IsPage (k, set slots i None)
+  cleared_is slots page live = record {
+    low = page.low;
+    size = omega (arith, length-set slots i None, page.size);
+    live = live;
+    fits = subst (All (λ (r : ℕ × ℕ). r.0 < 2 ^ 64)) (sym (rows_cleared (256 * k + 1) i slots)) (All_removed (λ (r : ℕ × ℕ). r.0 < 2 ^ 64) (at_seq (256 * k + 1 + i)) (page_rows (k, slots)) page.fits);
+  }
+
+  -- where all rows lie below the sequence, no page has a higher number
+  numbers_upto : (es : List Numbered) → All IsPage es → All (λ (r : ℕ × ℕ). r.0 < seq) (rows_of es) → All (λ (e : Numbered). e.0 ≤ k) es
+  numbers_upto [] pages low = All-nil (λ (e : Numbered). e.0 ≤ k)
+  numbers_upto (e ∷ es) pages low =
+      let r = page_row (λ (r : ℕ × ℕ). r.0 < seq) e (pages 0 e (omega arith)) (All_front (λ (r : ℕ × ℕ). r.0 < seq) (page_rows e) (rows_of es) low) in
+      All-cons (λ (e : Numbered). e.0 ≤ k) e es (omega (arith, r.1, r.2, is)) (numbers_upto es (All-tail IsPage e es pages) (All_back (λ (r : ℕ × ℕ). r.0 < seq) (page_rows e) (rows_of es) low))
+
+  -- and if the last page has another number, all have lower ones
+  pub below_new : (es : List Numbered) (at : ℕ) (x : Numbered) → at + 1 ≡ length es → x ≡ get_or es at x → x.0 ≢ k → Rising es → All IsPage es → All (λ (r : ℕ × ℕ). r.0 < seq) (rows_of es) → All (λ (e : Numbered). e.0 < k) es
+  below_new es at x last here apart rising pages low z d l =
+      elim (cases_order z at) [
+        | inl q ↦ omega (arith, less, ap (λ n. (get_or es n d).0) q, number es at x (omega (arith, last)) here d)
+        | inr (inl before) ↦ omega (arith, less, rising z at d before (omega (arith, last)), number es at x (omega (arith, last)) here d)
+        | inr (inr behind) ↦ absurd (omega (arith, l, last, behind))
+      ]
     where
-      each : (es : List Numbered) → All P (rows_of es) → All (λ page. All P (page_rows page)) es
-      each [] all = All-nil (λ page. All P (page_rows page))
-      each (e ∷ es) all = All-cons (λ page. All P (page_rows page)) e es (All_front P (page_rows e) (rows_of es) all) (each es (All_back P (page_rows e) (rows_of es) all))
+      less : x.0 < k
+      less = elim (cases_order x.0 k) [
+        | inl q ↦ absurd (apart q)
+        | inr (inl h) ↦ h
+        | inr (inr h) ↦ absurd (omega (arith, h, numbers_upto es pages low at x (omega (arith, last)), number es at x (omega (arith, last)) here x))
+      ]
+
+  -- a new page, behind all others
+  module _ (d : ℕ) (empty : List (Option ℕ)) (size : length empty ≡ 256) (none : All (λ (o : Option ℕ). o ≡ None) empty) where
+    none_low : All (λ (r : ℕ × ℕ). r.0 < seq) (page_rows (k, empty))
+    none_low = subst (All (λ (r : ℕ × ℕ). r.0 < seq)) (sym (no_slot (256 * k + 1) empty none)) (All-nil (λ (r : ℕ × ℕ). r.0 < seq))
+
+    pub rows_added : (es : List Numbered) → rows_of (es ++ (k, set empty i (Some d)) ∷ []) ≡ rows_of es ++ (seq, d) ∷ []
+    rows_added es =
+        flat_map-append page_rows es ((k, set empty i (Some d)) ∷ [])
+        ∙ ap (λ rows. rows_of es ++ rows) (append-nil (page_rows (k, set empty i (Some d))) ∙ (slots_filled d empty size none_low ∙ ap (λ rows. rows ++ (seq, d) ∷ []) (no_slot (256 * k + 1) empty none)))
+
+    pub added_is : (es : List Numbered) → seq < 2 ^ 64 → All IsPage es → All IsPage (es ++ (k, set empty i (Some d)) ∷ [])
+    added_is es bound pages = All-push IsPage es (k, set empty i (Some d)) pages (filled_is d empty (omega (arith, bound, is)) size bound none_low)
+
+-- a sequence of the page at a place
+module _ (es : List Numbered) (at : ℕ) (x : Numbered) (l : at < length es) (here : x ≡ get_or es at x) (pages : All IsPage es) (i seq : ℕ) (in' : i < 256) (is : 256 * x.0 + i + 1 ≡ seq) where
+  -- the row of a slot that is emptied
+  pub pages_cleared : Rising es → rows_of (set es at (x.0, set x.1 i None)) ≡ remove_entry (at_seq seq) (rows_of es)
+  pages_cleared rising =
+      set_rows es at x l here (x.0, set x.1 i None)
+      ∙ sym
+      (ap (remove_entry (at_seq seq)) (cut_rows es at x l here)
+      ∙ (remove_right (at_seq seq) (rows_of (take at es)) (page_rows x ++ rows_of (drop (at + 1) es)) (missed_all x.0 i seq in' is (take at es) (All-take IsPage at es pages) (λ z d m q. omega (arith, lower es at x l here rising z d m, q)))
+      ∙ ap (λ rows. rows_of (take at es) ++ rows)
+      (remove_left (at_seq seq) (page_rows x) (rows_of (drop (at + 1) es)) (missed_all x.0 i seq in' is (drop (at + 1) es) (All-drop IsPage (at + 1) es pages) (λ z d m q. omega (arith, higher es at x l here rising z d m, q)))
+      ∙ ap (λ rows. rows ++ rows_of (drop (at + 1) es)) (sym own))))
+    where
+      own : slot_rows (256 * x.0 + 1) (set x.1 i None) ≡ remove_entry (at_seq seq) (page_rows x)
+      own = rows_cleared (256 * x.0 + 1) i x.1 ∙ ap (λ m. remove_entry (at_seq m) (page_rows x)) (omega (arith, is))
 
   -- a page that has no row may as well be removed
-  pub rows_dropped : (es : List Numbered) (w : List (Option ℕ)) → count_by is_some w ≡ 0 → rows_of (remove_entry t (set_value t es w)) ≡ rows_of (set_value t es w)
-  rows_dropped [] w none = refl
-  rows_dropped (e ∷ es) w none =
-      elim (cases_Bool (t e.0)) [
-        | inl p ↦ rw (p, p) (sym (ap (λ rows. rows ++ rows_of es) (none_live (256 * e.0 + 1) w none)))
-        | inr f ↦ rw (f, f) (ap (λ rows. page_rows e ++ rows) (rows_dropped es w none))
-      ]
+  pub rows_dropped : (w : List (Option ℕ)) → count_by is_some w ≡ 0 → rows_of (remove es at) ≡ rows_of (set es at (x.0, w))
+  rows_dropped w none =
+      ap rows_of (left_of es at)
+      ∙ (flat_map-append page_rows (take at es) (drop (at + 1) es)
+      ∙ (ap (λ rows. rows_of (take at es) ++ (rows ++ rows_of (drop (at + 1) es))) (sym (none_live (256 * x.0 + 1) w none))
+      ∙ sym (set_rows es at x l here (x.0, w))))
 
-  pub dropped_is : (es : List Numbered) (w : List (Option ℕ)) → All IsPage es → All IsPage (remove_entry t (set_value t es w))
-  dropped_is es w all = subst (All IsPage) (sym (same es)) (All_removed IsPage t es all)
-    where
-      same : (es : List Numbered) → remove_entry t (set_value t es w) ≡ remove_entry t es
-      same [] = refl
-      same (e ∷ es) =
-          elim (cases_Bool (t e.0)) [
-            | inl p ↦ rw (p, p) refl
-            | inr f ↦ rw (f, f) (ap (λ l. e ∷ l) (same es))
-          ]
+  -- a row above all, on the last page
+  module _ (last : length es ≤ at + 1) (low : All (λ (r : ℕ × ℕ). r.0 < seq) (rows_of es)) where
+    nothing_behind : (y : Numbered) → rows_of (take at es) ++ (page_rows y ++ rows_of (drop (at + 1) es)) ≡ rows_of (take at es) ++ page_rows y
+    nothing_behind y =
+        ap (λ ys. rows_of (take at es) ++ (page_rows y ++ rows_of ys)) (drop_all (at + 1) es last)
+        ∙ ap (λ rows. rows_of (take at es) ++ rows) (append-nil (page_rows y))
 
-  -- a sequence of the page
-  module _ (i seq : ℕ) (in' : i < 256) (is : 256 * k + i + 1 ≡ seq) where
-    missed : (e : Numbered) → IsPage e → e.0 ≢ k → All (λ (r : ℕ × ℕ). at_seq seq r.0 ≡ false) (page_rows e)
-    missed e page apart z d l =
-        let w = page_within e page.size z d l in
-        not_at seq _ (elim (cases_order e.0 k) [
-          | inl q ↦ absurd (apart q)
-          | inr (inl below) ↦ inr (omega (arith, w.1, is, below))
-          | inr (inr above) ↦ inl (omega (arith, w.0, is, above))
-        ])
+    own_low : All (λ (r : ℕ × ℕ). r.0 < seq) (page_rows x)
+    own_low =
+        All_back (λ (r : ℕ × ℕ). r.0 < seq) (rows_of (take at es)) (page_rows x)
+        (subst (All (λ (r : ℕ × ℕ). r.0 < seq)) (cut_rows es at x l here ∙ nothing_behind x) low)
 
-    missed_all : (es : List Numbered) → All IsPage es → All (λ (e : Numbered). k < e.0) es → All (λ (r : ℕ × ℕ). at_seq seq r.0 ≡ false) (rows_of es)
-    missed_all es pages higher = All_rows (λ (r : ℕ × ℕ). at_seq seq r.0 ≡ false) es (λ z d l. missed (get_or es z d) (pages z d l) (λ q. omega (arith, higher z d l, q)))
+    pub pages_filled : (d : ℕ) → rows_of (set es at (x.0, set x.1 i (Some d))) ≡ rows_of es ++ (seq, d) ∷ []
+    pages_filled d =
+        set_rows es at x l here (x.0, set x.1 i (Some d))
+        ∙ (nothing_behind (x.0, set x.1 i (Some d))
+        ∙ (ap (λ rows. rows_of (take at es) ++ rows) (slots_filled x.0 i seq in' is d x.1 (is_page es at x l here pages).size own_low)
+        ∙ (sym (append_assoc (rows_of (take at es)) (page_rows x) ((seq, d) ∷ []))
+        ∙ ap (λ rows. rows ++ (seq, d) ∷ []) (sym (cut_rows es at x l here ∙ nothing_behind x)))))
 
-    -- the row of a slot that is emptied
-    pub pages_cleared : (slots : List (Option ℕ)) (es : List Numbered) → IsStrictlySortedBy nat_cmp (keys_of es) → All IsPage es → lookup t es ≡ Some slots
-        → rows_of (set_value t es (set slots i None)) ≡ remove_entry (at_seq seq) (rows_of es)
-    pages_cleared slots [] sorted pages q = absurd (none-some slots q)
-    pages_cleared slots (e ∷ es) sorted pages q =
-        elim (cases_Bool (t e.0)) [
-          | inl p ↦ rw p (
-              ap (λ rows. rows ++ rows_of es) (here (hit e.0 p) (same_Some e.1 slots (rw p at q)))
-              ∙ sym (remove_left (at_seq seq) (page_rows e) (rows_of es) (missed_all es (All-tail IsPage e es pages) (subst (λ n. All (λ (f : Numbered). n < f.0) es) (hit e.0 p) (behind e.0 es (sorted_head nat_cmp e.0 (keys_of es) sorted))))))
-          | inr f ↦ rw f (
-              ap (λ rows. page_rows e ++ rows) (pages_cleared slots es (sorted_tail nat_cmp e.0 (keys_of es) sorted) (All-tail IsPage e es pages) (rw f at q))
-              ∙ sym (remove_right (at_seq seq) (page_rows e) (rows_of es) (missed e (pages 0 e (omega arith)) (λ same. both_ways (t e.0) f (subst (λ n. t n ≡ true) (sym same) own)))))
-        ]
-      where
-        here : e.0 ≡ k → e.1 ≡ slots → slot_rows (256 * e.0 + 1) (set slots i None) ≡ remove_entry (at_seq seq) (page_rows e)
-        here number same =
-            rows_cleared (256 * e.0 + 1) i slots
-            ∙ (ap (λ m. remove_entry (at_seq m) (slot_rows (256 * e.0 + 1) slots)) (omega (arith, number, is))
-            ∙ ap (λ s. remove_entry (at_seq seq) (slot_rows (256 * e.0 + 1) s)) (sym same))
+    pub pages_filled_are : (d : ℕ) → seq < 2 ^ 64 → All IsPage (set es at (x.0, set x.1 i (Some d)))
+    pages_filled_are d bound =
+        let page = is_page es at x l here pages in
+        All-set IsPage es at (x.0, set x.1 i (Some d)) (filled_is x.0 i seq in' is d x.1 page.low page.size bound own_low) pages
 
-    -- a sequence whose page is not there has no row
-    pub pages_missed : (es : List Numbered) → All IsPage es → lookup t es ≡ None → remove_entry (at_seq seq) (rows_of es) ≡ rows_of es
-    pages_missed [] pages none = refl
-    pages_missed (e ∷ es) pages none =
-        elim (cases_Bool (t e.0)) [
-          | inl p ↦ absurd (none-some e.1 (sym (rw p at none)))
-          | inr f ↦
-              remove_right (at_seq seq) (page_rows e) (rows_of es) (missed e (pages 0 e (omega arith)) (λ same. both_ways (t e.0) f (subst (λ n. t n ≡ true) (sym same) own)))
-              ∙ ap (λ rows. page_rows e ++ rows) (pages_missed es (All-tail IsPage e es pages) (rw f at none))
-        ]
-
-    -- a row above all, in a slot of its page
-    pub slots_filled : (d : ℕ) (slots : List (Option ℕ)) → length slots ≡ 256 → All (λ (r : ℕ × ℕ). r.0 < seq) (page_rows (k, slots)) → page_rows (k, set slots i (Some d)) ≡ page_rows (k, slots) ++ (seq, d) ∷ []
-    slots_filled d slots size low =
-        rows_filled (256 * k + 1) i d slots (omega (arith, size)) (λ z r l. omega (arith, low z r l, is))
-        ∙ ap (λ m. page_rows (k, slots) ++ (m, d) ∷ []) (omega (arith, is))
-
-    pub pages_filled : (d : ℕ) (slots : List (Option ℕ)) (es : List Numbered) → IsStrictlySortedBy nat_cmp (keys_of es) → All IsPage es → All (λ (r : ℕ × ℕ). r.0 < seq) (rows_of es) → lookup t es ≡ Some slots
-        → rows_of (set_value t es (set slots i (Some d))) ≡ rows_of es ++ (seq, d) ∷ []
-    pages_filled d slots [] sorted pages low q = absurd (none-some slots q)
-    pages_filled d slots (e ∷ es) sorted pages low q =
-        elim (cases_Bool (t e.0)) [
-          | inl p ↦ rw p (last es (All-tail IsPage e es pages) (subst (λ n. All (λ (f : Numbered). n < f.0) es) (hit e.0 p) (behind e.0 es (sorted_head nat_cmp e.0 (keys_of es) sorted))) low (hit e.0 p) (same_Some e.1 slots (rw p at q)))
-          | inr f ↦ rw f (
-              ap (λ rows. page_rows e ++ rows) (pages_filled d slots es (sorted_tail nat_cmp e.0 (keys_of es) sorted) (All-tail IsPage e es pages) (All_back (λ (r : ℕ × ℕ). r.0 < seq) (page_rows e) (rows_of es) low) (rw f at q))
-              ∙ sym (append_assoc (page_rows e) (rows_of es) ((seq, d) ∷ [])))
-        ]
-      where
-        last : (es : List Numbered) → All IsPage es → All (λ (f : Numbered). k < f.0) es → All (λ (r : ℕ × ℕ). r.0 < seq) (page_rows e ++ rows_of es) → e.0 ≡ k → e.1 ≡ slots
-            → slot_rows (256 * e.0 + 1) (set slots i (Some d)) ++ rows_of es ≡ (page_rows e ++ rows_of es) ++ (seq, d) ∷ []
-        last [] later higher low number same =
-            append-nil (slot_rows (256 * e.0 + 1) (set slots i (Some d)))
-            ∙ (ap (λ n. slot_rows (256 * n + 1) (set slots i (Some d))) number
-            ∙ (slots_filled d slots (ap (λ (s : List (Option ℕ)). length s) (sym same) ∙ (pages 0 e (omega arith)).size) (subst (λ (page : Numbered). All (λ (r : ℕ × ℕ). r.0 < seq) (page_rows page)) is_page (All_front (λ (r : ℕ × ℕ). r.0 < seq) (page_rows e) [] low))
-            ∙ ap (λ rows. rows ++ (seq, d) ∷ []) (ap page_rows (sym is_page) ∙ sym (append-nil (page_rows e)))))
-          where
-            is_page : e ≡ (k, slots)
-            is_page = ap (λ n. (n, e.1)) number ∙ ap (λ s. (k, s)) same
-        last (f ∷ fs) later higher low number same =
-            let r = page_row (λ (r : ℕ × ℕ). r.0 < seq) f (later 0 f (omega arith)) (All_front (λ (r : ℕ × ℕ). r.0 < seq) (page_rows f) (rows_of fs) (All_back (λ (r : ℕ × ℕ). r.0 < seq) (page_rows e) (rows_of (f ∷ fs)) low)) in
-            absurd (omega (arith, r.1, r.2, is, higher 0 f (omega arith)))
-
-    pub filled_is : (d : ℕ) (slots : List (Option ℕ)) → k < 2 ^ 56 → length slots ≡ 256 → seq < 2 ^ 64 → All (λ (r : ℕ × ℕ). r.0 < seq) (page_rows (k, slots)) → IsPage (k, set slots i (Some d))
-    filled_is d slots low size bound below = record {
-      low = low;
-      size = omega (arith, length-set slots i (Some d), size);
-      live = omega (arith, length_rows (256 * k + 1) (set slots i (Some d)), ap (λ (l : List (ℕ × ℕ)). length l) (slots_filled d slots size below), length-append (page_rows (k, slots)) ((seq, d) ∷ []));
-      fits = subst (All (λ (r : ℕ × ℕ). r.0 < 2 ^ 64)) (sym (slots_filled d slots size below)) (All-push (λ (r : ℕ × ℕ). r.0 < 2 ^ 64) (page_rows (k, slots)) (seq, d) (λ z r l. omega (arith, below z r l, bound)) bound);
-    }
-
-    pub cleared_is : (slots : List (Option ℕ)) → IsPage (k, slots) → 0 < count_by is_some (set slots i None) → IsPage (k, set slots i None)
-    cleared_is slots page live = record {
-      low = page.low;
-      size = omega (arith, length-set slots i None, page.size);
-      live = live;
-      fits = subst (All (λ (r : ℕ × ℕ). r.0 < 2 ^ 64)) (sym (rows_cleared (256 * k + 1) i slots)) (All_removed (λ (r : ℕ × ℕ). r.0 < 2 ^ 64) (at_seq (256 * k + 1 + i)) (page_rows (k, slots)) page.fits);
-    }
-
-    -- a new page lies behind all others
-    pub below_new : (es : List Numbered) → All IsPage es → All (λ (r : ℕ × ℕ). r.0 < seq) (rows_of es) → lookup t es ≡ None → All (λ (e : Numbered). e.0 < k) es
-    below_new [] pages low none = All-nil (λ (e : Numbered). e.0 < k)
-    below_new (e ∷ es) pages low none =
-        elim (cases_Bool (t e.0)) [
-          | inl p ↦ absurd (none-some e.1 (sym (rw p at none)))
-          | inr f ↦ All-cons (λ (e : Numbered). e.0 < k) e es (lower f) (below_new es (All-tail IsPage e es pages) (All_back (λ (r : ℕ × ℕ). r.0 < seq) (page_rows e) (rows_of es) low) (rw f at none))
-        ]
-      where
-        lower : t e.0 ≡ false → e.0 < k
-        lower f =
-            let r = page_row (λ (r : ℕ × ℕ). r.0 < seq) e (pages 0 e (omega arith)) (All_front (λ (r : ℕ × ℕ). r.0 < seq) (page_rows e) (rows_of es) low) in
-            elim (cases_order e.0 k) [
-              | inl q ↦ absurd (both_ways (t e.0) f (subst (λ n. t n ≡ true) (sym q) own))
-              | inr (inl l) ↦ l
-              | inr (inr g) ↦ absurd (omega (arith, r.1, r.2, is, g))
-            ]
-
-    pub rows_added : (d : ℕ) (empty : List (Option ℕ)) (es : List Numbered) → length empty ≡ 256 → All (λ (o : Option ℕ). o ≡ None) empty → All (λ (e : Numbered). e.0 < k) es
-        → rows_of (insert_entry nat_cmp es k (set empty i (Some d))) ≡ rows_of es ++ (seq, d) ∷ []
-    rows_added d empty es size none low =
-        ap rows_of (insert_last es k (set empty i (Some d)) low)
-        ∙ (flat_map-append page_rows es ((k, set empty i (Some d)) ∷ [])
-        ∙ ap (λ rows. rows_of es ++ rows) (append-nil (page_rows (k, set empty i (Some d))) ∙ (slots_filled d empty size (subst (All (λ (r : ℕ × ℕ). r.0 < seq)) (sym (no_slot (256 * k + 1) empty none)) (All-nil (λ (r : ℕ × ℕ). r.0 < seq))) ∙ ap (λ rows. rows ++ (seq, d) ∷ []) (no_slot (256 * k + 1) empty none))))
-
-    pub added_is : (d : ℕ) (empty : List (Option ℕ)) (es : List Numbered) → length empty ≡ 256 → All (λ (o : Option ℕ). o ≡ None) empty → seq < 2 ^ 64 → All (λ (e : Numbered). e.0 < k) es → All IsPage es
-        → All IsPage (insert_entry nat_cmp es k (set empty i (Some d)))
-    added_is d empty es size none bound low pages =
-        subst (All IsPage) (sym (insert_last es k (set empty i (Some d)) low))
-        (All-push IsPage es (k, set empty i (Some d)) pages (filled_is d empty (omega (arith, bound, is)) size bound (subst (All (λ (r : ℕ × ℕ). r.0 < seq)) (sym (no_slot (256 * k + 1) empty none)) (All-nil (λ (r : ℕ × ℕ). r.0 < seq)))))
-
--- rows found over some of the pages, where no row of the others passes
-module _ (p : ℕ × ℕ → Bool) (q : Numbered → Bool) where
+-- rows that pass a test, where those of the pages before a place or behind it do not
+module _ (p : ℕ × ℕ → Bool) where
   none_pass : (rows : List (ℕ × ℕ)) → All (λ r. p r ≡ false) rows → filter p rows ≡ []
   none_pass [] all = refl
   none_pass (r ∷ rows) all = rw (all 0 r (omega arith)) (none_pass rows (All-tail (λ r. p r ≡ false) r rows all))
 
-  pub rows_kept : (es : List Numbered) → All (λ (e : Numbered). q e ≡ false → All (λ r. p r ≡ false) (page_rows e)) es → filter p (rows_of es) ≡ filter p (rows_of (filter q es))
-  rows_kept [] all = refl
-  rows_kept (e ∷ es) all =
-      let rest : filter p (rows_of es) ≡ filter p (rows_of (filter q es)) = rows_kept es (All-tail (λ (e : Numbered). q e ≡ false → All (λ r. p r ≡ false) (page_rows e)) e es all) in
-      elim (cases_Bool (q e)) [
-        | inl t ↦ rw t (filter-append p (page_rows e) (rows_of es) ∙ (ap (λ rows. filter p (page_rows e) ++ rows) rest ∙ sym (filter-append p (page_rows e) (rows_of (filter q es)))))
-        | inr f ↦ rw f (filter-append p (page_rows e) (rows_of es) ∙ (ap (λ rows. rows ++ filter p (rows_of es)) (none_pass (page_rows e) (all 0 e (omega arith) f)) ∙ rest))
-      ]
+  rows_parted : (es : List Numbered) (at : ℕ) → filter p (rows_of es) ≡ filter p (rows_of (take at es)) ++ filter p (rows_of (drop at es))
+  rows_parted es at =
+      ap (λ ys. filter p (rows_of ys)) (sym (take-append-drop at es))
+      ∙ (ap (filter p) (flat_map-append page_rows (take at es) (drop at es))
+      ∙ filter-append p (rows_of (take at es)) (rows_of (drop at es)))
 
 module _ {X : Type 0} (p : X → Bool) (xs ys : List X) (same : filter p xs ≡ filter p ys) where
   -- what passes is the same, so the first of it is
@@ -300,39 +330,36 @@ module _ {X : Type 0} (p : X → Bool) (xs ys : List X) (same : filter p xs ≡ 
 pub find_reverse_same : {X : Type 0} (p : X → Bool) (xs ys : List X) → filter p xs ≡ filter p ys → find p (reverse xs) ≡ find p (reverse ys)
 find_reverse_same p xs ys same = find_same p (reverse xs) (reverse ys) (filter_reverse p xs ∙ (ap reverse same ∙ sym (filter_reverse p ys)))
 
--- pages from one on have all rows above a place of that page
-pub from_page : (place k : ℕ) (es found : List Numbered) → k ≡ place / 256 → All IsPage es → found ≡ entries_between nat_cmp (Included k) Unbounded es
-    → filter (λ (r : ℕ × ℕ). nat_lt place r.0) (rows_of es) ≡ filter (λ (r : ℕ × ℕ). nat_lt place r.0) (rows_of found)
-from_page place k es found is pages by =
-    rows_kept (λ (r : ℕ × ℕ). nat_lt place r.0) (λ (e : Numbered). range_contains nat_cmp (Included k) Unbounded e.0) es (λ z d l out. early (get_or es z d) (pages z d l) (before (get_or es z d).0 out))
-    ∙ ap (λ pages. filter (λ (r : ℕ × ℕ). nat_lt place r.0) (rows_of pages)) (sym by)
+-- pages from a number on have all rows above a place of that number's page
+pub from_page : (place at : ℕ) (es : List Numbered) → All IsPage es → at ≤ length es → AllWithin (λ (e : Numbered). e.0 < place / 256) es 0 at
+    → filter (λ (r : ℕ × ℕ). nat_lt place r.0) (rows_of es) ≡ filter (λ (r : ℕ × ℕ). nat_lt place r.0) (rows_of (drop at es))
+from_page place at es pages fits low =
+    rows_parted (λ (r : ℕ × ℕ). nat_lt place r.0) es at
+    ∙ ap (λ rows. rows ++ filter (λ (r : ℕ × ℕ). nat_lt place r.0) (rows_of (drop at es)))
+    (none_pass (λ (r : ℕ × ℕ). nat_lt place r.0) (rows_of (take at es)) (All_rows (λ (r : ℕ × ℕ). nat_lt place r.0 ≡ false) (take at es) (λ z d m. early (get_or (take at es) z d) (All-take IsPage at es pages z d m) (before z d m))))
   where
-    before : (n : ℕ) → range_contains nat_cmp (Included k) Unbounded n ≡ false → n < k
-    before n out = elim (cases_order k n) [
-      | inl q ↦ absurd (let z : true ≡ false = ap (λ o. is_le o && true) (nat_cmp_is k n Equal q) ∙ out in cc)
-      | inr (inl l) ↦ absurd (let z : true ≡ false = ap (λ o. is_le o && true) (nat_cmp_is k n Less l) ∙ out in cc)
-      | inr (inr g) ↦ g
-    ]
+    before : All (λ (e : Numbered). e.0 < place / 256) (take at es)
+    before z d m =
+        let below : z < at = omega (arith, length-take-le at es fits, m) in
+        omega (arith, low z d (omega arith) below, ap (λ (e : Numbered). e.0) (get_or-take at es z d below))
 
-    early : (e : Numbered) → IsPage e → e.0 < k → All (λ (r : ℕ × ℕ). nat_lt place r.0 ≡ false) (page_rows e)
-    early e page low z d l = le-ltb place _ (omega (arith, (page_within e page.size z d l).1, low, is))
+    early : (e : Numbered) → IsPage e → e.0 < place / 256 → All (λ (r : ℕ × ℕ). nat_lt place r.0 ≡ false) (page_rows e)
+    early e page low z d l = le-ltb place _ (omega (arith, (page_within e page.size z d l).1, low))
 
--- pages up to one have all rows below a place of that page
-pub upto_page : (place k : ℕ) (es found : List Numbered) → k ≡ place / 256 → All IsPage es → found ≡ entries_between nat_cmp Unbounded (Included k) es
-    → filter (λ (r : ℕ × ℕ). nat_lt r.0 place) (rows_of es) ≡ filter (λ (r : ℕ × ℕ). nat_lt r.0 place) (rows_of found)
-upto_page place k es found is pages by =
-    rows_kept (λ (r : ℕ × ℕ). nat_lt r.0 place) (λ (e : Numbered). range_contains nat_cmp Unbounded (Included k) e.0) es (λ z d l out. late (get_or es z d) (pages z d l) (past (get_or es z d).0 out))
-    ∙ ap (λ pages. filter (λ (r : ℕ × ℕ). nat_lt r.0 place) (rows_of pages)) (sym by)
+-- pages up to a number have all rows below a place of that number's page
+pub upto_page : (place at : ℕ) (es : List Numbered) → All IsPage es → at ≤ length es → AllWithin (λ (e : Numbered). place / 256 + 1 ≤ e.0) es at (length es)
+    → filter (λ (r : ℕ × ℕ). nat_lt r.0 place) (rows_of es) ≡ filter (λ (r : ℕ × ℕ). nat_lt r.0 place) (rows_of (take at es))
+upto_page place at es pages fits high =
+    rows_parted (λ (r : ℕ × ℕ). nat_lt r.0 place) es at
+    ∙ (ap (λ rows. filter (λ (r : ℕ × ℕ). nat_lt r.0 place) (rows_of (take at es)) ++ rows)
+    (none_pass (λ (r : ℕ × ℕ). nat_lt r.0 place) (rows_of (drop at es)) (All_rows (λ (r : ℕ × ℕ). nat_lt r.0 place ≡ false) (drop at es) (λ z d m. late (get_or (drop at es) z d) (All-drop IsPage at es pages z d m) (behind z d m))))
+    ∙ append-nil (filter (λ (r : ℕ × ℕ). nat_lt r.0 place) (rows_of (take at es))))
   where
-    past : (n : ℕ) → range_contains nat_cmp Unbounded (Included k) n ≡ false → k < n
-    past n out = elim (cases_order k n) [
-      | inl q ↦ absurd (let z : true ≡ false = ap (λ o. not (is_lt o)) (nat_cmp_is k n Equal q) ∙ out in cc)
-      | inr (inl l) ↦ l
-      | inr (inr g) ↦ absurd (let z : true ≡ false = ap (λ o. not (is_lt o)) (nat_cmp_is k n Greater g) ∙ out in cc)
-    ]
+    behind : All (λ (e : Numbered). place / 256 < e.0) (drop at es)
+    behind z d m = omega (arith, high (at + z) d (omega arith) (omega (arith, length-drop at es, m)), ap (λ (e : Numbered). e.0) (get_or-drop at es z d))
 
-    late : (e : Numbered) → IsPage e → k < e.0 → All (λ (r : ℕ × ℕ). nat_lt r.0 place ≡ false) (page_rows e)
-    late e page high z d l = le-ltb _ place (omega (arith, (page_within e page.size z d l).0, high, is))
+    late : (e : Numbered) → IsPage e → place / 256 < e.0 → All (λ (r : ℕ × ℕ). nat_lt r.0 place ≡ false) (page_rows e)
+    late e page high z d l = le-ltb _ place (omega (arith, (page_within e page.size z d l).0, high))
 
 -- rising rows below a number are fewer than it
 pub few : (n m : ℕ) (rows : List (ℕ × ℕ)) → AllPairs (λ (a b : ℕ × ℕ). a.0 < b.0) rows → All (λ (r : ℕ × ℕ). n < r.0) rows → All (λ (r : ℕ × ℕ). r.0 < m) rows → n < m → n + length rows < m
@@ -352,8 +379,8 @@ one_kind k x (y ∷ ys) rest all out =
     ∙ one_kind k y ys rest (All-tail (λ z. z ≡ k) x (y ∷ ys) all) out
 
 -- an index has as many pages as its rows lie on
-pub pages_counted : (es : List Numbered) → IsStrictlySortedBy nat_cmp (keys_of es) → All IsPage es → page_count (rows_of es) ≡ length es
-pages_counted es sorted pages = ap length (numbers es sorted pages) ∙ length-map es (λ (e : Numbered). e.0)
+pub pages_counted : (es : List Numbered) → Rising es → All IsPage es → page_count (rows_of es) ≡ length es
+pages_counted es rising pages = ap length (numbers es rising pages) ∙ length-map es (λ (e : Numbered). e.0)
   where
     outside : (k : ℕ) (rows : List (ℕ × ℕ)) → All (λ (r : ℕ × ℕ). k < page_of r.0) rows → is_member nat_eq (map (λ (r : ℕ × ℕ). page_of r.0) rows) k ≡ false
     outside k [] all = refl
@@ -373,13 +400,13 @@ pages_counted es sorted pages = ap length (numbers es sorted pages) ∙ length-m
         ap (λ rows. unique_keys nat_eq (map (λ (r : ℕ × ℕ). page_of r.0) rows ++ rest)) e
         ∙ one_kind k (page_of r.0) (map (λ (r : ℕ × ℕ). page_of r.0) others) rest (All-map (λ n. n ≡ k) (λ (r : ℕ × ℕ). page_of r.0) (r ∷ others) (subst (All (λ (r : ℕ × ℕ). page_of r.0 ≡ k)) e all)) out
 
-    numbers : (es : List Numbered) → IsStrictlySortedBy nat_cmp (keys_of es) → All IsPage es → unique_keys nat_eq (map (λ (r : ℕ × ℕ). page_of r.0) (rows_of es)) ≡ map (λ (e : Numbered). e.0) es
-    numbers [] sorted pages = refl
-    numbers (e ∷ es) sorted pages =
+    numbers : (es : List Numbered) → Rising es → All IsPage es → unique_keys nat_eq (map (λ (r : ℕ × ℕ). page_of r.0) (rows_of es)) ≡ map (λ (e : Numbered). e.0) es
+    numbers [] rising pages = refl
+    numbers (e ∷ es) rising pages =
         ap (unique_keys nat_eq) (map-append (λ (r : ℕ × ℕ). page_of r.0) (page_rows e) (rows_of es))
         ∙ (first e.0 (page_rows e) (map (λ (r : ℕ × ℕ). page_of r.0) (rows_of es)) (page_has e (pages 0 e (omega arith))) (page_is e (pages 0 e (omega arith)))
-        (outside e.0 (rows_of es) (higher e.0 es (All-tail IsPage e es pages) (behind e.0 es (sorted_head nat_cmp e.0 (keys_of es) sorted))))
-        ∙ ap (λ ns. e.0 ∷ ns) (numbers es (sorted_tail nat_cmp e.0 (keys_of es) sorted) (All-tail IsPage e es pages)))
+        (outside e.0 (rows_of es) (higher e.0 es (All-tail IsPage e es pages) (of_head (λ (a b : Numbered). a.0 < b.0) e es rising)))
+        ∙ ap (λ ns. e.0 ∷ ns) (numbers es (of_tail (λ (a b : Numbered). a.0 < b.0) e es rising) (All-tail IsPage e es pages)))
 
 module _ (p : ℕ × ℕ → Bool) (e : Numbered) (es : List Numbered) where
   -- what is found on the first page, or behind it

@@ -1,7 +1,7 @@
 -- The rows of an index in pages (own). Page k has a slot for each of the sequences 256k + 1 to 256k + 256.
 use Rattle.std.specs.Prelude.{◌≡◌, ℕ, ◌+◌, ◌-◌, ◌*◌, ◌/◌, ◌^◌, ◌<◌, List, [], ◌∷◌, length, map, nat_eq, count_by, is_some}
 use Rattle.std.specs.Prelude.{Option, Some, None}
-use Rattle.std.specs.List.{All, flat_map}
+use Rattle.std.specs.List.{All, AllPairs, flat_map}
 use Rattle.std.specs.Set.{distinct_count}
 use Rattle.hub_index.specs.Rows.{IsIndex}
 
@@ -27,9 +27,10 @@ pub record IsPage (page : ℕ × List (Option ℕ)) : Type 0 where
   pub live : 0 < count_by is_some page.1
   pub fits : All (λ (r : ℕ × ℕ). r.0 < 2 ^ 64) (page_rows page)
 
--- pages that an index keeps
+-- pages that an index keeps, in the order of their numbers
 pub record ArePages (pages : List (ℕ × List (Option ℕ))) : Type 0 where
   pub each : All IsPage pages
+  pub rising : AllPairs (λ (a b : ℕ × List (Option ℕ)). a.0 < b.0) pages
   pub index : IsIndex (rows_of pages)
 
 -- the page of a sequence: 256 is on page 0, and 257 on page 1

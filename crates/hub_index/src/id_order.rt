@@ -49,20 +49,22 @@ impl IdOrder {
         }
     }
 
-    /// The number of this id. It compares ids logarithmically many times, and takes no memory.
+    /// The number of this id. It compares ids logarithmically many times, and two where the id lies
+    /// above all. It takes no memory.
     pub fn find<N: Named>(&self, names: &N, id: &str) -> Option<u32>
         requires order { IsOrder (N.ids names.now) self.now }
         ensures { result ≡ number_in (N.ids names.now) self.now id.now }
     {
         let page = page_at(names, self.pages.as_slice(), id);
         let numbers = self.pages.get(page)?;
-        number_of(names, numbers.as_slice(), id)
+        let is_last = page + 1 == self.pages.len();
+        number_of(names, numbers.as_slice(), id, is_last)
     }
 
     /// Takes in a number of a new id: the next after those that have ids, whose own id joins them
-    /// later. It compares ids logarithmically many times, and moves the numbers behind it on its
-    /// page; a full page is halved before, and ids that come in order fill pages whole. An error
-    /// leaves all numbers as they were.
+    /// later. It compares ids logarithmically many times, and two where the id lies above all. It
+    /// moves the numbers behind it on its page; a full page is halved before, and ids that come in
+    /// order fill pages whole. An error leaves all numbers as they were.
     pub fn insert<N: Named>(&mut self, names: &N, number: u32, id: &str) -> Result<(), AllocError>
         requires order { IsOrder (N.ids names.now) self.old }
         requires next { number ≡ length (N.ids names.now) }
@@ -75,7 +77,8 @@ impl IdOrder {
         if page == self.pages.len() {
             return push_page(&mut self.pages, self.alloc, number);
         }
-        let at = place_in(names, self.pages[page].as_slice(), id);
+        let is_last = page + 1 == self.pages.len();
+        let at = place_in(names, self.pages[page].as_slice(), id, is_last);
         put(&mut self.pages, self.alloc, page, at, number)
     }
 }

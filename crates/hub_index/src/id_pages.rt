@@ -28,7 +28,8 @@ fn begins_up_to<N: Named>(names: &N, numbers: &[u32], id: &str) -> bool
 }
 
 /// The page where an id stands or belongs: the last that begins with it or with one below it, and
-/// the first where none does. It compares logarithmically many ids.
+/// the first where none does. It compares one id where that is the last page, and else
+/// logarithmically many.
 pub(crate) fn page_at<N: Named>(names: &N, pages: &[Vec<u32>], id: &str) -> usize
     requires order { IsOrder (N.ids names.now) (numbers_of pages.now) }
     requires pages { All IsNumberPage pages.now }
@@ -38,29 +39,43 @@ pub(crate) fn page_at<N: Named>(names: &N, pages: &[Vec<u32>], id: &str) -> usiz
     ensures above { All (λ n. is_gt (id_cmp (N.ids names.now) id.now n) ≡ true)
         (numbers_of (drop (result + 1) pages.now)) }
 {
+    let end = pages.len();
+    if end > 0 && begins_up_to(names, pages[end - 1].as_slice(), id) {
+        return end - 1;
+    }
     pages
         .partition_point(|page| begins_up_to(names, page.as_slice(), id))
         .saturating_sub(1)
 }
 
 /// Where the number of an id stands or belongs on a page: behind those whose ids lie below it. It
-/// compares logarithmically many ids.
-pub(crate) fn place_in<N: Named>(names: &N, numbers: &[u32], id: &str) -> usize
+/// compares logarithmically many ids, and on the last page the highest before them: where that one
+/// lies below, it compares no other.
+pub(crate) fn place_in<N: Named>(names: &N, numbers: &[u32], id: &str, is_last: bool) -> usize
     requires order { IsOrder (N.ids names.now) numbers.now }
     ensures within { result ≤ length numbers.now }
     ensures before { take result numbers.now ≡ filter (lies_below (N.ids names.now) id.now) numbers.now }
     ensures behind { drop result numbers.now
         ≡ filter (λ n. not (lies_below (N.ids names.now) id.now n)) numbers.now }
 {
+    let count = numbers.len();
+    if is_last && count > 0 && names.id(numbers[count - 1]).cmp(id).is_lt() {
+        return count;
+    }
     numbers.partition_point(|number| names.id(*number).cmp(id).is_lt())
 }
 
-/// The number of an id on a page. It compares logarithmically many ids.
-pub(crate) fn number_of<N: Named>(names: &N, numbers: &[u32], id: &str) -> Option<u32>
+/// The number of an id on a page. It compares ids as `place_in`, and one more.
+pub(crate) fn number_of<N: Named>(
+    names: &N,
+    numbers: &[u32],
+    id: &str,
+    is_last: bool,
+) -> Option<u32>
     requires order { IsOrder (N.ids names.now) numbers.now }
     ensures { result ≡ number_in (N.ids names.now) numbers.now id.now }
 {
-    let at = place_in(names, numbers, id);
+    let at = place_in(names, numbers, id, is_last);
     let number = *numbers.get(at)?;
     if names.id(number) == id {
         Some(number)

@@ -1,7 +1,8 @@
 //! Rows in pages.
 
-ghost use Rattle.std.specs.Prelude.{◌≡◌, ℕ, ◌+◌, ◌*◌, ◌<◌, ◌++◌, ◌∷◌, [], nat_eq, nat_lt, not, find, filter, reverse, count_by, OnOk, OnErr, IfOk};
-ghost use Rattle.std.specs.List.{All};
+ghost use Rattle.std.specs.Prelude.{◌≡◌, ℕ, ◌+◌, ◌*◌, ◌<◌, ◌≤◌, ◌++◌, ◌∷◌, [], length, nat_eq, nat_lt, not, find, filter, reverse, count_by, slice_get, IfSome, IsSomeAnd, OnOk, OnErr, IfOk};
+ghost use Rattle.std.specs.List.{All, AllPairs};
+ghost use Rattle.std.specs.List.Sorted.{IsPartitionPoint};
 ghost use Rattle.std.specs.Map.{remove_entry};
 ghost use Rattle.std.specs.BTreeMap.{is_at};
 ghost use Rattle.std.specs.Ordering.{nat_cmp};
@@ -10,16 +11,17 @@ ghost use Rattle.hub_index.specs.Pages.{ArePages, IsPage, rows_of, page_count};
 use crate::SeqIndex;
 use crate::page::{PAGE_SIZE, Page};
 use std::alloc::{AllocError, Global};
-use std::collections::BTreeMap;
 use std::marker::Model;
 
 /// Rows in pages of 256 sequences, seen as the list of them. A page has a slot of eight bytes for each
-/// sequence, and is given back once it has no row left.
+/// sequence, and is given back once it has no row left: then the pages behind it move up, of which
+/// some forty bytes each stand in one list. A search for a page takes constant time where no number
+/// from its own to the last lacks a page, and else time that is logarithmic in the number of pages.
 #[derive(Debug, Drop)]
 pub struct PageIndex {
     alloc: Global,
-    /// By their numbers.
-    pages: BTreeMap<u64, Page>,
+    /// With their numbers, which rise.
+    pages: Vec<(u64, Page)>,
 }
 
 impl Model for PageIndex {
@@ -28,9 +30,9 @@ impl Model for PageIndex {
 
     ghost Value = { List (ℕ × ℕ) };
 
-    ghost view = { λ a. rows_of a.pages.entries };
+    ghost view = { λ a. rows_of a.pages.items };
 
-    ghost invariant = { λ a. ArePages a.pages.entries };
+    ghost invariant = { λ a. ArePages a.pages.items };
 }
 
 // The page of a sequence, and its slot there.
@@ -43,54 +45,90 @@ fn slot_of(seq: u64) -> (u64, usize)
     (before / PAGE_SIZE, (before % PAGE_SIZE) as usize)
 }
 
+// The place of the page of this number, where no number from it to the last lacks a page.
+fn place_from_last(pages: &[(u64, Page)], number: u64) -> Option<usize>
+    ensures { IfSome result (λ at. IsSomeAnd (slice_get pages.now at) (λ page. page.0 ≡ number)) }
+{
+    let (last, _) = pages.last()?;
+    let behind = last.checked_sub(number)?;
+    let at = (pages.len() as u64 - 1).checked_sub(behind)? as usize;
+    if pages[at].0 == number {
+        Some(at)
+    } else {
+        None
+    }
+}
+
+// Where the page of this number stands or belongs: behind those of lower numbers. It looks at two
+// pages where no number from this one to the last lacks a page, and else at logarithmically many.
+fn place_of(pages: &[(u64, Page)], number: u64) -> usize
+    requires { AllPairs (λ a b. a.0 < b.0) pages.now }
+    ensures parted { IsPartitionPoint (λ page. page.0 < number) (λ page. number ≤ page.0) pages.now result }
+    ensures within { result ≤ length pages.now }
+{
+    match place_from_last(pages, number) {
+        Some(at) => at,
+        None => pages.partition_point(|page| page.0 < number),
+    }
+}
+
 // Adds a row above all.
 fn add_row(
-    pages: &mut BTreeMap<u64, Page>,
+    pages: &mut Vec<(u64, Page)>,
     alloc: Global,
     document: u32,
     seq: u64,
 ) -> Result<(), AllocError>
-    requires pages { All IsPage pages.old.entries }
+    requires pages { All IsPage pages.old.items }
+    requires rising { AllPairs (λ a b. a.0 < b.0) pages.old.items }
     requires positive { 0 < seq }
-    requires above { All (λ r. r.0 < seq) (rows_of pages.old.entries) }
-    ensures ok { OnOk result (rows_of pages.new.entries ≡ rows_of pages.old.entries ++ (seq, document) ∷ []) }
-    ensures pages { OnOk result (All IsPage pages.new.entries) }
-    ensures err { OnErr result (pages.new.entries ≡ pages.old.entries) }
+    requires above { All (λ r. r.0 < seq) (rows_of pages.old.items) }
+    ensures ok { OnOk result (rows_of pages.new.items ≡ rows_of pages.old.items ++ (seq, document) ∷ []) }
+    ensures pages { OnOk result (All IsPage pages.new.items) }
+    ensures rising { OnOk result (AllPairs (λ a b. a.0 < b.0) pages.new.items) }
+    ensures err { OnErr result (pages.new.items ≡ pages.old.items) }
 {
     let (number, slot) = slot_of(seq);
-    if let Some(page) = pages.get_mut(&number) {
-        page.fill(slot, document);
+    let end = pages.len();
+    if end > 0 && pages[end - 1].0 == number {
+        pages[end - 1].1.fill(slot, document);
         return Ok(());
     }
     let mut page = Page::new(alloc)?;
     page.fill(slot, document);
-    pages.insert(number, page)?;
+    pages.push((number, page))?;
     Ok(())
 }
 
 // Removes the row at a sequence, and its page if that was the only row there.
-fn remove_row(pages: &mut BTreeMap<u64, Page>, seq: u64)
-    requires pages { All IsPage pages.old.entries }
+fn remove_row(pages: &mut Vec<(u64, Page)>, seq: u64)
+    requires pages { All IsPage pages.old.items }
+    requires rising { AllPairs (λ a b. a.0 < b.0) pages.old.items }
     requires positive { 0 < seq }
-    ensures rows { rows_of pages.new.entries ≡ remove_entry (is_at (nat_cmp seq)) (rows_of pages.old.entries) }
-    ensures pages { All IsPage pages.new.entries }
+    ensures rows { rows_of pages.new.items ≡ remove_entry (is_at (nat_cmp seq)) (rows_of pages.old.items) }
+    ensures pages { All IsPage pages.new.items }
+    ensures rising { AllPairs (λ a b. a.0 < b.0) pages.new.items }
 {
     let (number, slot) = slot_of(seq);
-    let Some(page) = pages.get_mut(&number) else {
+    let at = place_of(pages.as_slice(), number);
+    if at == pages.len() || pages[at].0 != number {
         return;
-    };
+    }
+    let page = &mut pages[at].1;
     page.clear(slot);
     if page.live() == 0 {
-        pages.remove(&number);
+        pages.remove(at);
     }
 }
 
 // The first row above a place.
-fn row_after(pages: &BTreeMap<u64, Page>, place: u64) -> Option<(u64, u32)>
-    requires { All IsPage pages.now.entries }
-    ensures { result ≡ find (λ r. nat_lt place r.0) (rows_of pages.now.entries) }
+fn row_after(pages: &[(u64, Page)], place: u64) -> Option<(u64, u32)>
+    requires pages { All IsPage pages.now }
+    requires rising { AllPairs (λ a b. a.0 < b.0) pages.now }
+    ensures { result ≡ find (λ r. nat_lt place r.0) (rows_of pages.now) }
 {
-    for (number, page) in pages.range(place / PAGE_SIZE..) {
+    for at in place_of(pages, place / PAGE_SIZE)..pages.len() {
+        let (number, page) = &pages[at];
         if let Some(row) = page.next_after(*number, place) {
             return Some(row);
         }
@@ -99,12 +137,15 @@ fn row_after(pages: &BTreeMap<u64, Page>, place: u64) -> Option<(u64, u32)>
 }
 
 // The last row below a place.
-fn row_before(pages: &BTreeMap<u64, Page>, place: u64) -> Option<(u64, u32)>
-    requires { All IsPage pages.now.entries }
-    ensures { result ≡ find (λ r. nat_lt r.0 place) (reverse (rows_of pages.now.entries)) }
+fn row_before(pages: &[(u64, Page)], place: u64) -> Option<(u64, u32)>
+    requires pages { All IsPage pages.now }
+    requires rising { AllPairs (λ a b. a.0 < b.0) pages.now }
+    ensures { result ≡ find (λ r. nat_lt r.0 place) (reverse (rows_of pages.now)) }
 {
-    let mut below = pages.range(..=place / PAGE_SIZE);
-    while let Some((number, page)) = below.next_back() {
+    let mut at = place_of(pages, place / PAGE_SIZE + 1);
+    while at > 0 {
+        at -= 1;
+        let (number, page) = &pages[at];
         if let Some(row) = page.last_before(*number, place) {
             return Some(row);
         }
@@ -113,12 +154,13 @@ fn row_before(pages: &BTreeMap<u64, Page>, place: u64) -> Option<(u64, u32)>
 }
 
 // How many rows lie above a place.
-fn rows_above(pages: &BTreeMap<u64, Page>, place: u64) -> u64
-    requires { ArePages pages.now.entries }
-    ensures { result ≡ count_by (λ r. nat_lt place r.0) (rows_of pages.now.entries) }
+fn rows_above(pages: &[(u64, Page)], place: u64) -> u64
+    requires { ArePages pages.now }
+    ensures { result ≡ count_by (λ r. nat_lt place r.0) (rows_of pages.now) }
 {
     let mut count = 0;
-    for (number, page) in pages.range(place / PAGE_SIZE..) {
+    for at in place_of(pages, place / PAGE_SIZE)..pages.len() {
+        let (number, page) = &pages[at];
         count += page.count_after(*number, place);
     }
     count
@@ -131,11 +173,11 @@ impl PageIndex {
     {
         PageIndex {
             alloc,
-            pages: BTreeMap::new(alloc),
+            pages: Vec::new(alloc),
         }
     }
 
-    /// Removes the row at a sequence, if there is one. Logarithmic in the number of pages. It takes no
+    /// Removes the row at a sequence, if there is one, after a search for its page. It takes no
     /// memory, and gives a page back where the row was its only one.
     pub fn remove(&mut self, seq: u64)
         requires { 0 < seq }
@@ -149,15 +191,16 @@ impl PageIndex {
     pub fn pages(&self) -> u64
         ensures { result ≡ page_count self.now }
     {
-        self.pages.len() as u64
+        self.pages.as_slice().len() as u64
     }
 }
 
 impl SeqIndex for PageIndex {
     ghost rows = { λ rows. rows };
 
-    /// Logarithmic in the number of pages. It takes a page where the new sequence is the first of its
-    /// page, and gives one back where the old row was the only one of its page.
+    /// Constant time for the new row, and a search for the page of the old one. It takes a page where
+    /// the new sequence is the first of its page, and gives one back where the old row was the only
+    /// one of its page.
     fn move_to(&mut self, document: u32, old: Option<u64>, new: u64) -> Result<(), AllocError> {
         add_row(&mut self.pages, self.alloc, document, new)?;
         if let Some(old) = old {
@@ -166,10 +209,10 @@ impl SeqIndex for PageIndex {
         Ok(())
     }
 
-    /// Logarithmic in the number of pages, and a look at the slots from the place to the row: at most
-    /// those of a page.
+    /// A search for the page of the place, and a look at the slots from the place to the row: at most
+    /// those of two pages.
     fn next_after(&self, place: u64, bound: Option<u64>) -> Option<(u64, u32)> {
-        let (seq, document) = row_after(&self.pages, place)?;
+        let (seq, document) = row_after(self.pages.as_slice(), place)?;
         match bound {
             Some(bound) if bound < seq => None,
             _ => Some((seq, document)),
@@ -178,12 +221,12 @@ impl SeqIndex for PageIndex {
 
     /// As `next_after`.
     fn last_before(&self, place: u64) -> Option<(u64, u32)> {
-        row_before(&self.pages, place)
+        row_before(self.pages.as_slice(), place)
     }
 
-    /// It goes over the pages above the place, after a search that is logarithmic in the number of
-    /// pages, and looks at the slots of one page.
+    /// It goes over the pages above the place, after a search for the first, and looks at the slots of
+    /// one page.
     fn count_after(&self, place: u64) -> u64 {
-        rows_above(&self.pages, place)
+        rows_above(self.pages.as_slice(), place)
     }
 }

@@ -1,54 +1,56 @@
-use Rattle.std.proofs.Common.{◌≡◌, ℕ, ◌<◌, List, Option, Some, set, refl, ◌∙◌, sym, ap, subst, arith}
-use Rattle.std.specs.List.{All}
-use Rattle.std.specs.Map.{set_value}
-use Rattle.std.specs.BTreeMap.{BTreeMap, insert_entry}
-use Rattle.std.specs.Ordering.{nat_cmp}
-use Rattle.hub_index.specs.Pages.{IsPage, rows_of, page_rows}
-use Rattle.hub_index.proofs.SlotLemmas.{at_seq, is_at_same}
-use Rattle.hub_index.proofs.PageLemmas.{at_is, found_is, found_rows, set_is, pages_filled, filled_is, below_new, rows_added, added_is}
+use Rattle.std.proofs.Common.{◌≡◌, ℕ, ◌+◌, ◌-◌, ◌*◌, ◌<◌, List, [], ◌∷◌, ◌++◌, Option, Some, set, length, ◌∙◌, ap, subst, sym, arith}
+use Rattle.std.specs.List.{All, AllPairs}
+use Rattle.std.proofs.lemmas.List.Quantifiers.{all_pairs_push}
+use Rattle.hub_index.specs.Pages.{IsPage, rows_of}
+use Rattle.hub_index.proofs.PageLemmas.{same_number, pages_filled, pages_filled_are, below_new, rows_added, added_is}
 use Rattle.hub_index.proofs.page_index.add_row.Goals as goal
+use Rattle.hub_index.proofs.page_index.add_row.Goals.{else-end-gt0-via-then-end-gt0+else-index-number, else-end-gt0-via-else-end-gt0}
 
--- the entries, with the new page
-inserted : (c : goal.Joined-branch-3) → c.insert.new.self.entries ≡ insert_entry nat_cmp c.args.pages.now.entries c.slot_of-number.result.0 (set c.in_ok-page.page c.slot_of-number.result.1 (Some c.args.document))
-inserted c =
-    c.in_ok-insert.ensures.entries
-    ∙ (ap (λ (m : BTreeMap ℕ (List (Option ℕ))). insert_entry nat_cmp m.entries c.slot_of-number.result.0 c.fill-2.new.self) c.get_mut.follows.holds-at-none
-    ∙ ap (insert_entry nat_cmp c.args.pages.now.entries c.slot_of-number.result.0) c.fill-2.ensures)
+pub returns-then-index-number-clause-ok : goal.returns-then-index-number-clause-ok
+returns-then-index-number-clause-ok c =
+    let es : List (ℕ × List (Option ℕ)) = c.args.pages.now.items in
+    let at = c.len-end.result - 1 in
+    let x : ℕ × List (Option ℕ) = c.index_mut.result.now in
+    let l : at < length es = omega (arith, c.len-end.ensures, c.if-end-gt0.true) in
+    let number : x.0 ≡ c.slot_of-number.result.0 = same_number es at c.slot_of-number.result.0 x c.index.result.now l c.index_mut.ensures.value c.index.ensures c.if-index-number.true in
+    let is : 256 * x.0 + c.slot_of-number.result.1 + 1 ≡ c.args.seq = omega (arith, number, c.slot_of-number.ensures.seq) in
+    ap (λ (w : List (Option ℕ)). rows_of (set es at (x.0, w))) c.fill.ensures
+    ∙ pages_filled es at x l c.index_mut.ensures.value c.requires.pages c.slot_of-number.result.1 c.args.seq c.slot_of-number.ensures.slot is (omega (arith, c.len-end.ensures)) c.requires.above c.args.document
 
-pub fill-requires : goal.fill-requires
-fill-requires c =
-    let k = c.slot_of-number.result.0 in
-    omega (arith, c.slot_of-number.ensures.slot, (found_is (at_seq k) k (at_is k) (is_at_same k k refl) IsPage c.args.pages.now.entries c.in-Some.page.now c.requires.pages (sym c.in-Some.ensures.value)).size)
+pub returns-then-index-number-clause-pages : goal.returns-then-index-number-clause-pages
+returns-then-index-number-clause-pages c =
+    let es : List (ℕ × List (Option ℕ)) = c.args.pages.now.items in
+    let at = c.len-end.result - 1 in
+    let x : ℕ × List (Option ℕ) = c.index_mut.result.now in
+    let l : at < length es = omega (arith, c.len-end.ensures, c.if-end-gt0.true) in
+    let number : x.0 ≡ c.slot_of-number.result.0 = same_number es at c.slot_of-number.result.0 x c.index.result.now l c.index_mut.ensures.value c.index.ensures c.if-index-number.true in
+    let is : 256 * x.0 + c.slot_of-number.result.1 + 1 ≡ c.args.seq = omega (arith, number, c.slot_of-number.ensures.seq) in
+    subst (λ (w : List (Option ℕ)). All IsPage (set es at (x.0, w))) (sym c.fill.ensures)
+    (pages_filled_are es at x l c.index_mut.ensures.value c.requires.pages c.slot_of-number.result.1 c.args.seq c.slot_of-number.ensures.slot is (omega (arith, c.len-end.ensures)) c.requires.above c.args.document (omega (arith, c.ranges.seq.fits)))
 
-pub returns-in-Some-clause-ok : goal.returns-in-Some-clause-ok
-returns-in-Some-clause-ok c =
-    let k = c.slot_of-number.result.0 in
-    let i = c.slot_of-number.result.1 in
-    ap rows_of ((c.get_mut.follows.holds c.fill.new.self).0 ∙ ap (set_value (at_seq k) c.args.pages.now.entries) c.fill.ensures)
-    ∙ pages_filled (at_seq k) k (at_is k) (is_at_same k k refl) i c.args.seq c.slot_of-number.ensures.slot c.slot_of-number.ensures.seq c.args.document c.in-Some.page.now c.args.pages.now.entries c.get_mut.ensures.ordered c.requires.pages c.requires.above (sym c.in-Some.ensures.value)
-
-pub returns-in-Some-clause-pages : goal.returns-in-Some-clause-pages
-returns-in-Some-clause-pages c =
-    let k = c.slot_of-number.result.0 in
-    let i = c.slot_of-number.result.1 in
-    let page : IsPage (k, c.in-Some.page.now) = found_is (at_seq k) k (at_is k) (is_at_same k k refl) IsPage c.args.pages.now.entries c.in-Some.page.now c.requires.pages (sym c.in-Some.ensures.value) in
-    let low : All (λ (r : ℕ × ℕ). r.0 < c.args.seq) (page_rows (k, c.in-Some.page.now)) = found_rows (at_seq k) k (at_is k) (is_at_same k k refl) (λ (r : ℕ × ℕ). r.0 < c.args.seq) c.args.pages.now.entries c.in-Some.page.now c.requires.above (sym c.in-Some.ensures.value) in
-    subst (All IsPage) (sym ((c.get_mut.follows.holds c.fill.new.self).0 ∙ ap (set_value (at_seq k) c.args.pages.now.entries) c.fill.ensures))
-    (set_is (at_seq k) k (at_is k) (is_at_same k k refl) c.args.pages.now.entries (set c.in-Some.page.now i (Some c.args.document)) c.requires.pages
-    (filled_is (at_seq k) k (at_is k) (is_at_same k k refl) i c.args.seq c.slot_of-number.ensures.slot c.slot_of-number.ensures.seq c.args.document c.in-Some.page.now page.low page.size (omega arith) low))
+-- the pages, with the new one
+pushed : (es new : List (ℕ × List (Option ℕ))) (k : ℕ) (w slots : List (Option ℕ)) → new ≡ es ++ (k, w) ∷ [] → w ≡ slots → new ≡ es ++ (k, slots) ∷ []
+pushed es new k w slots put filled = put ∙ ap (λ (s : List (Option ℕ)). es ++ (k, s) ∷ []) filled
 
 pub returns-clause-ok : goal.returns-clause-ok
 returns-clause-ok c =
-    let k = c.slot_of-number.result.0 in
-    let i = c.slot_of-number.result.1 in
-    let low : All (λ (e : ℕ × List (Option ℕ)). e.0 < k) c.args.pages.now.entries = below_new (at_seq k) k (at_is k) (is_at_same k k refl) i c.args.seq c.slot_of-number.ensures.slot c.slot_of-number.ensures.seq c.args.pages.now.entries c.requires.pages c.requires.above (sym c.in_default.ensures.value) in
-    ap rows_of (inserted c)
-    ∙ rows_added (at_seq k) k (at_is k) (is_at_same k k refl) i c.args.seq c.slot_of-number.ensures.slot c.slot_of-number.ensures.seq c.args.document c.in_ok-page.page c.args.pages.now.entries c.in_ok-page.ensures.size c.in_ok-page.ensures.empty low
+    ap rows_of (pushed c.args.pages.now.items c.push.new.self.items c.slot_of-number.result.0 c.fill-2.new.self (set c.in_ok-page.page c.slot_of-number.result.1 (Some c.args.document)) c.in_ok-push.ensures.items c.fill-2.ensures)
+    ∙ rows_added c.slot_of-number.result.0 c.slot_of-number.result.1 c.args.seq c.slot_of-number.ensures.slot c.slot_of-number.ensures.seq c.args.document c.in_ok-page.page c.in_ok-page.ensures.size c.in_ok-page.ensures.empty c.args.pages.now.items
 
 pub returns-clause-pages : goal.returns-clause-pages
 returns-clause-pages c =
+    subst (All IsPage) (sym (pushed c.args.pages.now.items c.push.new.self.items c.slot_of-number.result.0 c.fill-2.new.self (set c.in_ok-page.page c.slot_of-number.result.1 (Some c.args.document)) c.in_ok-push.ensures.items c.fill-2.ensures))
+    (added_is c.slot_of-number.result.0 c.slot_of-number.result.1 c.args.seq c.slot_of-number.ensures.slot c.slot_of-number.ensures.seq c.args.document c.in_ok-page.page c.in_ok-page.ensures.size c.in_ok-page.ensures.empty c.args.pages.now.items (omega (arith, c.ranges.seq.fits)) c.requires.pages)
+
+pub returns-clause-rising : goal.returns-clause-rising
+returns-clause-rising c =
+    let es : List (ℕ × List (Option ℕ)) = c.args.pages.now.items in
     let k = c.slot_of-number.result.0 in
-    let i = c.slot_of-number.result.1 in
-    let low : All (λ (e : ℕ × List (Option ℕ)). e.0 < k) c.args.pages.now.entries = below_new (at_seq k) k (at_is k) (is_at_same k k refl) i c.args.seq c.slot_of-number.ensures.slot c.slot_of-number.ensures.seq c.args.pages.now.entries c.requires.pages c.requires.above (sym c.in_default.ensures.value) in
-    subst (All IsPage) (sym (inserted c))
-    (added_is (at_seq k) k (at_is k) (is_at_same k k refl) i c.args.seq c.slot_of-number.ensures.slot c.slot_of-number.ensures.seq c.args.document c.in_ok-page.page c.args.pages.now.entries c.in_ok-page.ensures.size c.in_ok-page.ensures.empty (omega arith) low c.requires.pages)
+    let low : All (λ (e : ℕ × List (Option ℕ)). e.0 < k) es = elim c.else-end-gt0.branch [
+      | else-end-gt0-via-then-end-gt0+else-index-number w ↦
+          let last : c.len-end.result - 1 + 1 ≡ length es = omega (arith, c.len-end.ensures, w.if-end-gt0.true) in
+          below_new k c.slot_of-number.result.1 c.args.seq c.slot_of-number.ensures.slot c.slot_of-number.ensures.seq es (c.len-end.result - 1) w.index.result.now last w.index.ensures w.if-index-number.false c.requires.rising c.requires.pages c.requires.above
+      | else-end-gt0-via-else-end-gt0 w ↦ λ z d l. absurd (omega (arith, l, c.len-end.ensures, w.if-end-gt0.false))
+    ] in
+    subst (AllPairs (λ (a b : ℕ × List (Option ℕ)). a.0 < b.0)) (sym (pushed c.args.pages.now.items c.push.new.self.items c.slot_of-number.result.0 c.fill-2.new.self (set c.in_ok-page.page c.slot_of-number.result.1 (Some c.args.document)) c.in_ok-push.ensures.items c.fill-2.ensures))
+    (all_pairs_push (λ (a b : ℕ × List (Option ℕ)). a.0 < b.0) es (k, set c.in_ok-page.page c.slot_of-number.result.1 (Some c.args.document)) c.requires.rising low)

@@ -1,56 +1,79 @@
-use Rattle.std.proofs.Common.{◌≡◌, ℕ, ◌<◌, List, Option, None, set, refl, ◌∙◌, sym, ap, subst, arith, count_by, is_some}
-use Rattle.std.specs.List.{All}
-use Rattle.std.specs.BTreeMap.{BTreeMap}
-use Rattle.std.specs.Map.{set_value, remove_entry}
+use Rattle.std.proofs.Common.{◌≡◌, ℕ, ◌+◌, ◌*◌, ◌<◌, ◌≤◌, List, Option, None, set, length, ◌∙◌, ap, subst, sym, arith, count_by, is_some}
+use Rattle.std.specs.List.{All, AllPairs}
+use Rattle.std.specs.List.Sorted.{IsPartitionPoint}
+use Rattle.std.proofs.lemmas.List.{get_or_default}
+use Rattle.std.proofs.lemmas.List.Elements.{All-set}
+use Rattle.std.proofs.lemmas.List.Quantifiers.{all_pairs_remove}
 use Rattle.hub_index.specs.Pages.{IsPage, rows_of}
-use Rattle.hub_index.proofs.SlotLemmas.{at_seq, is_at_same}
-use Rattle.hub_index.proofs.PageLemmas.{at_is, found_is, set_is, pages_missed, pages_cleared, cleared_is, rows_dropped, dropped_is}
+use Rattle.hub_index.proofs.PageLemmas.{same_number, remove_set, none_there, pages_missed, pages_cleared, rows_dropped, dropped_is, cleared_is, is_page}
 use Rattle.hub_index.proofs.page_index.remove_row.Goals as goal
+use Rattle.hub_index.proofs.page_index.remove_row.Goals.{then-at-len-via-then-at-len, then-at-len-via-else-at-len+then-index-number}
 
--- the entries, without the page whose last row is gone
-removed : (c : goal.Joined-remove) → c.remove.new.self.entries ≡ remove_entry (at_seq c.slot_of-number.result.0) (set_value (at_seq c.slot_of-number.result.0) c.args.pages.now.entries (set c.in-Some.page.now c.slot_of-number.result.1 None))
-removed c =
+pub returns-then-at-len-clause-rows : goal.returns-then-at-len-clause-rows
+returns-then-at-len-clause-rows c =
+    let es : List (ℕ × List (Option ℕ)) = c.args.pages.now.items in
     let k = c.slot_of-number.result.0 in
-    c.remove.ensures.entries ∙ ap (remove_entry (at_seq k)) ((c.get_mut.follows.holds c.clear.new.self).0 ∙ ap (set_value (at_seq k) c.args.pages.now.entries) c.clear.ensures)
-
-pub returns-in_default-clause-rows : goal.returns-in_default-clause-rows
-returns-in_default-clause-rows c =
-    let k = c.slot_of-number.result.0 in
-    ap (λ (m : BTreeMap ℕ (List (Option ℕ))). rows_of m.entries) c.get_mut.follows.holds-at-none
-    ∙ sym (pages_missed (at_seq k) k (at_is k) (is_at_same k k refl) c.slot_of-number.result.1 c.args.seq c.slot_of-number.ensures.slot c.slot_of-number.ensures.seq c.args.pages.now.entries c.requires.pages (sym c.in_default.ensures.value))
-
-pub clear-requires : goal.clear-requires
-clear-requires c =
-    let k = c.slot_of-number.result.0 in
-    omega (arith, c.slot_of-number.ensures.slot, (found_is (at_seq k) k (at_is k) (is_at_same k k refl) IsPage c.args.pages.now.entries c.in-Some.page.now c.requires.pages (sym c.in-Some.ensures.value)).size)
+    let at = c.place_of-at.result in
+    let parted : IsPartitionPoint (λ (e : ℕ × List (Option ℕ)). e.0 < k) (λ (e : ℕ × List (Option ℕ)). k ≤ e.0) es at =
+    subst (λ (pages : List (ℕ × List (Option ℕ))). IsPartitionPoint (λ (e : ℕ × List (Option ℕ)). e.0 < k) (λ (e : ℕ × List (Option ℕ)). k ≤ e.0) pages at) c.as_slice.ensures.value c.place_of-at.ensures.parted
+    in
+    pages_missed k c.slot_of-number.result.1 c.args.seq c.slot_of-number.ensures.slot c.slot_of-number.ensures.seq es c.requires.pages
+    (none_there es k at c.requires.rising parted (λ d l q. elim c.then-at-len.branch [
+      | then-at-len-via-then-at-len w ↦ omega (arith, l, w.if-at-len.true, c.len.ensures)
+      | then-at-len-via-else-at-len+then-index-number w ↦ w.if-index-number.true (ap (λ (e : ℕ × List (Option ℕ)). e.0) (w.index.ensures ∙ get_or_default es at w.index.result.now d l) ∙ q)
+    ]))
 
 pub returns-then-live-eq0-clause-rows : goal.returns-then-live-eq0-clause-rows
 returns-then-live-eq0-clause-rows c =
-    let k = c.slot_of-number.result.0 in
+    let es : List (ℕ × List (Option ℕ)) = c.args.pages.now.items in
+    let at = c.place_of-at.result in
+    let x : ℕ × List (Option ℕ) = c.index_mut.result.now in
+    let l : at < length es = omega (arith, c.place_of-at.ensures.within, c.as_slice.ensures.len, c.if-at-len.false, c.len.ensures) in
+    let number : x.0 ≡ c.slot_of-number.result.0 = same_number es at c.slot_of-number.result.0 x c.index.result.now l c.index_mut.ensures.value c.index.ensures c.if-index-number.false in
     let i = c.slot_of-number.result.1 in
-    ap rows_of (removed c)
-    ∙ (rows_dropped (at_seq k) k (at_is k) (is_at_same k k refl) c.args.pages.now.entries (set c.in-Some.page.now i None) (ap (count_by is_some) (sym c.clear.ensures) ∙ (sym c.live.ensures ∙ c.if-live-eq0.true))
-    ∙ pages_cleared (at_seq k) k (at_is k) (is_at_same k k refl) i c.args.seq c.slot_of-number.ensures.slot c.slot_of-number.ensures.seq c.in-Some.page.now c.args.pages.now.entries c.get_mut.ensures.ordered c.requires.pages (sym c.in-Some.ensures.value))
+    let is : 256 * x.0 + i + 1 ≡ c.args.seq = omega (arith, number, c.slot_of-number.ensures.seq) in
+    ap rows_of (c.remove.ensures.items ∙ remove_set es at (x.0, c.clear.new.self))
+    ∙ (rows_dropped es at x l c.index_mut.ensures.value c.requires.pages i c.args.seq c.slot_of-number.ensures.slot is (set x.1 i None) (ap (count_by is_some) (sym c.clear.ensures) ∙ (sym c.live.ensures ∙ c.if-live-eq0.true))
+    ∙ pages_cleared es at x l c.index_mut.ensures.value c.requires.pages i c.args.seq c.slot_of-number.ensures.slot is c.requires.rising)
 
 pub returns-then-live-eq0-clause-pages : goal.returns-then-live-eq0-clause-pages
 returns-then-live-eq0-clause-pages c =
-    let k = c.slot_of-number.result.0 in
-    subst (All IsPage) (sym (removed c)) (dropped_is (at_seq k) k (at_is k) (is_at_same k k refl) c.args.pages.now.entries (set c.in-Some.page.now c.slot_of-number.result.1 None) c.requires.pages)
+    let es : List (ℕ × List (Option ℕ)) = c.args.pages.now.items in
+    let at = c.place_of-at.result in
+    let x : ℕ × List (Option ℕ) = c.index_mut.result.now in
+    subst (All IsPage) (sym (c.remove.ensures.items ∙ remove_set es at (x.0, c.clear.new.self))) (dropped_is es at c.requires.pages)
+
+pub returns-then-live-eq0-clause-rising : goal.returns-then-live-eq0-clause-rising
+returns-then-live-eq0-clause-rising c =
+    let es : List (ℕ × List (Option ℕ)) = c.args.pages.now.items in
+    let at = c.place_of-at.result in
+    let x : ℕ × List (Option ℕ) = c.index_mut.result.now in
+    let l : at < length es = omega (arith, c.place_of-at.ensures.within, c.as_slice.ensures.len, c.if-at-len.false, c.len.ensures) in
+    subst (AllPairs (λ (a b : ℕ × List (Option ℕ)). a.0 < b.0)) (sym (c.remove.ensures.items ∙ remove_set es at (x.0, c.clear.new.self)))
+    (all_pairs_remove (λ (a b : ℕ × List (Option ℕ)). a.0 < b.0) es at l c.requires.rising)
 
 pub returns-else-live-eq0-clause-rows : goal.returns-else-live-eq0-clause-rows
 returns-else-live-eq0-clause-rows c =
-    let k = c.slot_of-number.result.0 in
-    let i = c.slot_of-number.result.1 in
-    ap rows_of ((c.get_mut.follows.holds c.clear.new.self).0 ∙ ap (set_value (at_seq k) c.args.pages.now.entries) c.clear.ensures)
-    ∙ pages_cleared (at_seq k) k (at_is k) (is_at_same k k refl) i c.args.seq c.slot_of-number.ensures.slot c.slot_of-number.ensures.seq c.in-Some.page.now c.args.pages.now.entries c.get_mut.ensures.ordered c.requires.pages (sym c.in-Some.ensures.value)
+    let es : List (ℕ × List (Option ℕ)) = c.args.pages.now.items in
+    let at = c.place_of-at.result in
+    let x : ℕ × List (Option ℕ) = c.index_mut.result.now in
+    let l : at < length es = omega (arith, c.place_of-at.ensures.within, c.as_slice.ensures.len, c.if-at-len.false, c.len.ensures) in
+    let number : x.0 ≡ c.slot_of-number.result.0 = same_number es at c.slot_of-number.result.0 x c.index.result.now l c.index_mut.ensures.value c.index.ensures c.if-index-number.false in
+    let is : 256 * x.0 + c.slot_of-number.result.1 + 1 ≡ c.args.seq = omega (arith, number, c.slot_of-number.ensures.seq) in
+    ap (λ (w : List (Option ℕ)). rows_of (set es at (x.0, w))) c.clear.ensures
+    ∙ pages_cleared es at x l c.index_mut.ensures.value c.requires.pages c.slot_of-number.result.1 c.args.seq c.slot_of-number.ensures.slot is c.requires.rising
 
 pub returns-else-live-eq0-clause-pages : goal.returns-else-live-eq0-clause-pages
 returns-else-live-eq0-clause-pages c =
-    let k = c.slot_of-number.result.0 in
+    let es : List (ℕ × List (Option ℕ)) = c.args.pages.now.items in
+    let at = c.place_of-at.result in
+    let x : ℕ × List (Option ℕ) = c.index_mut.result.now in
     let i = c.slot_of-number.result.1 in
-    let page : IsPage (k, c.in-Some.page.now) = found_is (at_seq k) k (at_is k) (is_at_same k k refl) IsPage c.args.pages.now.entries c.in-Some.page.now c.requires.pages (sym c.in-Some.ensures.value) in
-    let count : count_by is_some c.clear.new.self ≡ count_by is_some (set c.in-Some.page.now i None) = ap (count_by is_some) c.clear.ensures in
-    let live : 0 < count_by is_some (set c.in-Some.page.now i None) = omega (arith, count, c.live.ensures, c.if-live-eq0.false) in
-    subst (All IsPage) (sym ((c.get_mut.follows.holds c.clear.new.self).0 ∙ ap (set_value (at_seq k) c.args.pages.now.entries) c.clear.ensures))
-    (set_is (at_seq k) k (at_is k) (is_at_same k k refl) c.args.pages.now.entries (set c.in-Some.page.now i None) c.requires.pages
-    (cleared_is (at_seq k) k (at_is k) (is_at_same k k refl) i c.args.seq c.slot_of-number.ensures.slot c.slot_of-number.ensures.seq c.in-Some.page.now page live))
+    let l : at < length es = omega (arith, c.place_of-at.ensures.within, c.as_slice.ensures.len, c.if-at-len.false, c.len.ensures) in
+    let number : x.0 ≡ c.slot_of-number.result.0 = same_number es at c.slot_of-number.result.0 x c.index.result.now l c.index_mut.ensures.value c.index.ensures c.if-index-number.false in
+    let is : 256 * x.0 + i + 1 ≡ c.args.seq = omega (arith, number, c.slot_of-number.ensures.seq) in
+    let count : count_by is_some c.clear.new.self ≡ count_by is_some (set x.1 i None) = ap (count_by is_some) c.clear.ensures in
+    let live : 0 < count_by is_some (set x.1 i None) = omega (arith, count, c.live.ensures, c.if-live-eq0.false) in
+    All-set IsPage es at (x.0, c.clear.new.self)
+    (subst (λ (w : List (Option ℕ)). IsPage (x.0, w)) (sym c.clear.ensures) (cleared_is x.0 i c.args.seq c.slot_of-number.ensures.slot is x.1 (is_page es at x l c.index_mut.ensures.value c.requires.pages) live))
+    c.requires.pages

@@ -1,10 +1,7 @@
-use Rattle.std.proofs.Common.{◌≡◌, ℕ, find, nat_lt}
-use Rattle.std.specs.List.{All}
-use Rattle.hub_index.specs.Pages.{IsPage, rows_of}
+use Rattle.std.proofs.Common.{◌≡◌, ℕ, drop, find, nat_lt}
+use Rattle.hub_index.specs.Pages.{rows_of}
 use Rattle.hub_index.proofs.page_index.row_after.Given as goal
 
-abbrev pub invariant-loop-number : goal.invariant-loop-number
-invariant-loop-number l = record {
-  each : All IsPage l.number-iterator;
-  rest : find (λ (r : ℕ × ℕ). nat_lt l.fn.place r.0) (rows_of l.pages.entries) ≡ find (λ (r : ℕ × ℕ). nat_lt l.fn.place r.0) (rows_of l.number-iterator);
-}
+abbrev pub invariant-loop-at : goal.invariant-loop-at
+invariant-loop-at l =
+    find (λ (r : ℕ × ℕ). nat_lt l.fn.place r.0) (rows_of l.pages) ≡ find (λ (r : ℕ × ℕ). nat_lt l.fn.place r.0) (rows_of (drop l.at l.pages))

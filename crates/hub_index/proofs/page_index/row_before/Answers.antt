@@ -1,42 +1,40 @@
-use Rattle.std.proofs.Common.{◌≡◌, ℕ, List, Option, Some, None, ◌∷◌, [], ◌/◌, find, reverse, nat_lt, ◌∙◌, sym, ap, subst, refl, arith}
-use Rattle.std.specs.List.{All}
-use Rattle.std.specs.BTreeMap.Range.{range_contains, entries_between}
-use Rattle.std.specs.Ordering.{nat_cmp}
-use Rattle.std.specs.declared.ops.Bound.TheVariants.{Included, Unbounded}
-use Rattle.std.proofs.lemmas.List.Elements.{All-filter}
-use Rattle.hub_index.specs.Pages.{IsPage, rows_of, page_rows}
-use Rattle.hub_index.proofs.PageLemmas.{upto_page, find_reverse_same, found_last, found_before, Each_front, Each_back}
+use Rattle.std.proofs.Common.{◌≡◌, ℕ, ◌-◌, List, [], ◌∷◌, ◌++◌, Option, Some, None, take, find, reverse, nat_lt, ◌∙◌, sym, ap, arith}
+use Rattle.std.proofs.lemmas.List.{take_more}
+use Rattle.hub_index.specs.Pages.{rows_of, page_rows}
+use Rattle.hub_index.proofs.PageLemmas.{upto_page, find_reverse_same, found_last, found_before}
 use Rattle.hub_index.proofs.page_index.row_before.Goals as goal
 
-pub loop-number-init : goal.loop-number-init
-loop-number-init c =
-    let from : c.range-below.result ≡ entries_between nat_cmp Unbounded (Included (c.args.place / 256)) c.args.pages.now.entries = c.range-below.ensures.between tt in
-    record {
-      each = subst (All IsPage) (sym from) (All-filter (λ (e : ℕ × List (Option ℕ)). range_contains nat_cmp Unbounded (Included (c.args.place / 256)) e.0) IsPage c.args.pages.now.entries c.requires);
-      rest = find_reverse_same (λ (r : ℕ × ℕ). nat_lt r.0 c.args.place) (rows_of c.args.pages.now.entries) (rows_of c.range-below.result) (upto_page c.args.place (c.args.place / 256) c.args.pages.now.entries c.range-below.result refl c.requires from);
-    }
+pub loop-at-init : goal.loop-at-init
+loop-at-init c = record {
+  within = c.place_of-at.ensures.within;
+  rest = find_reverse_same (λ (r : ℕ × ℕ). nat_lt r.0 c.args.place) (rows_of c.args.pages.now) (rows_of (take c.place_of-at.result c.args.pages.now))
+      (upto_page c.args.place c.place_of-at.result c.args.pages.now c.requires.pages c.place_of-at.ensures.within c.place_of-at.ensures.parted.1);
+}
 
-pub last_before-requires : goal.last_before-requires
-last_before-requires c =
-    let entry : ℕ × List (Option ℕ) = (c.in-Some.number.now, c.in-Some.page.now) in
-    Each_back IsPage c.next_back.new.self (entry ∷ []) (subst (All IsPage) c.in-Some.ensures.steps c.loop-number.invariant.each) 0 entry (omega arith)
-
-pub returns-in-Some-last_before : goal.returns-in-Some-last_before
-returns-in-Some-last_before c =
-    let found : Some c.in-Some-last_before.row ≡ find (λ (r : ℕ × ℕ). nat_lt r.0 c.args.place) (reverse (page_rows (c.in-Some.number.now, c.in-Some.page.now))) = c.in-Some-last_before.ensures in
+pub returns-in-Some : goal.returns-in-Some
+returns-in-Some c =
+    let x : ℕ × List (Option ℕ) = c.index-pages-at.result in
+    let found : Some c.in-Some.row ≡ find (λ (r : ℕ × ℕ). nat_lt r.0 c.args.place) (reverse (page_rows x)) = c.in-Some.ensures in
     sym
-    (c.loop-number.invariant.rest
-    ∙ (ap (λ pages. find (λ (r : ℕ × ℕ). nat_lt r.0 c.args.place) (reverse (rows_of pages))) c.in-Some.ensures.steps
-    ∙ found_last (λ (r : ℕ × ℕ). nat_lt r.0 c.args.place) (c.in-Some.number.now, c.in-Some.page.now) c.next_back.new.self c.in-Some-last_before.row found))
+    (c.loop-at.invariant.rest
+    ∙ (ap (λ n. find (λ (r : ℕ × ℕ). nat_lt r.0 c.args.place) (reverse (rows_of (take n c.args.pages.now)))) (omega arith)
+    ∙ (ap (λ pages. find (λ (r : ℕ × ℕ). nat_lt r.0 c.args.place) (reverse (rows_of pages))) (take_more c.args.pages.now (c.loop-at.at - 1) x (omega arith) ∙ ap (λ y. take (c.loop-at.at - 1) c.args.pages.now ++ y ∷ []) (sym c.index-pages-at.is))
+    ∙ found_last (λ (r : ℕ × ℕ). nat_lt r.0 c.args.place) x (take (c.loop-at.at - 1) c.args.pages.now) c.in-Some.row found)))
 
-pub loop-number-preserved : goal.loop-number-preserved
-loop-number-preserved c =
-    let none : None ≡ find (λ (r : ℕ × ℕ). nat_lt r.0 c.args.place) (reverse (page_rows (c.in-Some.number.now, c.in-Some.page.now))) = c.in_default-last_before.ensures in
-    let entry : ℕ × List (Option ℕ) = (c.in-Some.number.now, c.in-Some.page.now) in
+pub loop-at-preserved : goal.loop-at-preserved
+loop-at-preserved c =
+    let x : ℕ × List (Option ℕ) = c.index-pages-at.result in
+    let none : None ≡ find (λ (r : ℕ × ℕ). nat_lt r.0 c.args.place) (reverse (page_rows x)) = c.in_default.ensures in
     record {
-      each = Each_front IsPage c.next_back.new.self (entry ∷ []) (subst (All IsPage) c.in-Some.ensures.steps c.loop-number.invariant.each);
+      within = omega arith;
       rest =
-          c.loop-number.invariant.rest
-          ∙ (ap (λ pages. find (λ (r : ℕ × ℕ). nat_lt r.0 c.args.place) (reverse (rows_of pages))) c.in-Some.ensures.steps
-          ∙ found_before (λ (r : ℕ × ℕ). nat_lt r.0 c.args.place) (c.in-Some.number.now, c.in-Some.page.now) c.next_back.new.self none);
+          c.loop-at.invariant.rest
+          ∙ (ap (λ n. find (λ (r : ℕ × ℕ). nat_lt r.0 c.args.place) (reverse (rows_of (take n c.args.pages.now)))) (omega arith)
+          ∙ (ap (λ pages. find (λ (r : ℕ × ℕ). nat_lt r.0 c.args.place) (reverse (rows_of pages))) (take_more c.args.pages.now (c.loop-at.at - 1) x (omega arith) ∙ ap (λ y. take (c.loop-at.at - 1) c.args.pages.now ++ y ∷ []) (sym c.index-pages-at.is))
+          ∙ found_before (λ (r : ℕ × ℕ). nat_lt r.0 c.args.place) x (take (c.loop-at.at - 1) c.args.pages.now) none));
     }
+
+pub returns : goal.returns
+returns c =
+    let none : c.loop-at.at ≡ 0 = omega arith in
+    sym (c.loop-at.invariant.rest ∙ ap (λ n. find (λ (r : ℕ × ℕ). nat_lt r.0 c.args.place) (reverse (rows_of (take n c.args.pages.now)))) none)

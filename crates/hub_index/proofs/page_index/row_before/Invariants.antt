@@ -1,13 +1,13 @@
-use Rattle.std.proofs.Common.{◌≡◌, ℕ, find, reverse, nat_lt, length}
-use Rattle.std.specs.List.{All}
-use Rattle.hub_index.specs.Pages.{IsPage, rows_of}
+use Rattle.std.proofs.Common.{◌≡◌, ℕ, ◌≤◌, length, take, find, reverse, nat_lt}
+use Rattle.hub_index.specs.Pages.{rows_of}
 use Rattle.hub_index.proofs.page_index.row_before.Given as goal
 
-abbrev pub invariant-loop-number : goal.invariant-loop-number
-invariant-loop-number l = record {
-  each : All IsPage l.below;
-  rest : find (λ (r : ℕ × ℕ). nat_lt r.0 l.fn.place) (reverse (rows_of l.pages.entries)) ≡ find (λ (r : ℕ × ℕ). nat_lt r.0 l.fn.place) (reverse (rows_of l.below));
+abbrev pub invariant-loop-at : goal.invariant-loop-at
+invariant-loop-at l = record {
+  within : l.at ≤ length l.pages;
+  rest : find (λ (r : ℕ × ℕ). nat_lt r.0 l.fn.place) (reverse (rows_of l.pages)) ≡ find (λ (r : ℕ × ℕ). nat_lt r.0 l.fn.place) (reverse (rows_of (take l.at l.pages)));
 }
 
-abbrev pub decreases-loop-number : goal.decreases-loop-number
-decreases-loop-number l = length l.below
+-- proposed from the loop's first test
+abbrev pub decreases-loop-at : goal.decreases-loop-at
+decreases-loop-at l = l.at

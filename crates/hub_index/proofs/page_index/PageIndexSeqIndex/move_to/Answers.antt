@@ -25,12 +25,14 @@ returns-in_default-clause-moved c =
 pub invariant_of-self-in-Some : goal.invariant_of-self-in-Some
 invariant_of-self-in-Some c = record {
   each = c.remove_row.ensures.pages;
+  rising = c.remove_row.ensures.rising;
   index = subst IsIndex (sym (returns-in-Some-clause-moved c)) (index_moved c.args.document c.args.self.now c.args.new (subst IsIndex c.self.view_is c.self.invariant.index) c.requires.positive c.requires.above);
 }
 
 pub invariant_of-self-in_default : goal.invariant_of-self-in_default
 invariant_of-self-in_default c = record {
   each = c.in_ok-add_row.ensures.pages;
+  rising = c.in_ok-add_row.ensures.rising;
   index = subst IsIndex (sym (returns-in_default-clause-moved c)) (index_moved c.args.document c.args.self.now c.args.new (subst IsIndex c.self.view_is c.self.invariant.index) c.requires.positive c.requires.above);
 }
 
