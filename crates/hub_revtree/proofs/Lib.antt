@@ -12,3 +12,4 @@ pub mod StemLemmas
 pub mod StemLooks
 pub mod HighestLemmas
 pub mod WinnerLemmas
+pub mod SoughtLemmas

@@ -22,9 +22,9 @@ index-requires c =
 pub returns-then-generation-newest-2 : goal.returns-then-generation-newest-2
 returns-then-generation-newest-2 c =
     let is = sym (ap kept_in c.in-Digests.is) ∙ c.self.view_is in
-    same_generation c.args.self.now c.in-Digests.newest c.in-Digests.digests.items is c.args.place c.index.result.now c.args.rev.now c.generation-in-Digests.result _ c.requires.within c.index.ensures c.generation-in-Digests.ensures.value c.if-generation-newest-2.true c.has_digest-then-generation-newest-2.ensures
+    same_generation c.args.self.now c.in-Digests.newest c.in-Digests.digests.items is c.args.place c.index.result.now c.args.sought.now c.generation-in-Digests.result _ c.requires.within c.index.ensures c.generation-in-Digests.ensures.value c.if-generation-newest-2.true c.has_digest-then-generation-newest-2.ensures
 
 pub returns-else-generation-newest-2 : goal.returns-else-generation-newest-2
 returns-else-generation-newest-2 c =
     let is = sym (ap kept_in c.in-Digests.is) ∙ c.self.view_is in
-    other_generation c.args.self.now c.in-Digests.newest c.in-Digests.digests.items is c.args.place c.args.rev.now c.generation-in-Digests.result c.requires.within c.generation-in-Digests.ensures.value c.if-generation-newest-2.false
+    other_generation c.args.self.now c.in-Digests.newest c.in-Digests.digests.items is c.args.place c.args.sought.now c.generation-in-Digests.result c.requires.within c.generation-in-Digests.ensures.value c.if-generation-newest-2.false
