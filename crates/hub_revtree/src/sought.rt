@@ -89,7 +89,7 @@ impl<'a> Sought<'a> {
         ensures { result ≡ bytes_eq self.now.hash (encode_lower digest.now) }
     {
         match &self.form {
-            Form::Digest(own) => own == digest,
+            Form::Digest(own) => u128::from_le_bytes(*own) == u128::from_le_bytes(*digest),
             Form::Other => false,
             Form::Unmade => self.rev.has_digest(digest),
         }
