@@ -1,5 +1,5 @@
 -- A digest that is made of a hash is compared in place of the text, as a number.
-use Rattle.std.proofs.Common.{◌≡◌, ℕ, zero, suc, ◌+◌, ◌*◌, ◌/◌, ◌<◌, ◌≤◌, ◌^◌, Bool, true, List, length, inl, inr, sym, ap, ◌∙◌, arith}
+use Rattle.std.proofs.Common.{◌≡◌, ℕ, zero, suc, ◌+◌, ◌*◌, ◌/◌, ◌<◌, ◌≤◌, ◌^◌, List, length, inl, inr, sym, ap, ◌∙◌, arith}
 use Rattle.std.specs.Prelude.{Result, Ok, nat_eq}
 use Rattle.std.specs.Int.{w128, byte_worth, from_le_bytes, sum_through}
 use Rattle.std.specs.List.{slice_index}
@@ -25,16 +25,15 @@ below_next f small (suc k) =
     omega (arith, below_next f small k, own, pow-suc 256 (suc k))
 
 -- so it tells each of them
+same_times : (a b w s t : ℕ) → s < w → t < w → a * w + s ≡ b * w + t → a ≡ b
+same_times a b w s t low low' both = sym (div-mul-add a w s low) ∙ ap (λ n. n / w) both ∙ div-mul-add b w t low'
+
 same_bytes : (f g : ℕ → ℕ) → ((i : ℕ) → f i < 256) → ((i : ℕ) → g i < 256) → (k : ℕ) → worth f k ≡ worth g k → (i : ℕ) → i ≤ k → f i ≡ g i
 same_bytes f g small small' zero same zero low = same
 same_bytes f g small small' zero same (suc i) low = absurd (omega (arith, low))
 same_bytes f g small small' (suc k) same i low =
     let both : f (suc k) * 256 ^ suc k + worth f k ≡ g (suc k) * 256 ^ suc k + worth g k = omega (arith, same) in
-    let top : f (suc k) ≡ g (suc k) =
-            sym (div-mul-add (f (suc k)) (256 ^ suc k) (worth f k) (below_next f small k))
-            ∙ ap (λ n. n / 256 ^ suc k) both
-            ∙ div-mul-add (g (suc k)) (256 ^ suc k) (worth g k) (below_next g small' k)
-        in
+    let top : f (suc k) ≡ g (suc k) = same_times (f (suc k)) (g (suc k)) (256 ^ suc k) (worth f k) (worth g k) (below_next f small k) (below_next g small' k) both in
     let rest : worth f k ≡ worth g k = omega (arith, both, ap (λ x. x * 256 ^ suc k) top) in
     elim (eq-or-lt_of_le low) [
       | inl e ↦ ap f e ∙ top ∙ ap g (sym e)

@@ -1,6 +1,7 @@
 //! Runs of revisions, in little memory.
 
-ghost use Rattle.std.specs.Prelude.{◌≡◌, ◌≤◌, ◌<◌, ◌++◌, List, length, Some, false, drop, map, option_map, slice_get, take, IfSome, IfNone, IfOk, IsTrue, OnOk};
+ghost use Rattle.std.specs.Prelude.{◌≡◌, ◌≤◌, ◌<◌, ◌++◌, ◌&&◌, nat_eq, List, length, Some, false, drop, map, option_map, slice_get, take, IfSome, IfNone, IfOk, IsTrue, OnOk};
+ghost use Rattle.std.specs.Str.{bytes_eq};
 ghost use Rattle.hex.specs.Hex.{encode_lower};
 ghost use Rattle.hub_model.specs.Revision.{Revision};
 ghost use Rattle.hub_model.specs.Path.{IsPath, is_first, names};
@@ -94,6 +95,13 @@ fn cut_kept(kept: Kept, count: usize) -> Kept
     }
 }
 
+// Whether the revision is of this generation, and its hash the text of the digest.
+fn is_of(generation: u16, digest: &[u8; 16], sought: &Sought) -> bool
+    ensures { result ≡ (nat_eq sought.now.generation generation && bytes_eq sought.now.hash (encode_lower digest.now)) }
+{
+    sought.generation() == generation && sought.has_digest(digest)
+}
+
 impl Run {
     /// The first of a path's revisions, so many. It takes memory of just the size that they need; none
     /// where there is one whose hash is a digest's text. It costs their number.
@@ -181,9 +189,9 @@ impl Run {
         ensures { result ≡ is_first sought.now (drop place self.now) }
     {
         match &self.kept {
-            Kept::One(newest, digest) => sought.generation() == *newest && sought.has_digest(digest),
+            Kept::One(newest, digest) => is_of(*newest, digest, sought),
             Kept::Digests(newest, digests) => {
-                sought.generation() == *newest - place as u16 && sought.has_digest(&digests[place])
+                is_of(*newest - place as u16, &digests[place], sought)
             }
             Kept::Texts(revisions) => sought.is_same(&revisions[place]),
         }
@@ -195,6 +203,9 @@ impl Run {
         ensures found { IfSome result (λ k. slice_get self.now k ≡ Some sought.now) }
         ensures absent { IfNone result (names self.now sought.now ≡ false) }
     {
+        if let Kept::One(newest, digest) = &self.kept {
+            return is_of(*newest, digest, sought).then_some(0);
+        }
         let newest = self.generation();
         if sought.generation() > newest {
             return None;

@@ -9,8 +9,8 @@ ghost use Rattle.hub_revtree.specs.Sought.{IsFormOf};
 use hub_document::RevId;
 use std::marker::Model;
 
-/// So many looks are worth that a digest is made for them: it takes about as long as they do without it.
-const MANY: usize = 4;
+// From so many looks on a digest is made for them: to make it takes about as long as so many without it.
+const MANY: usize = 16;
 
 // What is made of a hash.
 #[derive(Debug, Drop)]
