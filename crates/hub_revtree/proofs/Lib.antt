@@ -13,3 +13,4 @@ pub mod StemLemmas
 pub mod StemLooks
 pub mod HighestLemmas
 pub mod WinnerLemmas
+pub mod SoughtLemmas

@@ -1,9 +1,9 @@
 -- The revisions that a run keeps.
-use Rattle.std.proofs.Common.{◌≡◌, ℕ, zero, suc, ◌+◌, ◌-◌, ◌<◌, ◌≤◌, List, [], ◌∷◌, ◌++◌, length, get_or, drop, take, map, Bool, true, false, ◌&&◌, ◌⊎◌, inl, inr, refl, sym, ap, ap₂, ◌∙◌, subst, add-one, arith}
+use Rattle.std.proofs.Common.{◌≡◌, ℕ, zero, suc, ◌+◌, ◌-◌, ◌<◌, ◌≤◌, List, [], ◌∷◌, ◌++◌, length, get_or, drop, take, map, Bool, true, false, ◌&&◌, inl, inr, refl, sym, ap, ap₂, ◌∙◌, subst, add-one, arith}
 use Rattle.std.specs.Prelude.{Option, Some, None, IfSome, IfNone, ◌↔◌, slice_get, option_map, is_some, nat_eq}
 use Rattle.std.specs.Bool.{then_some}
 use Rattle.std.specs.Str.{bytes_eq}
-use Rattle.std.proofs.lemmas.Bool.{both_ways, cases_Bool, eq-eqb, eqb-true}
+use Rattle.std.proofs.lemmas.Bool.{both_ways, cases_Bool}
 use Rattle.std.proofs.lemmas.List.{append_assoc, length-drop, map-append, take_all}
 use Rattle.std.proofs.lemmas.Option.{same_Some, slice_get_read}
 use Rattle.hub_model.proofs.Tests.{same_is, same_self}
@@ -70,26 +70,6 @@ module _ (p : List Revision) (n : ℕ) (ds : List (List ℕ)) (is : revisions_fr
 
   pub digest_first : (k : ℕ) (d : List ℕ) (r : Revision) → k < length p → d ≡ get_or ds k d → is_first r (drop k p) ≡ (nat_eq r.generation (n - k) && bytes_eq r.hash (encode_lower d))
   digest_first k d r low read = first_drop p k r _ (digest_read k d low read)
-
-  pub same_generation : (k : ℕ) (d : List ℕ) (r : Revision) (g : ℕ) (b : Bool) → k < length p → d ≡ get_or ds k d → g ≡ r.generation → g ≡ n - k → b ≡ bytes_eq r.hash (encode_lower d) → b ≡ is_first r (drop k p)
-  same_generation k d r g b low read own up is =
-      let t : nat_eq r.generation (n - k) ≡ true = eq-eqb r.generation (n - k) (sym own ∙ up) in
-      is ∙ sym (digest_first k d r low read ∙ ap (λ x. x && bytes_eq r.hash (encode_lower d)) t)
-
-  pub other_generation : (k : ℕ) (r : Revision) (g : ℕ) → k < length p → g ≡ r.generation → ¬ (g ≡ n - k) → nat_eq g (n - k) ≡ is_first r (drop k p)
-  other_generation k r g low own other =
-      let i = some_item ds k (omega (arith, low, digest_length)) in
-      no (cases_Bool (nat_eq g (n - k)))
-      ∙ sym (digest_first k i.0 r low i.1 ∙ ap (λ x. x && bytes_eq r.hash (encode_lower i.0)) (ap (λ z. nat_eq z (n - k)) (sym own) ∙ no (cases_Bool (nat_eq g (n - k)))))
-    where
-      no : (nat_eq g (n - k) ≡ true) ⊎ (nat_eq g (n - k) ≡ false) → nat_eq g (n - k) ≡ false
-      no (inl t) = absurd (other (eqb-true g (n - k) t))
-      no (inr f) = f
-
-      some_item : (ds : List (List ℕ)) (k : ℕ) → k < length ds → (d : List ℕ) × (d ≡ get_or ds k d)
-      some_item [] k low = absurd (omega arith)
-      some_item (d ∷ ds) zero low = (d, refl)
-      some_item (d ∷ ds) (suc k) low = some_item ds k (omega arith)
 
   pub digest_newest : IsPath p → option_map (λ r. r.generation) (slice_get p 0) ≡ Some n
   digest_newest path = ap (λ q. option_map (λ (r : Revision). r.generation) (slice_get q 0)) (sym is) ∙ from ds (subst IsPath (sym is) path)

@@ -5,3 +5,4 @@ pub mod Stem
 pub mod Winner
 pub mod Extend
 pub mod Count
+pub mod Sought

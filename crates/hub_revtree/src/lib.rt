@@ -9,6 +9,7 @@ mod heads;
 mod leaf;
 mod look;
 mod run;
+mod sought;
 mod stem;
 mod stems;
 #[cfg(test)]

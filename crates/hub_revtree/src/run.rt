@@ -1,11 +1,13 @@
 //! Runs of revisions, in little memory.
 
-ghost use Rattle.std.specs.Prelude.{◌≡◌, ◌≤◌, ◌<◌, ◌++◌, ◌∷◌, [], List, length, Some, false, drop, map, option_map, slice_get, take, IfSome, IfNone, IfOk, IsTrue, OnOk};
+ghost use Rattle.std.specs.Prelude.{◌≡◌, ◌≤◌, ◌<◌, ◌++◌, ◌∷◌, [], ◌&&◌, nat_eq, List, length, Some, false, drop, map, option_map, slice_get, take, IfSome, IfNone, IfOk, IsTrue, OnOk};
+ghost use Rattle.std.specs.Str.{bytes_eq};
 ghost use Rattle.hex.specs.Hex.{encode_lower};
 ghost use Rattle.hub_model.specs.Revision.{Revision};
 ghost use Rattle.hub_model.specs.Path.{IsPath, is_first, names};
 ghost use Rattle.hub_revtree.specs.Run.{kept_in, revisions_from};
 
+use crate::sought::Sought;
 use hub_document::{Changes, DigestRev, RevId};
 use std::alloc::{AllocError, Global};
 use std::marker::Model;
@@ -91,6 +93,13 @@ fn cut_kept(kept: Kept, count: usize) -> Kept
         Kept::Digests(newest, digests) => Kept::Digests(newest, cut_list(digests, count)),
         Kept::Texts(revisions) => Kept::Texts(cut_list(revisions, count)),
     }
+}
+
+// Whether the revision is of this generation, and its hash the text of the digest.
+fn is_of(generation: u16, digest: &[u8; 16], sought: &Sought) -> bool
+    ensures { result ≡ (nat_eq sought.now.generation generation && bytes_eq sought.now.hash (encode_lower digest.now)) }
+{
+    sought.generation() == generation && sought.has_digest(digest)
 }
 
 impl Run {
@@ -199,44 +208,47 @@ impl Run {
     }
 
     /// Whether the revision is the one at this place. It compares no hashes where the generations differ.
-    pub(crate) fn is_at(&self, place: usize, rev: &RevId) -> bool
+    pub(crate) fn is_at(&self, place: usize, sought: &Sought) -> bool
         requires path { IsPath self.now }
         requires within { place < length self.now }
-        ensures { result ≡ is_first rev.now (drop place self.now) }
+        ensures { result ≡ is_first sought.now (drop place self.now) }
     {
         match &self.kept {
-            Kept::One(newest, digest) => rev.generation() == *newest && rev.has_digest(digest),
+            Kept::One(newest, digest) => is_of(*newest, digest, sought),
             Kept::Digests(newest, digests) => {
-                rev.generation() == *newest - place as u16 && rev.has_digest(&digests[place])
+                is_of(*newest - place as u16, &digests[place], sought)
             }
-            Kept::Texts(revisions) => rev.is_same(&revisions[place]),
+            Kept::Texts(revisions) => sought.is_same(&revisions[place]),
         }
     }
 
     /// Where the revision stands, counted from the newest. Constant time.
-    pub(crate) fn position(&self, rev: &RevId) -> Option<u16>
+    pub(crate) fn position(&self, sought: &Sought) -> Option<u16>
         requires { IsPath self.now }
-        ensures found { IfSome result (λ k. slice_get self.now k ≡ Some rev.now) }
-        ensures absent { IfNone result (names self.now rev.now ≡ false) }
+        ensures found { IfSome result (λ k. slice_get self.now k ≡ Some sought.now) }
+        ensures absent { IfNone result (names self.now sought.now ≡ false) }
     {
+        if let Kept::One(newest, digest) = &self.kept {
+            return is_of(*newest, digest, sought).then_some(0);
+        }
         let newest = self.generation();
-        if rev.generation() > newest {
+        if sought.generation() > newest {
             return None;
         }
-        let place = newest - rev.generation();
+        let place = newest - sought.generation();
         if usize::from(place) >= self.len() {
             return None;
         }
-        self.is_at(usize::from(place), rev).then_some(place)
+        self.is_at(usize::from(place), sought).then_some(place)
     }
 
     /// Whether the revision stands behind the newest. Constant time; it compares no hashes where the
     /// generation is not below the newest one's.
-    pub(crate) fn has_behind(&self, rev: &RevId) -> bool
+    pub(crate) fn has_behind(&self, sought: &Sought) -> bool
         requires { IsPath self.now }
-        ensures { result ≡ names (drop 1 self.now) rev.now }
+        ensures { result ≡ names (drop 1 self.now) sought.now }
     {
-        rev.generation() < self.generation() && self.position(rev).is_some()
+        sought.generation() < self.generation() && self.position(sought).is_some()
     }
 
     /// Puts the revision at this place, and those behind it, behind what the vector holds. It costs their
@@ -279,7 +291,7 @@ impl Run {
         let mut rest = revisions;
         for place in at..self.len() {
             let (first, others) = rest.split_first()?;
-            if !self.is_at(place, first) {
+            if !self.is_at(place, &Sought::once(first)) {
                 return None;
             }
             rest = others;

@@ -6,6 +6,7 @@ ghost use Rattle.hub_model.specs.Path.{IsPath, names, is_first};
 ghost use Rattle.hub_model.specs.Revision.{Revision};
 
 use crate::run::Run;
+use crate::sought::Sought;
 use hub_document::{Body, Changes, RevId};
 use std::alloc::{AllocError, Global};
 use std::marker::Model;
@@ -109,37 +110,37 @@ impl Stem {
     }
 
     /// Where the revision stands, counted from the newest. Constant time.
-    pub(crate) fn position(&self, rev: &RevId) -> Option<u16>
+    pub(crate) fn position(&self, sought: &Sought) -> Option<u16>
         requires { IsPath self.now.revisions }
-        ensures found { IfSome result (λ k. slice_get self.now.revisions k ≡ Some rev.now) }
-        ensures absent { IfNone result (names self.now.revisions rev.now ≡ false) }
+        ensures found { IfSome result (λ k. slice_get self.now.revisions k ≡ Some sought.now) }
+        ensures absent { IfNone result (names self.now.revisions sought.now ≡ false) }
     {
-        self.run.position(rev)
+        self.run.position(sought)
     }
 
     /// Whether the revision is the one at this place. Constant time.
-    pub(crate) fn is_at(&self, at: u16, rev: &RevId) -> bool
+    pub(crate) fn is_at(&self, at: u16, sought: &Sought) -> bool
         requires path { IsPath self.now.revisions }
         requires within { at < length self.now.revisions }
-        ensures { result ≡ is_first rev.now (drop at self.now.revisions) }
+        ensures { result ≡ is_first sought.now (drop at self.now.revisions) }
     {
-        self.run.is_at(usize::from(at), rev)
+        self.run.is_at(usize::from(at), sought)
     }
 
     /// Whether the revision is the newest. Constant time.
-    pub(crate) fn is_head(&self, rev: &RevId) -> bool
+    pub(crate) fn is_head(&self, sought: &Sought) -> bool
         requires { IsPath self.now.revisions }
-        ensures { result ≡ is_first rev.now self.now.revisions }
+        ensures { result ≡ is_first sought.now self.now.revisions }
     {
-        self.run.is_at(0, rev)
+        self.run.is_at(0, sought)
     }
 
     /// Whether the revision stands behind the newest. Constant time.
-    pub(crate) fn has_behind(&self, rev: &RevId) -> bool
+    pub(crate) fn has_behind(&self, sought: &Sought) -> bool
         requires { IsPath self.now.revisions }
-        ensures { result ≡ names (drop 1 self.now.revisions) rev.now }
+        ensures { result ≡ names (drop 1 self.now.revisions) sought.now }
     {
-        self.run.has_behind(rev)
+        self.run.has_behind(sought)
     }
 
     /// As `Run::append_from`.

@@ -8,6 +8,7 @@ ghost use Rattle.hub_model.specs.Path.{IsPath, is_first};
 ghost use Rattle.hub_revtree.specs.Stem.{AreStems, AreUpTo, IsWithin, branches_of, has_revision, is_at as is_revision_at, is_behind_newest, path_from, revisions_at};
 
 use crate::run::Run;
+use crate::sought::Sought;
 use crate::stem::{Place, Stem};
 use hub_document::RevId;
 use std::alloc::AllocError;
@@ -27,8 +28,9 @@ pub(crate) fn place_of(stems: &[Stem], rev: &RevId) -> Option<Place>
     ensures found { IfSome result (λ place. slice_get (revisions_at stems.now place.stem) place.at ≡ Some rev.now) }
     ensures none { IfNone result (has_revision stems.now rev.now ≡ false) }
 {
+    let sought = Sought::among(rev, stems.len());
     for number in (0..stems.len()).rev() {
-        if let Some(at) = stems[number].position(rev) {
+        if let Some(at) = stems[number].position(&sought) {
             return Some(Place { stem: number, at });
         }
     }
@@ -50,13 +52,13 @@ pub(crate) fn place_up_to(stems: &[Stem], highest: u16, rev: &RevId) -> Option<P
 }
 
 // Whether the revision is the one at the place. Constant time.
-fn is_at(stems: &[Stem], place: Option<Place>, rev: &RevId) -> bool
+fn is_at(stems: &[Stem], place: Option<Place>, sought: &Sought) -> bool
     requires stems { AreStems stems.now }
     requires within { IfSome place (IsWithin stems.now) }
-    ensures { result ≡ is_revision_at stems.now rev.now place }
+    ensures { result ≡ is_revision_at stems.now sought.now place }
 {
     match place {
-        Some(place) => stems[place.stem].is_at(place.at, rev),
+        Some(place) => stems[place.stem].is_at(place.at, sought),
         None => false,
     }
 }
@@ -66,8 +68,9 @@ pub(crate) fn is_behind(stems: &[Stem], rev: &RevId) -> bool
     requires { AreStems stems.now }
     ensures { result ≡ list_any (is_behind_newest stems.now rev.now) stems.now }
 {
+    let sought = Sought::among(rev, stems.len());
     for stem in stems {
-        if stem.has_behind(rev) || is_at(stems, stem.parent(), rev) {
+        if stem.has_behind(&sought) || is_at(stems, stem.parent(), &sought) {
             return true;
         }
     }
@@ -80,8 +83,9 @@ pub(crate) fn is_behind_last(stems: &[Stem], rev: &RevId) -> bool
     requires others { list_any (is_behind_newest stems.now rev.now) (take (length stems.now - 1) stems.now) ≡ false }
     ensures { result ≡ list_any (is_behind_newest stems.now rev.now) stems.now }
 {
+    let sought = Sought::once(rev);
     match stems.last() {
-        Some(last) => last.has_behind(rev) || is_at(stems, last.parent(), rev),
+        Some(last) => last.has_behind(&sought) || is_at(stems, last.parent(), &sought),
         None => false,
     }
 }
@@ -91,9 +95,10 @@ pub(crate) fn headed<'a>(stems: &'a [Stem], rev: &RevId) -> Option<&'a Stem>
     requires { AreStems stems.now }
     ensures { option_map (λ s. s.now) result ≡ find (λ s. is_first rev.now s.revisions) stems.now }
 {
+    let sought = Sought::among(rev, stems.len());
     for number in (0..stems.len()).rev() {
         let stem = &stems[number];
-        if stem.is_head(rev) {
+        if stem.is_head(&sought) {
             return Some(stem);
         }
     }

@@ -7,7 +7,7 @@ pub returns-then-is_head : goal.returns-then-is_head
 returns-then-is_head c =
     head_found c.args.stems.now c.requires c.args.rev.now (c.loop-number.number - 1) c.index-stems-number.result
     (read_stem c.args.stems.now (c.loop-number.number - 1) c.index-stems-number.result (omega (arith, c.loop-number.auto.number, c.loop-number-test.true)) c.index-stems-number.is)
-    (sym c.is_head.ensures ∙ c.if-is_head.true)
+    (sym (rw c.among-sought.ensures at c.is_head.ensures) ∙ c.if-is_head.true)
 
 pub returns : goal.returns
 returns c =
