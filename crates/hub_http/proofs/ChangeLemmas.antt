@@ -1,7 +1,9 @@
 -- The texts of rows of changes.
-use Rattle.std.proofs.Common.{◌≡◌, ℕ, ◌≤◌, List, [], ◌∷◌, ◌++◌, length, map, take, take_all, sym, ap, ◌∙◌, arith, append_assoc, append-nil}
+use Rattle.std.proofs.Common.{◌≡◌, ℕ, ◌≤◌, List, [], ◌∷◌, ◌++◌, length, map, take, take_all, sym, ap, ◌∙◌, arith, append_assoc, append-nil, codes}
 use Rattle.std.specs.List.{flat_map, join_with_byte}
 use Rattle.hub_model.specs.Revision.{Revision}
+use Rattle.json.specs.Print.{escape, quoted}
+use Rattle.hub_document.proofs.WriteLemmas.{three_parts}
 use Rattle.hub_http.specs.ChangeTexts.{revision_text, revisions_text}
 
 -- the later ones have a comma before each
@@ -24,3 +26,11 @@ pub revisions_written : (held mid new : List ℕ) (r : Revision) (rs all : List 
 revisions_written held mid new r rs all i e first later end =
     later ∙ ap (λ l. mid ++ flat_map (λ s. 44 ∷ revision_text s) l) (take_all i rs end) ∙ ap (λ l. l ++ flat_map (λ s. 44 ∷ revision_text s) rs) first
     ∙ append_assoc held (revision_text r) (flat_map (λ s. 44 ∷ revision_text s) rs) ∙ ap (λ l. held ++ l) (sym (ap revisions_text e ∙ all_revisions r rs))
+
+-- an id that needs no escape: its quotes go with what stands round them
+pub plain_id : (held id : List ℕ) → escape id ≡ id
+    → ((held ++ codes ",\"id\":\"") ++ id) ++ codes "\",\"changes\":[" ≡ held ++ (codes ",\"id\":" ++ (quoted id ++ codes ",\"changes\":["))
+plain_id held id e =
+    three_parts held (codes ",\"id\":\"") id (codes "\",\"changes\":[")
+    ∙ ap (λ l. held ++ (codes ",\"id\":\"" ++ l)) (sym (append_assoc id (34 ∷ []) (codes ",\"changes\":[")))
+    ∙ ap (λ l. held ++ (codes ",\"id\":\"" ++ ((l ++ 34 ∷ []) ++ codes ",\"changes\":["))) (sym e)

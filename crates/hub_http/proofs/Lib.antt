@@ -1,5 +1,6 @@
 pub mod BlockLemmas
 pub mod ChangeLemmas
+pub mod ChunkLemmas
 pub mod ExclusionLemmas
 pub mod FrontLemmas
 pub mod HeadLemmas

@@ -28,14 +28,17 @@ doc_member row (Some body) = codes ",\"doc\":" ++ doc_text (row_doc row body)
 unfoldable pub row_end : ChangeRow → List ℕ
 row_end row = row_mark row.deleted ++ (doc_member row row.doc ++ codes "}")
 
+-- the member of the id, and the name of the next member with the bracket that opens the revisions
+unfoldable pub id_member : List ℕ → List ℕ
+id_member id = codes ",\"id\":" ++ (quoted id ++ codes ",\"changes\":[")
+
 -- the members at the head of a row
 unfoldable pub row_head : ℕ → List ℕ → List ℕ
-row_head seq id = codes "{\"seq\":" ++ (decimal seq ++ (codes ",\"id\":" ++ quoted id))
+row_head seq id = codes "{\"seq\":" ++ (decimal seq ++ id_member id)
 
 -- a row as a JSON object
 unfoldable pub change_row_text : ChangeRow → List ℕ
-change_row_text row =
-    row_head row.seq row.id ++ (codes ",\"changes\":[" ++ (revisions_text row.changes ++ row_end row))
+change_row_text row = row_head row.seq row.id ++ (revisions_text row.changes ++ row_end row)
 
 -- the members that end a feed, and the brace that closes it
 unfoldable pub change_end_text : ℕ → ℕ → List ℕ

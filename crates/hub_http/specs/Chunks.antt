@@ -11,6 +11,11 @@ abbrev pub text_chunks : List ℕ → List ℕ
 text_chunks [] = []
 text_chunks (b ∷ bs) = chunk_text (b ∷ bs)
 
+-- how many bytes stand before a text where its chunk is made, for the head of that: a size has at most 16
+-- digits, and CR and LF follow
+abbrev pub head_room : ℕ
+head_room = 18
+
 -- the bytes were written, or after a fault a front of them
 abbrev pub Writes : List ℕ → Result (Unit {0}) ChunkFault → Option (List ℕ) → Option (List ℕ) → Type 0
 Writes bytes (Ok u) old new = Appends old new bytes

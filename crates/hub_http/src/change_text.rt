@@ -1,8 +1,10 @@
 //! The texts of rows of changes.
 
-ghost use Rattle.std.specs.Prelude.{◌≡◌, ◌++◌, length, take, OnOk};
-ghost use Rattle.hub_http.specs.ChangeTexts.{revision_text, revisions_text, row_mark, doc_member, row_end, row_head, change_row_text, change_end_text};
+ghost use Rattle.std.specs.Prelude.{◌≡◌, [], ◌∷◌, ◌++◌, length, take, OnOk};
+ghost use Rattle.json.specs.Print.{escape};
+ghost use Rattle.hub_http.specs.ChangeTexts.{revision_text, revisions_text, row_mark, doc_member, row_end, id_member, row_head, change_row_text, change_end_text};
 
+use crate::plain::is_plain;
 use crate::row_text::RowText;
 use hub_document::{ChangeRow, Changes, DigestRev, LentChanges, RevId, put_quoted};
 use itoa::Buffer;
@@ -54,6 +56,39 @@ fn put_revisions(out: &mut Vec<u8>, revs: &[RevId]) -> Result<(), AllocError>
     Ok(())
 }
 
+// Appends a member of an id that needs no escape, and of what stands behind it.
+fn put_plain_id(out: &mut Vec<u8>, id: &str) -> Result<(), AllocError>
+    requires { escape id.now ≡ id.now }
+    ensures ok { OnOk result (out.new.items ≡ out.old.items ++ id_member id.now) }
+    ensures front { take (length out.old.items) out.new.items ≡ out.old.items }
+{
+    out.extend_from_slice(b",\"id\":\"")?;
+    out.extend_from_slice(id.as_bytes())?;
+    out.extend_from_slice(b"\",\"changes\":[")?;
+    Ok(())
+}
+
+fn put_quoted_id(out: &mut Vec<u8>, id: &str) -> Result<(), AllocError>
+    ensures ok { OnOk result (out.new.items ≡ out.old.items ++ id_member id.now) }
+    ensures front { take (length out.old.items) out.new.items ≡ out.old.items }
+{
+    out.extend_from_slice(b",\"id\":")?;
+    put_quoted(out, id)?;
+    out.extend_from_slice(b",\"changes\":[")?;
+    Ok(())
+}
+
+fn put_id(out: &mut Vec<u8>, id: &str) -> Result<(), AllocError>
+    ensures ok { OnOk result (out.new.items ≡ out.old.items ++ id_member id.now) }
+    ensures front { take (length out.old.items) out.new.items ≡ out.old.items }
+{
+    if is_plain(id.as_bytes()) {
+        put_plain_id(out, id)
+    } else {
+        put_quoted_id(out, id)
+    }
+}
+
 #[tactic(auto, unfolding(crate::specs::ChangeTexts::row_head))]
 fn put_row_head(out: &mut Vec<u8>, seq: u64, id: &str) -> Result<(), AllocError>
     ensures ok { OnOk result (out.new.items ≡ out.old.items ++ row_head seq id.now) }
@@ -62,16 +97,33 @@ fn put_row_head(out: &mut Vec<u8>, seq: u64, id: &str) -> Result<(), AllocError>
     let mut number = Buffer::new();
     out.extend_from_slice(b"{\"seq\":")?;
     out.extend_from_slice(number.format(seq).as_bytes())?;
-    out.extend_from_slice(b",\"id\":")?;
-    put_quoted(out, id)?;
+    put_id(out, id)?;
     Ok(())
 }
 
 #[tactic(auto, unfolding(crate::specs::ChangeTexts::row_mark))]
-fn row_mark(deleted: bool) -> &'static str
-    ensures { result.now ≡ row_mark deleted }
+fn put_mark(out: &mut Vec<u8>, deleted: bool) -> Result<(), AllocError>
+    ensures ok { OnOk result (out.new.items ≡ out.old.items ++ row_mark deleted) }
+    ensures front { take (length out.old.items) out.new.items ≡ out.old.items }
 {
-    if deleted { "],\"deleted\":true" } else { "]" }
+    if deleted {
+        out.extend_from_slice(b"],\"deleted\":true")
+    } else {
+        out.extend_from_slice(b"]")
+    }
+}
+
+// Appends the end of a row that brings no document.
+#[tactic(auto, unfolding(crate::specs::ChangeTexts::row_mark))]
+fn put_short_end(out: &mut Vec<u8>, deleted: bool) -> Result<(), AllocError>
+    ensures ok { OnOk result (out.new.items ≡ out.old.items ++ (row_mark deleted ++ 125 ∷ [])) }
+    ensures front { take (length out.old.items) out.new.items ≡ out.old.items }
+{
+    if deleted {
+        out.extend_from_slice(b"],\"deleted\":true}")
+    } else {
+        out.extend_from_slice(b"]}")
+    }
 }
 
 fn put_doc(out: &mut Vec<u8>, row: &ChangeRow) -> Result<(), AllocError>
@@ -86,14 +138,24 @@ fn put_doc(out: &mut Vec<u8>, row: &ChangeRow) -> Result<(), AllocError>
     Ok(())
 }
 
+fn put_long_end(out: &mut Vec<u8>, row: &ChangeRow) -> Result<(), AllocError>
+    ensures ok { OnOk result (out.new.items ≡ out.old.items ++ row_end row.now) }
+    ensures front { take (length out.old.items) out.new.items ≡ out.old.items }
+{
+    put_mark(out, row.deleted)?;
+    put_doc(out, row)?;
+    out.extend_from_slice(b"}")?;
+    Ok(())
+}
+
 fn put_row_end(out: &mut Vec<u8>, row: &ChangeRow) -> Result<(), AllocError>
     ensures ok { OnOk result (out.new.items ≡ out.old.items ++ row_end row.now) }
     ensures front { take (length out.old.items) out.new.items ≡ out.old.items }
 {
-    out.extend_from_slice(row_mark(row.deleted).as_bytes())?;
-    put_doc(out, row)?;
-    out.extend_from_slice(b"}")?;
-    Ok(())
+    match &row.doc {
+        None => put_short_end(out, row.deleted),
+        Some(_) => put_long_end(out, row),
+    }
 }
 
 impl RowText for ChangeRow {
@@ -103,7 +165,6 @@ impl RowText for ChangeRow {
 
     fn put_row(&self, out: &mut Vec<u8>) -> Result<(), AllocError> {
         put_row_head(out, self.seq, self.id.as_str())?;
-        out.extend_from_slice(b",\"changes\":[")?;
         put_changes(out, &self.changes)?;
         put_row_end(out, self)?;
         Ok(())

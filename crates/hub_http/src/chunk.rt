@@ -1,14 +1,13 @@
 //! Chunks to a writer.
 
-ghost use Rattle.std.specs.Prelude.{◌≡◌, ◌<◌, ◌≤◌, ◌++◌, false, length, IsErrOf, OnOk, OnErr};
+ghost use Rattle.std.specs.Prelude.{◌≡◌, ◌-◌, ◌<◌, ◌≤◌, ◌∷◌, ◌++◌, drop, false, length, IfOk, IsErrOf, OnOk, OnErr};
 ghost use Rattle.std.specs.Fmt.{digit_glyph, digits};
 ghost use Rattle.hub_http.specs.Counts.{Rose};
-ghost use Rattle.hub_http.specs.Chunks.{Writes, text_chunks};
+ghost use Rattle.hub_http.specs.Chunks.{Writes, head_room, text_chunks};
 ghost use Rattle.hub_http.specs.Texts.{chunk_text};
 
 use crate::output::{Output, write_all};
 use std::alloc::{AllocError, Global};
-use std::io::Write;
 
 /// Why a chunk was not written whole.
 #[derive(Clone, Copy, Debug, PartialEq, Eq)]
@@ -27,37 +26,59 @@ fn digit(number: usize) -> u8
     b"0123456789abcdef"[number]
 }
 
-// Appends the digits of a number to the base 16. Two digits, as most items have, are written at once.
-fn put_size(buffer: &mut Vec<u8>, number: usize) -> Result<(), AllocError>
-    ensures { OnOk result (buffer.new.items ≡ buffer.old.items ++ digits 16 false number) }
+/// How many digits a size has at most.
+const SIZE: usize = 16;
+
+/// The room for the head of a chunk: its size, CR and LF.
+const ROOM: usize = SIZE + 2;
+
+// Writes the digits of a number to the base 16 at the end of the room for them, and answers where
+// they begin.
+fn put_size(bytes: &mut [u8], number: usize) -> usize
+    requires { 16 ≤ length bytes.old }
+    ensures written { drop result bytes.new ≡ digits 16 false number ++ drop 16 bytes.old }
+    ensures start { result < 16 }
 {
-    if number < 16 || number >= 256 {
-        return match write!(buffer, "{number:x}") {
-            Ok(()) => Ok(()),
-            Err(_) => Err(AllocError),
-        };
+    let mut at = SIZE - 1;
+    let mut left = number;
+    while left >= 16 {
+        bytes[at] = digit(left % 16);
+        left /= 16;
+        at -= 1;
     }
-    let digits = [digit(number / 16), digit(number % 16)];
-    buffer.extend_from_slice(&digits)?;
-    Ok(())
+    bytes[at] = digit(left);
+    at
 }
 
-#[tactic(auto, unfolding(crate::specs::Texts::chunk_text))]
-fn assemble(buffer: &mut Vec<u8>, text: &[u8]) -> Result<(), AllocError>
-    ensures { OnOk result (buffer.new.items ≡ chunk_text text.now) }
+// Writes the head of a chunk at the end of the room for it, and answers where it begins.
+fn put_head(bytes: &mut [u8], size: usize) -> usize
+    requires { 18 ≤ length bytes.old }
+    ensures written { drop result bytes.new ≡ digits 16 false size ++ (13 ∷ 10 ∷ drop 18 bytes.old) }
+    ensures start { result < 16 }
 {
-    buffer.clear();
-    put_size(buffer, text.len())?;
+    bytes[SIZE + 1] = b'\n';
+    bytes[SIZE] = b'\r';
+    put_size(bytes, size)
+}
+
+// Writes what stands round a text in its chunk, and answers where the chunk begins.
+fn close_chunk(buffer: &mut Vec<u8>) -> Result<usize, AllocError>
+    requires { head_room < length buffer.old.items }
+    ensures made { IfOk result (λ start. drop start buffer.new.items ≡ text_chunks (drop head_room buffer.old.items)) }
+    ensures start { IfOk result (λ start. start < length buffer.new.items) }
+{
+    let size = buffer.len() - ROOM;
     buffer.extend_from_slice(b"\r\n")?;
-    buffer.extend_from_slice(text)?;
-    buffer.extend_from_slice(b"\r\n")
+    let start = put_head(buffer.as_mut_slice(), size);
+    Ok(start)
 }
 
 /// Writes texts as chunks (RFC 9112, section 7.1), each by one call of the writer where that takes
-/// all of it.
+/// all of it. A text is made where its chunk is written from, and is not copied.
 #[derive(Debug, Drop)]
 pub struct ChunkWriter {
-    buffer: Vec<u8>,
+    /// Room for the head of a chunk, once one was begun, and behind it the text.
+    pub buffer: Vec<u8>,
 }
 
 impl ChunkWriter {
@@ -68,30 +89,39 @@ impl ChunkWriter {
         }
     }
 
-    /// Writes a text as one chunk, and an empty one not at all, which needs no memory and no
-    /// writer. Nothing is flushed. It costs the text's length, and memory only where the chunk is
-    /// longer than each one before.
-    pub fn write<W: Output>(&mut self, writer: &mut W, text: &[u8]) -> Result<(), ChunkFault>
-        ensures bytes { Writes (text_chunks text.now) result (W.written writer.old) (W.written writer.new) }
-        ensures empty { OnErr result (0 < length text.now) }
-        ensures monotone { W.fault_count writer.old ≤ W.fault_count writer.new }
-        ensures fault { IsErrOf result ChunkFault.IoFault → Rose (W.fault_count writer.old) (W.fault_count writer.new) }
+    /// Begins a chunk: the buffer is ready for a text to be appended. It costs the same whatever
+    /// was held, and takes memory once, for the first chunk.
+    pub fn begin(&mut self) -> Result<(), AllocError>
+        ensures { OnOk result (length self.new.buffer.items ≡ head_room) }
     {
-        match text {
-            [] => Ok(()),
-            [_, ..] => self.write_chunk(writer, text),
-        }
+        self.buffer.resize(ROOM, b'0')
     }
 
-    fn write_chunk<W: Output>(&mut self, writer: &mut W, text: &[u8]) -> Result<(), ChunkFault>
-        ensures bytes { Writes (chunk_text text.now) result (W.written writer.old) (W.written writer.new) }
+    /// Writes the text behind the room as one chunk, and an empty one not at all, which needs no
+    /// memory and no writer. Nothing is flushed. It costs the text's length, and memory only where
+    /// the chunk is longer than each one before. Begin the next chunk before another is written.
+    pub fn write<W: Output>(&mut self, writer: &mut W) -> Result<(), ChunkFault>
+        ensures bytes { Writes (text_chunks (drop head_room self.old.buffer.items)) result (W.written writer.old) (W.written writer.new) }
+        ensures empty { OnErr result (head_room < length self.old.buffer.items) }
         ensures monotone { W.fault_count writer.old ≤ W.fault_count writer.new }
         ensures fault { IsErrOf result ChunkFault.IoFault → Rose (W.fault_count writer.old) (W.fault_count writer.new) }
     {
-        if assemble(&mut self.buffer, text).is_err() {
-            return Err(ChunkFault::NoMemory);
+        if self.buffer.len() <= ROOM {
+            return Ok(());
         }
-        match write_all(writer, self.buffer.as_slice()) {
+        self.write_chunk(writer)
+    }
+
+    fn write_chunk<W: Output>(&mut self, writer: &mut W) -> Result<(), ChunkFault>
+        requires { head_room < length self.old.buffer.items }
+        ensures bytes { Writes (text_chunks (drop head_room self.old.buffer.items)) result (W.written writer.old) (W.written writer.new) }
+        ensures monotone { W.fault_count writer.old ≤ W.fault_count writer.new }
+        ensures fault { IsErrOf result ChunkFault.IoFault → Rose (W.fault_count writer.old) (W.fault_count writer.new) }
+    {
+        let Ok(start) = close_chunk(&mut self.buffer) else {
+            return Err(ChunkFault::NoMemory);
+        };
+        match write_all(writer, &self.buffer.as_slice()[start..]) {
             Ok(()) => Ok(()),
             Err(_) => Err(ChunkFault::IoFault),
         }

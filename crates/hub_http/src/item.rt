@@ -8,28 +8,40 @@ use hub_model::{Item, Mode, by_mode};
 use std::alloc::AllocError;
 
 #[tactic(auto, unfolding(crate::specs::Items::separator))]
-fn separator(rows_before: u64) -> &'static str
-    ensures { result.now ≡ separator rows_before }
+fn put_separator(out: &mut Vec<u8>, rows_before: u64) -> Result<(), AllocError>
+    ensures ok { OnOk result (out.new.items ≡ out.old.items ++ separator rows_before) }
+    ensures front { take (length out.old.items) out.new.items ≡ out.old.items }
 {
-    if rows_before == 0 { "" } else { ",\n" }
+    if rows_before == 0 {
+        Ok(())
+    } else {
+        out.extend_from_slice(b",\n")
+    }
 }
 
 #[tactic(auto, unfolding(crate::specs::Items::before_row))]
-fn before_row(mode: Mode, rows_before: u64) -> &'static str
-    ensures { result.now ≡ before_row mode rows_before }
-{
-    by_mode!(mode, normal: separator(rows_before), longpoll: separator(rows_before), continuous: "")
-}
-
-#[tactic(auto, unfolding(crate::specs::Items::after_row))]
-fn after_row(mode: Mode) -> &'static str
-    ensures { result.now ≡ after_row mode }
+fn put_before_row(out: &mut Vec<u8>, mode: Mode, rows_before: u64) -> Result<(), AllocError>
+    ensures ok { OnOk result (out.new.items ≡ out.old.items ++ before_row mode rows_before) }
+    ensures front { take (length out.old.items) out.new.items ≡ out.old.items }
 {
     by_mode!(
         mode,
-        normal: "",
-        longpoll: "",
-        continuous: "\n",
+        normal: put_separator(out, rows_before),
+        longpoll: put_separator(out, rows_before),
+        continuous: Ok(()),
+    )
+}
+
+#[tactic(auto, unfolding(crate::specs::Items::after_row))]
+fn put_after_row(out: &mut Vec<u8>, mode: Mode) -> Result<(), AllocError>
+    ensures ok { OnOk result (out.new.items ≡ out.old.items ++ after_row mode) }
+    ensures front { take (length out.old.items) out.new.items ≡ out.old.items }
+{
+    by_mode!(
+        mode,
+        normal: Ok(()),
+        longpoll: Ok(()),
+        continuous: out.extend_from_slice(b"\n"),
     )
 }
 
@@ -59,9 +71,9 @@ pub fn item_text<R: RowText>(
 {
     match item {
         Item::Row(row) => {
-            out.extend_from_slice(before_row(mode, rows_before).as_bytes())?;
+            put_before_row(out, mode, rows_before)?;
             row.put_row(out)?;
-            out.extend_from_slice(after_row(mode).as_bytes())?;
+            put_after_row(out, mode)?;
             Ok(())
         }
         Item::Beat => out.extend_from_slice(b"\n"),

@@ -14,6 +14,7 @@ mod interruption_tests;
 mod item;
 mod length;
 mod output;
+mod plain;
 mod read;
 mod refusal;
 mod reply;

@@ -408,7 +408,9 @@ fn chunked(alloc: Global, texts: &[&[u8]]) -> Result<Vec<u8>, Fail> {
     let mut chunks = ChunkWriter::new(alloc);
     let mut writer = Tally::new(Vec::new(alloc));
     for text in texts {
-        chunks.write(&mut writer, text)?;
+        chunks.begin()?;
+        chunks.buffer.extend_from_slice(text)?;
+        chunks.write(&mut writer)?;
     }
     Ok(writer.into_inner())
 }
@@ -453,6 +455,17 @@ fn a_feed_of_two_rows_in_chunks(rt: HostRuntime) -> Result<(), Fail> {
         "\n\r\n"
     );
     assert_eq!(rt; sent.as_slice(), expected.as_bytes());
+    Ok(())
+}
+
+#[test]
+fn chunks_of_one_digit_and_three(rt: HostRuntime) -> Result<(), Fail> {
+    let long = vec![in rt.alloc(); b'x'; 300]?;
+    let sent = chunked(rt.alloc(), &[b"abc", long.as_slice()])?;
+    let mut expected = Vec::from_slice(rt.alloc(), b"3\r\nabc\r\n12c\r\n")?;
+    expected.extend_from_slice(long.as_slice())?;
+    expected.extend_from_slice(b"\r\n")?;
+    assert_eq!(rt; sent.as_slice(), expected.as_slice());
     Ok(())
 }
 

@@ -1,9 +1,9 @@
 //! Streams to a writer.
-ghost use Rattle.std.specs.Prelude.{◌≡◌, ◌<◌, ◌≤◌, ◌+◌, ◌^◌, is_err, OnErr, IsErrOf};
+ghost use Rattle.std.specs.Prelude.{◌≡◌, ◌<◌, ◌≤◌, ◌+◌, ◌^◌, drop, is_err, OnOk, OnErr, IsErrOf};
 ghost use Rattle.std.specs.Io.KnownBytes.{Keeps};
 ghost use Rattle.hub_http.specs.Counts.{Rose, Sends};
 ghost use Rattle.hub_http.specs.Items.{feed_head};
-ghost use Rattle.hub_http.specs.Chunks.{Writes, text_chunks};
+ghost use Rattle.hub_http.specs.Chunks.{Writes, head_room, text_chunks};
 ghost use Rattle.hub_session.specs.Items.{rows_after, stream_item_text};
 ghost use Rattle.hub_session.specs.Feeds.{feed_text, items_text, sent_text, behind_item, GivesBack, IsFed, last_chunk};
 ghost use Rattle.hub_session.specs.Rules.{moment};
@@ -13,7 +13,7 @@ use crate::item::StreamItem;
 use crate::service::Service;
 use hub_http::{ChunkFault, ChunkWriter, IoFault, Output, send, write_all};
 use hub_model::Mode;
-use std::alloc::Global;
+use std::alloc::{AllocError, Global};
 
 /// The chunk at the head of a stream. It needs no memory.
 fn head_chunk(mode: Mode) -> &'static str
@@ -76,19 +76,26 @@ fn finish_item<W: Output, S: Service>(
     }
 }
 
-/// What a stream writes items with: its buffers are used again for each item.
+/// What a stream writes items with: its buffer is used again for each item.
 #[derive(Drop)]
 struct ItemWriter {
-    text: Vec<u8>,
     chunks: ChunkWriter,
 }
 
 impl ItemWriter {
     fn new(alloc: Global) -> ItemWriter {
         ItemWriter {
-            text: Vec::new(alloc),
             chunks: ChunkWriter::new(alloc),
         }
+    }
+
+    /// Puts the text of an item where its chunk is written from.
+    fn put(&mut self, mode: Mode, rows: u64, item: &StreamItem) -> Result<(), AllocError>
+        ensures { OnOk result (drop head_room self.new.chunks.buffer.items ≡ stream_item_text mode rows item.now) }
+    {
+        self.chunks.begin()?;
+        item.put_text(&mut self.chunks.buffer, mode, rows)?;
+        Ok(())
     }
 
     /// Writes the chunk of an item.
@@ -103,11 +110,10 @@ impl ItemWriter {
         ensures monotone { W.fault_count writer.old ≤ W.fault_count writer.new }
         ensures fault { IsErrOf result ChunkFault.IoFault → Rose (W.fault_count writer.old) (W.fault_count writer.new) }
     {
-        self.text.clear();
-        if item.put_text(&mut self.text, mode, rows).is_err() {
+        if self.put(mode, rows, item).is_err() {
             return Err(ChunkFault::NoMemory);
         }
-        self.chunks.write(writer, self.text.as_slice())
+        self.chunks.write(writer)
     }
 
     /// Sends an item of the service's stream, and behind an End the last chunk.

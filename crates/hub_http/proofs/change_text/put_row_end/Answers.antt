@@ -1,16 +1,6 @@
-use Rattle.hub_http.specs.ChangeTexts.{row_end}
-use Rattle.hub_document.proofs.WriteLemmas.{three_parts}
+use Rattle.hub_http.specs.ChangeTexts.{doc_member, row_end}
 use Rattle.hub_http.proofs.change_text.put_row_end.Goals as goal
 
-pub returns-clause-ok : goal.returns-clause-ok
-unfolding row_end
-returns-clause-ok c =
-    rw (
-      c.in_ok-extend_from_slice-2.ensures.items,
-      c.in_ok-put_doc.ensures.ok,
-      c.in_ok-extend_from_slice.ensures.items,
-      c.as_bytes.ensures.value,
-      c.row_mark.ensures,
-      ← c.row.view_is,
-    )
-    (three_parts c.args.out.now.items _ _ _)
+pub returns-in-None-clause-ok : goal.returns-in-None-clause-ok
+unfolding row_end doc_member
+returns-in-None-clause-ok c = rw (← c.row.view_is, c.in-None.is) c.put_short_end.ensures.ok

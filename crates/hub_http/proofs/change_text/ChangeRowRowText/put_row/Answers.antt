@@ -1,5 +1,5 @@
 use Rattle.hub_http.specs.ChangeTexts.{change_row_text}
-use Rattle.hub_document.proofs.WriteLemmas.{four_parts}
+use Rattle.hub_document.proofs.WriteLemmas.{three_parts}
 use Rattle.hub_http.proofs.change_text.ChangeRowRowText.put_row.Goals as goal
 
 pub returns-clause-ok : goal.returns-clause-ok
@@ -10,8 +10,7 @@ returns-clause-ok c =
       ← c.self.view_is,
       c.in_ok-put_revisions.ensures.ok,
       c.as_slice.ensures,
-      c.in_ok-extend_from_slice.ensures.items,
       c.in_ok-put_row_head.ensures.ok,
       c.as_str.ensures.value,
     )
-    (four_parts c.args.out.now.items _ _ _ _)
+    (three_parts c.args.out.now.items _ _ _)

@@ -1,0 +1,76 @@
+//! Texts that a JSON string holds as they are (RFC 8259, section 7).
+
+ghost use Rattle.std.specs.Prelude.{◌≡◌, ◌+◌, ◌≤◌, length};
+ghost use Rattle.std.specs.Bool.{OnTrue};
+ghost use Rattle.json.specs.Print.{escape};
+ghost use Rattle.json.specs.Written.{PlainBetween};
+
+use std::simd::prelude::*;
+
+fn plain_8(text: &[u8], at: usize) -> bool
+    requires { at + 8 ≤ length text.now }
+    ensures { OnTrue result (PlainBetween text.now at (at + 8)) }
+{
+    let v = u8x8::from_slice(&text[at..]);
+    (v.simd_eq(u8x8::splat(b'"'))
+        | v.simd_eq(u8x8::splat(b'\\'))
+        | v.simd_lt(u8x8::splat(0x20))).to_bitmask()
+        == 0
+}
+
+fn plain_16(text: &[u8], at: usize) -> bool
+    requires { at + 16 ≤ length text.now }
+    ensures { OnTrue result (PlainBetween text.now at (at + 16)) }
+{
+    let v = u8x16::from_slice(&text[at..]);
+    (v.simd_eq(u8x16::splat(b'"'))
+        | v.simd_eq(u8x16::splat(b'\\'))
+        | v.simd_lt(u8x16::splat(0x20))).to_bitmask()
+        == 0
+}
+
+fn plain_few(text: &[u8]) -> bool
+    ensures { OnTrue result (PlainBetween text.now 0 (length text.now)) }
+{
+    for &byte in text {
+        if byte == b'"' || byte == b'\\' || byte < 0x20 {
+            return false;
+        }
+    }
+    true
+}
+
+fn plain_long(text: &[u8]) -> bool
+    requires { 16 ≤ length text.now }
+    ensures { OnTrue result (PlainBetween text.now 0 (length text.now)) }
+{
+    let mut at = 0;
+    while text.len() - at > 16 {
+        if !plain_16(text, at) {
+            return false;
+        }
+        at += 16;
+    }
+    plain_16(text, text.len() - 16)
+}
+
+// Two loads that overlap cover a short text, as ids are.
+fn plain_all(text: &[u8]) -> bool
+    ensures { OnTrue result (PlainBetween text.now 0 (length text.now)) }
+{
+    let len = text.len();
+    if len < 8 {
+        plain_few(text)
+    } else if len <= 16 {
+        plain_8(text, 0) && plain_8(text, len - 8)
+    } else {
+        plain_long(text)
+    }
+}
+
+/// Whether a text needs no escape. It looks at 8 or 16 bytes at a time.
+pub(crate) fn is_plain(text: &[u8]) -> bool
+    ensures { OnTrue result (escape text.now ≡ text.now) }
+{
+    plain_all(text)
+}
