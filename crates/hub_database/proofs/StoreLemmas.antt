@@ -9,7 +9,7 @@ use Rattle.std.specs.declared.alloc.AllocError.{AllocError}
 use Rattle.std.specs.List.{All}
 use Rattle.std.proofs.lemmas.Bool.{leb-false, eq-eqb, ne_eqb}
 use Rattle.std.proofs.lemmas.Option.{same_Some, none-some, slice_get-map, slice_get_past, slice_get_within}
-use Rattle.std.proofs.lemmas.Option.{get_or_from_slice_get}
+use Rattle.std.proofs.lemmas.Option.{get_or_from_slice_get, slice_get-get_or}
 use Rattle.std.proofs.lemmas.List.{append-nil, get_or-map, length-map, length_push, map_push}
 use Rattle.std.proofs.lemmas.Simd.{map-map}
 use Rattle.std.proofs.lemmas.List.Elements.{filter-append}
@@ -591,6 +591,17 @@ id_here documents k d low is =
     (get_or-map (λ (z : Filed). z.id) (files documents) k (filed d) [] within
     ∙ (ap (λ (z : Filed). z.id) (get_or-map filed documents k d (filed d) low)
     ∙ ap (λ (z : Document). z.id) (sym is)))
+
+-- a number whose document has an id is the number of that id
+pub number_has : (store : Store) → IsStore store → (id : List ℕ) (k : ℕ) → k < length (ids_in store)
+    → id_at (ids_in store) k ≡ id → number_by store id ≡ Some k
+number_has store is id k low here =
+    let documents = files store.documents.items in
+    let within : k < length documents = omega (arith, length-map documents (λ (z : Filed). z.id)) in
+    let d : Filed = get_or documents k (unwritten []) in
+    let named : d.id ≡ id =
+    sym (get_or-map (λ (z : Filed). z.id) documents k (unwritten []) [] within) ∙ here in
+    ap (number_by store) (sym named) ∙ is.filed.own k d (slice_get-get_or documents k (unwritten []) within)
 
 -- the row of a new document, taken back
 pub row_taken : (rows : List (ℕ × ℕ)) (number seq : ℕ) → seq_of number rows ≡ None

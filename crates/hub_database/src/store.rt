@@ -14,7 +14,7 @@ use crate::entry::Entry;
 use crate::ids::Ids;
 use crate::room::reserve_one;
 use hub_document::{Doc, DocId, Limits, RevId};
-use hub_index::{IdOrder, PageIndex, SeqIndex};
+use hub_index::{IdHints, IdOrder, PageIndex, SeqIndex};
 use hub_model::{Fault, Outcome};
 use std::alloc::{AllocError, Global};
 
@@ -24,6 +24,8 @@ use std::alloc::{AllocError, Global};
 pub(crate) struct Store {
     pub(crate) documents: Vec<Document>,
     pub(crate) numbers: IdOrder,
+    /// Guesses of the numbers of ids.
+    pub(crate) hints: IdHints,
     pub(crate) journal: Vec<Entry>,
     /// The documents' numbers by the sequences of their latest edits.
     pub(crate) index: PageIndex,
@@ -91,6 +93,7 @@ impl Store {
         Store {
             documents: Vec::new(alloc),
             numbers: IdOrder::new(alloc),
+            hints: IdHints::new(alloc),
             journal: Vec::new(alloc),
             index: PageIndex::new(alloc),
             deleted: 0,
@@ -134,13 +137,15 @@ impl Store {
                 )?;
                 let rev = document.take(&mut self.journal, number, ready);
                 self.deleted = recounted(self.deleted, false, document.is_deleted());
+                self.hints.remember(document.id.as_str(), number);
                 self.documents.push_reserved(document);
                 Ok(Outcome::Stored(rev))
             }
         }
     }
 
-    /// The number of the document with this id. It compares ids logarithmically many times.
+    /// The number of the document with this id. It compares mostly one id, where the number is
+    /// remembered, and else ids logarithmically many times.
     pub(crate) fn number_of(&self, id: &str) -> Option<u32>
         requires { IsStore self.now }
         ensures { result ≡ number_by self.now id.now }
@@ -148,7 +153,10 @@ impl Store {
         let ids = Ids {
             documents: self.documents.as_slice(),
         };
-        self.numbers.find(&ids, id)
+        match self.hints.find(&ids, id) {
+            Some(number) => Some(number),
+            None => self.numbers.find(&ids, id),
+        }
     }
 
     // Stores an edit of the document with this id.

@@ -2,6 +2,9 @@
 //! next (CouchDB API reference, `_changes`); and the numbers of documents in the order of their ids.
 #![tactic(auto)]
 
+#[cfg(test)]
+mod hint_tests;
+mod id_hints;
 mod id_order;
 mod id_pages;
 #[cfg(test)]
@@ -15,6 +18,7 @@ mod seq_index;
 mod tests;
 mod tree_index;
 
+pub use id_hints::IdHints;
 pub use id_order::{IdOrder, Named};
 pub use page_index::PageIndex;
 pub use seq_index::SeqIndex;

@@ -1,0 +1,127 @@
+//! Guesses of the numbers of ids, by a hash.
+
+ghost use Rattle.std.specs.Prelude.{◌≡◌, ◌<◌, length, IfSome};
+ghost use Rattle.hub_index.specs.Order.{id_at};
+
+use crate::id_order::Named;
+use std::alloc::{AllocError, Global};
+
+/// How many slots an id may stand in. They lie side by side, mostly on one line of the cache.
+const PLACES: usize = 8;
+
+/// The bits of a hash that say where the places of an id begin, as far as there are slots.
+const PLACE_BITS: u32 = 0xffff_fff8;
+
+/// The bits of the places that there are at least.
+const FIRST_MASK: u32 = 15;
+
+/// Numbers in slots by a hash of their ids (FNV-1a). Nothing rests on what stands there: a number is
+/// given only after a look at its id, and one that is missing has to be found in another way, such
+/// as by `IdOrder`. So ids that are made to collide cost that other way, and the hash has no secret.
+#[derive(Debug, Drop)]
+pub struct IdHints {
+    alloc: Global,
+    /// Zeros, and numbers plus one. The bits above the mask are those of the id's hash there: so few
+    /// other ids are looked at, and more slots are filled with no look at any.
+    slots: Vec<u32>,
+    /// One less than a power of two: the number of slots.
+    mask: u32,
+}
+
+// The hash of an id, of 32 bits.
+fn hash_of(id: &str) -> u32 {
+    let mut hash = 0xcbf2_9ce4_8422_2325u64;
+    for byte in id.as_bytes() {
+        hash = (hash ^ u64::from(*byte)).wrapping_mul(0x0000_0100_0000_01b3);
+    }
+    ((hash ^ (hash >> 32)) & 0xffff_ffff) as u32
+}
+
+impl IdHints {
+    /// No number. It takes no memory yet; `remember` takes it from this allocator.
+    pub fn new(alloc: Global) -> IdHints {
+        IdHints {
+            alloc,
+            slots: Vec::new(alloc),
+            mask: 0,
+        }
+    }
+
+    // The number of a slot, where an id of this hash may stand there.
+    fn number_at(&self, at: usize, hash: u32) -> Option<u32> {
+        let slot = *self.slots.get(at)?;
+        if (slot ^ hash) & !self.mask != 0 {
+            return None;
+        }
+        (slot & self.mask).checked_sub(1)
+    }
+
+    /// A number of this id, if it is remembered. It takes constant time: it compares ids whose hashes
+    /// are alike, mostly one and at most 8. That none is given says nothing: one or two numbers of a
+    /// hundred are not remembered, and that of the empty text never is.
+    pub fn find<N: Named>(&self, names: &N, id: &str) -> Option<u32>
+        ensures { IfSome result (λ number. (number < length (N.ids names.now))
+            × (id_at (N.ids names.now) number ≡ id.now)) }
+    {
+        if id.is_empty() {
+            return None;
+        }
+        let hash = hash_of(id);
+        let first = (hash & self.mask & PLACE_BITS) as usize;
+        for at in first..first + PLACES {
+            if let Some(number) = self.number_at(at, hash)
+                && names.id(number) == id
+            {
+                return Some(number);
+            }
+        }
+        None
+    }
+
+    // Puts a number plus one into the first empty slot of a hash, else in place of the first.
+    fn put(&mut self, hash: u32, next: u32) {
+        let first = (hash & self.mask & PLACE_BITS) as usize;
+        let mut free = first;
+        for at in first..first + PLACES {
+            if self.slots.get(at) == Some(&0) {
+                free = at;
+                break;
+            }
+        }
+        if let Some(slot) = self.slots.get_mut(free) {
+            *slot = (hash & !self.mask) | (next & self.mask);
+        }
+    }
+
+    // The same numbers in twice the slots.
+    fn grown(&self) -> Result<IdHints, AllocError> {
+        let mask = self.mask.saturating_mul(2) | FIRST_MASK;
+        let mut grown = IdHints {
+            alloc: self.alloc,
+            slots: vec![in self.alloc; 0; mask as usize + 1]?,
+            mask,
+        };
+        for (at, slot) in self.slots.iter().enumerate() {
+            if *slot != 0 {
+                let place = (at & PLACE_BITS as usize) as u32;
+                grown.put((*slot & !self.mask) | place, *slot & self.mask);
+            }
+        }
+        Ok(grown)
+    }
+
+    /// Remembers the number of an id, the next after those remembered before. Where all its places are
+    /// taken, the number in the first of them is forgotten. Once half as many numbers as slots are
+    /// there, twice as many slots are made, which costs a step for each; a number takes 8 to 16 bytes
+    /// of them. Where they find no memory, the number may not be remembered.
+    pub fn remember(&mut self, id: &str, number: u32) {
+        if number >= self.mask / 2
+            && let Ok(grown) = self.grown()
+        {
+            *self = grown;
+        }
+        if number < self.mask {
+            self.put(hash_of(id), number + 1);
+        }
+    }
+}
