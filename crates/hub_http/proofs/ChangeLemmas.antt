@@ -15,6 +15,10 @@ all_revisions : (r : Revision) (rs : List Revision) → revisions_text (r ∷ rs
 unfolding revisions_text
 all_revisions r rs = joined (revision_text r) rs
 
+pub one_revision : (held new : List ℕ) (all : List Revision) (r : Revision) → r ∷ [] ≡ all → new ≡ held ++ revision_text r → new ≡ held ++ revisions_text all
+unfolding revisions_text
+one_revision held new all r is written = written ∙ ap (λ l. held ++ revisions_text l) is
+
 pub no_revisions : (held : List ℕ) (rs : List Revision) → length rs ≡ 0 → held ≡ held ++ revisions_text rs
 unfolding revisions_text
 no_revisions held [] e = sym (append-nil held)

@@ -36,7 +36,10 @@ fn put_changes(out: &mut Vec<u8>, changes: &Changes) -> Result<(), AllocError>
     ensures front { take (length out.old.items) out.new.items ≡ out.old.items }
 {
     match changes.lent() {
-        LentChanges::One(rev) => put_digest_revision(out, rev),
+        LentChanges::One(rev) => {
+            put_digest_revision(out, rev)?;
+            Ok(())
+        }
         LentChanges::Many(revs) => put_revisions(out, revs),
     }
 }

@@ -1,5 +1,5 @@
 use Rattle.std.proofs.Common.{arith}
-use Rattle.hub_http.proofs.ChunkLemmas.{none_written, one_digit, more_room, last_digit}
+use Rattle.hub_http.proofs.ChunkLemmas.{none_written, one_digit, last_digit}
 use Rattle.hub_http.proofs.chunk.put_size.Goals as goal
 
 pub loop-left-init : goal.loop-left-init
