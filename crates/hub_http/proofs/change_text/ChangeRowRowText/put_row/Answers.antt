@@ -8,8 +8,7 @@ returns-clause-ok c =
     rw (
       c.in_ok-put_row_end.ensures.ok,
       ← c.self.view_is,
-      c.in_ok-put_revisions.ensures.ok,
-      c.as_slice.ensures,
+      c.in_ok-put_changes.ensures.ok,
       c.in_ok-put_row_head.ensures.ok,
       c.as_str.ensures.value,
     )
