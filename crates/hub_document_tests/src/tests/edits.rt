@@ -26,7 +26,9 @@ fn made(
     parent: Option<RevId>,
     text: &str,
 ) -> Result<Option<RevId>, Fail> {
-    if parent.is_some_and(|rev| rev.generation() == 65535) {
+    if let Some(rev) = &parent
+        && rev.generation() == 65535
+    {
         return Ok(None);
     }
     let doc = Doc::read(alloc, text.as_bytes(), true)?;
