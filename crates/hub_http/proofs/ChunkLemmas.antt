@@ -79,10 +79,6 @@ one_digit (suc k) left bytes whole big h =
     let e : suc k - 1 ≡ k = omega arith in
     subst (λ j. SizeLeft j (left / 16) (set bytes (suc k) (digit_glyph false (left % 16))) whole) (sym e) (next_digit k left bytes whole big h)
 
--- more than one digit is left only where there is room for it
-pub more_room : (at left : ℕ) (bytes whole : List ℕ) → 16 ≤ left → SizeLeft at left bytes whole → 1 ≤ at
-more_room at left bytes whole big h = let k = above_zero at left big h.fits in omega (arith, k.1)
-
 pub last_digit : (at left : ℕ) (bytes whole : List ℕ) → left < 16 → SizeLeft at left bytes whole
     → drop at (set bytes at (digit_glyph false left)) ≡ whole
 last_digit at left bytes whole small h =
@@ -122,6 +118,3 @@ chunk_made held ext new start size room e long h =
 -- a part that was lent is all that is held
 pub lent_whole : (ys rest text : List ℕ) (n start : ℕ) → length ys ≡ n → drop start ys ≡ text → drop start (take n (ys ++ rest)) ≡ text
 lent_whole ys rest text n start long e = ap (drop start) (ap (λ k. take k (ys ++ rest)) (sym long) ∙ take-append_seam ys rest) ∙ e
-
-pub chunk_of_none : (held : List ℕ) → length held ≤ 18 → text_chunks (drop 18 held) ≡ []
-chunk_of_none held room = ap text_chunks (drop_of_length-le held room)

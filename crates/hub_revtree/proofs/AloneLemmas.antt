@@ -32,15 +32,7 @@ module _ (xs : List Stem) (a : AreStems xs) (k : ℕ) (s : Stem) (at : slice_get
 pub no_head : (bs : List Branch) (k : ℕ) → length bs ≤ k → option_and_then head_in (slice_get bs k) ≡ None
 no_head bs k past = ap (option_and_then head_in) (slice_get_past bs k past)
 
--- and the head of the winner's branch is the first of the leaves
-pub winner_alone : (ls : List Leaf) (changes : List Revision) → option_map (λ w. w.rev ∷ []) (winner_of ls) ≡ Some changes → changes ≡ take 1 (revisions_of ls)
-winner_alone [] changes is = absurd (cc)
-winner_alone (l ∷ ls) changes is = sym (same_Some _ changes is)
-
-pub winner_mark : (ls : List Leaf) (deleted : Bool) → option_map (λ w. w.deleted) (winner_of ls) ≡ Some deleted → deleted ≡ is_deleted ls
-winner_mark [] deleted is = absurd (cc)
-winner_mark (l ∷ ls) deleted is = sym (same_Some _ deleted is)
-
+-- and without one there is no leaf
 pub no_winner : (ls : List Leaf) → winner_of ls ≡ None → (take 1 (revisions_of ls) ≡ []) × (is_deleted ls ≡ false)
 no_winner [] none = (refl, refl)
 no_winner (l ∷ ls) none = absurd (cc)

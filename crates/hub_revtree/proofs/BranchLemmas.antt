@@ -1,6 +1,6 @@
 -- What branches and lists of them show.
 use Rattle.std.proofs.Common.{◌≡◌, ℕ, zero, suc, ◌+◌, ◌++◌, take, get_or, filter, cond, ◌<◌, ◌≤◌, List, [], ◌∷◌, length, Bool, true, false, inl, inr, ap, refl, sym, ◌∙◌, ◌||◌, not, arith}
-use Rattle.std.specs.Prelude.{Result, Ok, Err, OnErr, Some, option_map, slice_get, map}
+use Rattle.std.specs.Prelude.{Result, Ok, Err, OnErr, Some, slice_get, map}
 use Rattle.std.specs.List.{list_any}
 use Rattle.std.proofs.lemmas.Bool.{cases_Bool}
 use Rattle.std.proofs.lemmas.Option.{same_Some}
@@ -22,11 +22,6 @@ apart y p r f t = elim (cases_Bool (names p r)) [
 pub some_history : (p : List Revision) → IsHistory p → 0 < length p
 some_history [] h = absurd h.falls
 some_history (x ∷ p) h = omega arith
-
--- the revision whose generation is read
-pub newest_of : (p : List Revision) (g : ℕ) → option_map (λ r. r.generation) (slice_get p 0) ≡ Some g → (x : Revision) × (slice_get p 0 ≡ Some x) × (x.generation ≡ g)
-newest_of [] g e = absurd (cc)
-newest_of (x ∷ p) g e = (x, refl, same_Some x.generation g e)
 
 -- a path has no more revisions than its head's generation
 pub within_generation : (p : List Revision) (x : Revision) → IsHistory p → slice_get p 0 ≡ Some x → length p ≤ x.generation

@@ -1,9 +1,10 @@
 use Rattle.std.proofs.Common.{◌≡◌, ◌∙◌, sym, ap, take, max, arith}
 use Rattle.std.proofs.lemmas.List.{take_all}
 use Rattle.hub_revtree.specs.Stem.{Stem}
-use Rattle.hub_revtree.proofs.BranchLemmas.{newest_of, some_history}
+use Rattle.hub_revtree.proofs.BranchLemmas.{some_history}
 use Rattle.hub_revtree.proofs.HighestLemmas.{up_to_more}
 use Rattle.hub_revtree.proofs.JoinLemmas.{Brings, brought_edit, brought_stems, met_brings, met_later, met_within, new_brings}
+use Rattle.hub_revtree.proofs.RunLemmas.{newest_of}
 use Rattle.hub_revtree.proofs.branches.Branches.push.Goals as goal
 use Rattle.hub_revtree.proofs.branches.Branches.push.Goals.{After-push_reserved, in-Some, in_default}
 

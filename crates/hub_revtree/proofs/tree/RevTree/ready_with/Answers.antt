@@ -1,5 +1,6 @@
 use Rattle.std.proofs.Common.{◌<◌, ◌^◌, arith, rules}
-use Rattle.hub_revtree.proofs.BranchLemmas.{newest_of, within_generation}
+use Rattle.hub_revtree.proofs.BranchLemmas.{within_generation}
+use Rattle.hub_revtree.proofs.RunLemmas.{newest_of}
 use Rattle.hub_revtree.proofs.tree.RevTree.ready_with.Goals as goal
 
 pub returns-clause-room : goal.returns-clause-room
