@@ -1,7 +1,7 @@
 -- The winner alone: its revision as a row lists it, and its mark.
 use Rattle.std.proofs.Common.{◌≡◌, ◌≤◌, ℕ, List, [], ◌∷◌, length, take, Bool, false, refl, sym, ap, ◌∙◌}
 use Rattle.std.specs.Prelude.{Some, None, slice_get, option_map, option_and_then}
-use Rattle.std.proofs.lemmas.Option.{same_Some, slice_get_past}
+use Rattle.std.proofs.lemmas.Option.{slice_get_past}
 use Rattle.hub_model.specs.Revision.{Revision}
 use Rattle.hub_model.specs.Path.{IsPath}
 use Rattle.hub_model.specs.Leaves.{Leaf, revisions_of}
