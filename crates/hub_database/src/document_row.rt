@@ -74,7 +74,7 @@ impl Document {
     {
         Ok(ChangeRow {
             seq,
-            id: self.id.copy(alloc)?,
+            id: self.id.copy()?,
             changes: self.changes(alloc, style)?,
             deleted: self.tree.is_deleted(),
             doc: self.row_doc(alloc, include_docs)?,

@@ -54,7 +54,7 @@ impl Contents {
             return Ok(None);
         };
         Ok(Some(Doc {
-            id: document.id.copy(alloc)?,
+            id: document.id.copy()?,
             rev: Some(edit.rev),
             path: document.tree.path(alloc, &edit.rev)?,
             deleted: edit.deleted,

@@ -37,7 +37,7 @@ impl Document {
             return Ok(None);
         };
         Ok(Some(Doc {
-            id: self.id.copy(alloc)?,
+            id: self.id.copy()?,
             rev: Some(edit.rev),
             path: self.history(alloc, rev, revs)?,
             deleted: edit.deleted,

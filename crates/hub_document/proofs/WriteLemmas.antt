@@ -1,5 +1,5 @@
 -- The texts that are written part by part.
-use Rattle.std.proofs.Common.{◌≡◌, ℕ, suc, ◌+◌, ◌%◌, ◌<◌, ◌≤◌, ◌^◌, List, [], ◌∷◌, ◌++◌, length, take, All, IsTrue, true, refl, sym, ap, ◌∙◌, arith, append_assoc, append-nil, decimal, Result, Ok, Err, OnOk}
+use Rattle.std.proofs.Common.{◌≡◌, ℕ, suc, ◌+◌, ◌%◌, ◌<◌, ◌≤◌, ◌^◌, List, [], ◌∷◌, ◌++◌, length, take, All, IsTrue, refl, sym, ap, ◌∙◌, arith, append_assoc, append-nil, decimal, Result, Ok, Err, OnOk}
 use Rattle.std.proofs.lemmas.Bool.Decides.{nat_tests}
 use Rattle.std.proofs.lemmas.Grind.{common_steps}
 use Rattle.std.proofs.lemmas.Fmt.{decimal_by_steps}
@@ -7,8 +7,6 @@ use Rattle.json.specs.Token.{Token, string}
 use Rattle.json.specs.Print.{escape, escape_byte, quoted, print, print_from}
 use Rattle.json.proofs.Printed.Strings.{escape_byte_plain}
 use Rattle.json.specs.Run.{is_plain}
-use Rattle.std.specs.List.{list_all}
-use Rattle.std.proofs.lemmas.List.Sums.{AllPass-from_list_all}
 use Rattle.hub_model.specs.Revision.{Revision, IsRevision, is_hash_byte, text_of}
 
 -- what a writer of JSON has written after one string
@@ -76,9 +74,9 @@ bytes_plain (b ∷ bs) h =
     ap (λ l. l ++ escape bs) (escape_byte_plain b p.quote p.slash p.low)
     ∙ ap (λ l. b ∷ l) (bytes_plain bs (λ k d within. h (suc k) d (omega arith)))
 
--- a text of such bytes stands between its quotes as it is
-pub quoted_plain : (s : List ℕ) → list_all is_plain s ≡ true → quoted s ≡ 34 ∷ (s ++ 34 ∷ [])
-quoted_plain s plain = ap (λ l. 34 ∷ (l ++ 34 ∷ [])) (bytes_plain s (AllPass-from_list_all is_plain s plain))
+-- a text that needs no escape stands between its quotes as it is
+pub quoted_plain : (s : List ℕ) → escape s ≡ s → quoted s ≡ 34 ∷ (s ++ 34 ∷ [])
+quoted_plain s plain = ap (λ l. 34 ∷ (l ++ 34 ∷ [])) plain
 
 -- a number after a dash
 dashed_plain : (bs : List ℕ) → escape bs ≡ bs → escape (45 ∷ bs) ≡ 45 ∷ bs

@@ -1,5 +1,6 @@
 -- The revisions that a row lists, as they are kept (own).
-use Rattle.std.specs.Prelude.{List, [], ◌∷◌}
+use Rattle.std.specs.Prelude.{◌≡◌, ℕ, List, [], ◌∷◌, length}
+use Rattle.hex.specs.Hex.{IsBytes, encode_lower}
 use Rattle.hub_model.specs.Revision.{Revision}
 use Rattle.hub_document.specs.declared.changes.Kept.{Kept}
 use Rattle.hub_document.specs.declared.changes.Kept.TheVariants.{One, Many}
@@ -15,3 +16,7 @@ changes_in (Many revs) = revs
 abbrev pub lent_in : LentChanges → List Revision
 lent_in (LentOne rev) = rev.now ∷ []
 lent_in (LentMany revs) = revs.now
+
+-- the hash is the hexadecimal text of a digest of 16 bytes in lower-case digits, as each is that is made here
+abbrev pub IsDigestText : List ℕ → Type 0
+IsDigestText hash = (digest : List ℕ) × (length digest ≡ 16) × IsBytes digest × (hash ≡ encode_lower digest)

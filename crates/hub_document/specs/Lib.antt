@@ -5,6 +5,7 @@ pub mod DocText
 pub mod DraftText
 pub mod Fields
 pub mod Histories
+pub mod IdText
 pub mod Ids
 pub mod Inside
 pub mod Joined

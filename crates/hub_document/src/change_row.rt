@@ -46,11 +46,11 @@ fn copied_body(alloc: Global, body: &Option<Body>) -> Result<Option<Body>, Alloc
 }
 
 impl ChangeRow {
-    /// A copy. It costs the lengths of the id, the list of revisions and the members.
+    /// A copy. It costs the lengths of the list of revisions and of the members.
     pub fn copy(&self, alloc: Global) -> Result<ChangeRow, AllocError>
         ensures { IfOk result (λ row. row ≡ self.now) }
     {
-        let id = self.id.copy(alloc)?;
+        let id = self.id.copy()?;
         let changes = self.changes.copy(alloc)?;
         let doc = copied_body(alloc, &self.doc)?;
         Ok(ChangeRow {

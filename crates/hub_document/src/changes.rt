@@ -1,7 +1,7 @@
 //! The revisions that rows list.
 
-ghost use Rattle.std.specs.Prelude.{◌≡◌, ◌∷◌, [], length, slice_get, IfOk};
-ghost use Rattle.hub_document.specs.Changes.{lent_in};
+ghost use Rattle.std.specs.Prelude.{◌≡◌, ◌<◌, ◌∷◌, [], length, slice_get, IfOk, OnErr};
+ghost use Rattle.hub_document.specs.Changes.{IsDigestText, lent_in};
 
 use crate::revision::{DigestRev, RevId};
 use crate::revisions::Revisions;
@@ -73,7 +73,8 @@ impl Changes {
 
     /// One revision. It takes memory only where its hash is no digest's text.
     pub fn one(alloc: Global, rev: RevId) -> Result<Changes, AllocError>
-        ensures { IfOk result (λ changes. changes ≡ rev ∷ []) }
+        ensures ok { IfOk result (λ changes. changes ≡ rev ∷ []) }
+        ensures memory { OnErr result (¬ IsDigestText rev.hash) }
     {
         match rev.digest() {
             Some(digest) => Ok(Changes::of_digest(DigestRev::new(rev.generation(), digest))),
@@ -113,7 +114,8 @@ impl Changes {
 
     /// A copy. One alone that takes no memory is copied without.
     pub fn copy(&self, alloc: Global) -> Result<Changes, AllocError>
-        ensures { IfOk result (λ changes. changes ≡ self.now) }
+        ensures ok { IfOk result (λ changes. changes ≡ self.now) }
+        ensures memory { OnErr result (0 < length self.now) }
     {
         match &self.kept {
             Kept::One(rev) => Ok(Changes::of_digest(rev.copy())),
@@ -123,7 +125,8 @@ impl Changes {
 
     /// They as a list, which takes memory where one alone took none.
     pub fn into_revisions(self, alloc: Global) -> Result<Revisions, AllocError>
-        ensures { IfOk result (λ revs. revs ≡ self) }
+        ensures ok { IfOk result (λ revs. revs ≡ self) }
+        ensures memory { OnErr result (length self ≡ 1) }
     {
         match self.kept {
             Kept::One(rev) => list_of_one(alloc, rev.rev()),

@@ -46,11 +46,11 @@ impl Doc {
         }
     }
 
-    /// A copy. It costs the lengths of the id, the path and the body.
+    /// A copy. It costs the lengths of the path and the body.
     pub fn copy(&self, alloc: Global) -> Result<Doc, AllocError>
         ensures { IfOk result (λ d. d ≡ self.now) }
     {
-        let id = self.id.copy(alloc)?;
+        let id = self.id.copy()?;
         let path = copied_path(alloc, &self.path)?;
         let body = self.body.copy(alloc)?;
         Ok(Doc {

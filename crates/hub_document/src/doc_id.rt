@@ -6,27 +6,33 @@ ghost use Rattle.serde_json.specs.Find.{get};
 ghost use Rattle.hub_document.specs.Local.{is_named_so as is_named_as};
 ghost use Rattle.hub_document.specs.Ids.{IsDocId, is_id as is_id_text, id_of as id_in, short_id};
 
+use crate::id_text::IdText;
 use serde_json::Value;
 use std::alloc::{AllocError, Global};
 use std::marker::Model;
+use std::mem::size_of;
+use std::sync::Arc;
 
 /// A document's id, seen as its bytes: 1 to 512 bytes of UTF-8. One that begins with `_` is
-/// `_design/` and a name.
+/// `_design/` and a name. Its copies share one text, so a copy takes no memory; the value takes 8 bytes.
 #[derive(Debug, Drop)]
 pub struct DocId {
-    text: String,
+    text: Arc<IdText, Global>,
 }
 
+const _: () = prove!(size_of::<DocId>() == 8);
+
 impl Model for DocId {
-    ghost use Rattle.std.specs.Prelude.{List, ℕ, string_bytes};
+    ghost use Rattle.std.specs.Prelude.{List, ℕ};
+    ghost use Rattle.std.specs.Arc.{arc_value};
 
     ghost Value = { List ℕ };
 
-    ghost view = { λ a. string_bytes a.text };
+    ghost view = { λ a. arc_value a.text };
 
     ghost use Rattle.hub_document.specs.Ids.{IsDocId};
 
-    ghost invariant = { λ a. IsDocId (string_bytes a.text) };
+    ghost invariant = { λ a. IsDocId (arc_value a.text) };
 }
 
 impl DocId {
@@ -43,12 +49,13 @@ impl DocId {
         Ok(Some(id))
     }
 
-    /// A copy of the text. It costs the text's length.
+    /// The id that this text is. It costs the text's length.
     pub(crate) fn copied(alloc: Global, text: &str) -> Result<DocId, AllocError>
         requires { IsDocId text.now }
         ensures { IfOk result (λ i. i ≡ text.now) }
     {
-        let text = String::from_str(alloc, text)?;
+        let text = IdText::copied(alloc, text)?;
+        let text = Arc::new(alloc, text)?;
         Ok(DocId { text })
     }
 
@@ -60,18 +67,19 @@ impl DocId {
         self.text.as_str()
     }
 
-    /// The text itself. It takes no memory.
-    pub fn into_string(self) -> String
-        ensures { string_bytes result ≡ self }
+    /// A copy of its text. It costs the text's length.
+    pub fn to_text(&self, alloc: Global) -> Result<String, AllocError>
+        ensures { IfOk result (λ text. string_bytes text ≡ self.now) }
     {
-        self.text
+        String::from_str(alloc, self.as_str())
     }
 
-    /// A copy. It costs the id's length.
-    pub fn copy(&self, alloc: Global) -> Result<DocId, AllocError>
+    /// A copy, which shares the text. Constant time, and no memory: an error would want 2^64 copies at once.
+    pub fn copy(&self) -> Result<DocId, AllocError>
         ensures { IfOk result (λ i. i ≡ self.now) }
     {
-        DocId::copied(alloc, self.text.as_str())
+        let text = self.text.clone()?;
+        Ok(DocId { text })
     }
 }
 

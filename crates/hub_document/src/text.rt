@@ -1,37 +1,22 @@
 //! The JSON texts of documents, written part by part behind what a vector holds.
 
-ghost use Rattle.std.specs.Prelude.{◌≡◌, ◌++◌, length, take, true, OnOk};
-ghost use Rattle.std.specs.List.{list_all};
-ghost use Rattle.json.specs.Print.{quoted};
-ghost use Rattle.json.specs.Run.{is_plain};
+ghost use Rattle.std.specs.Prelude.{◌≡◌, ◌++◌, length, take, OnOk};
+ghost use Rattle.json.specs.Print.{escape, quoted};
 ghost use Rattle.hub_document.specs.DocText.{rev_member, deleted_member, history_member, history_text, inside};
 ghost use Rattle.hub_document.specs.Joined.{after_commas, head_text, ids_text, start_text, count_text, rest_text};
 
 use crate::body::Body;
 use crate::path::Path;
+use crate::plain::is_plain;
 use crate::revision::RevId;
 use itoa::Buffer;
 use json::Writer;
 use std::alloc::AllocError;
 use std::mem;
 
-// Whether a byte stands for itself in a JSON string (RFC 8259, section 7).
-fn is_plain_byte(byte: u8) -> bool
-    ensures { result ≡ is_plain byte }
-{
-    byte >= 0x20 && byte != b'"' && byte != b'\\'
-}
-
-// Whether each byte does.
-fn are_plain(text: &[u8]) -> bool
-    ensures { result ≡ list_all is_plain text.now }
-{
-    text.iter().all(|byte| is_plain_byte(*byte))
-}
-
-// Appends the JSON string of a text whose bytes stand for themselves.
+// Appends the JSON string of a text that needs no escape.
 fn put_plain(out: &mut Vec<u8>, text: &str) -> Result<(), AllocError>
-    requires { list_all is_plain text.now ≡ true }
+    requires { escape text.now ≡ text.now }
     ensures ok { OnOk result (out.new.items ≡ out.old.items ++ quoted text.now) }
     ensures front { take (length out.old.items) out.new.items ≡ out.old.items }
 {
@@ -60,7 +45,7 @@ pub fn put_quoted(out: &mut Vec<u8>, text: &str) -> Result<(), AllocError>
     ensures ok { OnOk result (out.new.items ≡ out.old.items ++ quoted text.now) }
     ensures front { take (length out.old.items) out.new.items ≡ out.old.items }
 {
-    if are_plain(text.as_bytes()) {
+    if is_plain(text.as_bytes()) {
         put_plain(out, text)
     } else {
         put_escaped(out, text)

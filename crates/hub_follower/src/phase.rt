@@ -46,7 +46,7 @@ fn revisions_of_rows(alloc: Global, rows: Vec<ChangeRow>) -> Result<Vec<Asked>, 
     let mut asked = Vec::new(alloc);
     for row in rows {
         asked.push(Asked {
-            id: row.id.into_string(),
+            id: row.id.to_text(alloc)?,
             revs: row.changes.into_revisions(alloc)?,
         })?;
     }

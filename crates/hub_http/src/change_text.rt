@@ -4,9 +4,8 @@ ghost use Rattle.std.specs.Prelude.{◌≡◌, [], ◌∷◌, ◌++◌, length, 
 ghost use Rattle.json.specs.Print.{escape};
 ghost use Rattle.hub_http.specs.ChangeTexts.{revision_text, revisions_text, row_mark, doc_member, row_end, id_member, row_head, change_row_text, change_end_text};
 
-use crate::plain::is_plain;
 use crate::row_text::RowText;
-use hub_document::{ChangeRow, Changes, DigestRev, LentChanges, RevId, put_quoted};
+use hub_document::{ChangeRow, Changes, DigestRev, LentChanges, RevId, is_plain, put_quoted};
 use itoa::Buffer;
 use std::alloc::AllocError;
 

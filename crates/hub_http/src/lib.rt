@@ -14,7 +14,6 @@ mod interruption_tests;
 mod item;
 mod length;
 mod output;
-mod plain;
 mod read;
 mod refusal;
 mod reply;

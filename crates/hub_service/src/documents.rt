@@ -129,7 +129,7 @@ fn listed(alloc: Global, doc: Doc) -> Result<Vec<Doc>, AllocError>
 fn edit<N: Wait>(target: &Target<'_, N>, status: StatusCode, doc: Doc) -> Result<Response, Refusal>
     ensures { IsWritten (λ db. edits status db doc) result }
 {
-    let id = doc.id.copy(target.alloc)?;
+    let id = doc.id.copy()?;
     let written = target.write(listed(target.alloc, doc)?, true)?;
     if let Some(fault) = written.lapsed {
         return Err(unnoted(fault));

@@ -68,7 +68,7 @@ fn ids_of(alloc: Global, docs: &[Doc]) -> Result<Vec<DocId>, AllocError>
 {
     let mut ids = Vec::new(alloc);
     for doc in docs {
-        ids.push(doc.id.copy(alloc)?)?;
+        ids.push(doc.id.copy()?)?;
     }
     Ok(ids)
 }

@@ -10,7 +10,7 @@ fn wrong(
 ) -> Result<Option<&'static str>, AllocError> {
     for text in table.split(' ') {
         let holds = match DocId::read(alloc, text)? {
-            Some(id) => good && id.as_str() == text && id.into_string().as_str() == text,
+            Some(id) => good && id.as_str() == text && id.to_text(alloc)?.as_str() == text,
             None => !good,
         };
         if !holds {

@@ -113,7 +113,7 @@ fn has_all<R: Wait>(
     let mut asked = Vec::new(alloc);
     for row in changes.rows {
         asked.push(Asked {
-            id: row.id.into_string(),
+            id: row.id.to_text(alloc)?,
             revs: row.changes.into_revisions(alloc)?,
         })?;
     }

@@ -69,7 +69,7 @@ fn plain_all(text: &[u8]) -> bool
 }
 
 /// Whether a text needs no escape. It looks at 8 or 16 bytes at a time.
-pub(crate) fn is_plain(text: &[u8]) -> bool
+pub fn is_plain(text: &[u8]) -> bool
     ensures { OnTrue result (escape text.now ≡ text.now) }
 {
     plain_all(text)
