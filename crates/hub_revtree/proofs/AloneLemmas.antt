@@ -1,7 +1,8 @@
 -- The winner alone: its revision as a row lists it, and its mark.
 use Rattle.std.proofs.Common.{◌≡◌, ◌≤◌, ℕ, List, [], ◌∷◌, length, take, Bool, false, refl, sym, ap, ◌∙◌}
-use Rattle.std.specs.Prelude.{Some, None, slice_get, option_map, option_and_then}
+use Rattle.std.specs.Prelude.{Some, None, IsSomeAnd, slice_get, option_map, option_and_then}
 use Rattle.std.proofs.lemmas.Option.{slice_get_past}
+use Rattle.hub_document.specs.Changes.{IsDigestText}
 use Rattle.hub_model.specs.Revision.{Revision}
 use Rattle.hub_model.specs.Path.{IsPath}
 use Rattle.hub_model.specs.Leaves.{Leaf, revisions_of}
@@ -28,6 +29,13 @@ module _ (xs : List Stem) (a : AreStems xs) (k : ℕ) (s : Stem) (at : slice_get
       let r = newest s.revisions (a.falling k s at) in
       rw (head_at xs a k s r.0 at r.1) (ap Some (sym is))
 
+  -- where the one is the text of no digest, so is the other
+  pub head_other : IsSomeAnd (slice_get s.revisions 0) (λ r. ¬ IsDigestText r.hash)
+      → IsSomeAnd (option_and_then head_in (slice_get (branches_of xs) k)) (λ w. ¬ IsDigestText w.rev.hash)
+  head_other other =
+      let r = newest s.revisions (a.falling k s at) in
+      rw (head_at xs a k s r.0 at r.1) (rw r.1 at other)
+
 -- past the branches stands none
 pub no_head : (bs : List Branch) (k : ℕ) → length bs ≤ k → option_and_then head_in (slice_get bs k) ≡ None
 no_head bs k past = ap (option_and_then head_in) (slice_get_past bs k past)
@@ -36,3 +44,9 @@ no_head bs k past = ap (option_and_then head_in) (slice_get_past bs k past)
 pub no_winner : (ls : List Leaf) → winner_of ls ≡ None → (take 1 (revisions_of ls) ≡ []) × (is_deleted ls ≡ false)
 no_winner [] none = (refl, refl)
 no_winner (l ∷ ls) none = absurd (cc)
+
+-- the first of the leaves is the first of their revisions
+pub winner_other : (ls : List Leaf) → IsSomeAnd (winner_of ls) (λ w. ¬ IsDigestText w.rev.hash)
+    → IsSomeAnd (slice_get (revisions_of ls) 0) (λ r. ¬ IsDigestText r.hash)
+winner_other [] other = absurd other
+winner_other (l ∷ ls) other = other

@@ -1,8 +1,9 @@
 //! The stored edits of a document, which share what stands behind them.
 
-ghost use Rattle.std.specs.Prelude.{◌≡◌, ◌≤◌, ◌<◌, ◌++◌, ◌∷◌, Some, [], ◌-◌, ◌^◌, length, map, min, take, is_some, false, find, option_map, option_and_then, slice_get, IfSome, IfOk, IsTrue, OnOk, OnErr};
+ghost use Rattle.std.specs.Prelude.{◌≡◌, ◌≤◌, ◌<◌, ◌++◌, ◌∷◌, Some, [], ◌-◌, ◌^◌, length, map, min, take, is_some, false, find, option_map, option_and_then, slice_get, IfSome, IfOk, IsSomeAnd, IsTrue, OnOk, OnErr};
 ghost use Rattle.std.specs.List.{list_any, list_all};
 ghost use Rattle.hex.specs.Hex.{encode_lower};
+ghost use Rattle.hub_document.specs.Changes.{IsDigestText};
 ghost use Rattle.hub_model.specs.Journal.{IsAcceptable, IsLegal};
 ghost use Rattle.hub_model.specs.Leaves.{is_behind_head as stands_behind_head};
 ghost use Rattle.hub_model.specs.Missing.{highest as highest_of, missing as missing_from};
@@ -153,7 +154,8 @@ impl Branches {
     /// digest's text. Constant time.
     pub(crate) fn head_alone(&self, alloc: Global, at: usize) -> Result<Changes, AllocError>
         requires { at < length self.now.list }
-        ensures { IfOk result (λ changes. option_map (λ w. w.rev ∷ []) (option_and_then head_in (slice_get self.now.list at)) ≡ Some changes) }
+        ensures ok { IfOk result (λ changes. option_map (λ w. w.rev ∷ []) (option_and_then head_in (slice_get self.now.list at)) ≡ Some changes) }
+        ensures memory { OnErr result (IsSomeAnd (option_and_then head_in (slice_get self.now.list at)) (λ w. ¬ IsDigestText w.rev.hash)) }
     {
         let changes = self.stems[at].newest(alloc)?;
         Ok(changes)

@@ -1,8 +1,9 @@
 //! Runs of revisions, in little memory.
 
-ghost use Rattle.std.specs.Prelude.{◌≡◌, ◌≤◌, ◌<◌, ◌++◌, ◌∷◌, [], ◌&&◌, nat_eq, List, length, Some, false, drop, map, option_map, slice_get, take, IfSome, IfNone, IfOk, IsTrue, OnOk};
+ghost use Rattle.std.specs.Prelude.{◌≡◌, ◌≤◌, ◌<◌, ◌++◌, ◌∷◌, [], ◌&&◌, nat_eq, List, length, Some, false, drop, map, option_map, slice_get, take, IfSome, IfNone, IfOk, IsSomeAnd, IsTrue, OnErr, OnOk};
 ghost use Rattle.std.specs.Str.{bytes_eq};
 ghost use Rattle.hex.specs.Hex.{encode_lower};
+ghost use Rattle.hub_document.specs.Changes.{IsDigestText};
 ghost use Rattle.hub_model.specs.Revision.{Revision};
 ghost use Rattle.hub_model.specs.Path.{IsPath, is_first, names};
 ghost use Rattle.hub_revtree.specs.Run.{kept_in, revisions_from};
@@ -194,7 +195,8 @@ impl Run {
     /// The newest revision alone, as a row lists it. It takes memory only where a hash is no digest's text.
     pub(crate) fn newest(&self, alloc: Global) -> Result<Changes, AllocError>
         requires { IsPath self.now }
-        ensures { IfOk result (λ changes. changes ≡ take 1 self.now) }
+        ensures ok { IfOk result (λ changes. changes ≡ take 1 self.now) }
+        ensures memory { OnErr result (IsSomeAnd (slice_get self.now 0) (λ r. ¬ IsDigestText r.hash)) }
     {
         match &self.kept {
             Kept::One(newest, digest) => {

@@ -1,7 +1,8 @@
 //! What one edit of a tree brought.
 
-ghost use Rattle.std.specs.Prelude.{◌≡◌, ◌<◌, ◌++◌, List, Some, false, drop, length, map, slice_get, take, IfSome, IfNone, IfOk, IsTrue, OnOk};
+ghost use Rattle.std.specs.Prelude.{◌≡◌, ◌<◌, ◌++◌, List, Some, false, drop, length, map, slice_get, take, IfSome, IfNone, IfOk, IsSomeAnd, IsTrue, OnErr, OnOk};
 ghost use Rattle.hex.specs.Hex.{encode_lower};
+ghost use Rattle.hub_document.specs.Changes.{IsDigestText};
 ghost use Rattle.hub_model.specs.Path.{IsPath, names, is_first};
 ghost use Rattle.hub_model.specs.Revision.{Revision};
 
@@ -104,7 +105,8 @@ impl Stem {
     /// As `Run::newest`.
     pub(crate) fn newest(&self, alloc: Global) -> Result<Changes, AllocError>
         requires { IsPath self.now.revisions }
-        ensures { IfOk result (λ changes. changes ≡ take 1 self.now.revisions) }
+        ensures ok { IfOk result (λ changes. changes ≡ take 1 self.now.revisions) }
+        ensures memory { OnErr result (IsSomeAnd (slice_get self.now.revisions 0) (λ r. ¬ IsDigestText r.hash)) }
     {
         self.run.newest(alloc)
     }

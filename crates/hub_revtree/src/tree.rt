@@ -1,6 +1,7 @@
 //! The tree of a document's revisions.
 
-ghost use Rattle.std.specs.Prelude.{Bool, ◌≡◌, ◌≤◌, ◌-◌, ◌^◌, min, ◌++◌, ◌∷◌, ◌↔◌, [], length, slice_get, take, IsTrue, IsSome, IsNone, IfSome, IfNone, IfOk, OnOk, OnErr, option_map, None, Some};
+ghost use Rattle.std.specs.Prelude.{Bool, ◌≡◌, ◌≤◌, ◌-◌, ◌^◌, min, ◌++◌, ◌∷◌, ◌↔◌, [], length, slice_get, take, IsTrue, IsSome, IsNone, IsSomeAnd, IfSome, IfNone, IfOk, OnOk, OnErr, option_map, None, Some};
+ghost use Rattle.hub_document.specs.Changes.{IsDigestText};
 ghost use Rattle.hub_model.specs.Journal.{IsKnown, IsAcceptable, head_of};
 ghost use Rattle.hub_model.specs.Leaves.{IsMarked, IsWinner, leaves_of, revisions_of};
 ghost use Rattle.hub_model.specs.Path.{IsHistory};
@@ -195,7 +196,8 @@ impl RevTree {
     /// The revision of the best leaf, as a row lists it; none of a tree with no edit. It takes memory only
     /// where its hash is no digest's text. Constant time.
     pub fn winner_alone(&self, alloc: Global) -> Result<Changes, AllocError>
-        ensures { IfOk result (λ changes. changes ≡ take 1 (revisions_of (leaves_of self.now.edits []))) }
+        ensures ok { IfOk result (λ changes. changes ≡ take 1 (revisions_of (leaves_of self.now.edits []))) }
+        ensures memory { OnErr result (IsSomeAnd (slice_get (revisions_of (leaves_of self.now.edits [])) 0) (λ r. ¬ IsDigestText r.hash)) }
     {
         if self.best < self.branches.len() {
             self.branches.head_alone(alloc, self.best)
