@@ -1,6 +1,6 @@
 -- The winner alone: its revision as a row lists it, and its mark.
 use Rattle.std.proofs.Common.{◌≡◌, ◌≤◌, ℕ, List, [], ◌∷◌, length, take, Bool, false, refl, sym, ap, ◌∙◌}
-use Rattle.std.specs.Prelude.{Some, None, IsSomeAnd, slice_get, option_map, option_and_then}
+use Rattle.std.specs.Prelude.{Result, Ok, Err, OnErr, Some, None, IsSomeAnd, slice_get, option_map, option_and_then}
 use Rattle.std.proofs.lemmas.Option.{slice_get_past}
 use Rattle.hub_document.specs.Changes.{IsDigestText}
 use Rattle.hub_model.specs.Revision.{Revision}
@@ -50,3 +50,8 @@ pub winner_other : (ls : List Leaf) → IsSomeAnd (winner_of ls) (λ w. ¬ IsDig
     → IsSomeAnd (slice_get (revisions_of ls) 0) (λ r. ¬ IsDigestText r.hash)
 winner_other [] other = absurd other
 winner_other (l ∷ ls) other = other
+
+-- what is refused for a reason is refused for each weaker one
+pub refused_for : {A E P Q : Type 0} → (r : Result A E) → OnErr r P → (P → Q) → OnErr r Q
+refused_for (Ok x) h f = h
+refused_for (Err e) h f = f h
