@@ -1,12 +1,13 @@
 //! Rows of changes.
 
-ghost use Rattle.std.specs.Prelude.{◌≡◌, ◌++◌, length, take, IfOk, OnOk};
-ghost use Rattle.hub_document.specs.DocText.{doc_text, row_doc};
+ghost use Rattle.std.specs.Prelude.{◌≡◌, ◌++◌, length, slice_get, take, IfOk, OnOk};
+ghost use Rattle.hub_document.specs.DocText.{doc_text, rev_member, row_doc};
+ghost use Rattle.hub_document.specs.Joined.{after_commas};
 
 use crate::body::Body;
-use crate::changes::Changes;
+use crate::changes::{Changes, LentChanges};
 use crate::doc_id::DocId;
-use crate::text::{put_deleted, put_head, put_rest, put_rev};
+use crate::text::{put_deleted, put_digest_rev, put_head, put_rest, put_rev};
 use std::alloc::{AllocError, Global};
 use std::marker::Model;
 
@@ -45,6 +46,17 @@ fn copied_body(alloc: Global, body: &Option<Body>) -> Result<Option<Body>, Alloc
     }
 }
 
+// The revision of the document, which is the first that the row lists, if it lists one.
+fn put_winner(out: &mut Vec<u8>, changes: &Changes) -> Result<(), AllocError>
+    ensures ok { OnOk result (out.new.items ≡ out.old.items ++ after_commas (rev_member (slice_get changes.now 0))) }
+    ensures front { take (length out.old.items) out.new.items ≡ out.old.items }
+{
+    match changes.lent() {
+        LentChanges::One(rev) => put_digest_rev(out, rev),
+        LentChanges::Many(revs) => put_rev(out, &revs.first().copied()),
+    }
+}
+
 impl ChangeRow {
     /// A copy. It costs the lengths of the list of revisions and of the members.
     pub fn copy(&self, alloc: Global) -> Result<ChangeRow, AllocError>
@@ -70,9 +82,8 @@ impl ChangeRow {
         ensures ok { OnOk result (out.new.items ≡ out.old.items ++ doc_text (row_doc self.now body.now)) }
         ensures front { take (length out.old.items) out.new.items ≡ out.old.items }
     {
-        let winner = self.changes.get(0);
         put_head(out, self.id.as_str())?;
-        put_rev(out, &winner)?;
+        put_winner(out, &self.changes)?;
         put_deleted(out, self.deleted)?;
         put_rest(out, body)?;
         Ok(())

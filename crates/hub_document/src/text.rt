@@ -1,6 +1,6 @@
 //! The JSON texts of documents, written part by part behind what a vector holds.
 
-ghost use Rattle.std.specs.Prelude.{◌≡◌, ◌++◌, length, take, OnOk};
+ghost use Rattle.std.specs.Prelude.{◌≡◌, ◌++◌, length, take, OnOk, Some};
 ghost use Rattle.json.specs.Print.{escape, quoted};
 ghost use Rattle.hub_document.specs.DocText.{rev_member, deleted_member, history_member, history_text, inside};
 ghost use Rattle.hub_document.specs.Joined.{after_commas, head_text, ids_text, start_text, count_text, rest_text};
@@ -8,7 +8,7 @@ ghost use Rattle.hub_document.specs.Joined.{after_commas, head_text, ids_text, s
 use crate::body::Body;
 use crate::path::Path;
 use crate::plain::is_plain;
-use crate::revision::RevId;
+use crate::revision::{DigestRev, RevId};
 use itoa::Buffer;
 use json::Writer;
 use std::alloc::AllocError;
@@ -69,6 +69,16 @@ pub(crate) fn put_rev(out: &mut Vec<u8>, rev: &Option<RevId>) -> Result<(), Allo
     let Some(rev) = rev else {
         return Ok(());
     };
+    out.extend_from_slice(b",\"_rev\":")?;
+    rev.print_quoted(out)?;
+    Ok(())
+}
+
+// The same of a revision whose hash is a digest's text.
+pub(crate) fn put_digest_rev(out: &mut Vec<u8>, rev: &DigestRev) -> Result<(), AllocError>
+    ensures ok { OnOk result (out.new.items ≡ out.old.items ++ after_commas (rev_member (Some rev.now))) }
+    ensures front { take (length out.old.items) out.new.items ≡ out.old.items }
+{
     out.extend_from_slice(b",\"_rev\":")?;
     rev.print_quoted(out)?;
     Ok(())

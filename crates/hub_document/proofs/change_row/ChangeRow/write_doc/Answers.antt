@@ -13,5 +13,5 @@ returns-clause-ok c =
     rw (← c.self.view_is)
     (doc_written c.args.out.now.items _ _ _
     (front_written c.args.out.now.items _ _ _ _ _ _ (rw c.as_str.ensures.value at c.in_ok-put_head.ensures.ok)
-    (rw c.get-winner.ensures at c.in_ok-put_rev.ensures.ok) c.in_ok-put_deleted.ensures.ok)
+    c.in_ok-put_winner.ensures.ok c.in_ok-put_deleted.ensures.ok)
     c.in_ok-put_rest.ensures.ok)
