@@ -21,6 +21,7 @@ use Rattle.hub_model.specs.Row.{doc_of}
 use Rattle.hub_revtree.specs.Extend.{path_to}
 use Rattle.hub_revtree.specs.Tree.{IsRevTree, Tip, tip, tip_of}
 use Rattle.hub_revtree.specs.Winner.{winner_of}
+use Rattle.hub_revtree.proofs.HeadLemmas.{leaf_headed}
 use Rattle.hub_database.specs.declared.document.Document.{Document}
 use Rattle.hub_database.specs.declared.answers.Lookup.TheVariants as looked
 use Rattle.hub_database.specs.declared.entry.Entry.{Entry}
@@ -118,31 +119,12 @@ module _ (d : Document) (r h : Revision) (deleted : Bool) (body : List ℕ) wher
       lent (find (is_head r) (edits_of edits [])) (tip h deleted body) (path_to edits h) same on
       (λ e found tips path. doc_of_edit e found tips path revs history is_so)
 
--- the edit of a winner is the one that its revision heads
+-- what is shown of a leaf is of the edit that it heads
 module _ (J : List Edit) (id : List ℕ) (legal : IsLegal J) where
-  pub leaf_headed : (l : Leaf) → Contains (leaves_of J id) l
-      → find (is_head l.rev) (edits_of J id) ≡ Some l.edit
-  leaf_headed l c = from (find (is_head l.rev) (edits_of J id)) refl
-    where
-      from : (o : Option Edit) → find (is_head l.rev) (edits_of J id) ≡ o
-          → find (is_head l.rev) (edits_of J id) ≡ Some l.edit
-      from None q =
-          let e = leaf_edit J id legal l c in
-          absurd
-          (find_not (is_head l.rev) (edits_of J id) q l.edit (in_edits J id l.edit e.0)
-          (is_head_from l.edit.path l.rev e.1))
-      from (Some f) q =
-          let e = leaf_edit J id legal l c in
-          let i = find_is (is_head l.rev) (edits_of J id) f q in
-          q
-          ∙ ap Some
-          ((legal_sound J legal).once id l.rev f l.edit (edits_in J id f i.1) e.0 (head_is f.path l.rev i.0)
-          e.1)
-
   leaf_shown : (l : Leaf) → Contains (leaves_of J id) l
       → shown J id l.rev
       ≡ Some (record { id = id; path = line_of J id l.rev; deleted = l.edit.deleted; body = l.edit.body })
-  leaf_shown l c = ap (shown_of J id l.rev) (leaf_headed l c)
+  leaf_shown l c = ap (shown_of J id l.rev) (leaf_headed J id legal l c)
 
   -- a winner that is deleted
   pub lookup_deleted : (revs : Bool) (w : Winner) → Some w ≡ winner_of (leaves_of J id) → w.deleted ≡ true
@@ -260,31 +242,3 @@ module _ (J : List Edit) (id : List ℕ) (d : Document) (f : IsFound J id d) (re
 module _ (J : List Edit) (id : List ℕ) (none : edits_of J id ≡ []) where
   pub no_leaves : leaves_of J id ≡ []
   no_leaves = ap (λ es. best_first (leaves_among es es)) none
-
--- the members of the winner of a tree
-module _ (edits : List Edit) (tree : IsRevTree edits) (w : Winner)
-    (is : Some w ≡ winner_of (leaves_of edits [])) where
-  winner_edit : (l : Leaf) (others : List Leaf) → leaves_of edits [] ≡ l ∷ others
-      → find (is_head w.rev) (edits_of edits []) ≡ Some l.edit
-  winner_edit l others q =
-      let rev : w.rev ≡ l.rev = ap (λ (z : Winner). z.rev) (same_Some w _ (is ∙ ap winner_of q)) in
-      ap (λ r. find (is_head r) (edits_of edits [])) rev
-      ∙ leaf_headed edits [] tree.legal l (subst (λ ls. Contains ls l) (sym q) (contains_here l others))
-
-  pub members_found : (h : Revision) (deleted : Bool) (body : List ℕ)
-      → Some (tip h deleted body) ≡ option_map tip_of (find (is_head w.rev) (edits_of edits []))
-      → Some body ≡ doc_of true (leaves_of edits [])
-  members_found h deleted body found = from (leaves_of edits []) refl
-    where
-      from : (ls : List Leaf) → leaves_of edits [] ≡ ls → Some body ≡ doc_of true ls
-      from [] q = absurd (none-some w (sym (is ∙ ap winner_of q)))
-      from (l ∷ others) q =
-          ap (λ (t : Tip). Some t.body)
-          (same_Some (tip h deleted body) (tip_of l.edit) (found ∙ ap (option_map tip_of) (winner_edit l others q)))
-
-  pub members_none : None ≡ option_map tip_of (find (is_head w.rev) (edits_of edits [])) → ⊥
-  members_none none = from (leaves_of edits []) refl
-    where
-      from : (ls : List Leaf) → leaves_of edits [] ≡ ls → ⊥
-      from [] q = none-some w (sym (is ∙ ap winner_of q))
-      from (l ∷ others) q = none-some (tip_of l.edit) (none ∙ ap (option_map tip_of) (winner_edit l others q))

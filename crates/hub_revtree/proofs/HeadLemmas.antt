@@ -5,10 +5,13 @@ use Rattle.std.proofs.lemmas.Bool.{cases_Bool}
 use Rattle.std.proofs.lemmas.Option.{same_Some, slice_get-map}
 use Rattle.hub_model.specs.Revision.{Revision, is_same}
 use Rattle.hub_model.specs.Path.{is_first}
-use Rattle.hub_model.specs.Journal.{Edit, edits_of, head_of}
+use Rattle.hub_model.specs.Journal.{Edit, IsLegal, edits_of, head_of}
+use Rattle.hub_model.specs.Leaves.{Leaf, leaves_of}
 use Rattle.hub_model.specs.Walk.{is_head}
-use Rattle.hub_model.proofs.Shown.{find_is}
-use Rattle.hub_model.proofs.Tests.{edits_in as edits_in_of, is_known_from, names_is, same_self}
+use Rattle.hub_model.proofs.Legal.{legal_sound}
+use Rattle.hub_model.proofs.Shown.{find_is, find_not, head_is, is_head_from}
+use Rattle.hub_model.proofs.Sorted.{leaf_edit}
+use Rattle.hub_model.proofs.Tests.{edits_in as edits_in_of, in_edits, is_known_from, names_is, same_self}
 use Rattle.hub_document.specs.Lines.{from_on}
 use Rattle.hub_document.proofs.PlaceLemmas.{named}
 use Rattle.hub_revtree.specs.Branch.{Branch, edit_of, edits_in}
@@ -18,7 +21,8 @@ use Rattle.hub_revtree.proofs.JoinLemmas.{there}
 use Rattle.hub_revtree.proofs.LineLemmas.{line_is}
 use Rattle.hub_revtree.proofs.TreeLemmas.{all_of_one}
 
-among : (bs : List Branch) (r : Revision) → option_map edit_of (find (λ b. is_first r b.path) bs) ≡ find (is_head r) (edits_in bs)
+-- the branch that a revision heads, as an edit
+pub among : (bs : List Branch) (r : Revision) → option_map edit_of (find (λ b. is_first r b.path) bs) ≡ find (is_head r) (edits_in bs)
 among [] r = refl
 among (b ∷ bs) r = elim (cases_Bool (is_first r b.path)) [
   | inl t ↦ rw t refl
@@ -69,3 +73,24 @@ module _ {A : Type 0} (es : List Edit) (tree : IsRevTree es) (rev : A → Revisi
 
   pub headed_path : (r : Revision) → option_map (λ e. tip (rev e) (deleted e) (body e)) o ≡ option_map tip_of (find (is_head r) (edits_of es [])) → option_map (λ e. path_to es (rev e)) o ≡ option_map (λ e. Some e.path) (find (is_head r) (edits_of es []))
   headed_path r same = lent_path (find (is_head r) (edits_of es [])) (λ e is. subst (λ z. Contains z e) tree.one (find_is (is_head r) (edits_of es []) e is).1) same
+
+-- the edit of a leaf is the one that its revision heads
+module _ (J : List Edit) (id : List ℕ) (legal : IsLegal J) where
+  pub leaf_headed : (l : Leaf) → Contains (leaves_of J id) l
+      → find (is_head l.rev) (edits_of J id) ≡ Some l.edit
+  leaf_headed l c = from (find (is_head l.rev) (edits_of J id)) refl
+    where
+      from : (o : Option Edit) → find (is_head l.rev) (edits_of J id) ≡ o
+          → find (is_head l.rev) (edits_of J id) ≡ Some l.edit
+      from None q =
+          let e = leaf_edit J id legal l c in
+          absurd
+          (find_not (is_head l.rev) (edits_of J id) q l.edit (in_edits J id l.edit e.0)
+          (is_head_from l.edit.path l.rev e.1))
+      from (Some f) q =
+          let e = leaf_edit J id legal l c in
+          let i = find_is (is_head l.rev) (edits_of J id) f q in
+          q
+          ∙ ap Some
+          ((legal_sound J legal).once id l.rev f l.edit (edits_in_of J id f i.1) e.0 (head_is f.path l.rev i.0)
+          e.1)

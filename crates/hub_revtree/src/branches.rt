@@ -161,6 +161,15 @@ impl Branches {
         Ok(changes)
     }
 
+    /// The members of the edit of this number, which is the one that its revision heads. Constant time.
+    pub(crate) fn body(&self, at: usize) -> &Body
+        requires { at < length self.now.list }
+        ensures { IsSomeAnd (option_and_then head_in (slice_get self.now.list at)) (λ w.
+            option_map (λ b. b.body) (find (λ b. is_first w.rev b.path) self.now.list) ≡ Some result.now) }
+    {
+        self.stems[at].body()
+    }
+
     /// Whether the edit of this number deletes the document. Constant time.
     pub(crate) fn is_head_deleted(&self, at: usize) -> bool
         requires { at < length self.now.list }

@@ -1,11 +1,11 @@
 //! The tree of a document's revisions.
 
-ghost use Rattle.std.specs.Prelude.{Bool, ◌≡◌, ◌≤◌, ◌-◌, ◌^◌, min, ◌++◌, ◌∷◌, ◌↔◌, [], length, slice_get, take, IsTrue, IsSome, IsNone, IsSomeAnd, IfSome, IfNone, IfOk, OnOk, OnErr, option_map, None, Some};
+ghost use Rattle.std.specs.Prelude.{Bool, true, ◌≡◌, ◌≤◌, ◌-◌, ◌^◌, min, ◌++◌, ◌∷◌, ◌↔◌, [], length, slice_get, take, IsTrue, IsSome, IsNone, IsSomeAnd, IfSome, IfNone, IfOk, OnOk, OnErr, option_map, None, Some};
 ghost use Rattle.hub_document.specs.Changes.{IsDigestText};
 ghost use Rattle.hub_model.specs.Journal.{IsKnown, IsAcceptable, head_of};
 ghost use Rattle.hub_model.specs.Leaves.{IsMarked, IsWinner, leaves_of, revisions_of};
 ghost use Rattle.hub_model.specs.Path.{IsHistory};
-ghost use Rattle.hub_model.specs.Row.{is_deleted};
+ghost use Rattle.hub_model.specs.Row.{doc_of, is_deleted};
 ghost use Rattle.hub_revtree.specs.Branch.{edits_in};
 ghost use Rattle.hub_revtree.specs.Count.{revision_count};
 ghost use Rattle.hub_revtree.specs.Tree.{HasKnownHead, IsRevTree, nameless};
@@ -204,6 +204,16 @@ impl RevTree {
         } else {
             Ok(Changes::new(Revisions::new(Vec::new(alloc))))
         }
+    }
+
+    /// The members of the best leaf's document; None of a tree with no edit. Constant time.
+    pub fn winner_body(&self) -> Option<&Body>
+        ensures { option_map (λ b. b.now) result ≡ doc_of true (leaves_of self.now.edits []) }
+    {
+        if self.best >= self.branches.len() {
+            return None;
+        }
+        Some(self.branches.body(self.best))
     }
 
     /// Whether the best leaf deletes the document; false of a tree with no edit. Constant time.
