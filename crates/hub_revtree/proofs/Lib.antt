@@ -14,3 +14,5 @@ pub mod StemLooks
 pub mod HighestLemmas
 pub mod WinnerLemmas
 pub mod SoughtLemmas
+pub mod IndexLemmas
+pub mod KeyLemmas

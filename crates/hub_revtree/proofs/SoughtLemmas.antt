@@ -46,7 +46,7 @@ same_digests d e sized sized' fits fits' same =
     same_number_lists d e (sized ∙ sym sized') (λ i low. same_bytes (slice_index d) (slice_index e) fits fits' 15 same i (omega (arith, low, sized)))
 
 -- a text is that of one digest alone
-one_digest : (d e : List ℕ) → length d ≡ 16 → length e ≡ 16 → IsBytes d → IsBytes e → encode_lower d ≡ encode_lower e → d ≡ e
+pub one_digest : (d e : List ℕ) → length d ≡ 16 → length e ≡ 16 → IsBytes d → IsBytes e → encode_lower d ≡ encode_lower e → d ≡ e
 one_digest d e sized sized' fits fits' same = read (sym (decode_sized-encode_lower d 16 sized fits) ∙ ap (λ h. decode_sized h 16) same ∙ decode_sized-encode_lower e 16 sized' fits')
   where
     read : ◌≡◌ {A = Result (List ℕ) FromHexError} (Ok d) (Ok e) → d ≡ e

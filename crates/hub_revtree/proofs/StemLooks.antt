@@ -25,7 +25,7 @@ first_append : (p q : List Revision) (r : Revision) → 0 < length p → is_firs
 first_append [] q r some = absurd (omega arith)
 first_append (x ∷ p) q r some = refl
 
-first_named : (p : List Revision) (r : Revision) → is_first r p ≡ true → names p r ≡ true
+pub first_named : (p : List Revision) (r : Revision) → is_first r p ≡ true → names p r ≡ true
 first_named [] r t = absurd (cc)
 first_named (x ∷ p) r t = or_left (is_same r x) (names p r) t
 

@@ -6,3 +6,5 @@ pub mod Winner
 pub mod Extend
 pub mod Count
 pub mod Sought
+pub mod Key
+pub mod Index

@@ -15,6 +15,7 @@ ghost use Rattle.hub_revtree.specs.Extend.{line_to};
 ghost use Rattle.hub_revtree.specs.Tree.{nameless, tip, tip_of};
 
 use crate::heads::StoredEdit;
+use crate::index::{Index, renewed};
 use crate::leaf::Winner;
 use crate::run::Run;
 use crate::stem::Stem;
@@ -27,25 +28,38 @@ use std::alloc::{AllocError, Global};
 use std::marker::Model;
 
 /// The stored edits, in the order in which they came. An edit keeps the revisions that it brought, and
-/// shares those behind them with the edit that brought these.
+/// shares those behind them with the edit that brought these. What a find costs stands at `RevTree`.
 #[derive(Debug, Drop)]
 pub(crate) struct Branches {
     stems: Vec<Stem>,
     /// The highest generation of their revisions; 0 where there is none.
     highest: u16,
+    /// Where their revisions stand; None where they are few, and where it found no memory.
+    index: Option<Box<Index>>,
 }
 
 impl Model for Branches {
-    ghost use Rattle.std.specs.Prelude.{◌-◌, vec_len, vec_capacity};
+    ghost use Rattle.std.specs.Prelude.{◌-◌, vec_len, vec_capacity, option_map};
     ghost use Rattle.hub_revtree.specs.Branch.{Storage};
 
     ghost Value = { Storage };
 
+    ghost use Rattle.hub_revtree.specs.Index.{IsIndexed};
     ghost use Rattle.hub_revtree.specs.Stem.{AreStems, AreUpTo, branches_of};
 
     ghost view = { λ a. record { list = branches_of a.stems.items; spare = vec_capacity a.stems - vec_len a.stems } };
 
-    ghost invariant = { λ a. AreStems a.stems.items × AreUpTo a.stems.items a.highest };
+    ghost invariant = { λ a. AreStems a.stems.items × AreUpTo a.stems.items a.highest × IsIndexed (option_map (λ i. i.value) a.index) a.stems.items };
+}
+
+// The index as it is lent, if there is one.
+fn lent(index: &Option<Box<Index>>) -> Option<&Index>
+    ensures { option_map (λ i. i.now) result ≡ option_map (λ i. i.value) index.now }
+{
+    match index {
+        Some(index) => Some(index),
+        None => None,
+    }
 }
 
 // An edit as it is lent.
@@ -85,6 +99,7 @@ impl Branches {
         Branches {
             stems: Vec::new(alloc),
             highest: 0,
+            index: None,
         }
     }
 
@@ -119,11 +134,11 @@ impl Branches {
         Some(stored(stem))
     }
 
-    /// The edit that the revision heads. One look an edit, from the newest on up to that one.
+    /// The edit that the revision heads. One find.
     pub(crate) fn headed(&self, rev: &RevId) -> Option<StoredEdit<'_>>
         ensures { option_map (λ e. tip e.rev e.deleted e.body.now) result ≡ option_map (λ b. tip_of (edit_of b)) (find (λ b. is_first rev.now b.path) self.now.list) }
     {
-        let stem = headed(self.stems.as_slice(), rev)?;
+        let stem = headed(self.stems.as_slice(), lent(&self.index), rev)?;
         Some(stored(stem))
     }
 
@@ -178,12 +193,11 @@ impl Branches {
         self.stems[at].deleted()
     }
 
-    /// Whether a path names the revision. One look an edit, from the newest on up to the one that brought
-    /// it; constant time where its generation is above all others.
+    /// Whether a path names the revision. One find; constant time where its generation is above all others.
     pub(crate) fn is_named(&self, rev: &RevId) -> bool
         ensures { result ≡ list_any (λ b. names b.path rev.now) self.now.list }
     {
-        place_up_to(self.stems.as_slice(), self.highest, rev).is_some()
+        place_up_to(self.stems.as_slice(), lent(&self.index), self.highest, rev).is_some()
     }
 
     /// Whether the revision stands behind a head. One look an edit; constant time where no generation is
@@ -203,13 +217,12 @@ impl Branches {
     }
 
     /// Puts the revision and all that stands behind it behind what the vector holds; nothing where no
-    /// path names it. It costs a look an edit, from the newest on up to the one that brought it, and the
-    /// length of what it puts there.
+    /// path names it. It costs a find, and the length of what it puts there.
     pub(crate) fn append_line(&self, rev: &RevId, line: &mut Vec<RevId>) -> Result<(), AllocError>
         requires { IsLegal (edits_in self.now.list) }
         ensures { OnOk result (line.new.items ≡ line.old.items ++ line_to (edits_in self.now.list) (Some rev.now)) }
     {
-        match place_of(self.stems.as_slice(), rev) {
+        match place_of(self.stems.as_slice(), lent(&self.index), rev) {
             Some(place) => append_from(self.stems.as_slice(), place, line),
             None => Ok(()),
         }
@@ -217,8 +230,7 @@ impl Branches {
 
     /// Puts the digests of the revision and of all that stands behind it behind what the vector holds;
     /// false, and nothing or some of them, where one is kept otherwise; nothing where no path names it. It
-    /// costs a look an edit, from the newest on up to the one that brought it, and a copy of 16 bytes for
-    /// each.
+    /// costs a find, and a copy of 16 bytes for each.
     pub(crate) fn append_digests(
         &self,
         rev: &RevId,
@@ -227,16 +239,15 @@ impl Branches {
         requires { IsLegal (edits_in self.now.list) }
         ensures { IfOk result (λ all. IsTrue all → map encode_lower digests.new.items ≡ map encode_lower digests.old.items ++ map (λ r. r.hash) (line_to (edits_in self.now.list) (Some rev.now))) }
     {
-        match place_of(self.stems.as_slice(), rev) {
+        match place_of(self.stems.as_slice(), lent(&self.index), rev) {
             Some(place) => append_digests(self.stems.as_slice(), place, digests),
             None => Ok(true),
         }
     }
 
     /// How many revisions are new of a path that agrees with all stored ones; None where it does not agree.
-    /// It costs a look an edit for each of the path's revisions that no path names, but for those of a
-    /// generation above all others; a look at each edit from the newest on up to the one that brought the
-    /// first of the others; and the number of these.
+    /// It costs a find for each of the path's revisions that no path names, but for those of a generation
+    /// above all others, and for the first of the others; and the number of these.
     pub(crate) fn new_count(&self, path: &Path) -> Option<usize>
         requires legal { IsLegal (edits_in self.now.list) }
         requires history { IsHistory path.now }
@@ -245,7 +256,7 @@ impl Branches {
     {
         let stems = self.stems.as_slice();
         let revisions = path.revisions();
-        match first_known(stems, self.highest, revisions) {
+        match first_known(stems, lent(&self.index), self.highest, revisions) {
             Some(met) => is_line(stems, met.place, &revisions[met.at..]).then_some(met.at),
             None => Some(revisions.len()),
         }
@@ -263,9 +274,9 @@ impl Branches {
         }
     }
 
-    /// Takes an edit, in the place that was made for it: it takes no new memory. The run is the front of its
-    /// path; where it is of just those that are new, it is kept, and the path's memory is given back, else that
-    /// memory is cut to what they need. It costs what `new_count` does.
+    /// Takes an edit, in the place that was made for it: it takes no new memory but for the index, and goes on
+    /// without one where there is none. The run is the front of its path; where it is of just those that are new, it is kept, and the path's memory is given back, else that
+    /// memory is cut to what they need. It costs what `new_count` does, and what `renewed` does.
     pub(crate) fn push(&mut self, path: Run, run: Run, deleted: bool, body: Body)
         requires legal { IsLegal (edits_in self.old.list) }
         requires acceptable { IsAcceptable (edits_in self.old.list) (nameless path deleted body) }
@@ -274,7 +285,12 @@ impl Branches {
         ensures { edits_in self.new.list ≡ edits_in self.old.list ++ nameless path deleted body ∷ [] }
     {
         let mut parent = None;
-        let met = first_known_of(self.stems.as_slice(), self.highest, &path);
+        let met = first_known_of(
+            self.stems.as_slice(),
+            lent(&self.index),
+            self.highest,
+            &path,
+        );
         let newest = path.generation();
         self.highest = newest.max(self.highest);
         let mut new = path.len();
@@ -285,6 +301,8 @@ impl Branches {
         let run = kept(run, path, new);
         self.stems
             .push_reserved(Stem::new(run, parent, deleted, body));
+        let index = self.index.take();
+        self.index = renewed(*self.stems.allocator(), index, self.stems.as_slice());
     }
 }
 

@@ -47,8 +47,7 @@ fn generation(rev: &Option<RevId>) -> u16
 }
 
 impl RevTree {
-    // The leaf that is named. One look an edit; where no generation is above its own, only from the newest
-    // on up to the one that brought it.
+    // The leaf that is named. One look an edit; where no generation is above its own, one find.
     fn leaf(&self, rev: RevId) -> Result<Option<RevId>, EditFault>
         ensures tree { IsRevTree self.now.edits }
         ensures line { option_map (line_to self.now.edits) (result_ok result) ≡ extended_in self.now.edits [] (leaves_of self.now.edits []) (Some rev) }
@@ -185,8 +184,7 @@ impl RevTree {
     /// edit with the revision that is made for it, with memory for it. `id` is the document's, which
     /// the revision's hash has in it. It costs a look an edit, and the lengths of the path and the
     /// body: of the path a copy of 16 bytes a revision where the hashes are digests, else of 68. Where no
-    /// generation is above that of the leaf, it looks only from the newest edit on up to the one that brought
-    /// the leaf.
+    /// generation is above that of the leaf, it costs finds in place of the looks.
     pub fn look_extend(
         &mut self,
         id: &DocId,

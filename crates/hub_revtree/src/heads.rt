@@ -30,7 +30,7 @@ impl RevTree {
     }
 
     /// The edit that the revision heads; None where it heads none, as an ancestor does that came
-    /// inside a history alone. One look an edit, from the newest on up to that one.
+    /// inside a history alone. One find.
     pub fn headed(&self, rev: &RevId) -> Option<StoredEdit<'_>>
         ensures tip { option_map (λ e. tip e.rev e.deleted e.body.now) result ≡ option_map tip_of (find (is_head rev.now) (edits_of self.now.edits [])) }
         ensures path { option_map (λ e. path_to self.now.edits e.rev) result ≡ option_map (λ e. Some e.path) (find (is_head rev.now) (edits_of self.now.edits [])) }

@@ -6,6 +6,8 @@ mod branches;
 mod edit;
 mod fault;
 mod heads;
+mod index;
+mod key;
 mod leaf;
 mod look;
 mod run;

@@ -39,8 +39,7 @@ impl RevTree {
     }
 
     /// A known revision and all that stands behind it, in memory of its own; None of one that is not
-    /// known. It costs a look an edit, from the newest on up to the one that brought it, and the length of the
-    /// path.
+    /// known. It costs two finds, and the length of the path.
     pub fn path(&self, alloc: Global, rev: &RevId) -> Result<Option<Path>, AllocError>
         ensures ok { IfOk result (λ path. path ≡ path_to self.now.edits rev.now) }
         ensures memory { OnErr result (IsKnown self.now.edits [] rev.now) }
@@ -54,7 +53,7 @@ impl RevTree {
     }
 
     /// The members of the edit that the revision heads; None where it heads none, as an ancestor
-    /// does that came inside a history alone. One look an edit, from the newest on up to that one.
+    /// does that came inside a history alone. One find.
     pub fn body(&self, rev: &RevId) -> Option<&Body>
         ensures { option_map (λ b. b.now) result ≡ option_map (λ e. e.body) (find (is_head rev.now) self.now.edits) }
     {

@@ -6,8 +6,10 @@ ghost use Rattle.hex.specs.Hex.{encode_lower};
 ghost use Rattle.hub_document.specs.Changes.{IsDigestText};
 ghost use Rattle.hub_model.specs.Revision.{Revision};
 ghost use Rattle.hub_model.specs.Path.{IsPath, is_first, names};
+ghost use Rattle.hub_revtree.specs.Key.{HasKey};
 ghost use Rattle.hub_revtree.specs.Run.{kept_in, revisions_from};
 
+use crate::key::{key_of, key_of_rev};
 use crate::sought::Sought;
 use hub_document::{Changes, DigestRev, RevId};
 use std::alloc::{AllocError, Global};
@@ -189,6 +191,19 @@ impl Run {
                 RevId::from_digest(*newest - place as u16, &digests[place])
             }
             Kept::Texts(revisions) => revisions[place],
+        }
+    }
+
+    /// The key of the digest of the revision at this place; None where its hash is the text of none. Constant
+    /// time.
+    pub(crate) fn key_at(&self, place: usize) -> Option<u64>
+        requires { place < length self.now }
+        ensures { (r : Revision) → slice_get self.now place ≡ Some r → HasKey r.hash result }
+    {
+        match &self.kept {
+            Kept::One(_, digest) => Some(key_of(digest)),
+            Kept::Digests(_, digests) => Some(key_of(&digests[place])),
+            Kept::Texts(revisions) => key_of_rev(&revisions[place]),
         }
     }
 

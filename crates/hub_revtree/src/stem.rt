@@ -5,6 +5,7 @@ ghost use Rattle.hex.specs.Hex.{encode_lower};
 ghost use Rattle.hub_document.specs.Changes.{IsDigestText};
 ghost use Rattle.hub_model.specs.Path.{IsPath, names, is_first};
 ghost use Rattle.hub_model.specs.Revision.{Revision};
+ghost use Rattle.hub_revtree.specs.Key.{HasKey};
 
 use crate::run::Run;
 use crate::sought::Sought;
@@ -100,6 +101,14 @@ impl Stem {
         ensures { slice_get self.now.revisions 0 ≡ Some result }
     {
         self.run.at(0)
+    }
+
+    /// As `Run::key_at`.
+    pub(crate) fn key_at(&self, at: usize) -> Option<u64>
+        requires { at < length self.now.revisions }
+        ensures { (r : Revision) → slice_get self.now.revisions at ≡ Some r → HasKey r.hash result }
+    {
+        self.run.key_at(at)
     }
 
     /// As `Run::newest`.

@@ -4,9 +4,11 @@ ghost use Rattle.std.specs.Prelude.{◌≡◌, ◌-◌, ◌++◌, ◌↔◌, Lis
 ghost use Rattle.std.specs.List.{list_any};
 ghost use Rattle.hex.specs.Hex.{encode_lower};
 ghost use Rattle.hub_model.specs.Revision.{Revision};
-ghost use Rattle.hub_model.specs.Path.{IsPath, is_first};
+ghost use Rattle.hub_model.specs.Path.{IsPath, is_first, names};
+ghost use Rattle.hub_revtree.specs.Index.{IsIndexed};
 ghost use Rattle.hub_revtree.specs.Stem.{AreStems, AreUpTo, IsWithin, branches_of, has_revision, is_at as is_revision_at, is_behind_newest, path_from, revisions_at};
 
+use crate::index::{Index, Lead, lead_to};
 use crate::run::Run;
 use crate::sought::Sought;
 use crate::stem::{Place, Stem};
@@ -21,9 +23,8 @@ pub(crate) struct Meeting {
     pub(crate) place: Place,
 }
 
-/// Where the revision stands; None where no edit brought it. One look an edit, from the newest on up to the
-/// one that brought it.
-pub(crate) fn place_of(stems: &[Stem], rev: &RevId) -> Option<Place>
+// Where the revision stands. One look an edit, from the newest on up to the one that brought it.
+fn place_among(stems: &[Stem], rev: &RevId) -> Option<Place>
     requires { AreStems stems.now }
     ensures found { IfSome result (λ place. slice_get (revisions_at stems.now place.stem) place.at ≡ Some rev.now) }
     ensures none { IfNone result (has_revision stems.now rev.now ≡ false) }
@@ -37,10 +38,46 @@ pub(crate) fn place_of(stems: &[Stem], rev: &RevId) -> Option<Place>
     None
 }
 
+// The same, where no other stem than the one of this number can have it. Constant time.
+fn place_in(stems: &[Stem], number: usize, rev: &RevId) -> Option<Place>
+    requires { AreStems stems.now }
+    ensures found { IfSome result (λ place. slice_get (revisions_at stems.now place.stem) place.at ≡ Some rev.now) }
+    ensures none { IfNone result (names (revisions_at stems.now number) rev.now ≡ false) }
+{
+    if number >= stems.len() {
+        return None;
+    }
+    match stems[number].position(&Sought::once(rev)) {
+        Some(at) => Some(Place { stem: number, at }),
+        None => None,
+    }
+}
+
+/// Where the revision stands; None where no edit brought it. Constant time where the index tells the edit that
+/// may have brought it; else one look an edit, from the newest on up to the one that brought it.
+pub(crate) fn place_of(stems: &[Stem], index: Option<&Index>, rev: &RevId) -> Option<Place>
+    requires stems { AreStems stems.now }
+    requires index { IsIndexed (option_map (λ i. i.now) index) stems.now }
+    ensures found { IfSome result (λ place. slice_get (revisions_at stems.now place.stem) place.at ≡ Some rev.now) }
+    ensures none { IfNone result (has_revision stems.now rev.now ≡ false) }
+{
+    match lead_to(stems, index, rev) {
+        Lead::Nowhere => None,
+        Lead::Only(number) => place_in(stems, number, rev),
+        Lead::Anywhere => place_among(stems, rev),
+    }
+}
+
 /// The same of stems with no revision of a generation above the highest. Constant time for a revision of
 /// such a generation.
-pub(crate) fn place_up_to(stems: &[Stem], highest: u16, rev: &RevId) -> Option<Place>
+pub(crate) fn place_up_to(
+    stems: &[Stem],
+    index: Option<&Index>,
+    highest: u16,
+    rev: &RevId,
+) -> Option<Place>
     requires stems { AreStems stems.now }
+    requires index { IsIndexed (option_map (λ i. i.now) index) stems.now }
     requires highest { AreUpTo stems.now highest }
     ensures found { IfSome result (λ place. slice_get (revisions_at stems.now place.stem) place.at ≡ Some rev.now) }
     ensures none { IfNone result (has_revision stems.now rev.now ≡ false) }
@@ -48,7 +85,7 @@ pub(crate) fn place_up_to(stems: &[Stem], highest: u16, rev: &RevId) -> Option<P
     if rev.generation() > highest {
         return None;
     }
-    place_of(stems, rev)
+    place_of(stems, index, rev)
 }
 
 // Whether the revision is the one at the place. Constant time.
@@ -90,8 +127,8 @@ pub(crate) fn is_behind_last(stems: &[Stem], rev: &RevId) -> bool
     }
 }
 
-/// The stem whose newest revision this is. One look an edit, from the newest on up to that one.
-pub(crate) fn headed<'a>(stems: &'a [Stem], rev: &RevId) -> Option<&'a Stem>
+// The stem whose newest revision this is. One look an edit, from the newest on up to that one.
+fn headed_among<'a>(stems: &'a [Stem], rev: &RevId) -> Option<&'a Stem>
     requires { AreStems stems.now }
     ensures { option_map (λ s. s.now) result ≡ find (λ s. is_first rev.now s.revisions) stems.now }
 {
@@ -103,6 +140,37 @@ pub(crate) fn headed<'a>(stems: &'a [Stem], rev: &RevId) -> Option<&'a Stem>
         }
     }
     None
+}
+
+// The stem of this number, where this is its newest revision. Constant time.
+fn headed_in<'a>(stems: &'a [Stem], number: usize, rev: &RevId) -> Option<&'a Stem>
+    requires { AreStems stems.now }
+    ensures found { IfSome result (λ stem. Some stem.now ≡ find (λ s. is_first rev.now s.revisions) stems.now) }
+    ensures none { IfNone result (is_first rev.now (revisions_at stems.now number) ≡ false) }
+{
+    if number >= stems.len() {
+        return None;
+    }
+    let stem = &stems[number];
+    if stem.is_head(&Sought::once(rev)) {
+        Some(stem)
+    } else {
+        None
+    }
+}
+
+/// The stem whose newest revision this is. Constant time where the index tells the one that may have it; else
+/// one look an edit, from the newest on up to that one.
+pub(crate) fn headed<'a>(stems: &'a [Stem], index: Option<&Index>, rev: &RevId) -> Option<&'a Stem>
+    requires stems { AreStems stems.now }
+    requires index { IsIndexed (option_map (λ i. i.now) index) stems.now }
+    ensures { option_map (λ s. s.now) result ≡ find (λ s. is_first rev.now s.revisions) stems.now }
+{
+    match lead_to(stems, index, rev) {
+        Lead::Nowhere => None,
+        Lead::Only(number) => headed_in(stems, number, rev),
+        Lead::Anywhere => headed_among(stems, rev),
+    }
 }
 
 /// Puts the revision at the place, and all that stands behind it, behind what the vector holds. It
@@ -167,9 +235,16 @@ pub(crate) fn is_line(stems: &[Stem], place: Place, revisions: &[RevId]) -> bool
 }
 
 /// The first of the revisions that an edit brought, of stems with no revision of a generation above the
-/// highest. One look an edit for each revision up to it; constant time for each of such a generation.
-pub(crate) fn first_known(stems: &[Stem], highest: u16, revisions: &[RevId]) -> Option<Meeting>
+/// highest. It costs what `place_of` does for each revision up to it; constant time for each of such a
+/// generation.
+pub(crate) fn first_known(
+    stems: &[Stem],
+    index: Option<&Index>,
+    highest: u16,
+    revisions: &[RevId],
+) -> Option<Meeting>
     requires stems { AreStems stems.now }
+    requires index { IsIndexed (option_map (λ i. i.now) index) stems.now }
     requires highest { AreUpTo stems.now highest }
     ensures new { IfSome result (λ m. list_any (has_revision stems.now) (take m.at revisions.now) ≡ false) }
     ensures within { IfSome result (λ m. IsWithin stems.now m.place) }
@@ -177,7 +252,7 @@ pub(crate) fn first_known(stems: &[Stem], highest: u16, revisions: &[RevId]) -> 
     ensures none { IfNone result (list_any (has_revision stems.now) revisions.now ≡ false) }
 {
     for (at, rev) in revisions.iter().enumerate() {
-        if let Some(place) = place_up_to(stems, highest, rev) {
+        if let Some(place) = place_up_to(stems, index, highest, rev) {
             return Some(Meeting { at, place });
         }
     }
@@ -185,8 +260,14 @@ pub(crate) fn first_known(stems: &[Stem], highest: u16, revisions: &[RevId]) -> 
 }
 
 /// The same of the revisions of a run.
-pub(crate) fn first_known_of(stems: &[Stem], highest: u16, path: &Run) -> Option<Meeting>
+pub(crate) fn first_known_of(
+    stems: &[Stem],
+    index: Option<&Index>,
+    highest: u16,
+    path: &Run,
+) -> Option<Meeting>
     requires stems { AreStems stems.now }
+    requires index { IsIndexed (option_map (λ i. i.now) index) stems.now }
     requires highest { AreUpTo stems.now highest }
     requires path { IsPath path.now }
     ensures new { IfSome result (λ m. list_any (has_revision stems.now) (take m.at path.now) ≡ false) }
@@ -196,7 +277,7 @@ pub(crate) fn first_known_of(stems: &[Stem], highest: u16, path: &Run) -> Option
 {
     for at in 0..path.len() {
         let rev = path.at(at);
-        if let Some(place) = place_up_to(stems, highest, &rev) {
+        if let Some(place) = place_up_to(stems, index, highest, &rev) {
             return Some(Meeting { at, place });
         }
     }

@@ -2,6 +2,7 @@
 
 mod digests;
 mod edits;
+mod index;
 mod keeps;
 mod lines;
 mod looks;

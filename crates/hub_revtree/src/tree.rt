@@ -21,6 +21,10 @@ use std::marker::Model;
 
 /// The stored edits of one document, in the order in which they came, and their winner. The document's
 /// id stands elsewhere.
+///
+/// A find of a revision costs one look an edit, from the newest on up to the one that brought it. From 256
+/// edits on a tree has an index of its revisions, if it finds memory for it; then a find takes constant time,
+/// but where the hash is no digest's text, and where two edits brought digests with its first eight bytes.
 #[derive(Debug, Drop)]
 pub struct RevTree {
     branches: Branches,
@@ -165,16 +169,14 @@ impl RevTree {
         self.branches.len() == 0
     }
 
-    /// Whether a path names the revision. One look an edit, from the newest on up to the one that brought it;
-    /// constant time where its generation is above all others.
+    /// Whether a path names the revision. One find; constant time where its generation is above all others.
     pub fn knows(&self, rev: &RevId) -> bool
         ensures { IsTrue result ↔ IsKnown self.now.edits [] rev.now }
     {
         self.branches.is_named(rev)
     }
 
-    /// Whether the edit that the revision heads deletes the document. One look an edit, from the newest on up
-    /// to that one.
+    /// Whether the edit that the revision heads deletes the document. One find.
     pub fn deleted(&self, rev: &RevId) -> Option<bool>
         ensures mark { IfSome result (IsMarked self.now.edits [] rev.now) }
         ensures none { IfNone result ((mark : Bool) → ¬ IsMarked self.now.edits [] rev.now mark) }
@@ -238,9 +240,9 @@ impl RevTree {
     }
 
     /// Looks what becomes of an edit: `None` where its revision is known, else the edit, with
-    /// memory for it: a place, and those of the path's revisions that are new. It costs a look an
-    /// edit for each of these, but for those of a generation above all others; a look at each edit from the
-    /// newest on up to the one that brought the first that is known; and the path's length.
+    /// memory for it: a place, and those of the path's revisions that are new. It costs a find for each of
+    /// these, but for those of a generation above all others, and for the first that is known; and the path's
+    /// length.
     pub fn look_merge(
         &mut self,
         path: Path,
@@ -267,13 +269,14 @@ impl RevTree {
         Ok(Some(ready))
     }
 
-    /// Takes an edit that `look_merge` or `look_extend` made ready. It takes no memory, and gives back the
-    /// path's: the tree keeps the revisions that are new as the look made them. Where the look found more or
+    /// Takes an edit that `look_merge` or `look_extend` made ready. It takes memory for the index
+    /// alone; where there is none to be had the tree goes on without, which changes no answer. It gives back
+    /// the path's: the tree keeps the revisions that are new as the look made them. Where the look found more or
     /// fewer, as it may in a tree that is not this one, the path's memory is cut to them instead.
     /// It costs what `look_merge` does. The winner takes constant time where it is the edit's revision, or the
     /// old one which the edit does not stand on; else it is found anew: each head is looked for in each edit
     /// where it would be the best so far. So an edit that `look_extend` made on the newest one of a line takes
-    /// constant time, but that its path's memory is given back.
+    /// constant time, but that its path's memory is given back, and that the index grows, or is made.
     pub fn adopt(&mut self, ready: Ready)
         requires acceptable { IsAcceptable self.old.edits ready }
         requires room { length ready.path ≤ self.old.room }

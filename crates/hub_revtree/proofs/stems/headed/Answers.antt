@@ -1,15 +1,10 @@
-use Rattle.std.proofs.Common.{◌≡◌, ◌∙◌, ◌-◌, sym, arith}
 use Rattle.hub_model.specs.Path.{is_first}
-use Rattle.hub_revtree.proofs.StemLooks.{head_found, none_found, read_stem}
+use Rattle.hub_revtree.proofs.IndexLemmas.{headed_only, heads_nowhere}
+use Rattle.hub_revtree.proofs.StemLooks.{none_found}
 use Rattle.hub_revtree.proofs.stems.headed.Goals as goal
 
-pub returns-then-is_head : goal.returns-then-is_head
-returns-then-is_head c =
-    head_found c.args.stems.now c.requires c.args.rev.now (c.loop-number.number - 1) c.index-stems-number.result
-    (read_stem c.args.stems.now (c.loop-number.number - 1) c.index-stems-number.result (omega (arith, c.loop-number.auto.number, c.loop-number-test.true)) c.index-stems-number.is)
-    (sym (rw c.among-sought.ensures at c.is_head.ensures) ∙ c.if-is_head.true)
+pub returns-in-Nowhere : goal.returns-in-Nowhere
+returns-in-Nowhere c = none_found (λ s. is_first c.args.rev.now s.revisions) c.args.stems.now (heads_nowhere c.args.stems.now c.args.rev.now c.in-Nowhere.ensures)
 
-pub returns : goal.returns
-returns c =
-    none_found (λ s. is_first c.args.rev.now s.revisions) c.args.stems.now
-    (let start : c.loop-number.number ≡ 0 = omega (arith, c.loop-number-test.false) in rw start at c.loop-number.invariant)
+pub returns-in-Only : goal.returns-in-Only
+returns-in-Only c = headed_only (λ s. s.now) c.headed_in.result c.args.stems.now c.args.rev.now c.in-Only.number c.in-Only.ensures c.headed_in.ensures.found c.headed_in.ensures.none

@@ -6,10 +6,10 @@ use Rattle.hub_revtree.proofs.HighestLemmas.{up_to_more}
 use Rattle.hub_revtree.proofs.JoinLemmas.{Brings, brought_edit, brought_stems, met_brings, met_later, met_within, new_brings}
 use Rattle.hub_revtree.proofs.RunLemmas.{newest_of}
 use Rattle.hub_revtree.proofs.branches.Branches.push.Goals as goal
-use Rattle.hub_revtree.proofs.branches.Branches.push.Goals.{After-push_reserved, in-Some, in_default}
+use Rattle.hub_revtree.proofs.branches.Branches.push.Goals.{Joined-self-renewed, in-Some, in_default}
 
 -- the stem brings what is new of the path
-brings : (c : After-push_reserved) → Brings c.self.inside.stems.items c.args.path (record { revisions = c.kept-run.result; parent = c.match-met.parent; deleted = c.args.deleted; body = c.args.body })
+brings : (c : Joined-self-renewed) → Brings c.self.inside.stems.items c.args.path (record { revisions = c.kept-run.result; parent = c.match-met.parent; deleted = c.args.deleted; body = c.args.body })
 brings c =
     let xs = c.self.inside.stems.items in
     let legal = rw (sym c.self.view_is) at c.requires.legal in
@@ -64,6 +64,7 @@ invariant_of-self c =
       more,
       up_to_more xs _ c.args.path head.0 c.self.inside.highest c.max-self-inside.result c.self.invariant.0 more c.self.invariant.1 c.requires.acceptable.history.falls head.1 path.whole
           (c.max-self-inside.ensures ∙ ap (λ n. max n c.self.inside.highest) (sym head.2)),
+      rw (c.as_slice-2.ensures.value, c.push_reserved.ensures.items, c.new.ensures) at c.renewed.ensures,
     )
 
 pub returns : goal.returns

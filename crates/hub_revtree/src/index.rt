@@ -1,0 +1,148 @@
+//! An index of a tree's revisions.
+
+ghost use Rattle.std.specs.Prelude.{◌≡◌, ◌-◌, length, map, option_map, take, IfSome, IfOk, OnOk};
+ghost use Rattle.hub_revtree.specs.Index.{AreIn, IsIndexOf, IsIndexed, IsLead, Keeps, LeadsTo, entry_in};
+
+use crate::key::key_of_rev;
+use crate::stem::Stem;
+use hub_document::RevId;
+use std::alloc::{AllocError, Global};
+use std::collections::HashMap;
+
+// What stands for more than one stem.
+const MANY: u32 = u32::MAX;
+
+// From so many stems on there is an index: a look at each takes longer than a look in the map.
+const TURN: usize = 256;
+
+/// From the key of a digest to the number of the stem that has a revision with that key, or to `MANY`. Only
+/// revisions whose hash is a digest's text are in it. It takes some 16 bytes for each of them.
+#[derive(Debug, Drop)]
+pub(crate) struct Index {
+    stems: HashMap<u64, u32>,
+}
+
+/// Which stem may have a revision.
+#[derive(Debug)]
+pub(crate) enum Lead {
+    /// No stem has it.
+    Nowhere,
+    /// No other than this one.
+    Only(usize),
+    /// Each may have it.
+    Anywhere,
+}
+
+impl Index {
+    // Puts the stem's number under the key; `MANY` where there is another one's. Constant time.
+    fn put(&mut self, key: u64, number: usize) -> Result<(), AllocError>
+        ensures own { OnOk result (LeadsTo (entry_in self.new key) number) }
+        ensures others { OnOk result (Keeps (entry_in self.old) (entry_in self.new)) }
+    {
+        let number = u32::try_from(number).unwrap_or(MANY);
+        let other = self.stems.insert(key, number)?;
+        if other.is_some_and(|other| other != number) {
+            self.stems.insert(key, MANY)?;
+        }
+        Ok(())
+    }
+
+    // Puts the number of the stem under the key of each of its revisions. It costs their number.
+    fn add(&mut self, stem: &Stem, number: usize) -> Result<(), AllocError>
+        ensures own { OnOk result (AreIn (entry_in self.new) number stem.now.revisions) }
+        ensures others { OnOk result (Keeps (entry_in self.old) (entry_in self.new)) }
+    {
+        for at in 0..stem.len() {
+            if let Some(key) = stem.key_at(at) {
+                self.put(key, number)?;
+            }
+        }
+        Ok(())
+    }
+
+    // Which of the stems may have the revision. Constant time.
+    fn lead(&self, stems: &[Stem], rev: &RevId) -> Lead
+        requires { IsIndexOf (entry_in self.now) stems.now }
+        ensures { IsLead result stems.now rev.now }
+    {
+        let Some(key) = key_of_rev(rev) else {
+            return Lead::Anywhere;
+        };
+        match self.stems.get(&key) {
+            Some(&MANY) => Lead::Anywhere,
+            Some(&number) => Lead::Only(number as usize),
+            None => Lead::Nowhere,
+        }
+    }
+}
+
+/// Which of the stems may have the revision. It says no more than that each may where there is no index, where
+/// the revision's hash is no digest's text, and where more than one stem has its key. Constant time.
+pub(crate) fn lead_to(stems: &[Stem], index: Option<&Index>, rev: &RevId) -> Lead
+    requires { IsIndexed (option_map (λ i. i.now) index) stems.now }
+    ensures { IsLead result stems.now rev.now }
+{
+    match index {
+        Some(index) => index.lead(stems, rev),
+        None => Lead::Anywhere,
+    }
+}
+
+// An index of the stems. It costs the number of their revisions.
+fn built(alloc: Global, stems: &[Stem]) -> Result<Box<Index>, AllocError>
+    ensures { IfOk result (λ i. IsIndexOf (entry_in i.value) stems.now) }
+{
+    let mut index = Index {
+        stems: HashMap::with_capacity(alloc, stems.len())?,
+    };
+    for (number, stem) in stems.iter().enumerate() {
+        index.add(stem, number)?;
+    }
+    Ok(Box::new(alloc, index)?)
+}
+
+// The index with the newest of the stems, of all others of which it is one.
+fn with_newest(mut index: Box<Index>, stems: &[Stem]) -> Option<Box<Index>>
+    requires { IsIndexOf (entry_in index.value) (take (length stems.now - 1) stems.now) }
+    ensures { IfSome result (λ i. IsIndexOf (entry_in i.value) stems.now) }
+{
+    if stems.is_empty() {
+        return None;
+    }
+    let newest = stems.len() - 1;
+    match index.add(&stems[newest], newest) {
+        Ok(()) => Some(index),
+        Err(_) => None,
+    }
+}
+
+// An index of the stems where they are so many that it is time for one, and there is memory for it.
+fn begun(alloc: Global, stems: &[Stem]) -> Option<Box<Index>>
+    ensures { IfSome result (λ i. IsIndexOf (entry_in i.value) stems.now) }
+{
+    if stems.len() < TURN || !stems.len().is_power_of_two() {
+        return None;
+    }
+    match built(alloc, stems) {
+        Ok(index) => Some(index),
+        Err(_) => None,
+    }
+}
+
+/// The index of the stems, of one of all but the newest. Where there was none it is built, if the stems are so
+/// many, and at most once for each doubling of their number. Where the memory for it is not to be had there is
+/// none, and looks take longer. It costs the number of the newest stem's revisions, or that of all where it is
+/// built.
+pub(crate) fn renewed(
+    alloc: Global,
+    index: Option<Box<Index>>,
+    stems: &[Stem],
+) -> Option<Box<Index>>
+    requires { IsIndexed (option_map (λ i. i.value) index) (take (length stems.now - 1) stems.now) }
+    ensures { IsIndexed (option_map (λ i. i.value) result) stems.now }
+{
+    match index {
+        Some(index) => with_newest(index, stems),
+        None => begun(alloc, stems),
+    }
+}
