@@ -1,0 +1,194 @@
+#!/usr/bin/env python3
+"""Servers of the hub's routes beside each other, over TCP.
+
+    python3 bench/beside.py [--rounds N] [--seconds N] [--cases WORD ..] NAME=PROGRAM NAME=PROGRAM ..
+
+runs each program as `PROGRAM serve 127.0.0.1:0 4294967295`, which prints the address that it listens on,
+asks all of them the same by turns, and prints a table: the first one's rate against that of each other,
+each round and the median, and the processor time of each for a request or a row. No figure is asserted.
+It takes wrk and curl. A figure is read beside the load and what the host took, which are printed too.
+
+`bench/hyper` is such a server, of the hub's routes and bytes over hyper and tokio:
+
+    (cd bench/hyper && cargo build --release --offline)
+    python3 bench/beside.py hub=crates/changes_hub/out/changes_hub hyper=bench/hyper/target/release/hyper_hub
+"""
+
+import argparse
+import http.client
+import json
+import os
+import re
+import statistics
+import subprocess
+import sys
+import tempfile
+import time
+
+TICK = os.sysconf("SC_CLK_TCK")
+ROWS = 100_000
+# What wrk sends: a new document of about 100 bytes each time, and a look at one of 10,000.
+SCRIPTS = {
+    "PUT": """
+local threads = 0
+function setup(thread) thread:set("number", threads); threads = threads + 1 end
+function init() count = 0; start = "PUT /put/" .. os.getenv("RUN") .. "-" .. number .. "-" end
+local rest = " HTTP/1.1\\r\\nHost: h\\r\\nContent-Length: 100\\r\\n\\r\\n" .. '{"number":1,"text":"' .. string.rep("x", 78) .. '"}'
+function request() count = count + 1; return start .. count .. rest end
+""",
+    "GET": """
+local threads = 0
+function setup(thread) thread:set("number", threads); threads = threads + 1 end
+function init() math.randomseed(7 + number) end
+function request()
+  return string.format("GET /get/doc%07d HTTP/1.1\\r\\nHost: h\\r\\n\\r\\n", math.random(0, 9999))
+end
+""",
+}
+
+
+class Server:
+    """A program that serves, with the documents that are asked for."""
+
+    def __init__(self, program):
+        self.process = subprocess.Popen(
+            [program, "serve", "127.0.0.1:0", "4294967295"], stdout=subprocess.PIPE, stderr=subprocess.DEVNULL
+        )
+        self.port = int(self.process.stdout.readline().decode().rsplit(":", 1)[1])
+        self.ask("PUT", "/put")
+        self.load("get", 10_000)
+        self.load("rows", ROWS)
+
+    def stop(self):
+        self.process.kill()
+        self.process.wait()
+
+    def seconds(self):
+        """Its processor time."""
+        with open("/proc/%d/stat" % self.process.pid) as file:
+            fields = file.read().rsplit(")", 1)[1].split()
+        return (int(fields[11]) + int(fields[12])) / TICK
+
+    def ask(self, method, path, body=None):
+        client = http.client.HTTPConnection("127.0.0.1", self.port)
+        client.request(method, path, body)
+        answer = client.getresponse()
+        told = answer.read()
+        client.close()
+        if answer.status not in (200, 201):
+            sys.exit("%s %s: %d %r" % (method, path, answer.status, told[:200]))
+
+    def load(self, name, count):
+        """A database of so many documents of about 100 bytes, in batches of 1,000."""
+        self.ask("PUT", "/" + name)
+        for at in range(0, count, 1000):
+            docs = [{"_id": "doc%07d" % n, "number": n, "text": "x" * 72} for n in range(at, at + 1000)]
+            self.ask("POST", "/%s/_bulk_docs" % name, json.dumps({"docs": docs}, separators=(",", ":")))
+
+
+class Wrk:
+    """Requests of one kind by so many connections."""
+
+    runs = 0
+
+    def __init__(self, kind, connections, seconds):
+        self.kind, self.connections, self.seconds = kind, connections, seconds
+        self.name = "%s by %d" % (kind, connections)
+
+    def measure(self, server):
+        """Requests a second, and microseconds of the server for each."""
+        Wrk.runs += 1
+        with tempfile.NamedTemporaryFile("w", suffix=".lua") as script:
+            script.write(SCRIPTS[self.kind])
+            script.flush()
+            words = ["wrk", "-t%d" % min(self.connections, 2), "-c%d" % self.connections, "-d%gs" % self.seconds]
+            words += ["-s", script.name, "http://127.0.0.1:%d/" % server.port]
+            before = server.seconds()
+            told = subprocess.run(
+                words, stdout=subprocess.PIPE, check=True, env=dict(os.environ, RUN="r%d" % Wrk.runs)
+            ).stdout.decode()
+            spent = server.seconds() - before
+        if "Non-2xx" in told or "Socket errors" in told:
+            print("!", told, file=sys.stderr)
+        count = int(re.search(r"(\d+) requests in", told).group(1))
+        return float(re.search(r"Requests/sec:\s+([\d.]+)", told).group(1)), 1e6 * spent / max(count, 1)
+
+
+class Rows:
+    """A normal feed of 100,000 rows, the median of seven."""
+
+    def __init__(self, name, query):
+        self.name, self.query = name, query
+
+    def measure(self, server):
+        """Rows a second, and microseconds of the server for each."""
+        took, before = [], server.seconds()
+        for _ in range(7):
+            words = ["curl", "-s", "-o", "/dev/null", "-w", "%{time_total} %{size_download} %{http_code}"]
+            words += ["http://127.0.0.1:%d/rows/_changes%s" % (server.port, self.query)]
+            told = subprocess.run(words, stdout=subprocess.PIPE, check=True).stdout.decode().split()
+            if told[2] != "200" or int(told[1]) < 80 * ROWS:
+                sys.exit("no whole feed: %s" % told)
+            took.append(float(told[0]))
+        return ROWS / statistics.median(took), 1e6 * (server.seconds() - before) / ROWS / 7
+
+
+def machine():
+    """What the processors did so far, and the load."""
+    with open("/proc/stat") as file:
+        ticks = [int(word) for word in file.readline().split()[1:9]]
+    with open("/proc/loadavg") as file:
+        return ticks, file.read().split()[0]
+
+
+def disturbance(before):
+    """The load before, and what the host took since, in 100."""
+    ticks = [b - a for a, b in zip(before[0], machine()[0])]
+    return "load %s, taken by the host %.1f" % (before[1], 100 * ticks[7] / max(sum(ticks), 1))
+
+
+def show(names, figures):
+    """The table."""
+    first, others = names[0], names[1:]
+    print("| Case | " + " | ".join("%s against %s, each round, median" % (first, n) for n in others), end=" | ")
+    print(" | ".join("%s, a second, µs" % n for n in names) + " |")
+    print("|---" * (1 + len(others) + len(names)) + "|")
+    for case, by in figures.items():
+        cells = [case]
+        for other in others:
+            ratios = [mine[0] / its[0] for mine, its in zip(by[first], by[other])]
+            cells.append("%s; %.2f" % (", ".join("%.2f" % r for r in ratios), statistics.median(ratios)))
+        for name in names:
+            rates, costs = zip(*by[name])
+            cells.append("%.0f, %.2f" % (statistics.median(rates), statistics.median(costs)))
+        print("| %s |" % " | ".join(cells))
+
+
+def main():
+    parser = argparse.ArgumentParser(description=__doc__.split("\n\n")[0])
+    parser.add_argument("--rounds", type=int, default=3)
+    parser.add_argument("--seconds", type=float, default=2, help="of wrk, for a case")
+    parser.add_argument("--cases", nargs="+", default=[""], help="how the names of cases begin; all if none is given")
+    parser.add_argument("programs", nargs="+", metavar="NAME=PROGRAM")
+    asked = parser.parse_args()
+    programs = dict(word.split("=", 1) for word in asked.programs)
+    cases = [Wrk(kind, n, asked.seconds) for kind in ("PUT", "GET") for n in (1, 16, 64)]
+    cases += [Rows("rows", ""), Rows("rows with documents", "?include_docs=true")]
+    cases = [case for case in cases if any(case.name.startswith(word) for word in asked.cases)]
+    names, figures = list(programs), {}
+    for round_ in range(asked.rounds):
+        # Each round begins with another one.
+        turns = names[round_ % len(names):] + names[: round_ % len(names)]
+        servers = {name: Server(programs[name]) for name in turns}
+        for case in cases:
+            for name in turns:
+                before = machine()
+                figure = case.measure(servers[name])
+                figures.setdefault(case.name, {}).setdefault(name, []).append(figure)
+                print("%d %-20s %-8s %10.0f %8.2f µs; %s" % (round_ + 1, case.name, name, *figure, disturbance(before)), flush=True)
+        for server in servers.values():
+            server.stop()
+    show(names, figures)
+
+
+main()
