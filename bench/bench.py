@@ -131,9 +131,10 @@ def line(count):
 
 
 def leaves(count):
-    """A document with this many leaves, in one batch."""
+    """A document with this many leaves, in one batch; the hashes are digests, as a database makes them."""
+    hashes = [hashlib.md5(str(n).encode()).hexdigest() for n in range(count + 1)]
     docs = [
-        {"_id": "doc", "_revisions": {"start": 2, "ids": ["%032x" % n, "a"]}, "v": n}
+        {"_id": "doc", "_revisions": {"start": 2, "ids": [hashes[n], hashes[count]]}, "v": n}
         for n in range(count)
     ]
     return MAKE + request("POST /d/_bulk_docs", compact({"docs": docs, "new_edits": False}))
