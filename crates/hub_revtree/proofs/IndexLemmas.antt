@@ -1,16 +1,13 @@
 -- What an index shows of its stems.
-use Rattle.std.proofs.Common.{◌≡◌, ℕ, zero, suc, ◌+◌, ◌-◌, ◌<◌, ◌≤◌, List, [], ◌∷◌, ◌++◌, length, take, Bool, true, false, ◌⊎◌, inl, inr, refl, sym, ap, ◌∙◌, subst, arith}
+use Rattle.std.proofs.Common.{◌≡◌, ℕ, ◌+◌, ◌<◌, ◌≤◌, List, length, take, true, false, inl, inr, refl, sym, ap, ◌∙◌, subst, arith}
 use Rattle.std.specs.Prelude.{Option, Some, None, IfSome, IfNone, find, option_map, slice_get, nat_eq}
 use Rattle.std.specs.List.{list_any}
 use Rattle.std.proofs.lemmas.Bool.{both_ways, cases_Bool, eqb-true}
-use Rattle.std.proofs.lemmas.List.{length-append}
-use Rattle.std.proofs.Math.Seq.{take-append_seam}
 use Rattle.std.proofs.lemmas.Option.{same_Some, slice_get_within}
 use Rattle.hub_model.specs.Revision.{Revision, is_same}
 use Rattle.hub_model.specs.Path.{names, is_first}
 use Rattle.hub_model.proofs.Tests.{same_is}
-use Rattle.hub_revtree.specs.declared.index.Lead.{Lead}
-use Rattle.hub_revtree.specs.declared.index.Lead.TheVariants.{Nowhere, Only, Anywhere}
+use Rattle.hub_revtree.specs.declared.index.Lead.TheVariants.{Nowhere, Only}
 use Rattle.hub_revtree.specs.Key.{HasKey, IsKey}
 use Rattle.hub_revtree.specs.Index.{AreIn, IsIndexOf, IsLead, Keeps, LeadsTo, many}
 use Rattle.hub_revtree.specs.Stem.{Stem, has_revision, revisions_at, revisions_in}
@@ -22,15 +19,12 @@ use Rattle.hub_revtree.proofs.StemLooks.{first_named, none_found}
 pub keeps_on : (f g h : ℕ → Option ℕ) → Keeps f g → Keeps g h → Keeps f h
 keeps_on f g h i j key number l = j key number (i key number l)
 
-pub are_kept : (f g : ℕ → Option ℕ) (number : ℕ) (revisions : List Revision) → Keeps f g → AreIn f number revisions → AreIn g number revisions
+are_kept : (f g : ℕ → Option ℕ) (number : ℕ) (revisions : List Revision) → Keeps f g → AreIn f number revisions → AreIn g number revisions
 are_kept f g number revisions keeps i at r key e k = keeps key number (i at r key e k)
 
 -- the first of the revisions are in it
 abbrev pub AreInTo : (ℕ → Option ℕ) → ℕ → List Revision → ℕ → Type 0
 AreInTo entry number revisions n = (at : ℕ) (r : Revision) (key : ℕ) → at < n → slice_get revisions at ≡ Some r → IsKey r.hash key → LeadsTo (entry key) number
-
-pub none_in : (entry : ℕ → Option ℕ) (number : ℕ) (revisions : List Revision) → AreInTo entry number revisions 0
-none_in entry number revisions at r key low e k = absurd (omega (arith, low))
 
 pub one_in : (f g : ℕ → Option ℕ) (number : ℕ) (revisions : List Revision) (n : ℕ) → AreInTo f number revisions n → Keeps f g
     → ((r : Revision) (key : ℕ) → slice_get revisions n ≡ Some r → IsKey r.hash key → LeadsTo (g key) number) → AreInTo g number revisions (n + 1)
@@ -72,12 +66,6 @@ pub with_newest : (f g : ℕ → Option ℕ) (stems : List Stem) (n : ℕ) (s : 
 with_newest f g stems n s long i keeps here own =
     all_stand g stems (n + 1) (omega (arith, long)) (one_stands f g stems n s (λ number stem low e. i number stem (get_taken n number stems low ∙ e)) keeps here own)
 
--- all but the newest
-pub but_newest : (stems : List Stem) (s : Stem) → take (length (stems ++ s ∷ []) - 1) (stems ++ s ∷ []) ≡ stems
-but_newest stems s =
-    let long : length (stems ++ s ∷ []) - 1 ≡ length stems = omega (arith, length-append stems (s ∷ [])) in
-    ap (λ n. take n (stems ++ s ∷ [])) long ∙ take-append_seam stems (s ∷ [])
-
 -- where the revision stands, its key leads
 pub key_leads : (entry : ℕ → Option ℕ) (stems : List Stem) (r : Revision) (key : ℕ) → IsIndexOf entry stems → IsKey r.hash key → (number : ℕ) → names (revisions_at stems number) r ≡ true → LeadsTo (entry key) number
 key_leads entry stems r key i k number n = from (slice_get stems number) refl n
@@ -89,7 +77,7 @@ key_leads entry stems r key i k number n = from (slice_get stems number) refl n
         i number s e p.0 p.1 key p.2 (subst (λ (z : Revision). IsKey z.hash key) (same_is r p.1 p.3) k)
 
 -- a stem that no lead allows does not have it
-pub not_led : (stems : List Stem) (r : Revision) → ((number : ℕ) → names (revisions_at stems number) r ≡ true → ⊥) → has_revision stems r ≡ false
+not_led : (stems : List Stem) (r : Revision) → ((number : ℕ) → names (revisions_at stems number) r ≡ true → ⊥) → has_revision stems r ≡ false
 not_led stems r none = elim (cases_Bool (has_revision stems r)) [
   | inl t ↦ let p = any_place (λ (s : Stem). names s.revisions r) stems t in absurd (none p.0 (rw p.2 p.3))
   | inr t ↦ t
@@ -98,11 +86,11 @@ not_led stems r none = elim (cases_Bool (has_revision stems r)) [
 pub led_nowhere : (stems : List Stem) (r : Revision) → IsLead Nowhere stems r → has_revision stems r ≡ false
 led_nowhere stems r lead = not_led stems r lead
 
-pub led_astray : (stems : List Stem) (r : Revision) (found : ℕ) → IsLead (Only found) stems r → names (revisions_at stems found) r ≡ false → has_revision stems r ≡ false
+led_astray : (stems : List Stem) (r : Revision) (found : ℕ) → IsLead (Only found) stems r → names (revisions_at stems found) r ≡ false → has_revision stems r ≡ false
 led_astray stems r found lead absent = not_led stems r (λ number n. both_ways _ absent (subst (λ m. names (revisions_at stems m) r ≡ true) (sym (lead number n)) n))
 
 -- nor is it that stem's first
-pub not_first : (stems : List Stem) (r : Revision) → ((number : ℕ) → names (revisions_at stems number) r ≡ true → is_first r (revisions_at stems number) ≡ true → ⊥) → list_any (λ s. is_first r s.revisions) stems ≡ false
+not_first : (stems : List Stem) (r : Revision) → ((number : ℕ) → names (revisions_at stems number) r ≡ true → is_first r (revisions_at stems number) ≡ true → ⊥) → list_any (λ s. is_first r s.revisions) stems ≡ false
 not_first stems r none = elim (cases_Bool (list_any (λ (s : Stem). is_first r s.revisions) stems)) [
   | inl t ↦
       let p = any_place (λ (s : Stem). is_first r s.revisions) stems t in
@@ -113,14 +101,8 @@ not_first stems r none = elim (cases_Bool (list_any (λ (s : Stem). is_first r s
 pub heads_nowhere : (stems : List Stem) (r : Revision) → IsLead Nowhere stems r → list_any (λ s. is_first r s.revisions) stems ≡ false
 heads_nowhere stems r lead = not_first stems r (λ number n first. lead number n)
 
-pub heads_astray : (stems : List Stem) (r : Revision) (found : ℕ) → IsLead (Only found) stems r → is_first r (revisions_at stems found) ≡ false → list_any (λ s. is_first r s.revisions) stems ≡ false
+heads_astray : (stems : List Stem) (r : Revision) (found : ℕ) → IsLead (Only found) stems r → is_first r (revisions_at stems found) ≡ false → list_any (λ s. is_first r s.revisions) stems ≡ false
 heads_astray stems r found lead absent = not_first stems r (λ number n first. both_ways _ absent (subst (λ m. is_first r (revisions_at stems m) ≡ true) (sym (lead number n)) first))
-
--- there are no stems past the last
-pub past_stems : (stems : List Stem) (number : ℕ) → length stems ≤ number → revisions_at stems number ≡ []
-past_stems [] number past = refl
-past_stems (s ∷ stems) zero past = absurd (omega (arith, past))
-past_stems (s ∷ stems) (suc number) past = past_stems stems number (omega (arith, past))
 
 -- what a look in the only stem finds
 pub found_only : {A : Type 0} (o : Option A) (stems : List Stem) (r : Revision) (found : ℕ) → IsLead (Only found) stems r → IfNone o (names (revisions_at stems found) r ≡ false) → IfNone o (has_revision stems r ≡ false)

@@ -3,10 +3,8 @@
 -- digest d, in lower-case digits, and so on. The key of d is the number of its first eight bytes. Where the three keys
 -- differ, the entries are 0 at the keys of d and e, and 1 at the key of f. Where f begins with the eight bytes of d, the
 -- entry at their key is `many`, since both stems have a revision with it. A revision such as 4-x has no key.
-use Rattle.std.specs.Prelude.{◌≡◌, ℕ, ◌%◌, ◌^◌, ◌⊎◌, List, length, slice_get, Option, Some, None, nat_eq, true}
+use Rattle.std.specs.Prelude.{◌≡◌, ℕ, ◌⊎◌, List, slice_get, Option, Some, None, nat_eq, true}
 use Rattle.std.specs.HashMap.{get}
-use Rattle.std.specs.Int.{w128, from_le_bytes}
-use Rattle.hex.specs.Hex.{IsBytes, encode_lower}
 use Rattle.hub_model.specs.Revision.{Revision}
 use Rattle.hub_model.specs.Path.{names}
 use Rattle.hub_revtree.specs.Key.{IsKey}

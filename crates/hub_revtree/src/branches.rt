@@ -275,8 +275,9 @@ impl Branches {
     }
 
     /// Takes an edit, in the place that was made for it: it takes no new memory but for the index, and goes on
-    /// without one where there is none. The run is the front of its path; where it is of just those that are new, it is kept, and the path's memory is given back, else that
-    /// memory is cut to what they need. It costs what `new_count` does, and what `renewed` does.
+    /// without one where there is none. The run is the front of its path; where it is of just those that are
+    /// new, it is kept, and the path's memory is given back, else that memory is cut to what they need. It costs
+    /// what `new_count` does, and what `renewed` does.
     pub(crate) fn push(&mut self, path: Run, run: Run, deleted: bool, body: Body)
         requires legal { IsLegal (edits_in self.old.list) }
         requires acceptable { IsAcceptable (edits_in self.old.list) (nameless path deleted body) }

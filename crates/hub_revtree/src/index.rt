@@ -12,11 +12,12 @@ use std::collections::HashMap;
 // What stands for more than one stem.
 const MANY: u32 = u32::MAX;
 
-// From so many stems on there is an index: a look at each takes longer than a look in the map.
+// From so many stems on there is an index. A look at each of so many takes twice as long as one in the map, and
+// many documents with fewer edits shall have no more memory.
 const TURN: usize = 256;
 
 /// From the key of a digest to the number of the stem that has a revision with that key, or to `MANY`. Only
-/// revisions whose hash is a digest's text are in it. It takes some 16 bytes for each of them.
+/// revisions whose hash is a digest's text are in it. It takes some 30 to 60 bytes for each of them.
 #[derive(Debug, Drop)]
 pub(crate) struct Index {
     stems: HashMap<u64, u32>,
@@ -131,8 +132,8 @@ fn begun(alloc: Global, stems: &[Stem]) -> Option<Box<Index>>
 
 /// The index of the stems, of one of all but the newest. Where there was none it is built, if the stems are so
 /// many, and at most once for each doubling of their number. Where the memory for it is not to be had there is
-/// none, and looks take longer. It costs the number of the newest stem's revisions, or that of all where it is
-/// built.
+/// none, until their number is a power of two again, and looks take longer. It costs the number of the newest
+/// stem's revisions, or that of all where it is built.
 pub(crate) fn renewed(
     alloc: Global,
     index: Option<Box<Index>>,

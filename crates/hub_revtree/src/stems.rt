@@ -38,7 +38,7 @@ fn place_among(stems: &[Stem], rev: &RevId) -> Option<Place>
     None
 }
 
-// The same, where no other stem than the one of this number can have it. Constant time.
+// Where the revision stands in the stem of this number, if it does. Constant time.
 fn place_in(stems: &[Stem], number: usize, rev: &RevId) -> Option<Place>
     requires { AreStems stems.now }
     ensures found { IfSome result (λ place. slice_get (revisions_at stems.now place.stem) place.at ≡ Some rev.now) }

@@ -1,4 +1,4 @@
-use Rattle.std.proofs.Common.{◌≡◌, ◌+◌, ◌-◌, ◌<◌, length, arith, rules}
+use Rattle.std.proofs.Common.{◌-◌, ◌<◌, length, arith, rules}
 use Rattle.hub_revtree.specs.Index.{entry_in}
 use Rattle.hub_revtree.proofs.IndexLemmas.{with_newest}
 use Rattle.hub_revtree.proofs.StemLooks.{read_stem}
