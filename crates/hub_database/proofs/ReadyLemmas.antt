@@ -1,5 +1,5 @@
 -- An edit that is to be stored takes memory.
-use Rattle.std.proofs.Common.{◌≡◌, ℕ, ◌<◌, List, [], Bool, Option, Some, sym, ◌∙◌, subst, arith}
+use Rattle.std.proofs.Common.{◌≡◌, ℕ, ◌<◌, List, [], Bool, false, Option, Some, sym, ◌∙◌, subst, arith}
 use Rattle.std.specs.Prelude.{Result, Ok, Err, OnErr}
 use Rattle.std.proofs.lemmas.Bool.Decides.{nat_tests}
 use Rattle.std.proofs.lemmas.Grind.{common_steps}
@@ -20,6 +20,10 @@ by_is e0 e known acceptable full h = grind (arith, common_steps)
 made_has : (edits : List Edit) (d : Draft) (e : Edit) (o : Option (List Revision)) (full : Bool) → Ready e ≡ unless_full full (look_made (extends_path edits d o))
     → (path : List Revision) × (o ≡ Some path) × (generation_of (parent_of path) < 65535)
 made_has edits d e o full h = grind (arith, nat_tests, common_steps)
+
+-- a full journal takes nothing
+pub not_full : (full : Bool) (l : Looked) (e : Edit) → Ready e ≡ unless_full full l → full ≡ false
+not_full full l e h = grind (arith, common_steps)
 
 needs : (id : List ℕ) (edits : List Edit) (full : Bool) (edit : Incoming) (e : Edit) → IsStorable edits (Ready e) → Ready e ≡ unless_full full (look_at id edits edit) → NeedsRoomFor edits [] edit
 needs id edits full edit e storable h = grind (arith, nat_tests, common_steps, by_is, made_has)

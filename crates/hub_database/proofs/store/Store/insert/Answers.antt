@@ -1,12 +1,29 @@
-use Rattle.std.proofs.Common.{◌≡◌, ◌∙◌, ◌+◌, ◌∷◌, ◌++◌, [], ap, length, nat_le, arith, subst}
+use Rattle.std.proofs.Common.{◌≡◌, ◌∙◌, ◌+◌, ◌∷◌, ◌++◌, [], false, ap, sym, length, nat_le, arith, subst}
+use Rattle.std.proofs.lemmas.Bool.Decides.{nat_tests}
+use Rattle.std.specs.Prelude.{OnErr}
 use Rattle.std.proofs.lemmas.List.{map-append}
 use Rattle.hub_index.specs.Order.{IsOrder, with_number}
 use Rattle.hub_index.specs.Rows.{moved}
 use Rattle.hub_database.specs.Filed.{Filed, ids_of}
-use Rattle.hub_database.specs.Looked.{unless_full, look_at}
+use Rattle.hub_database.specs.Looked.{NeedsRoomFor, unless_full, look_at}
 use Rattle.hub_database.specs.Store.{filed, files, ids_in, one_if}
+use Rattle.hub_database.proofs.ReadyLemmas.{not_full, ready_needs}
 use Rattle.hub_database.proofs.StoreLemmas.{first_stored}
 use Rattle.hub_database.proofs.store.Store.insert.Goals as goal
+
+pub returns-in_err-enter-in-Ready-clause-memory : goal.returns-in_err-enter-in-Ready-clause-memory
+returns-in_err-enter-in-Ready-clause-memory c =
+    let none : c.new-document.result.tree.edits ≡ [] = ap (λ (z : Filed). z.edits) c.new-document.ensures in
+    subst (λ es. OnErr c.from_residual-in_err-enter-in-Ready.result (NeedsRoomFor es [] c.args.edit)) none
+    (ready_needs c.from_residual-in_err-enter-in-Ready.result c.new-document.result.id c.new-document.result.tree.edits _ c.args.edit c.in_ok-look.field-0 c.in-Ready.ready c.in-Ready.is
+    c.in_ok-look.ensures.storable c.in_ok-look.ensures.looked)
+
+pub take-rev-requires-clause-limit : goal.take-rev-requires-clause-limit
+take-rev-requires-clause-limit c =
+    let open : nat_le c.args.self.now.limits.journal c.len.result ≡ false = not_full (nat_le c.args.self.now.limits.journal c.len.result) _ c.in-Ready.ready (sym c.in-Ready.is ∙ c.in_ok-look.ensures.looked) in
+    let entries : length c.reserve_one-in-Ready.new.list.items ≡ length c.args.self.now.journal.items = ap length c.reserve_one-in-Ready.ensures.items in
+    let many : c.len.result ≡ length c.args.self.now.journal.items = omega (arith, c.len.ensures, c.args.self.now.journal.ok.0) in
+    grind (arith, nat_tests, open, entries, many, c.args.self.now.limits.limited.journal_most)
 
 pub returns-in_ok-enter-in-Ready-clause-inserted : goal.returns-in_ok-enter-in-Ready-clause-inserted
 returns-in_ok-enter-in-Ready-clause-inserted c =
