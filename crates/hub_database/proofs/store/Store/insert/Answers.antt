@@ -20,10 +20,10 @@ returns-in_err-enter-in-Ready-clause-memory c =
 
 pub take-rev-requires-clause-limit : goal.take-rev-requires-clause-limit
 take-rev-requires-clause-limit c =
-    let open : nat_le c.args.self.now.limits.journal c.len.result ≡ false = not_full (nat_le c.args.self.now.limits.journal c.len.result) _ c.in-Ready.ready (sym c.in-Ready.is ∙ c.in_ok-look.ensures.looked) in
+    let takes : nat_le c.args.self.now.limits.journal c.len.result ≡ false = not_full (nat_le c.args.self.now.limits.journal c.len.result) _ c.in-Ready.ready (sym c.in-Ready.is ∙ c.in_ok-look.ensures.looked) in
     let entries : length c.reserve_one-in-Ready.new.list.items ≡ length c.args.self.now.journal.items = ap length c.reserve_one-in-Ready.ensures.items in
     let many : c.len.result ≡ length c.args.self.now.journal.items = omega (arith, c.len.ensures, c.args.self.now.journal.ok.0) in
-    grind (arith, nat_tests, open, entries, many, c.args.self.now.limits.limited.journal_most)
+    grind (arith, nat_tests, takes, entries, many, c.args.self.now.limits.limited.journal_most)
 
 pub returns-in_ok-enter-in-Ready-clause-inserted : goal.returns-in_ok-enter-in-Ready-clause-inserted
 returns-in_ok-enter-in-Ready-clause-inserted c =
