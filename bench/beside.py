@@ -1,7 +1,7 @@
 #!/usr/bin/env python3
 """Servers of the hub's routes beside each other, over TCP.
 
-    python3 bench/beside.py [--rounds N] [--seconds N] [--cases WORD ..] NAME=PROGRAM NAME=PROGRAM ..
+    python3 bench/beside.py [--rounds N] [--seconds N] [--case WORD] NAME=PROGRAM NAME=PROGRAM ..
 
 runs each program as `PROGRAM serve 127.0.0.1:0 4294967295`, which prints the address that it listens on,
 asks all of them the same by turns, and prints a table: the first one's rate against that of each other,
@@ -168,13 +168,13 @@ def main():
     parser = argparse.ArgumentParser(description=__doc__.split("\n\n")[0])
     parser.add_argument("--rounds", type=int, default=3)
     parser.add_argument("--seconds", type=float, default=2, help="of wrk, for a case")
-    parser.add_argument("--cases", nargs="+", default=[""], help="how the names of cases begin; all if none is given")
+    parser.add_argument("--case", action="append", help="how the names of cases begin; may be given again; all if it is not")
     parser.add_argument("programs", nargs="+", metavar="NAME=PROGRAM")
     asked = parser.parse_args()
     programs = dict(word.split("=", 1) for word in asked.programs)
     cases = [Wrk(kind, n, asked.seconds) for kind in ("PUT", "GET") for n in (1, 16, 64)]
     cases += [Rows("rows", ""), Rows("rows with documents", "?include_docs=true")]
-    cases = [case for case in cases if any(case.name.startswith(word) for word in asked.cases)]
+    cases = [case for case in cases if any(case.name.startswith(word) for word in asked.case or [""])]
     names, figures = list(programs), {}
     for round_ in range(asked.rounds):
         # Each round begins with another one.
