@@ -101,7 +101,7 @@ class Wrk:
         with tempfile.NamedTemporaryFile("w", suffix=".lua") as script:
             script.write(SCRIPTS[self.kind])
             script.flush()
-            words = ["wrk", "-t%d" % min(self.connections, 2), "-c%d" % self.connections, "-d%gs" % self.seconds]
+            words = ["wrk", "-t%d" % min(self.connections, 2), "-c%d" % self.connections, "-d%ds" % self.seconds]
             words += ["-s", script.name, "http://127.0.0.1:%d/" % server.port]
             before = server.seconds()
             told = subprocess.run(
@@ -167,7 +167,7 @@ def show(names, figures):
 def main():
     parser = argparse.ArgumentParser(description=__doc__.split("\n\n")[0])
     parser.add_argument("--rounds", type=int, default=3)
-    parser.add_argument("--seconds", type=float, default=2, help="of wrk, for a case")
+    parser.add_argument("--seconds", type=int, default=2, help="of wrk, for a case")
     parser.add_argument("--case", action="append", help="how the names of cases begin; may be given again; all if it is not")
     parser.add_argument("programs", nargs="+", metavar="NAME=PROGRAM")
     asked = parser.parse_args()
@@ -180,14 +180,17 @@ def main():
         # Each round begins with another one.
         turns = names[round_ % len(names):] + names[: round_ % len(names)]
         servers = {name: Server(programs[name]) for name in turns}
-        for case in cases:
-            for name in turns:
-                before = machine()
-                figure = case.measure(servers[name])
-                figures.setdefault(case.name, {}).setdefault(name, []).append(figure)
-                print("%d %-20s %-8s %10.0f %8.2f µs; %s" % (round_ + 1, case.name, name, *figure, disturbance(before)), flush=True)
-        for server in servers.values():
-            server.stop()
+        try:
+            for case in cases:
+                for name in turns:
+                    before = machine()
+                    figure = case.measure(servers[name])
+                    figures.setdefault(case.name, {}).setdefault(name, []).append(figure)
+                    shown = (round_ + 1, case.name, name, *figure, disturbance(before))
+                    print("%d %-20s %-8s %10.0f %8.2f µs; %s" % shown, flush=True)
+        finally:
+            for server in servers.values():
+                server.stop()
     show(names, figures)
 
 
