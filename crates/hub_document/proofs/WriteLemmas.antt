@@ -6,7 +6,6 @@ use Rattle.std.proofs.lemmas.Fmt.{decimal_by_steps}
 use Rattle.json.specs.Token.{Token, string}
 use Rattle.json.specs.Print.{escape, escape_byte, quoted, print, print_from}
 use Rattle.json.proofs.Printed.Strings.{escape_byte_plain}
-use Rattle.json.specs.Run.{is_plain}
 use Rattle.hub_model.specs.Revision.{Revision, IsRevision, is_hash_byte, text_of}
 
 -- what a writer of JSON has written after one string
@@ -53,26 +52,6 @@ letters_plain (b ∷ bs) h =
     let p = plain_byte b (h 0 b (omega arith)) in
     ap (λ l. l ++ escape bs) (escape_byte_plain b (λ e. omega (arith, p.low)) p.other (omega (arith, p.low)))
     ∙ ap (λ l. b ∷ l) (letters_plain bs (λ k d within. h (suc k) d (omega arith)))
-
-record IsUnescaped (b : ℕ) : Type 0 where
-  low : 32 ≤ b
-  quote : b ≡ 34 → ⊥
-  slash : b ≡ 92 → ⊥
-
-unescaped : (b : ℕ) → IsTrue (is_plain b) → IsUnescaped b
-unescaped b h = record {
-  low = grind (arith, nat_tests);
-  quote = λ e. grind (arith, nat_tests);
-  slash = λ e. grind (arith, nat_tests);
-}
-
--- bytes that stand for themselves
-bytes_plain : (bs : List ℕ) → All (λ b. IsTrue (is_plain b)) bs → escape bs ≡ bs
-bytes_plain [] h = refl
-bytes_plain (b ∷ bs) h =
-    let p = unescaped b (h 0 b (omega arith)) in
-    ap (λ l. l ++ escape bs) (escape_byte_plain b p.quote p.slash p.low)
-    ∙ ap (λ l. b ∷ l) (bytes_plain bs (λ k d within. h (suc k) d (omega arith)))
 
 -- a text that needs no escape stands between its quotes as it is
 pub quoted_plain : (s : List ℕ) → escape s ≡ s → quoted s ≡ 34 ∷ (s ++ 34 ∷ [])

@@ -1,8 +1,8 @@
 -- A legal journal that is stored edit by edit is rebuilt.
-use Rattle.std.proofs.Common.{◌≡◌, ◌∙◌, ℕ, zero, suc, ◌+◌, ◌<◌, ◌≤◌, min, List, [], ◌∷◌, ◌++◌, length, map, take, Bool, true, false, refl, sym, ap, subst, arith, append_assoc, append-nil, length-append, Option, Some, None, ⊎_elim}
-use Rattle.std.proofs.lemmas.Bool.{and_parts, cases_lt, lt-leb}
+use Rattle.std.proofs.Common.{◌≡◌, ◌∙◌, ℕ, zero, suc, ◌+◌, ◌<◌, ◌≤◌, List, [], ◌∷◌, ◌++◌, length, map, take, Bool, true, false, refl, sym, ap, subst, arith, append_assoc, append-nil, length-append, Option, Some, None}
+use Rattle.std.proofs.lemmas.Bool.{and_parts, lt-leb}
 use Rattle.std.proofs.lemmas.List.{take_all}
-use Rattle.std.proofs.lemmas.Option.{same_Some, none-some, slice_get-get_or}
+use Rattle.std.proofs.lemmas.Option.{same_Some, none-some}
 use Rattle.std.specs.Prelude.{slice_get, option_map, if◌then◌else◌, not}
 use Rattle.hub_model.specs.declared.outcomes.Outcome.{Outcome}
 use Rattle.hub_model.specs.Journal.{Edit, IsAcceptable, IsLegal, IsLegalAfter, is_head_known, is_acceptable}
@@ -59,12 +59,6 @@ entry_edit J n (suc k) doc q h =
     let same : k ≡ n = omega (arith, q) in
     subst (λ z. slice_get J z ≡ Some (edit_of doc)) same (shown_edit (slice_get J k) doc h)
 
--- an edit that the journal has is shown
-pub has_entry : (J : List Edit) (seq : ℕ) → 0 < seq → seq ≤ length J → None ≡ entry_doc_of J seq → ⊥
-has_entry J zero p l h = absurd (omega (arith, p))
-has_entry [] (suc k) p l h = absurd (omega (arith, l))
-has_entry (x ∷ J) (suc k) p l h = none-some _ (h ∙ ap (option_map (doc_shown true)) (slice_get-get_or (x ∷ J) k x (omega (arith, l))))
-
 -- a database without edits is a copy of the first ones of every journal
 pub none_rebuilt : (J : List Edit) (copy : Database) (limits : Limits) → IsLegal J → length J ≤ 4294967295 → copy.journal ≡ [] → copy.deleted ≡ false → copy.limits ≡ limits → IsProfile limits → IsRebuilt J copy
 none_rebuilt J copy limits legal few none stands same p =
@@ -76,17 +70,6 @@ none_rebuilt J copy limits legal few none stands same p =
       stands = stands;
       first = none ∙ ap (λ (z : List Edit). take (length z) J) (sym none);
     }
-
--- a journal of which a copy may be made is not longer than any journal
-pub rebuilt_few : (J : List Edit) (copy : Database) → IsRebuilt J copy → length J ≤ 4294967295
-rebuilt_few J copy r = let fits = r.fits in let most = copy.limits.limited.journal_most in omega (arith, fits, most)
-
-pub within_few : (n : ℕ) (db : Database) → n ≤ db.limits.journal → n ≤ 4294967295
-within_few n db h = let most = db.limits.limited.journal_most in omega (arith, h, most)
-
--- a copy with so many edits has the first ones
-pub has_first : (J : List Edit) (copy : Database) (n : ℕ) → IsRebuilt J copy → length copy.journal ≡ n → copy.journal ≡ take n J
-has_first J copy n r e = r.first ∙ ap (λ k. take k J) e
 
 -- one more edit is stored in a copy of those before it
 pub added : (J : List Edit) (copy new : Database) (doc : Doc) (seq : ℕ) (outcomes : List (Outcome Revision)) → IsRebuilt J copy → length copy.journal + 1 ≡ seq → seq ≤ length J → Some doc ≡ entry_doc_of J seq
@@ -113,9 +96,3 @@ added J copy new doc seq outcomes r q l h w s =
 -- up to the last edit it is the whole journal
 pub whole_rebuilt : (J : List Edit) (n : ℕ) → n ≡ length J → take n J ≡ J
 whole_rebuilt J n e = take_all n J (omega (arith, e))
-
-pub take_least : (J : List Edit) (n : ℕ) → take (min n (length J)) J ≡ take n J
-take_least J n =
-    ⊎_elim (λ (h : n < length J). let least : min n (length J) ≡ n = omega (arith, h) in ap (λ k. take k J) least)
-    (λ (h : length J ≤ n). let least : min n (length J) ≡ length J = omega (arith, h) in ap (λ k. take k J) least ∙ (take_all (length J) J (omega arith) ∙ sym (take_all n J h)))
-    (cases_lt n (length J))

@@ -6,17 +6,9 @@ use Rattle.std.proofs.lemmas.Bool.{cases_Bool}
 use Rattle.std.proofs.lemmas.Option.{same_Some}
 use Rattle.std.proofs.lemmas.List.{append-nil}
 use Rattle.std.proofs.lemmas.List.Elements.{filter_more}
-use Rattle.hub_model.specs.Revision.{Revision, is_same}
+use Rattle.hub_model.specs.Revision.{Revision}
 use Rattle.hub_model.specs.Path.{Falls, IsHistory, names}
-use Rattle.hub_model.proofs.Legal.{falls_below}
-use Rattle.hub_model.proofs.Tests.{same_is, names_is}
 use Rattle.hub_revtree.specs.Branch.{Branch, unnamed_in}
-
-pub apart : (y : Revision) (p : List Revision) (r : Revision) → Falls y p → is_same r y ≡ true → names p r ≡ false
-apart y p r f t = elim (cases_Bool (names p r)) [
-  | inl n ↦ absurd (let low : r.generation < y.generation = falls_below y p r f (names_is p r n) in let same : r.generation ≡ y.generation = ap (λ (z : Revision). z.generation) (same_is r y t) in omega arith)
-  | inr n ↦ n
-]
 
 -- a history has a revision
 pub some_history : (p : List Revision) → IsHistory p → 0 < length p

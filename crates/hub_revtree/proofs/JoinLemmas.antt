@@ -1,27 +1,29 @@
 -- Where a path meets the stored ones: all paths of a legal journal that name a revision agree from it on.
-use Rattle.std.proofs.Common.{◌≡◌, ◌≢◌, ℕ, zero, suc, ◌-◌, ◌<◌, ◌≤◌, List, [], ◌∷◌, ◌++◌, length, drop, take, Bool, true, false, inl, inr, refl, sym, ap, ap₂, ◌∙◌, subst, append-nil, arith}
+use Rattle.std.proofs.Common.{◌≡◌, ◌≢◌, ℕ, zero, suc, ◌-◌, ◌<◌, ◌≤◌, List, [], ◌∷◌, ◌++◌, length, drop, map, take, Bool, true, false, inl, inr, refl, sym, ap, ap₂, ◌∙◌, subst, append-nil, arith}
 use Rattle.std.specs.Prelude.{Option, Some, None, IfSome, IfNone, IsTrue, ◌↔◌, is_some, slice_get, Contains}
 use Rattle.std.specs.List.{list_any, list_all}
 use Rattle.std.proofs.lemmas.Bool.{and_parts, and_from, both_ways, eqb-true}
-use Rattle.std.proofs.lemmas.List.{map-append, take-append-drop}
+use Rattle.std.proofs.lemmas.List.{length-append, map-append, take-append-drop}
 use Rattle.std.proofs.lemmas.List.Elements.{Contains-append_left, Contains-push}
 use Rattle.std.proofs.lemmas.Option.{get_or_from_slice_get, same_Some, slice_get_read, slice_get_within}
+use Rattle.hex.specs.Hex.{encode_lower}
 use Rattle.hub_model.specs.Revision.{Revision}
-use Rattle.hub_model.specs.Path.{Falls, IsFirst, IsNext, IsPath, IsHistory, names, agrees, is_falling, is_full, is_history}
+use Rattle.hub_model.specs.Path.{Falls, IsFirst, IsNext, IsPath, IsHistory, names, agrees, is_falling, is_first, is_full, is_history}
 use Rattle.hub_model.specs.Journal.{Edit, Edits, IsAcceptable, IsLegal, edits_of, is_known}
 use Rattle.hub_model.proofs.Legal.{legal_more, legal_sound, next_left}
-use Rattle.hub_model.proofs.Tests.{agrees_is, all_at, at_all, edits_in as edits_in_of, history_is, is_agreeing, is_history_from, is_named, known_is, or_false}
+use Rattle.hub_model.proofs.Tests.{agrees_is, all_at, at_all, edits_in as edits_in_of, history_is, is_agreeing, is_history_from, is_named, known_is, or_false, same_is}
 use Rattle.hub_model.proofs.Walks.{legal_histories}
 use Rattle.hub_document.specs.Lines.{from_on}
 use Rattle.hub_document.proofs.PlaceLemmas.{from_on_at, named}
 use Rattle.hub_revtree.specs.declared.stem.Place.{Place}
 use Rattle.hub_revtree.specs.Branch.{Branch, edit_of, edits_in}
 use Rattle.hub_revtree.specs.Extend.{line_to}
-use Rattle.hub_revtree.specs.Stem.{Stem, AreStems, IsWithin, branch_of, branches_of, has_revision, path_from, revisions_at}
+use Rattle.hub_revtree.specs.Index.{IsNewestPath}
+use Rattle.hub_revtree.specs.Stem.{Stem, AreStems, IsWithin, branch_of, branches_of, has_revision, path_from, path_in, revisions_at}
 use Rattle.hub_revtree.specs.Tree.{nameless}
 use Rattle.hub_revtree.proofs.LineLemmas.{line_is}
 use Rattle.hub_revtree.proofs.RunLemmas.{get_some, least}
-use Rattle.hub_revtree.proofs.StemLemmas.{any_at, get_front, named_in, one_stem_more, same_truth, shown_at, stems_more, within_stem}
+use Rattle.hub_revtree.proofs.StemLemmas.{any_at, as_many, get_front, get_last, named_in, one_stem_more, same_truth, shown_at, stems_more, within_stem}
 use Rattle.hub_revtree.proofs.StemLooks.{rest_slice}
 use Rattle.hub_revtree.proofs.TreeLemmas.{all_of_one, in_tree, known_by}
 
@@ -284,3 +286,22 @@ module _ (xs : List Stem) (a : AreStems xs) (legal : IsLegal (edits_in (branches
       ap edits_in (one_stem_more xs s)
       ∙ map-append edit_of (branches_of xs) (branch_of (branches_of xs) s ∷ [])
       ∙ ap (λ p. edits_in (branches_of xs) ++ nameless p s.deleted s.body ∷ []) b.whole
+
+  -- whose path is the newest one
+  pub brought_path : (path : List Revision) (s : Stem) → Brings xs path s → path_in (slice_get (branches_of (xs ++ s ∷ [])) (length (xs ++ s ∷ []) - 1)) ≡ path
+  brought_path path s b =
+      let last : length (xs ++ s ∷ []) - 1 ≡ length (branches_of xs) = omega (arith, length-append xs (s ∷ []), as_many xs) in
+      rw (last, one_stem_more xs s, get_last (branches_of xs) (branch_of (branches_of xs) s)) b.whole
+
+  -- and so are the digests that are given for it
+  pub brought_line : (path : List Revision) (s : Stem) (line : Option (List (List ℕ))) → Brings xs path s → IfSome line (λ l. map encode_lower l ≡ map (λ r. r.hash) path) → IsNewestPath line (xs ++ s ∷ [])
+  brought_line path s None b h = tt
+  brought_line path s (Some l) b h = h ∙ ap (map (λ (r : Revision). r.hash)) (sym (brought_path path s b))
+
+  -- the newest path is all that stands behind its first revision
+  pub newest_path : (r : Revision) → is_first r (revisions_at xs (length xs - 1)) ≡ true → path_in (slice_get (branches_of xs) (length xs - 1)) ≡ line_to (edits_in (branches_of xs)) (Some r)
+  newest_path r first = place_line xs a legal (record { stem = length xs - 1; at = 0 }) r (read (revisions_at xs (length xs - 1)) first)
+    where
+      read : (p : List Revision) → is_first r p ≡ true → slice_get p 0 ≡ Some r
+      read [] t = absurd (cc)
+      read (x ∷ p) t = ap Some (sym (same_is r x t))

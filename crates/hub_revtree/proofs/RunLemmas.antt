@@ -1,17 +1,18 @@
 -- The revisions that a run keeps.
-use Rattle.std.proofs.Common.{◌≡◌, ℕ, zero, suc, ◌+◌, ◌-◌, ◌<◌, ◌≤◌, List, [], ◌∷◌, ◌++◌, length, get_or, drop, take, map, Bool, true, false, ◌&&◌, inl, inr, refl, sym, ap, ap₂, ◌∙◌, subst, add-one, arith}
+use Rattle.std.proofs.Common.{◌≡◌, ℕ, zero, suc, ◌+◌, ◌-◌, ◌<◌, ◌≤◌, min, List, [], ◌∷◌, ◌++◌, length, get_or, drop, take, map, Bool, true, false, ◌&&◌, inl, inr, refl, sym, ap, ap₂, ◌∙◌, subst, add-one, arith}
 use Rattle.std.specs.Prelude.{Option, Some, None, IfSome, IfNone, ◌↔◌, slice_get, option_map, is_some, nat_eq}
 use Rattle.std.specs.Bool.{then_some}
 use Rattle.std.specs.Str.{bytes_eq}
-use Rattle.std.proofs.lemmas.Bool.{both_ways, cases_Bool}
-use Rattle.std.proofs.lemmas.List.{append_assoc, length-drop, map-append, take_all}
-use Rattle.std.proofs.lemmas.Option.{same_Some, slice_get_read}
+use Rattle.std.proofs.lemmas.Bool.{both_ways, cases_Bool, cases_lt}
+use Rattle.std.proofs.lemmas.List.{append_assoc, get_or-take, length-drop, length-map, length-take, map-append, take_all}
+use Rattle.std.proofs.lemmas.Option.{get_or_from_slice_get, same_Some, slice_get_read}
 use Rattle.hub_model.proofs.Tests.{same_is, same_self}
 use Rattle.hub_document.proofs.PlaceLemmas.{above_head, named, not_named, past_end}
 use Rattle.hex.specs.Hex.{encode_lower}
 use Rattle.hub_model.specs.Revision.{Revision, is_same}
-use Rattle.hub_model.specs.Path.{Falls, IsPath, names, is_first}
+use Rattle.hub_model.specs.Path.{Falls, IsHistory, IsPath, names, is_first}
 use Rattle.hub_revtree.specs.Run.{revisions_from}
+use Rattle.hub_revtree.proofs.BranchLemmas.{within_generation}
 
 -- each generation of a path is above 0
 pub least : (y : Revision) (q : List Revision) → Falls y q → 1 ≤ y.generation
@@ -210,3 +211,55 @@ digests_whole x p n ds path up e =
 pub digests_kept : (p : List Revision) (x : Revision) (n : ℕ) (ds : List (List ℕ)) (k : ℕ) → IsPath p → x ≡ get_or p 0 x → n ≡ x.generation → map encode_lower ds ≡ map (λ r. r.hash) (take k p) → revisions_from n ds ≡ take k p
 digests_kept [] x n ds k path first up e = absurd path
 digests_kept (y ∷ p) x n ds k path first up e = ap (λ g. revisions_from g ds) (up ∙ ap (λ (z : Revision). z.generation) first) ∙ front_kept y p ds k path e
+
+-- what a run on a line has
+pub line_whole : (x : Revision) (p : List Revision) (ds : List (List ℕ)) → IsPath (x ∷ p) → map encode_lower ds ≡ map (λ r. r.hash) p → revisions_from (x.generation - 1) ds ≡ p
+line_whole x [] ds path e = ap (revisions_from (x.generation - 1)) (nothing_left ds 0 e)
+line_whole x (y ∷ p) ds path e =
+    let down : x.generation - 1 ≡ y.generation = omega (arith, path.0) in
+    digests_whole y p (x.generation - 1) ds path.1 down e
+
+-- and it is shorter than the generation of what stands on it
+pub line_short : (x : Revision) (p : List Revision) (ds : List (List ℕ)) → IsHistory (x ∷ p) → map encode_lower ds ≡ map (λ r. r.hash) p → length ds < x.generation
+line_short x p ds h e =
+    let as_many : length ds ≡ length p = sym (length-map ds encode_lower) ∙ ap length e ∙ length-map p (λ (r : Revision). r.hash) in
+    omega (arith, as_many, within_generation (x ∷ p) x h refl)
+
+-- the first of the first
+take_fewer : {A : Type 0} (a b : ℕ) (xs : List A) → a ≤ b → take a (take b xs) ≡ take a xs
+take_fewer zero b xs l = refl
+take_fewer (suc a) zero xs l = absurd (omega (arith, l))
+take_fewer (suc a) (suc b) [] l = refl
+take_fewer (suc a) (suc b) (x ∷ xs) l = ap (λ z. x ∷ z) (take_fewer a b xs (omega (arith, l)))
+
+pub take_least : {A : Type 0} (a b : ℕ) (xs : List A) → take (min a b) xs ≡ take a (take b xs)
+take_least a b xs = elim (cases_lt a b) [
+  | inl l ↦ let least : min a b ≡ a = omega (arith, l) in ap (λ k. take k xs) least ∙ sym (take_fewer a b xs (omega (arith, l)))
+  | inr m ↦ let least : min a b ≡ b = omega (arith, m) in ap (λ k. take k xs) least ∙ sym (take_all a (take b xs) (omega (arith, m, length-take b xs)))
+]
+
+-- the first of a path, so many at most, whose digests are these
+module _ (p : List Revision) (n most : ℕ) (d : List ℕ) (line : List (List ℕ)) (is : revisions_from n (take most (d ∷ line)) ≡ p) where
+  pub shared_length : length p ≡ min most (length line + 1)
+  shared_length = digest_length p n (take most (d ∷ line)) is ∙ length-take most (d ∷ line) ∙ ap (min most) (sym (add-one (length line)))
+
+  pub shared_low : (k : ℕ) → IsPath p → k < length p → k < n
+  shared_low k path low = digest_low p n (take most (d ∷ line)) is k path low
+
+  pub shared_read : (k : ℕ) (e : List ℕ) → k < length p → slice_get (d ∷ line) k ≡ Some e → slice_get p k ≡ Some (record { generation = n - k; hash = encode_lower e })
+  shared_read k e low read =
+      let below : k < most = omega (arith, low, shared_length) in
+      digest_read p n (take most (d ∷ line)) is k e low (sym (get_or-take most (d ∷ line) k e below ∙ get_or_from_slice_get (d ∷ line) k e e read))
+
+  pub shared_first : (k : ℕ) (e : List ℕ) (r : Revision) → k < length p → slice_get (d ∷ line) k ≡ Some e → is_first r (drop k p) ≡ (nat_eq r.generation (n - k) && bytes_eq r.hash (encode_lower e))
+  shared_first k e r low read = first_drop p k r _ (shared_read k e low read)
+
+  -- where that is all of them, a line of all has their digests
+  pub shared_all : (o : Option (List (List ℕ))) → IfSome o (λ l. (l ≡ d ∷ line) × (length l ≤ most)) → IfSome o (λ l. map encode_lower l ≡ map (λ r. r.hash) p)
+  shared_all None h = tt
+  shared_all (Some l) h =
+      ap (map encode_lower) (sym (take_all most l h.1) ∙ ap (take most) h.0) ∙ hashes n (take most (d ∷ line)) ∙ ap (map (λ (r : Revision). r.hash)) is
+    where
+      hashes : (n : ℕ) (ds : List (List ℕ)) → map encode_lower ds ≡ map (λ (r : Revision). r.hash) (revisions_from n ds)
+      hashes n [] = refl
+      hashes n (c ∷ ds) = ap (λ z. encode_lower c ∷ z) (hashes (n - 1) ds)

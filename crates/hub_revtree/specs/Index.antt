@@ -3,12 +3,13 @@
 -- digest d, in lower-case digits, and so on. The key of d is the number of its first eight bytes. Where the three keys
 -- differ, the entries are 0 at the keys of d and e, and 1 at the key of f. Where f begins with the eight bytes of d, the
 -- entry at their key is `many`, since both stems have a revision with it. A revision such as 4-x has no key.
-use Rattle.std.specs.Prelude.{◌≡◌, ℕ, ◌⊎◌, List, slice_get, Option, Some, None, nat_eq, true}
+use Rattle.std.specs.Prelude.{◌≡◌, ℕ, ◌-◌, ◌⊎◌, List, length, map, slice_get, Option, Some, None, nat_eq, true}
 use Rattle.std.specs.HashMap.{get}
+use Rattle.hex.specs.Hex.{encode_lower}
 use Rattle.hub_model.specs.Revision.{Revision}
 use Rattle.hub_model.specs.Path.{names}
 use Rattle.hub_revtree.specs.Key.{IsKey}
-use Rattle.hub_revtree.specs.Stem.{Stem, revisions_at}
+use Rattle.hub_revtree.specs.Stem.{Stem, branches_of, path_in, revisions_at}
 use Rattle.hub_revtree.specs.declared.index.Index.{Index}
 use Rattle.hub_revtree.specs.declared.index.Lead.{Lead}
 use Rattle.hub_revtree.specs.declared.index.Lead.TheVariants.{Nowhere, Only, Anywhere}
@@ -35,10 +36,16 @@ AreIn entry number revisions =
 abbrev pub IsIndexOf : (ℕ → Option ℕ) → List Stem → Type 0
 IsIndexOf entry stems = (number : ℕ) (stem : Stem) → slice_get stems number ≡ Some stem → AreIn entry number stem.revisions
 
--- the index is one of the stems, if there is one
+-- the digests, if there are some, are those whose texts are the hashes of the newest stem's path
+abbrev pub IsNewestPath : Option (List (List ℕ)) → List Stem → Type 0
+IsNewestPath None stems = Unit {0}
+IsNewestPath (Some digests) stems =
+    map encode_lower digests ≡ map (λ r. r.hash) (path_in (slice_get (branches_of stems) (length stems - 1)))
+
+-- the index is one of the stems, if there is one, and the path that it has is the newest one's
 abbrev pub IsIndexed : Option Index → List Stem → Type 0
 IsIndexed None stems = Unit {0}
-IsIndexed (Some index) stems = IsIndexOf (entry_in index) stems
+IsIndexed (Some index) stems = IsIndexOf (entry_in index) stems × IsNewestPath index.line stems
 
 -- what leads to a stem still does
 abbrev pub Keeps : (ℕ → Option ℕ) → (ℕ → Option ℕ) → Type 0

@@ -1,10 +1,11 @@
 -- The revisions that a run keeps (own). An example: of the newest generation 3 and the digests d, e and f it has
--- the revisions 3-d', 2-e' and 1-f', where d' is the hexadecimal text of d, in lower-case digits.
-use Rattle.std.specs.Prelude.{ℕ, ◌-◌, List, [], ◌∷◌}
+-- the revisions 3-d', 2-e' and 1-f', where d' is the hexadecimal text of d, in lower-case digits; so it has where e and
+-- f are shared, and only 3-d' and 2-e' where they are and 2 are kept at most.
+use Rattle.std.specs.Prelude.{ℕ, ◌-◌, List, [], ◌∷◌, take}
 use Rattle.hex.specs.Hex.{encode_lower}
 use Rattle.hub_model.specs.Revision.{Revision}
 use Rattle.hub_revtree.specs.declared.run.Kept.{Kept}
-use Rattle.hub_revtree.specs.declared.run.Kept.TheVariants.{One, Digests, Texts}
+use Rattle.hub_revtree.specs.declared.run.Kept.TheVariants.{One, Digests, Shared, Texts}
 
 -- the revisions whose hashes are the texts of the digests, from this generation down
 abbrev pub revisions_from : ℕ → List (List ℕ) → List Revision
@@ -16,4 +17,5 @@ revisions_from newest (digest ∷ older) =
 abbrev pub kept_in : Kept → List Revision
 kept_in (One newest digest) = revisions_from newest (digest ∷ [])
 kept_in (Digests newest digests) = revisions_from newest digests.items
+kept_in (Shared newest most digest line) = revisions_from newest (take most (digest ∷ line))
 kept_in (Texts revisions) = revisions.items

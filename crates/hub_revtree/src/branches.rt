@@ -1,6 +1,6 @@
 //! The stored edits of a document, which share what stands behind them.
 
-ghost use Rattle.std.specs.Prelude.{◌≡◌, ◌≤◌, ◌<◌, ◌++◌, ◌∷◌, Some, [], ◌-◌, ◌^◌, length, map, min, take, is_some, false, find, option_map, option_and_then, slice_get, IfSome, IfOk, IsSomeAnd, IsTrue, OnOk, OnErr};
+ghost use Rattle.std.specs.Prelude.{◌≡◌, ◌≤◌, ◌<◌, ◌++◌, ◌∷◌, List, Some, [], ◌-◌, ◌^◌, length, map, min, take, is_some, false, find, option_map, option_and_then, slice_get, IfSome, IfOk, IsSomeAnd, IsTrue, OnOk, OnErr};
 ghost use Rattle.std.specs.List.{list_any, list_all};
 ghost use Rattle.hex.specs.Hex.{encode_lower};
 ghost use Rattle.hub_document.specs.Changes.{IsDigestText};
@@ -12,16 +12,19 @@ ghost use Rattle.hub_revtree.specs.Winner.{head_in};
 ghost use Rattle.hub_revtree.specs.Branch.{earlier_branches, edit_of, edits_in, unnamed_in};
 ghost use Rattle.hub_revtree.specs.Count.{revision_count as count_of};
 ghost use Rattle.hub_revtree.specs.Extend.{line_to};
+ghost use Rattle.hub_revtree.specs.Index.{IsIndexed};
+ghost use Rattle.hub_revtree.specs.Stem.{Stem};
 ghost use Rattle.hub_revtree.specs.Tree.{nameless, tip, tip_of};
 
 use crate::heads::StoredEdit;
 use crate::index::{Index, renewed};
 use crate::leaf::Winner;
+use crate::line::Line;
 use crate::run::Run;
 use crate::stem::Stem;
 use crate::stems::{
     append_digests, append_from, first_known, first_known_of, headed, is_behind, is_behind_last,
-    is_line, place_of, place_up_to,
+    is_line, is_newest, place_of, place_up_to,
 };
 use hub_document::{Body, Changes, Path, RevId};
 use std::alloc::{AllocError, Global};
@@ -34,7 +37,8 @@ pub(crate) struct Branches {
     stems: Vec<Stem>,
     /// The highest generation of their revisions; 0 where there is none.
     highest: u16,
-    /// Where their revisions stand; None where they are few, and where it found no memory.
+    /// Where their revisions stand, and the newest one's path; None where they are few, and where it found no
+    /// memory.
     index: Option<Box<Index>>,
 }
 
@@ -76,18 +80,32 @@ fn stored(stem: &Stem) -> StoredEdit<'_>
     }
 }
 
-// The run where it is of just so many; else the first of the path's revisions, so many, in its own memory.
-// It takes none.
-fn kept(run: Run, path: Run, count: usize) -> Run
+// The run where it is of just so many, and the whole path, if it may be shared; else the first of the path's
+// revisions, so many, in its own memory. It takes none but for the path to be shared.
+fn kept(run: Run, path: Run, count: usize) -> (Run, Option<Line>)
     requires some { 1 ≤ count }
     requires within { count ≤ length path }
     requires front { run ≡ take (length run) path }
-    ensures { result ≡ take count path }
+    ensures run { result.0 ≡ take count path }
+    ensures line { IfSome result.1 (λ line. map encode_lower line ≡ map (λ r. r.hash) path) }
 {
     if run.len() == count {
-        run
+        (run, path.into_line())
     } else {
-        path.cut(count)
+        (path.cut(count), None)
+    }
+}
+
+// The index without the path that it keeps.
+fn without_line(index: Option<Box<Index>>) -> Option<Box<Index>>
+    ensures { (stems : List Stem) → IsIndexed (option_map (λ i. i.value) index) stems → IsIndexed (option_map (λ i. i.value) result) stems }
+{
+    match index {
+        Some(mut index) => {
+            index.drop_line();
+            Some(index)
+        }
+        None => None,
     }
 }
 
@@ -245,6 +263,25 @@ impl Branches {
         }
     }
 
+    /// Whether an edit of many revisions shares those that stand behind it with the next ones.
+    pub(crate) fn shares_lines(&self) -> bool {
+        self.index.is_some()
+    }
+
+    /// The digests of the revision and of all that stands behind it, where it is that of the newest edit, and
+    /// these are kept to be shared. Constant time.
+    pub(crate) fn newest_line(&self, rev: &RevId) -> Option<&Line>
+        requires { IsLegal (edits_in self.now.list) }
+        ensures { IfSome result (λ line. map encode_lower line.now ≡ map (λ r. r.hash) (line_to (edits_in self.now.list) (Some rev.now))) }
+    {
+        let index = lent(&self.index)?;
+        let line = index.line()?;
+        if !is_newest(self.stems.as_slice(), rev) {
+            return None;
+        }
+        Some(line)
+    }
+
     /// How many revisions are new of a path that agrees with all stored ones; None where it does not agree.
     /// It costs a find for each of the path's revisions that no path names, but for those of a generation
     /// above all others, and for the first of the others; and the number of these.
@@ -274,10 +311,10 @@ impl Branches {
         }
     }
 
-    /// Takes an edit, in the place that was made for it: it takes no new memory but for the index, and goes on
-    /// without one where there is none. The run is the front of its path; where it is of just those that are
-    /// new, it is kept, and the path's memory is given back, else that memory is cut to what they need. It costs
-    /// what `new_count` does, and what `renewed` does.
+    /// Takes an edit, in the place that was made for it: it takes no new memory but for the index and for the path
+    /// that it shares, and goes on without these where there is none. The run is the front of its path; where it
+    /// is of just those that are new, it is kept, and the path is shared with the next edit or its memory given
+    /// back, else that memory is cut to what they need. It costs what `new_count` does, and what `renewed` does.
     pub(crate) fn push(&mut self, path: Run, run: Run, deleted: bool, body: Body)
         requires legal { IsLegal (edits_in self.old.list) }
         requires acceptable { IsAcceptable (edits_in self.old.list) (nameless path deleted body) }
@@ -299,11 +336,11 @@ impl Branches {
             new = met.at;
             parent = Some(met.place);
         }
-        let run = kept(run, path, new);
+        let index = without_line(self.index.take());
+        let (run, line) = kept(run, path, new);
         self.stems
             .push_reserved(Stem::new(run, parent, deleted, body));
-        let index = self.index.take();
-        self.index = renewed(*self.stems.allocator(), index, self.stems.as_slice());
+        self.index = renewed(*self.stems.allocator(), index, self.stems.as_slice(), line);
     }
 }
 

@@ -11,6 +11,7 @@ ghost use Rattle.hub_revtree.specs.Extend.{draft, extends, line_to};
 ghost use Rattle.hub_revtree.specs.Tree.{IsRevTree, nameless};
 
 use crate::fault::EditFault;
+use crate::line::Line;
 use crate::run::Run;
 use crate::tree::{Ready, RevTree};
 use hub_document::{Body, DigestRev, DocId, RevId, rev_of_edit};
@@ -127,6 +128,48 @@ impl RevTree {
         Ok(Some(Run::from_digests(rev.generation(), digests)))
     }
 
+    // The digests of the revision and of all that stands behind it, as a tree of many edits shares them; None
+    // in a tree of fewer, and where one of the revisions is kept otherwise. Constant time where the revision is
+    // that of the newest edit, and the tree keeps its path.
+    fn shared_line(&self, alloc: Global, rev: &RevId) -> Result<Option<Line>, AllocError>
+        ensures { IfOk result (λ found. IfSome found (λ line. map encode_lower line ≡ map (λ r. r.hash) (line_to self.now.edits (Some rev.now)))) }
+    {
+        let branches = self.branches();
+        if !branches.shares_lines() {
+            return Ok(None);
+        }
+        if let Some(line) = branches.newest_line(rev) {
+            let line = line.share()?;
+            return Ok(Some(line));
+        }
+        let mut digests = Vec::with_capacity(alloc, usize::from(rev.generation()))?;
+        if !branches.append_digests(rev, &mut digests)? {
+            return Ok(None);
+        }
+        let line = Line::new(alloc, digests)?;
+        Ok(Some(line))
+    }
+
+    // The path with the revision in front of the one that it extends, which shares what stands behind it; None
+    // where `shared_line` is.
+    fn shared_on(
+        &self,
+        alloc: Global,
+        rev: &DigestRev,
+        older: &Option<RevId>,
+    ) -> Result<Option<Run>, AllocError>
+        requires { IsHistory (rev.now ∷ line_to self.now.edits older.now) }
+        ensures { IfOk result (λ found. IfSome found (λ path. path ≡ rev.now ∷ line_to self.now.edits older.now)) }
+    {
+        let Some(older) = older else {
+            return Ok(None);
+        };
+        match self.shared_line(alloc, older)? {
+            Some(line) => Ok(Some(Run::on(rev, line))),
+            None => Ok(None),
+        }
+    }
+
     // The same as revisions.
     fn revisions_on(
         &self,
@@ -154,6 +197,9 @@ impl RevTree {
         requires { IsHistory (rev.now ∷ line_to self.now.edits older.now) }
         ensures { IfOk result (λ path. path ≡ rev.now ∷ line_to self.now.edits older.now) }
     {
+        if let Some(path) = self.shared_on(alloc, rev, older)? {
+            return Ok(path);
+        }
         match self.digests_on(alloc, rev, older)? {
             Some(path) => Ok(path),
             None => self.revisions_on(alloc, rev, older),
@@ -184,7 +230,8 @@ impl RevTree {
     /// edit with the revision that is made for it, with memory for it. `id` is the document's, which
     /// the revision's hash has in it. It costs a look an edit, and the lengths of the path and the
     /// body: of the path a copy of 16 bytes a revision where the hashes are digests, else of 68. Where no
-    /// generation is above that of the leaf, it costs finds in place of the looks.
+    /// generation is above that of the leaf, it costs finds in place of the looks; and where the leaf is the
+    /// newest edit of 256 and more, and was made on the one before it, it costs nothing of the path's length.
     pub fn look_extend(
         &mut self,
         id: &DocId,

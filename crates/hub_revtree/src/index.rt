@@ -1,9 +1,10 @@
 //! An index of a tree's revisions.
 
-ghost use Rattle.std.specs.Prelude.{◌≡◌, ◌-◌, length, map, option_map, take, IfSome, IfOk, OnOk};
-ghost use Rattle.hub_revtree.specs.Index.{AreIn, IsIndexOf, IsIndexed, IsLead, Keeps, LeadsTo, entry_in};
+ghost use Rattle.std.specs.Prelude.{◌≡◌, ◌-◌, None, length, map, option_map, take, IfSome, IfOk, OnOk};
+ghost use Rattle.hub_revtree.specs.Index.{AreIn, IsIndexOf, IsIndexed, IsLead, IsNewestPath, Keeps, LeadsTo, entry_in};
 
 use crate::key::key_of_rev;
+use crate::line::Line;
 use crate::stem::Stem;
 use hub_document::RevId;
 use std::alloc::{AllocError, Global};
@@ -16,11 +17,15 @@ const MANY: u32 = u32::MAX;
 // many documents with fewer edits shall have no more memory.
 const TURN: usize = 256;
 
-/// From the key of a digest to the number of the stem that has a revision with that key, or to `MANY`. Only
-/// revisions whose hash is a digest's text are in it. It takes some 30 to 60 bytes for each of them.
+/// What a tree of many edits has so that looks need not pass over all of them.
 #[derive(Debug, Drop)]
 pub(crate) struct Index {
+    /// From the key of a digest to the number of the stem that has a revision with that key, or to `MANY`. Only
+    /// revisions whose hash is a digest's text are in it. It takes some 30 to 60 bytes for each of them.
     stems: HashMap<u64, u32>,
+    /// The path of the newest stem, for the next one that stands on it; None where it was not made so, and
+    /// where the memory for it was not to be had.
+    line: Option<Line>,
 }
 
 /// Which stem may have a revision.
@@ -61,6 +66,21 @@ impl Index {
         Ok(())
     }
 
+    /// The path of the newest stem, if it is kept.
+    pub(crate) fn line(&self) -> Option<&Line>
+        ensures { option_map (λ l. l.now) result ≡ self.now.line }
+    {
+        self.line.as_ref()
+    }
+
+    /// Gives up the path, so that whoever shares it may have it alone.
+    pub(crate) fn drop_line(&mut self)
+        ensures stems { self.new.stems ≡ self.old.stems }
+        ensures line { self.new.line ≡ None }
+    {
+        self.line = None;
+    }
+
     // Which of the stems may have the revision. Constant time.
     fn lead(&self, stems: &[Stem], rev: &RevId) -> Lead
         requires { IsIndexOf (entry_in self.now) stems.now }
@@ -95,6 +115,7 @@ fn built(alloc: Global, stems: &[Stem]) -> Result<Box<Index>, AllocError>
 {
     let mut index = Index {
         stems: HashMap::with_capacity(alloc, stems.len())?,
+        line: None,
     };
     for (number, stem) in stems.iter().enumerate() {
         index.add(stem, number)?;
@@ -102,48 +123,57 @@ fn built(alloc: Global, stems: &[Stem]) -> Result<Box<Index>, AllocError>
     Ok(Box::new(alloc, index)?)
 }
 
-// The index with the newest of the stems, of all others of which it is one.
-fn with_newest(mut index: Box<Index>, stems: &[Stem]) -> Option<Box<Index>>
+// The index with the newest of the stems, of all others of which it is one, and with the newest one's path.
+fn with_newest(mut index: Box<Index>, stems: &[Stem], line: Option<Line>) -> Option<Box<Index>>
     requires { IsIndexOf (entry_in index.value) (take (length stems.now - 1) stems.now) }
-    ensures { IfSome result (λ i. IsIndexOf (entry_in i.value) stems.now) }
+    ensures index { IfSome result (λ i. IsIndexOf (entry_in i.value) stems.now) }
+    ensures line { IfSome result (λ i. i.value.line ≡ line) }
 {
     if stems.is_empty() {
         return None;
     }
     let newest = stems.len() - 1;
     match index.add(&stems[newest], newest) {
-        Ok(()) => Some(index),
+        Ok(()) => {
+            index.line = line;
+            Some(index)
+        }
         Err(_) => None,
     }
 }
 
 // An index of the stems where they are so many that it is time for one, and there is memory for it.
-fn begun(alloc: Global, stems: &[Stem]) -> Option<Box<Index>>
-    ensures { IfSome result (λ i. IsIndexOf (entry_in i.value) stems.now) }
+fn begun(alloc: Global, stems: &[Stem], line: Option<Line>) -> Option<Box<Index>>
+    ensures index { IfSome result (λ i. IsIndexOf (entry_in i.value) stems.now) }
+    ensures line { IfSome result (λ i. i.value.line ≡ line) }
 {
     if stems.len() < TURN || !stems.len().is_power_of_two() {
         return None;
     }
     match built(alloc, stems) {
-        Ok(index) => Some(index),
+        Ok(mut index) => {
+            index.line = line;
+            Some(index)
+        }
         Err(_) => None,
     }
 }
 
-/// The index of the stems, of one of all but the newest. Where there was none it is built, if the stems are so
-/// many, and at most once for each doubling of their number. Where the memory for it is not to be had there is
-/// none, until their number is a power of two again, and looks take longer. It costs the number of the newest
-/// stem's revisions, or that of all where it is built.
+/// The index of the stems, of one of all but the newest, with the newest one's path where it is given. Where
+/// there was none it is built, if the stems are so many, and at most once for each doubling of their number.
+/// Where the memory for it is not to be had there is none, until their number is a power of two again, and looks
+/// take longer. It costs the number of the newest stem's revisions, or that of all where it is built.
 pub(crate) fn renewed(
     alloc: Global,
     index: Option<Box<Index>>,
     stems: &[Stem],
+    line: Option<Line>,
 ) -> Option<Box<Index>>
     requires { IsIndexed (option_map (λ i. i.value) index) (take (length stems.now - 1) stems.now) }
-    ensures { IsIndexed (option_map (λ i. i.value) result) stems.now }
+    ensures { IsNewestPath line stems.now → IsIndexed (option_map (λ i. i.value) result) stems.now }
 {
     match index {
-        Some(index) => with_newest(index, stems),
-        None => begun(alloc, stems),
+        Some(index) => with_newest(index, stems, line),
+        None => begun(alloc, stems, line),
     }
 }

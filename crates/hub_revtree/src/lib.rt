@@ -9,6 +9,7 @@ mod heads;
 mod index;
 mod key;
 mod leaf;
+mod line;
 mod look;
 mod run;
 mod sought;

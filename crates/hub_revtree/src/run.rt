@@ -1,6 +1,6 @@
 //! Runs of revisions, in little memory.
 
-ghost use Rattle.std.specs.Prelude.{◌≡◌, ◌≤◌, ◌<◌, ◌++◌, ◌∷◌, [], ◌&&◌, nat_eq, List, length, Some, false, drop, map, option_map, slice_get, take, IfSome, IfNone, IfOk, IsSomeAnd, IsTrue, OnErr, OnOk};
+ghost use Rattle.std.specs.Prelude.{◌≡◌, ◌≤◌, ◌<◌, ◌++◌, ◌∷◌, ◌-◌, [], ◌&&◌, nat_eq, List, length, min, Some, false, drop, map, option_map, slice_get, take, IfSome, IfNone, IfOk, IsSomeAnd, IsTrue, OnErr, OnOk};
 ghost use Rattle.std.specs.Str.{bytes_eq};
 ghost use Rattle.hex.specs.Hex.{encode_lower};
 ghost use Rattle.hub_document.specs.Changes.{IsDigestText};
@@ -10,6 +10,7 @@ ghost use Rattle.hub_revtree.specs.Key.{HasKey};
 ghost use Rattle.hub_revtree.specs.Run.{kept_in, revisions_from};
 
 use crate::key::{key_of, key_of_rev};
+use crate::line::Line;
 use crate::sought::Sought;
 use hub_document::{Changes, DigestRev, RevId};
 use std::alloc::{AllocError, Global};
@@ -22,13 +23,17 @@ enum Kept {
     One(u16, [u8; 16]),
     // The newest one's generation, and the digests of all. The generations fall by one.
     Digests(u16, Vec<[u8; 16]>),
+    // The first of a path, so many at most: its newest one's generation, and how many; its newest digest, and
+    // those behind it, which other edits share.
+    Shared(u16, u16, [u8; 16], Line),
     // The revisions themselves.
     Texts(Vec<RevId>),
 }
 
 /// Revisions, newest first, of which each is the parent of the one before it. One whose hash is 32
 /// lower-case hexadecimal digits takes 16 bytes, and where it stands alone no memory of its own; where a
-/// hash is another, each takes 68 bytes. The value itself takes 32.
+/// hash is another, each takes 68 bytes. A path may share the digests behind its newest one with others. The value
+/// itself takes 32 bytes.
 #[derive(Debug, Drop)]
 pub(crate) struct Run {
     kept: Kept,
@@ -86,6 +91,46 @@ fn cut_list<T: Drop>(mut list: Vec<T>, count: usize) -> Vec<T>
     list
 }
 
+// The lesser of both.
+fn least(most: u16, count: usize) -> u16
+    ensures { result ≡ min count most }
+{
+    usize::from(most).min(count) as u16
+}
+
+// The digest at this place of a path, of the newest one and those behind it. Constant time.
+fn digest_at<'a>(newest: &'a [u8; 16], line: &'a Line, place: usize) -> &'a [u8; 16]
+    requires { place ≤ length line.now }
+    ensures { slice_get (newest.now ∷ line.now) place ≡ Some result.now }
+{
+    if place == 0 {
+        newest
+    } else {
+        line.at(place - 1)
+    }
+}
+
+// The newest digest and those behind it as one line, where so many at most are all of them. It takes memory as
+// `Line::with_newer` does.
+fn all_of(most: u16, newest: [u8; 16], line: Line) -> Option<Line>
+    ensures { IfSome result (λ all. (all ≡ newest ∷ line) × (length all ≤ most)) }
+{
+    if line.len() >= usize::from(most) {
+        return None;
+    }
+    line.with_newer(newest)
+}
+
+// The digests of all revisions that are kept, where these are shared and are a whole path.
+fn line_in(kept: Kept) -> Option<Line>
+    ensures { IfSome result (λ line. map encode_lower line ≡ map (λ r. r.hash) (kept_in kept)) }
+{
+    match kept {
+        Kept::Shared(_, most, digest, line) => all_of(most, digest, line),
+        _ => None,
+    }
+}
+
 // What keeps the first of the revisions, so many. It takes no memory.
 fn cut_kept(kept: Kept, count: usize) -> Kept
     requires { 1 ≤ count }
@@ -94,6 +139,9 @@ fn cut_kept(kept: Kept, count: usize) -> Kept
     match kept {
         Kept::One(newest, digest) => Kept::One(newest, digest),
         Kept::Digests(newest, digests) => Kept::Digests(newest, cut_list(digests, count)),
+        Kept::Shared(newest, most, digest, line) => {
+            Kept::Shared(newest, least(most, count), digest, line)
+        }
         Kept::Texts(revisions) => Kept::Texts(cut_list(revisions, count)),
     }
 }
@@ -145,8 +193,27 @@ impl Run {
         }
     }
 
-    /// The first of them, so many, in the memory that they all have, which gives the rest of it back: it
-    /// takes none.
+    /// The revision in front of the path with the digests of the line, which it shares. It takes no memory.
+    pub(crate) fn on(rev: &DigestRev, line: Line) -> Run
+        requires { length line < rev.now.generation }
+        ensures { result ≡ rev.now ∷ revisions_from (rev.now.generation - 1) line }
+    {
+        let newest = rev.generation();
+        Run {
+            kept: Kept::Shared(newest, newest, rev.digest(), line),
+        }
+    }
+
+    /// The digests of all of them, where they are a whole path on a line that is not shared any more; this
+    /// takes memory only as `Line::with_newer` does. None of others.
+    pub(crate) fn into_line(self) -> Option<Line>
+        ensures { IfSome result (λ line. map encode_lower line ≡ map (λ r. r.hash) self) }
+    {
+        line_in(self.kept)
+    }
+
+    /// The first of them, so many, in the memory that they all have, which gives the rest of it back where no
+    /// other edit shares it: it takes none.
     pub(crate) fn cut(self, count: usize) -> Run
         requires { 1 ≤ count }
         ensures { result ≡ take count self }
@@ -163,6 +230,7 @@ impl Run {
         match &self.kept {
             Kept::One(_, _) => 1,
             Kept::Digests(_, digests) => digests.len(),
+            Kept::Shared(_, most, _, line) => usize::from(*most).min(line.len().saturating_add(1)),
             Kept::Texts(revisions) => revisions.len(),
         }
     }
@@ -175,6 +243,7 @@ impl Run {
         match &self.kept {
             Kept::One(newest, _) => *newest,
             Kept::Digests(newest, _) => *newest,
+            Kept::Shared(newest, _, _, _) => *newest,
             Kept::Texts(revisions) => revisions[0].generation(),
         }
     }
@@ -190,6 +259,9 @@ impl Run {
             Kept::Digests(newest, digests) => {
                 RevId::from_digest(*newest - place as u16, &digests[place])
             }
+            Kept::Shared(newest, _, digest, line) => {
+                RevId::from_digest(*newest - place as u16, digest_at(digest, line, place))
+            }
             Kept::Texts(revisions) => revisions[place],
         }
     }
@@ -203,6 +275,7 @@ impl Run {
         match &self.kept {
             Kept::One(_, digest) => Some(key_of(digest)),
             Kept::Digests(_, digests) => Some(key_of(&digests[place])),
+            Kept::Shared(_, _, digest, line) => Some(key_of(digest_at(digest, line, place))),
             Kept::Texts(revisions) => key_of_rev(&revisions[place]),
         }
     }
@@ -220,6 +293,9 @@ impl Run {
             Kept::Digests(newest, digests) => {
                 Ok(Changes::of_digest(DigestRev::new(*newest, digests[0])))
             }
+            Kept::Shared(newest, _, digest, _) => {
+                Ok(Changes::of_digest(DigestRev::new(*newest, *digest)))
+            }
             Kept::Texts(revisions) => Changes::one(alloc, revisions[0]),
         }
     }
@@ -235,6 +311,11 @@ impl Run {
             Kept::Digests(newest, digests) => {
                 is_of(*newest - place as u16, &digests[place], sought)
             }
+            Kept::Shared(newest, _, digest, line) => is_of(
+                *newest - place as u16,
+                digest_at(digest, line, place),
+                sought,
+            ),
             Kept::Texts(revisions) => sought.is_same(&revisions[place]),
         }
     }
@@ -281,7 +362,7 @@ impl Run {
     }
 
     /// Puts the digests of the revision at this place, and of those behind it, behind what the vector holds;
-    /// false, and nothing, where they are kept otherwise. It costs a copy of 16 bytes for each.
+    /// false, and nothing, where they are kept otherwise, or shared. It costs a copy of 16 bytes for each.
     pub(crate) fn append_digests(
         &self,
         at: usize,
@@ -293,6 +374,7 @@ impl Run {
         match &self.kept {
             Kept::One(_, digest) => digests.push(*digest)?,
             Kept::Digests(_, all) => digests.extend_from_slice(&all[at..])?,
+            Kept::Shared(_, _, _, _) => return Ok(false),
             Kept::Texts(_) => return Ok(false),
         }
         Ok(true)

@@ -173,6 +173,17 @@ pub(crate) fn headed<'a>(stems: &'a [Stem], index: Option<&Index>, rev: &RevId) 
     }
 }
 
+/// Whether the revision is the newest of the newest stem. Constant time.
+pub(crate) fn is_newest(stems: &[Stem], rev: &RevId) -> bool
+    requires { AreStems stems.now }
+    ensures { result ≡ is_first rev.now (revisions_at stems.now (length stems.now - 1)) }
+{
+    match stems.last() {
+        Some(newest) => newest.is_head(&Sought::once(rev)),
+        None => false,
+    }
+}
+
 /// Puts the revision at the place, and all that stands behind it, behind what the vector holds. It
 /// costs their number.
 pub(crate) fn append_from(

@@ -7,6 +7,7 @@ mod keeps;
 mod lines;
 mod looks;
 mod merges;
+mod shared;
 
 use crate::tests::Step::{
     Ancestors, Body, Deleted, Knows, Leaves, Len, Make, Merge, Missing, Nodes, Path, Winner,

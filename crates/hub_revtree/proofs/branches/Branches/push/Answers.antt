@@ -3,19 +3,19 @@ use Rattle.std.proofs.lemmas.List.{take_all}
 use Rattle.hub_revtree.specs.Stem.{Stem}
 use Rattle.hub_revtree.proofs.BranchLemmas.{some_history}
 use Rattle.hub_revtree.proofs.HighestLemmas.{up_to_more}
-use Rattle.hub_revtree.proofs.JoinLemmas.{Brings, brought_edit, brought_stems, met_brings, met_later, met_within, new_brings}
+use Rattle.hub_revtree.proofs.JoinLemmas.{Brings, brought_edit, brought_line, brought_stems, met_brings, met_later, met_within, new_brings}
 use Rattle.hub_revtree.proofs.RunLemmas.{newest_of}
 use Rattle.hub_revtree.proofs.branches.Branches.push.Goals as goal
 use Rattle.hub_revtree.proofs.branches.Branches.push.Goals.{Joined-self-renewed, in-Some, in_default}
 
 -- the stem brings what is new of the path
-brings : (c : Joined-self-renewed) → Brings c.self.inside.stems.items c.args.path (record { revisions = c.kept-run.result; parent = c.match-met.parent; deleted = c.args.deleted; body = c.args.body })
+brings : (c : Joined-self-renewed) → Brings c.self.inside.stems.items c.args.path (record { revisions = c.kept-run.result.0; parent = c.match-met.parent; deleted = c.args.deleted; body = c.args.body })
 brings c =
     let xs = c.self.inside.stems.items in
     let legal = rw (sym c.self.view_is) at c.requires.legal in
     let ok = rw (sym c.self.view_is) at c.requires.acceptable in
-    let stem : Stem = record { revisions = c.kept-run.result; parent = c.match-met.parent; deleted = c.args.deleted; body = c.args.body } in
-    let own : c.kept-run.result ≡ take c.match-met.new c.args.path = c.kept-run.ensures in
+    let stem : Stem = record { revisions = c.kept-run.result.0; parent = c.match-met.parent; deleted = c.args.deleted; body = c.args.body } in
+    let own : c.kept-run.result.0 ≡ take c.match-met.new c.args.path = c.kept-run.ensures.run in
     elim c.match-met.branch [
       | in-Some w ↦
           let met = rw c.as_slice.ensures.value at w.in-Some.ensures in
@@ -64,7 +64,8 @@ invariant_of-self c =
       more,
       up_to_more xs _ c.args.path head.0 c.self.inside.highest c.max-self-inside.result c.self.invariant.0 more c.self.invariant.1 c.requires.acceptable.history.falls head.1 path.whole
           (c.max-self-inside.ensures ∙ ap (λ n. max n c.self.inside.highest) (sym head.2)),
-      rw (c.as_slice-2.ensures.value, c.push_reserved.ensures.items, c.new.ensures) at c.renewed.ensures,
+      rw (c.as_slice-2.ensures.value, c.push_reserved.ensures.items, c.new.ensures) at c.renewed.ensures
+          (brought_line xs c.self.invariant.0 (rw (sym c.self.view_is) at c.requires.legal) c.args.path _ c.kept-run.result.1 path c.kept-run.ensures.line),
     )
 
 pub returns : goal.returns

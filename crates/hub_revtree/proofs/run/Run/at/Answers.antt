@@ -1,7 +1,7 @@
 use Rattle.std.proofs.Common.{◌<◌, ◌^◌, ◌∙◌, ap, sym, arith, rules}
 use Rattle.std.specs.Prelude.{Some}
 use Rattle.hub_revtree.specs.Run.{kept_in}
-use Rattle.hub_revtree.proofs.RunLemmas.{digest_length, digest_low, digest_read, texts_read}
+use Rattle.hub_revtree.proofs.RunLemmas.{digest_length, digest_low, digest_read, shared_length, shared_low, shared_read, texts_read}
 use Rattle.hub_revtree.proofs.run.Run.at.Goals as goal
 
 pub overflow_cast-place : goal.overflow_cast-place
@@ -34,3 +34,29 @@ pub returns-in-Texts : goal.returns-in-Texts
 returns-in-Texts c =
     let is = sym (ap kept_in c.in-Texts.is) ∙ c.self.view_is in
     texts_read c.args.self.now c.in-Texts.revisions.items c.args.place c.index-in-Texts.result.now is c.requires.within c.index-in-Texts.ensures
+
+pub overflow_cast-place-in-Shared : goal.overflow_cast-place-in-Shared
+overflow_cast-place-in-Shared c =
+    let is = sym (ap kept_in c.in-Shared.is) ∙ c.self.view_is in
+    let below : c.in-Shared.newest < 2 ^ 16 = search rules in
+    omega (arith, shared_low c.args.self.now c.in-Shared.newest c.in-Shared.field-1 c.in-Shared.digest c.in-Shared.line is c.args.place c.requires.path c.requires.within, below)
+
+pub overflow_sub-newest-in-Shared : goal.overflow_sub-newest-in-Shared
+overflow_sub-newest-in-Shared c =
+    let is = sym (ap kept_in c.in-Shared.is) ∙ c.self.view_is in
+    omega (arith, shared_low c.args.self.now c.in-Shared.newest c.in-Shared.field-1 c.in-Shared.digest c.in-Shared.line is c.args.place c.requires.path c.requires.within)
+
+pub digest_at-requires : goal.digest_at-requires
+digest_at-requires c =
+    let is = sym (ap kept_in c.in-Shared.is) ∙ c.self.view_is in
+    omega (arith, c.requires.within, shared_length c.args.self.now c.in-Shared.newest c.in-Shared.field-1 c.in-Shared.digest c.in-Shared.line is)
+
+pub from_digest-requires-in-Shared : goal.from_digest-requires-in-Shared
+from_digest-requires-in-Shared c =
+    let is = sym (ap kept_in c.in-Shared.is) ∙ c.self.view_is in
+    omega (arith, shared_low c.args.self.now c.in-Shared.newest c.in-Shared.field-1 c.in-Shared.digest c.in-Shared.line is c.args.place c.requires.path c.requires.within)
+
+pub returns-in-Shared : goal.returns-in-Shared
+returns-in-Shared c =
+    let is = sym (ap kept_in c.in-Shared.is) ∙ c.self.view_is in
+    shared_read c.args.self.now c.in-Shared.newest c.in-Shared.field-1 c.in-Shared.digest c.in-Shared.line is c.args.place c.digest_at.result.now c.requires.within c.digest_at.ensures ∙ ap Some (sym c.from_digest-in-Shared.ensures)

@@ -2,7 +2,7 @@ use Rattle.std.proofs.Common.{◌≡◌, ◌∙◌, [], ◌∷◌, ap, sym, arit
 use Rattle.std.specs.Prelude.{Some}
 use Rattle.hub_revtree.specs.Run.{kept_in}
 use Rattle.hub_revtree.proofs.KeyLemmas.{key_there}
-use Rattle.hub_revtree.proofs.RunLemmas.{digest_length, digest_read, texts_read}
+use Rattle.hub_revtree.proofs.RunLemmas.{digest_length, digest_read, shared_length, shared_read, texts_read}
 use Rattle.hub_revtree.proofs.run.Run.key_at.Goals as goal
 
 pub index-requires : goal.index-requires
@@ -25,3 +25,13 @@ pub returns-in-Texts : goal.returns-in-Texts
 returns-in-Texts c =
     let is = sym (ap kept_in c.in-Texts.is) ∙ c.self.view_is in
     λ r e. key_there c.args.self.now c.args.place _ r c.key_of_rev.result (texts_read c.args.self.now c.in-Texts.revisions.items c.args.place c.index-in-Texts.result.now is c.requires c.index-in-Texts.ensures) c.key_of_rev.ensures e
+
+pub digest_at-requires : goal.digest_at-requires
+digest_at-requires c =
+    let is = sym (ap kept_in c.in-Shared.is) ∙ c.self.view_is in
+    omega (arith, c.requires, shared_length c.args.self.now c.in-Shared.field-0 c.in-Shared.field-1 c.in-Shared.digest c.in-Shared.line is)
+
+pub returns-in-Shared : goal.returns-in-Shared
+returns-in-Shared c =
+    let is = sym (ap kept_in c.in-Shared.is) ∙ c.self.view_is in
+    λ r e. key_there c.args.self.now c.args.place _ r (Some c.key_of-in-Shared.result) (shared_read c.args.self.now c.in-Shared.field-0 c.in-Shared.field-1 c.in-Shared.digest c.in-Shared.line is c.args.place c.digest_at.result.now c.requires c.digest_at.ensures) c.key_of-in-Shared.ensures e
