@@ -143,6 +143,24 @@ fn split_body(
     Ok(bytes)
 }
 
+/// Takes so many bytes away from the front of what is held. An error changes nothing. It copies what
+/// stands behind them.
+fn drop_front(alloc: Global, held: &mut Vec<u8>, count: usize) -> Result<(), HttpFault>
+    requires { count ≤ length held.old.items }
+    ensures ok { OnOk result (held.new.items ≡ drop count held.old.items) }
+    ensures err { IfErr result (λ e. (e ≡ HttpFault.NoMemory) × (held.new.items ≡ held.old.items)) }
+{
+    if count == held.len() {
+        held.clear();
+        return Ok(());
+    }
+    let Ok(rest) = Vec::from_slice(alloc, &held[count..]) else {
+        return Err(HttpFault::NoMemory);
+    };
+    *held = rest;
+    Ok(())
+}
+
 /// Takes the body from behind a head, and both away from what is held. An error changes nothing.
 /// A short body is copied, and a long one keeps the memory that it was read into, so that no more
 /// than a block's stays behind.
@@ -163,10 +181,10 @@ fn take_body(
     let Ok(bytes) = Vec::from_slice(alloc, &held[len..end]) else {
         return Err(HttpFault::NoMemory);
     };
-    held.copy_within(end.., 0);
-    let left = held.len() - end;
-    held.truncate(left);
-    Ok(bytes)
+    match drop_front(alloc, held, end) {
+        Ok(()) => Ok(bytes),
+        Err(e) => Err(e),
+    }
 }
 
 /// Reads the next request, `None` at the end of the input.
@@ -265,8 +283,7 @@ impl<R: Input> Requests<R> {
     /// bytes come, whatever `Content-Length` says: for 65,536 bytes at first, then for as many
     /// again as are held, and never for more than the request has. So a body of fewer costs one
     /// reservation, and a longer one is copied where its room grows, in all less than twice its
-    /// length. What is read behind a request, less than a block, is moved to the front once a
-    /// request.
+    /// length. What is read behind a request, less than a block, is copied once a request.
     pub fn next(&mut self) -> Result<Option<Request>, HttpFault>
         ensures told { IsOpen self.old → IfSome (to_come R.left self.old)
             (λ bytes. Leaves bytes result (to_come R.left self.new)) }
