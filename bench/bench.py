@@ -44,6 +44,9 @@ print(status, usage.ru_utime + usage.ru_stime, usage.ru_maxrss)
 MAKE = b"PUT /d HTTP/1.1\r\n\r\n"
 # How many rows a case that reads shows, about.
 READ = 500_000
+# Documents that are much more than one batch, whose text and parsed values are there while it is stored: so
+# the peak is what is kept of them.
+SMALL_BATCHES = "batches of 100, 10 kB"
 
 
 def request(line, body):
@@ -217,10 +220,12 @@ def ratios(entries):
         if "empty feeds" in of:
             near = of["feeds from ten below the end"]["seconds"] / of["empty feeds"]["seconds"]
             told["feed from near the end to an empty one, %d documents" % size] = round(near, 2)
-        if "replicated batches" in of:
-            entry = of["replicated batches"]
-            memory = entry["peak_bytes_per_document"] / entry["text_bytes_per_document"]
-            told["memory of a document to its text, %d documents" % size] = round(memory, 2)
+        for case in ("replicated batches", SMALL_BATCHES):
+            if case in of:
+                entry = of[case]
+                memory = entry["peak_bytes_per_document"] / entry["text_bytes_per_document"]
+                name = "memory of a document to its text, %d documents" % size
+                told[name] = round(memory, 2)
     return told
 
 
@@ -316,6 +321,8 @@ def main():
         measure("replicated batches, 10 kB", 1000, 1000, None, large, 3),
         measure("feed with documents, 10 kB", 1000, 1000, large, feed("?include_docs=true"), 3),
     ]
+    small = batches(5000, 10000, 100)
+    entries.append(measure(SMALL_BATCHES, 5000, 5000, None, small, 2))
     for count in [1250, 2500, 5000]:
         entries.append(measure("one line of edits", 1, count, None, line(count), 1))
     for count in [125, 250, 500]:
