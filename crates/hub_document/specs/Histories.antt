@@ -1,5 +1,6 @@
 -- The revision and the history that a document names by `_rev` and `_revisions` (CouchDB API reference,
--- documents; replication protocol, upload of changed documents). Full histories and their limits are own.
+-- documents; replication protocol, upload of changed documents). A history may end above the first generation; its
+-- limits are own.
 use Rattle.std.specs.Prelude.{ℕ, ◌-◌, ◌^◌, List, [], ◌∷◌, codes, Bool, true, ◌&&◌, ◌||◌, ◌==◌, nat_lt}
 use Rattle.std.specs.Prelude.{is_some, if◌then◌else◌, Option, Some, None, option_map, option_and_then}
 use Rattle.hub_model.specs.Revision.{Revision}
@@ -28,18 +29,20 @@ rev_of new_edits d =
 abbrev pub hashed_at : ℕ → Data → Option Revision
 hashed_at n d = if n == 0 then None else option_and_then (with_hash n) (as_str d)
 
--- the hashes of generations n, n - 1, .., 1
+-- the hashes of generations n, n - 1 and so on; there is no generation 0
 abbrev pub falling : ℕ → Items → Option (List Revision)
-falling n no_items = if n == 0 then Some [] else None
+falling n no_items = Some []
 falling n (item d ds) =
     if n == 0
     then None
     else option_and_then (λ r. option_map (λ rs. r
     ∷ rs) (falling (n - 1) ds)) (option_and_then (with_hash n) (as_str d))
 
--- a full history from a generation within the limits
+-- a history from a generation within the limits: of one revision at least
 abbrev pub starting : ℕ → Items → Option (List Revision)
-starting start ids = if nat_lt 0 start && nat_lt start (2 ^ 16) then falling start ids else None
+starting start no_items = None
+starting start (item d ds) =
+    if nat_lt 0 start && nat_lt start (2 ^ 16) then falling start (item d ds) else None
 
 -- the history that `_revisions` writes by `start` and `ids`
 abbrev pub history_in : Data → Option (List Revision)
@@ -60,7 +63,7 @@ if_head rev path = if is_head rev path then Some path else None
 -- a revision that stands alone is its own history
 abbrev pub alone : Option Revision → Option (List Revision)
 alone None = None
-alone (Some r) = if r.generation == 1 then Some (r ∷ []) else None
+alone (Some r) = Some (r ∷ [])
 
 -- the history of a document that names this revision
 abbrev pub path_of : Option Revision → Data → Option (List Revision)

@@ -115,7 +115,7 @@ pub enum DocFault {
     /// `_rev` is no revision, or absent where it is needed.
     #[error("bad rev")]
     BadRev,
-    /// `_revisions` is no full history, or `_rev` is not its first revision.
+    /// `_revisions` is no history, or `_rev` is not its first revision.
     #[error("bad _revisions")]
     BadRevisions,
     /// A member that begins with `_` is unknown or has no fitting value.

@@ -1,8 +1,8 @@
 //! The revision and the history that a document's members name.
 
-ghost use Rattle.std.specs.Prelude.{◌≡◌, IfOk, IfSome, is_some, option_map, option_and_then};
+ghost use Rattle.std.specs.Prelude.{◌≡◌, IfOk, IfSome, IfNone, None, is_some, option_map, option_and_then};
 ghost use Rattle.serde_json.specs.View.{view, items_view};
-ghost use Rattle.hub_document.specs.Histories.{rev_of as rev_in, hashed_at, falling, history_in, is_head as is_head_of, if_head, alone as alone_of, path_of as path_in};
+ghost use Rattle.hub_document.specs.Histories.{rev_of as rev_in, hashed_at, falling, starting, history_in, is_head as is_head_of, if_head, alone as alone_of, path_of as path_in};
 
 use crate::path::Path;
 use crate::revision::RevId;
@@ -37,7 +37,7 @@ fn fallen(left: u16, id: &Value) -> Option<RevId>
     RevId::from_parts(left, hash.as_bytes())
 }
 
-// Whether these are the hashes of a full history from the generation `start` on.
+// Whether these are the hashes of the generations from `start` down.
 fn is_falling(start: u16, ids: &Vec<Value>) -> bool
     ensures { result ≡ is_some (falling start (items_view ids.now.items)) }
 {
@@ -48,10 +48,10 @@ fn is_falling(start: u16, ids: &Vec<Value>) -> bool
         }
         left -= 1;
     }
-    left == 0
+    true
 }
 
-// The revisions of these hashes, of which the first has the generation `start` and the last the first.
+// The revisions of these hashes, of which the first has the generation `start`.
 fn falling_from(
     alloc: Global,
     start: u16,
@@ -69,11 +69,22 @@ fn falling_from(
         revisions.push(rev)?;
         left -= 1;
     }
-    if left == 0 {
-        Ok(Some(revisions))
-    } else {
-        Ok(None)
+    Ok(Some(revisions))
+}
+
+// The generation that a history of these hashes starts from, where it is within the limits and there is one hash at
+// least. None is a fault.
+fn start_of(start: u64, ids: &Vec<Value>) -> Option<u16>
+    ensures some { IfSome result (λ n. falling n (items_view ids.now.items) ≡ starting start (items_view ids.now.items)) }
+    ensures none { IfNone result (starting start (items_view ids.now.items) ≡ None) }
+{
+    if ids.is_empty() {
+        return None;
     }
+    if start == 0 || start > 65535 {
+        return None;
+    }
+    Some(start as u16)
 }
 
 // The history that `_revisions` writes. None is a fault.
@@ -86,10 +97,10 @@ fn history_of(alloc: Global, value: &Value) -> Result<Option<Vec<RevId>>, AllocE
     let Some(ids) = value.get("ids").and_then(Value::as_array) else {
         return Ok(None);
     };
-    if start == 0 || start > 65535 {
-        return Ok(None);
+    match start_of(start, ids) {
+        Some(start) => falling_from(alloc, start, ids),
+        None => Ok(None),
     }
-    falling_from(alloc, start as u16, ids)
 }
 
 // Whether a revision that is named is the first of the history.
@@ -105,22 +116,19 @@ fn is_head(rev: Option<RevId>, revisions: &[RevId]) -> bool
     }
 }
 
-// A revision without a history is the first of its document.
+// A revision without a history is one of itself alone.
 fn alone(alloc: Global, rev: Option<RevId>) -> Result<Option<Path>, AllocError>
     ensures { IfOk result (λ o. o ≡ alone_of rev) }
 {
     let Some(r) = rev else {
         return Ok(None);
     };
-    if r.generation() != 1 {
-        return Ok(None);
-    }
     let mut revisions = Vec::with_capacity(alloc, 1)?;
     revisions.push(r)?;
     Ok(Some(Path::new(revisions)))
 }
 
-// Whether a full history of these hashes begins with the revision, where one is named.
+// Whether a history of these hashes begins with the revision, where one is named.
 fn begins_with(rev: Option<RevId>, start: u16, ids: &Vec<Value>) -> bool
     ensures { IfSome (falling start (items_view ids.now.items)) (λ path. result ≡ is_head_of rev path) }
 {
@@ -146,10 +154,10 @@ fn is_history(rev: Option<RevId>, value: &Value) -> bool
     let Some(ids) = value.get("ids").and_then(Value::as_array) else {
         return false;
     };
-    if start == 0 || start > 65535 || !is_falling(start as u16, ids) {
-        return false;
+    match start_of(start, ids) {
+        Some(start) => is_falling(start, ids) && begins_with(rev, start, ids),
+        None => false,
     }
-    begins_with(rev, start as u16, ids)
 }
 
 /// The path of an edit that another database made. None is a fault. It costs the history's length.
@@ -180,6 +188,6 @@ pub(crate) fn is_path(rev: Option<RevId>, value: &Value) -> bool
 {
     match value.get("_revisions") {
         Some(history) => is_history(rev, history),
-        None => rev.is_some_and(|r| r.generation() == 1),
+        None => rev.is_some(),
     }
 }

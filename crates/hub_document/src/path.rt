@@ -1,6 +1,6 @@
 //! Paths of revisions.
 
-ghost use Rattle.std.specs.Prelude.{◌≡◌, Some, false, slice_get, IfSome, IfNone, IfOk};
+ghost use Rattle.std.specs.Prelude.{◌≡◌, ◌≤◌, Some, false, slice_get, take, IfSome, IfNone, IfOk};
 ghost use Rattle.hub_document.specs.Lines.{from_on};
 ghost use Rattle.hub_model.specs.Path.{IsPath, names as names_in, behind as behind_in};
 
@@ -8,8 +8,9 @@ use crate::revision::RevId;
 use std::alloc::{AllocError, Global};
 use std::marker::Model;
 
-/// A document's revision and those behind it, newest first: a full history, whose generations fall
-/// by one down to 1. CouchDB writes it as `_revisions`.
+/// A document's revision and those behind it, newest first: a history, whose generations fall by one.
+/// It may end above the first generation, as where a database gave up its oldest revisions. CouchDB
+/// writes it as `_revisions`.
 #[derive(Debug, Drop)]
 pub struct Path {
     revisions: Vec<RevId>,
@@ -115,6 +116,17 @@ impl Path {
         ensures { result.items ≡ self }
     {
         self.revisions
+    }
+
+    /// The first of its revisions, so many, in the memory that it has.
+    #[tactic(auto, using(crate::proofs::PathLemmas::front_history))]
+    pub fn front(self, count: u16) -> Path
+        requires { 1 ≤ count }
+        ensures { result ≡ take count self }
+    {
+        let mut revisions = self.revisions;
+        revisions.truncate(usize::from(count));
+        Path { revisions }
     }
 
     /// A copy. It costs the path's length.

@@ -22,7 +22,7 @@ pub enum Refusal {
     BadId,
     /// A revision is absent or no revision.
     BadRev,
-    /// `_revisions` is no full history, or `_rev` is not its first revision.
+    /// `_revisions` is no history, or `_rev` is not its first revision.
     BadRevisions,
     /// A member that begins with `_` is unknown or has no fitting value.
     BadMember,

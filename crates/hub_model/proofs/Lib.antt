@@ -17,3 +17,4 @@ pub mod Items
 pub mod Entries
 pub mod Right
 pub mod Fitting
+pub mod Fronts

@@ -112,8 +112,7 @@ history_on : (m r : Revision) (p : List Revision) → IsHistory p → IsFirst p 
 history_on m r [] h i g = absurd i
 history_on m r (x ∷ p) h i g =
     let e : x.generation ≡ r.generation = ap (λ (z : Revision). z.generation) i in
-    let f = h.full in
-    record { falls = (omega arith, h.falls); full = (m ∷ f.0, f.1, ap (λ (z : List Revision). m ∷ z) f.2, f.3) }
+    record { falls = (omega arith, h.falls) }
 
 generation_first : (p : List Revision) (r : Revision) → IsFirst p r → generation_of (parent_of p) ≡ r.generation
 generation_first [] r i = absurd i
@@ -128,7 +127,7 @@ made_acceptable J d path legal x new = record {
 }
   where
     history : IsExtended J d.id path → IsHistory (made d (parent_of path) ∷ path)
-    history (inl e) = subst (λ (z : List Revision). IsHistory (made d (parent_of z) ∷ z)) (sym e) (record { falls = omega arith; full = ([], made d None, refl, refl) })
+    history (inl e) = subst (λ (z : List Revision). IsHistory (made d (parent_of z) ∷ z)) (sym e) (record { falls = omega arith })
     history (inr (r, k, e)) =
         let w = line_of_walk J d.id legal r k in
         let first : IsFirst path r = subst (λ z. IsFirst z r) (sym e) w.0 in

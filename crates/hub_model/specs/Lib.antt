@@ -19,3 +19,4 @@ pub mod Missing
 pub mod Laws
 pub mod FeedLaws
 pub mod WorkedFeeds
+pub mod WorkedHistories

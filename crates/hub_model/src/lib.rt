@@ -3,10 +3,11 @@
 //! contract of a function that does nothing.
 #![tactic(auto)]
 
-ghost use Rattle.hub_model.specs.Laws.{KnownIsTested, HistoryIsTested, AcceptableIsTested, LeavesAreListed, LeavesHaveEdits, WinnerIsFirst, LineIsWalk, ShownIsRight, NoneIsShown, RowsAreCurrent, RowsRise, MergesTake, MergesTakeAll, MergesAnswerEach, MergesStayLegal, DraftsStayLegal, DraftsExtend, DraftsTake, KnownHasLeaf, MissingIsUnknown};
+ghost use Rattle.hub_model.specs.Laws.{KnownIsTested, HistoryIsTested, AcceptableIsTested, LeavesAreListed, LeavesHaveEdits, WinnerIsFirst, LineIsWalk, PathIsFront, ShownIsRight, NoneIsShown, RowsAreCurrent, RowsRise, MergesTake, MergesTakeAll, MergesAnswerEach, MergesStayLegal, DraftsStayLegal, DraftsExtend, DraftsTake, KnownHasLeaf, MissingIsUnknown};
 ghost use Rattle.hub_model.specs.FeedLaws.{OpenedFits, GrownFits, HandedFits, WaitingFits, BeatFits, ExpiredFits, EndedFits, FinishedFits, LimitedEnds};
 ghost use Rattle.hub_model.specs.RowKind.{change_rows, update_rows};
 ghost use Rattle.hub_model.specs.Updates.{NotesReadBack};
+ghost use Rattle.hub_model.specs.WorkedHistories.{LateIsStored, LateIsJoined, PartialIsStored};
 ghost use Rattle.hub_model.specs.WorkedFeeds.{FallsAfterTwo, FallsAfterAll, FallsOnce, UpdatesAgain};
 
 mod arms;
@@ -40,6 +41,7 @@ pub fn leaves_are_listed()
 /// What is shown of a revision is all that stands behind it, its mark and its body.
 pub fn showing()
     ensures line { LineIsWalk }
+    ensures front { PathIsFront }
     ensures right { ShownIsRight }
     ensures none { NoneIsShown }
 {}
@@ -78,6 +80,14 @@ pub fn feeds_fit()
 /// A note of the log of updates is read again from the id of the edit that it is taken for.
 pub fn notes_read_back()
     ensures notes { NotesReadBack }
+{}
+
+/// What storing histories answers that end above the first generation: a revision may get the one behind it later, a
+/// known revision stays as it is, and another parent contradicts.
+pub fn worked_histories()
+    ensures stored { LateIsStored }
+    ensures joined { LateIsJoined }
+    ensures partial { PartialIsStored }
 {}
 
 /// What the definitions say of a small journal that is read downwards, and of a small log of updates.

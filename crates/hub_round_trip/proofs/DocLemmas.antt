@@ -80,10 +80,6 @@ hash_is n h r some small e =
     record { from_one = omega arith; below = small; some = grind (arith, nat_tests); short = grind (arith, nat_tests); letters = AllPass-from_list_all is_hash_byte h (grind (arith, nat_tests)) } in
     subst IsRevision c.1 is
 
-revs_end : (n : ℕ) (rs : List Revision) (t : Bool) → cond t (Some []) None ≡ Some rs → AllByRecursion IsRevision rs
-revs_end n rs true e = let is : [] ≡ rs = cc in subst (AllByRecursion IsRevision) is tt
-revs_end n rs false e = absurd (cc)
-
 revs_item : (n : ℕ) (d : Data) (ds : Items) (rs : List Revision) (t : Bool) → eqb n 0 ≡ t → n < 2 ^ 16 → falling n (item d ds) ≡ Some rs
     → ((rest : List Revision) → falling (n - 1) ds ≡ Some rest → AllByRecursion IsRevision rest) → AllByRecursion IsRevision rs
 revs_item n d ds rs true z small h later = let e : None ≡ Some rs = rw z at h in absurd (cc)
@@ -95,27 +91,31 @@ revs_item n d ds rs false z small h later =
     subst (AllByRecursion IsRevision) is (hash_is n s r some small hash, later rest ends))))
 
 revs_of_falling : (n : ℕ) (ds : Items) (rs : List Revision) → n < 2 ^ 16 → falling n ds ≡ Some rs → AllByRecursion IsRevision rs
-revs_of_falling n no_items rs small h = revs_end n rs _ h
+revs_of_falling n no_items rs small h = let is : [] ≡ rs = cc in subst (AllByRecursion IsRevision) is tt
 revs_of_falling n (item d ds) rs small h = revs_item n d ds rs _ refl small h (λ rest. revs_of_falling (n - 1) ds rest (omega arith))
 
-revs_starting : (start : ℕ) (ids : Items) (rs : List Revision) (t : Bool) → (ltb 0 start && ltb start (2 ^ 16)) ≡ t → starting start ids ≡ Some rs → AllByRecursion IsRevision rs
-revs_starting start ids rs true fits h = revs_of_falling start ids rs (grind (arith, nat_tests)) (rw fits at h)
-revs_starting start ids rs false fits h = let e : None ≡ Some rs = rw fits at h in absurd (cc)
+revs_starting : (start : ℕ) (ids : Items) (rs : List Revision) → starting start ids ≡ Some rs → AllByRecursion IsRevision rs
+revs_starting start no_items rs h = absurd (cc)
+revs_starting start (item d ds) rs h = from (ltb 0 start && ltb start (2 ^ 16)) refl h
+  where
+    from : (t : Bool) → (ltb 0 start && ltb start (2 ^ 16)) ≡ t → starting start (item d ds) ≡ Some rs → AllByRecursion IsRevision rs
+    from true fits h = revs_of_falling start (item d ds) rs (grind (arith, nat_tests)) (rw fits at h)
+    from false fits h = let e : ◌≡◌ {A = Option (List Revision)} None (Some rs) = rw fits at h in absurd (cc)
 
 revs_of_history : (d : Data) (rs : List Revision) → history_in d ≡ Some rs → AllByRecursion IsRevision rs
 revs_of_history d rs h =
     option_and_then_some {P = AllByRecursion IsRevision rs} (λ start. option_and_then (starting start) (option_and_then as_array (get (codes "ids") d))) (option_and_then as_u64 (option_and_then as_number (get (codes "start") d))) rs h (λ start first more.
-    option_and_then_some {P = AllByRecursion IsRevision rs} (starting start) (option_and_then as_array (get (codes "ids") d)) rs more (λ ids list read. revs_starting start ids rs _ refl read))
+    option_and_then_some {P = AllByRecursion IsRevision rs} (starting start) (option_and_then as_array (get (codes "ids") d)) rs more (λ ids list read. revs_starting start ids rs read))
 
--- a full history of revisions
+-- a history of revisions
 abbrev IsGood : List Revision → Type 0
 IsGood path = IsHistory path × AllByRecursion IsRevision path
 
 alone_is : (rev : Option Revision) (path : List Revision) → IfSome rev IsRevision → alone rev ≡ Some path → IsGood path
 alone_is None path good e = absurd (cc)
 alone_is (Some r) path good e =
-    let c = cond_some (eqb r.generation 1) (r ∷ []) path e in
-    subst IsGood c.1 (one_is_history r ((Decides-eqb r.generation 1).0 c.0), (good, tt))
+    let is : r ∷ [] ≡ path = cc in
+    subst IsGood is (one_is_history r good.from_one, (good, tt))
 
 path_is : (o : Option Data) (rev : Option Revision) (path : List Revision) → IfSome rev IsRevision → read_or (alone rev) (λ v. option_and_then (if_head rev) (history_in v)) o ≡ Some path → IsGood path
 path_is None rev path good e = alone_is rev path good e

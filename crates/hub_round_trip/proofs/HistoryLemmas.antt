@@ -9,14 +9,14 @@ use Rattle.std.proofs.lemmas.Str.{IsUtf8-append, IsUtf8-from_ascii}
 use Rattle.std.specs.List.{AllByRecursion, list_all}
 use Rattle.std.specs.Prelude.{nat_lt, slice_get}
 use Rattle.hub_model.specs.Draft.{generation_of, parent_of}
-use Rattle.hub_model.specs.Path.{IsPath, IsHistory}
+use Rattle.hub_model.specs.Path.{Falls, IsPath}
 use Rattle.hub_model.specs.Revision.{Revision, IsRevision, text_of, is_hash_byte}
 use Rattle.json.proofs.Printed.Utf8.{are_ascii, IsUtf8-are_ascii}
 use Rattle.serde_json.specs.Data.{unsigned, Data, number, array, object, no_members, member, items_depth}
 use Rattle.serde_json.specs.Read.{of_json}
 use Rattle.serde_json.specs.Written.{outline, items_have_float}
 use Rattle.serde_json.proofs.Numbers.{number_of-decimal}
-use Rattle.hub_document.specs.Histories.{falling, history_in, is_head}
+use Rattle.hub_document.specs.Histories.{falling, starting, history_in, is_head}
 use Rattle.hub_document.specs.RevisionText.{is_hash, with_hash}
 use Rattle.hub_document.proofs.PathLemmas.{FallsFrom}
 use Rattle.hub_model.proofs.Tests.{same_self}
@@ -82,19 +82,11 @@ module _ (rev : Option Revision) (path : List Revision) (h : IsPathOf rev path) 
 
 -- ---- it reads as the history
 
-falls_down : (older : List Revision) (first : Revision) → first.generation ≡ 1 → IsPath (older ++ first ∷ []) → FallsFrom (generation_of (parent_of (older ++ first ∷ []))) (older ++ first ∷ [])
-falls_down [] first one h = (refl, omega arith, omega arith)
-falls_down (x ∷ []) first one h =
-    let less : first.generation ≡ x.generation - 1 = omega (arith, h.0) in
-    (refl, omega (arith, h.0), subst (λ n. FallsFrom n (first ∷ [])) less (falls_down [] first one h.1))
-falls_down (x ∷ y ∷ older) first one h =
-    let less : y.generation ≡ x.generation - 1 = omega (arith, h.0) in
-    (refl, omega (arith, h.0), subst (λ n. FallsFrom n (y ∷ (older ++ first ∷ []))) less (falls_down (y ∷ older) first one h.1))
-
-falls_from : (path : List Revision) → IsHistory path → FallsFrom (generation_of (parent_of path)) path
-falls_from path h =
-    let f = h.full in
-    subst (λ p. FallsFrom (generation_of (parent_of p)) p) (sym f.2) (falls_down f.0 f.1 f.3 (subst IsPath f.2 h.falls))
+falls_down : (r : Revision) (path : List Revision) → Falls r path → FallsFrom r.generation (r ∷ path)
+falls_down r [] h = (refl, omega (arith, h), tt)
+falls_down r (s ∷ path) h =
+    let less : s.generation ≡ r.generation - 1 = omega (arith, h.0) in
+    (refl, omega (arith, h.0), subst (λ n. FallsFrom n (s ∷ path)) less (falls_down s path h.1))
 
 hash_read : (n : ℕ) (r : Revision) → r.generation ≡ n → IsRevision r → with_hash n r.hash ≡ Some r
 hash_read n r is good =
@@ -103,9 +95,13 @@ hash_read n r is good =
     rw (← is, hash) refl
 
 falling_back : (n : ℕ) (path : List Revision) → FallsFrom n path → AllByRecursion IsRevision path → falling n (hashes path) ≡ Some path
-falling_back n [] h good = rw h refl
+falling_back n [] h good = refl
 falling_back n (r ∷ path) h good =
     rw (ne_eqb n 0 (λ e. omega (arith, h.1)), hash_read n r h.0 good.0, falling_back (n - 1) path h.2 good.1) refl
+
+starting_back : (path : List Revision) → IsPath path → AllByRecursion IsRevision path → starting (generation_of (parent_of path)) (hashes path) ≡ Some path
+starting_back [] h good = absurd h
+starting_back (r ∷ path) h good = rw (lt-ltb _ _ good.0.from_one, lt-ltb _ _ good.0.below) (falling_back r.generation (r ∷ path) (falls_down r path h) good)
 
 module _ (rev : Option Revision) (path : List Revision) (h : IsPathOf rev path) where
   pub of_json-history : of_json (outline (history_written path)) ≡ Some (history_read path)
@@ -114,7 +110,7 @@ module _ (rev : Option Revision) (path : List Revision) (h : IsPathOf rev path) 
 
   pub history_in-history_read : history_in (history_read path) ≡ Some path
   history_in-history_read =
-      rw (lt-ltb _ _ (fits rev path h).0, lt-ltb _ _ (fits rev path h).1) (falling_back _ path (falls_from path h.history) (good rev path h))
+      starting_back path h.history.falls (good rev path h)
 
 -- and the revision that is named is its first
 pub head_is_head : (rev : Option Revision) (path : List Revision) → slice_get path 0 ≡ rev → is_head rev path ≡ true

@@ -84,7 +84,7 @@ pub record IsBody (text : List ℕ) : Type 0 where
   pub ordered : IsOrdered (object members)
   pub shallow : depth (object members) ≤ max_depth
 
--- a full history of revisions within the limits, of which the document names the first
+-- a history of revisions within the limits, of which the document names the first
 pub record IsPathOf (rev : Option Revision) (path : List Revision) : Type 0 where
   pub history : IsHistory path
   pub revisions : All IsRevision path

@@ -1,0 +1,63 @@
+-- Worked histories that end above the first generation, and a parent that comes later (own).
+use Rattle.std.specs.Prelude.{◌≡◌, ℕ, List, [], ◌∷◌, false, Some, codes}
+use Rattle.hub_model.specs.Revision.{Revision}
+use Rattle.hub_model.specs.Journal.{Edit}
+use Rattle.hub_model.specs.Leaves.{leaves_of, revisions_of}
+use Rattle.hub_model.specs.Walk.{line_of, shown}
+use Rattle.hub_model.specs.Outcome.{StoresAll, merges_all}
+use Rattle.hub_model.specs.declared.outcomes.Fault.TheVariants.{Contradicts}
+use Rattle.hub_model.specs.declared.outcomes.Outcome.TheVariants.{Stored, Known, Refused}
+use Rattle.hub_model.specs.WorkedFeeds.{rev, doc}
+
+-- an edit of the document x
+abbrev pub edit : List Revision → Edit
+edit path = doc (codes "x") path
+
+-- some revisions
+abbrev pub b2 : Revision
+b2 = rev 2 (codes "b")
+
+abbrev pub c3 : Revision
+c3 = rev 3 (codes "c")
+
+abbrev pub d4 : Revision
+d4 = rev 4 (codes "d")
+
+-- 2-b alone, 3-c alone, then 3-c with 2-b behind it, which is known, and then 4-d with both
+abbrev pub late_edits : List Edit
+late_edits = edit (b2 ∷ []) ∷ edit (c3 ∷ []) ∷ edit (c3 ∷ b2 ∷ []) ∷ edit (d4 ∷ c3 ∷ b2 ∷ []) ∷ []
+
+-- the journal after them, which has three edits, each with the path that it came with
+abbrev pub late_journal : List Edit
+late_journal = edit (b2 ∷ []) ∷ edit (c3 ∷ []) ∷ edit (d4 ∷ c3 ∷ b2 ∷ []) ∷ []
+
+-- what storing them answers
+abbrev pub LateIsStored : Type 0
+LateIsStored =
+    merges_all 9 [] late_edits
+    ≡ record { outcomes = Stored b2 ∷ Stored c3 ∷ Known ∷ Stored d4 ∷ []; journal = late_journal }
+
+-- before the last of them both are leaves; after it the last alone is one, and 3-c has 2-b behind it
+abbrev pub LateIsJoined : Type 0
+LateIsJoined =
+    (revisions_of (leaves_of (edit (b2 ∷ []) ∷ edit (c3 ∷ []) ∷ []) (codes "x")) ≡ c3 ∷ b2 ∷ [])
+    × (revisions_of (leaves_of late_journal (codes "x")) ≡ d4 ∷ [])
+    × (line_of late_journal (codes "x") c3 ≡ c3 ∷ b2 ∷ [])
+    × (shown late_journal (codes "x") c3 ≡ Some (edit (c3 ∷ b2 ∷ [])))
+
+-- 5-e alone, 5-e with 4-d, which is known; 6-f with both, and 6-h with another one behind 5-e
+abbrev pub partial_edits : List Edit
+partial_edits =
+    edit (rev 5 (codes "e") ∷ []) ∷ edit (rev 5 (codes "e") ∷ rev 4 (codes "d") ∷ [])
+    ∷ edit (rev 6 (codes "f") ∷ rev 5 (codes "e") ∷ rev 4 (codes "d") ∷ [])
+    ∷ edit (rev 6 (codes "h") ∷ rev 5 (codes "e") ∷ rev 4 (codes "q") ∷ []) ∷ []
+
+abbrev pub PartialIsStored : Type 0
+PartialIsStored =
+    merges_all 9 [] partial_edits
+    ≡ record {
+      outcomes = Stored (rev 5 (codes "e")) ∷ Known ∷ Stored (rev 6 (codes "f"))
+          ∷ Refused Contradicts ∷ [];
+      journal = edit (rev 5 (codes "e") ∷ [])
+          ∷ edit (rev 6 (codes "f") ∷ rev 5 (codes "e") ∷ rev 4 (codes "d") ∷ []) ∷ [];
+    }
