@@ -1,38 +1,30 @@
 -- The stems keep as many revisions as the edits have different ones.
-use Rattle.std.proofs.Common.{◌≡◌, ℕ, zero, suc, ◌+◌, ◌-◌, ◌<◌, ◌≤◌, List, [], ◌∷◌, ◌++◌, length, get_or, take, drop, Bool, true, false, refl, sym, ap, ◌∙◌, subst, append_assoc, append-nil, add-one, arith}
-use Rattle.std.specs.Prelude.{Option, Some, None, IfSome, IsTrue, ◌↔◌, is_some, not, slice_get, min}
-use Rattle.std.specs.Bool.{then_some}
+use Rattle.std.proofs.Common.{◌≡◌, ℕ, zero, suc, ◌+◌, ◌-◌, ◌≤◌, List, [], ◌∷◌, ◌++◌, length, drop, take, filter, Bool, true, false, cond, inl, inr, refl, sym, ap, ◌∙◌, subst, append_assoc, append-nil, add-one, arith}
+use Rattle.std.specs.Prelude.{Some, not, slice_get, min}
 use Rattle.std.specs.List.{list_any}
-use Rattle.std.proofs.lemmas.List.{length-take-le, map-append, take-append-drop, take_all}
-use Rattle.std.proofs.lemmas.List.Filters.{length-filter_both}
-use Rattle.std.proofs.Math.Seq.{take-append_seam}
-use Rattle.std.proofs.lemmas.Option.{same_Some, slice_get_read}
+use Rattle.std.proofs.lemmas.Bool.{cases_Bool}
+use Rattle.std.proofs.lemmas.List.{length-take, map-append, take-append-drop, take_all}
+use Rattle.std.proofs.lemmas.List.Filters.{length-filter_both, length-filter_more}
+use Rattle.std.proofs.lemmas.Option.{get_or_from_slice_get, same_Some, slice_get_within}
 use Rattle.hub_model.specs.Revision.{Revision, is_same}
 use Rattle.hub_model.specs.Path.{names}
 use Rattle.hub_model.specs.Journal.{Edit, is_known}
 use Rattle.hub_model.specs.Missing.{missing}
-use Rattle.hub_model.proofs.Tests.{or_left, or_right, same_self}
-use Rattle.hub_revtree.specs.declared.stem.Place.{Place}
+use Rattle.hub_model.proofs.Tests.{or_false, or_left, or_right, same_self}
 use Rattle.hub_revtree.specs.Branch.{edit_of, edits_in}
 use Rattle.hub_revtree.specs.Count.{count_after, revision_count}
-use Rattle.hub_revtree.specs.Stem.{Stem, AreStems, IsWithin, branch_of, branches_of, has_revision, path_from, revisions_at}
-use Rattle.hub_revtree.proofs.JoinLemmas.{met_within}
-use Rattle.hub_revtree.proofs.StemLemmas.{from_end, from_named, front, get_last, named_in, none_of, one_stem_more}
-use Rattle.hub_revtree.proofs.StemLooks.{rest_slice}
+use Rattle.hub_revtree.specs.Stem.{Stem, AreStems, branch_of, branches_of, chain_from, chain_of, chains_of, has_revision}
+use Rattle.hub_revtree.proofs.StemLemmas.{chains_name, from_chain_named, from_end, front, get_last, named_in, names_take, one_stem_more, take_more}
 use Rattle.hub_revtree.proofs.TreeLemmas.{known_by}
 
--- no more of a path are new than it has
-pub missing_within : (es : List Edit) (p : List Revision) → length (missing es [] p) ≤ length p
-missing_within es p = omega (arith, length-filter_both (λ r. not (is_known es [] r)) (λ r. not (not (is_known es [] r))) (λ r. refl) p)
+-- those of some revisions that none of the stems has
+abbrev pub new_of : List Stem → List Revision → List Revision
+new_of earlier revs = filter (λ r. not (has_revision earlier r)) revs
 
--- how many revisions the stems have
-abbrev pub kept : List Stem → ℕ
-kept [] = 0
-kept (s ∷ xs) = length s.revisions + kept xs
-
-pub kept-append : (xs ys : List Stem) → kept (xs ++ ys) ≡ kept xs + kept ys
-kept-append [] ys = omega arith
-kept-append (x ∷ xs) ys = omega (arith, kept-append xs ys)
+-- how many revisions the stems bring, each counted by the first that has it
+abbrev pub brought_after : List Stem → List Stem → ℕ
+brought_after earlier [] = 0
+brought_after earlier (s ∷ later) = length (new_of earlier s.revisions) + brought_after (earlier ++ s ∷ []) later
 
 -- one edit more
 count_more : (earlier later : List Edit) (e : Edit) → count_after earlier (later ++ e ∷ []) ≡ count_after earlier later + length (missing (earlier ++ later) [] e.path)
@@ -42,76 +34,107 @@ count_more earlier (f ∷ later) e =
     let same : length (missing ((earlier ++ f ∷ []) ++ later) [] e.path) ≡ length (missing (earlier ++ f ∷ later) [] e.path) = ap (λ es. length (missing es [] e.path)) (append_assoc earlier (f ∷ []) later) in
     omega (arith, ih, same)
 
--- what some revisions bring that are new, and what those bring that are known
-all_new : (es : List Edit) (p q : List Revision) → ((r : Revision) → names p r ≡ true → is_known es [] r ≡ false) → ((r : Revision) → names q r ≡ true → is_known es [] r ≡ true) → missing es [] (p ++ q) ≡ p
-all_new es [] [] new known = refl
-all_new es [] (r ∷ q) new known =
-    rw (known r (or_left (is_same r r) (names q r) (same_self r))) (all_new es [] q new (λ s n. known s (or_right (is_same s r) (names q s) n)))
-all_new es (r ∷ p) q new known =
-    rw (new r (or_left (is_same r r) (names p r) (same_self r))) (ap (λ rs. r ∷ rs) (all_new es p q (λ s n. new s (or_right (is_same s r) (names p s) n)) known))
+-- what is missing of a path is what is new of it
+missing_new : (xs : List Stem) → AreStems xs → (p : List Revision) → missing (edits_in (branches_of xs)) [] p ≡ new_of xs p
+missing_new xs a [] = refl
+missing_new xs a (r ∷ p) =
+    let same : is_known (edits_in (branches_of xs)) [] r ≡ has_revision xs r = known_by (branches_of xs) r ∙ named_in xs a r in
+    rw same (elim (cases_Bool (has_revision xs r)) [
+      | inl t ↦ rw t (missing_new xs a p)
+      | inr t ↦ rw t (ap (λ z. r ∷ z) (missing_new xs a p))
+    ])
 
--- the stems bring what is new in front, and name what stands behind a place
-new_front : (xs : List Stem) (p : List Revision) (o : Option Place) → list_any (has_revision xs) p ≡ false → missing (edits_in (branches_of xs)) [] (p ++ path_from (branches_of xs) o) ≡ p
-new_front xs p o fresh =
-    let bs = branches_of xs in
-    all_new (edits_in bs) p (path_from bs o)
-    (λ r n. known_by bs r ∙ (named_in xs r ∙ none_of (has_revision xs) p r fresh n))
-    (λ r n. known_by bs r ∙ from_named bs o r n)
+new_front : (xs : List Stem) (p q : List Revision) → ((r : Revision) → names q r ≡ true → has_revision xs r ≡ true) → new_of xs (p ++ q) ≡ new_of xs p
+new_front xs [] [] known = refl
+new_front xs [] (r ∷ q) known = rw (known r (or_left (is_same r r) (names q r) (same_self r))) (new_front xs [] q (λ s n. known s (or_right (is_same s r) (names q s) n)))
+new_front xs (r ∷ p) q known = elim (cases_Bool (has_revision xs r)) [
+  | inl t ↦ rw t (new_front xs p q known)
+  | inr t ↦ rw t (ap (λ z. r ∷ z) (new_front xs p q known))
+]
 
-pub is_some_then : (b : Bool) (n : ℕ) → is_some (then_some b n) ≡ b
-is_some_then true n = refl
-is_some_then false n = refl
+-- all of them are new where no stem has one
+pub all_new : (xs : List Stem) (p : List Revision) → list_any (has_revision xs) p ≡ false → new_of xs p ≡ p
+all_new xs [] f = refl
+all_new xs (r ∷ p) f = let g = or_false (has_revision xs r) (list_any (has_revision xs) p) f in rw g.0 (ap (λ z. r ∷ z) (all_new xs p g.1))
 
--- how many revisions of a path are new
-module _ (xs : List Stem) (path q : List Revision) (again : q ≡ path) where
-  pub met_new : (at : ℕ) (p : Place) → list_any (has_revision xs) (take at q) ≡ false → IsWithin xs p → slice_get q at ≡ slice_get (revisions_at xs p.stem) p.at
-      → (b : Bool) → IsTrue b ↔ (take (length q - at) (drop at q) ≡ path_from (branches_of xs) (Some p)) → IfSome (then_some b at) (λ n. n ≡ length (missing (edits_in (branches_of xs)) [] path))
-  met_new at p first within same false says = tt
-  met_new at p first within same true says =
-      let bs = branches_of xs in
-      let fresh = subst (λ z. list_any (has_revision xs) (take at z) ≡ false) again first in
-      let low : at ≤ length path = subst (λ z. at ≤ length z) again (met_within xs q at p within same) in
-      let whole : take at path ++ path_from bs (Some p) ≡ path = ap (λ z. take at path ++ z) (sym (sym (rest_slice path q at again) ∙ says.0 refl)) ∙ take-append-drop at path in
-      sym (length-take-le at path low)
-      ∙ ap length (sym (sym (ap (missing (edits_in bs) []) whole) ∙ new_front xs (take at path) (Some p) fresh))
+-- a stem's own revisions are in front of its path, and the others are known
+rest_known : (xs : List Stem) (s : Stem) → AreStems (xs ++ s ∷ []) → (rest : List Revision) × ((branch_of (chain_of (chains_of xs) s)).path ≡ s.revisions ++ rest) × ((r : Revision) → names rest r ≡ true → has_revision xs r ≡ true)
+rest_known xs s a =
+    let c = a.counted (length xs) s (get_last xs s) in (
+      take (s.count - length s.revisions) (chain_from (chains_of xs) s.parent),
+      take_more s.count s.revisions (chain_from (chains_of xs) s.parent) c.0,
+      λ r n. sym (chains_name xs r) ∙ from_chain_named (chains_of xs) s.parent r (names_take (s.count - length s.revisions) (chain_from (chains_of xs) s.parent) r n),
+    )
 
-  pub all_of_new : list_any (has_revision xs) q ≡ false → length q ≡ length (missing (edits_in (branches_of xs)) [] path)
-  all_of_new none =
-      let bs = branches_of xs in
-      let fresh = subst (λ z. list_any (has_revision xs) z ≡ false) again none in
-      ap length (again ∙ sym (sym (ap (missing (edits_in bs) []) (append-nil path)) ∙ new_front xs path None fresh))
+brought_more : (earlier later : List Stem) (s : Stem) → brought_after earlier (later ++ s ∷ []) ≡ brought_after earlier later + length (new_of (earlier ++ later) s.revisions)
+brought_more earlier [] s = let same : length (new_of (earlier ++ []) s.revisions) ≡ length (new_of earlier s.revisions) = ap (λ z. length (new_of z s.revisions)) (append-nil earlier) in omega (arith, same)
+brought_more earlier (t ∷ later) s =
+    let ih = brought_more (earlier ++ t ∷ []) later s in
+    let same : length (new_of ((earlier ++ t ∷ []) ++ later) s.revisions) ≡ length (new_of (earlier ++ t ∷ later) s.revisions) = ap (λ z. length (new_of z s.revisions)) (append_assoc earlier (t ∷ []) later) in
+    omega (arith, ih, same)
 
 abbrev AreCounted : List Stem → Type 0
-AreCounted xs = AreStems xs → kept xs ≡ revision_count (edits_in (branches_of xs))
+AreCounted xs = AreStems xs → brought_after [] xs ≡ revision_count (edits_in (branches_of xs))
 
 counted_more : (xs : List Stem) (s : Stem) → AreCounted xs → AreCounted (xs ++ s ∷ [])
 counted_more xs s ih a =
     let bs = branches_of xs in
-    let fresh = subst (λ z. list_any (has_revision z) s.revisions ≡ false) (take-append_seam xs (s ∷ [])) (a.fresh (length xs) s (get_last xs s)) in
-    let brought : missing (edits_in bs) [] (branch_of bs s).path ≡ s.revisions = new_front xs s.revisions s.parent fresh in
-    let number : length (missing (edits_in bs) [] (branch_of bs s).path) ≡ length s.revisions = ap length brought in
-    let more : revision_count (edits_in bs ++ edit_of (branch_of bs s) ∷ []) ≡ revision_count (edits_in bs) + length (missing (edits_in bs) [] (branch_of bs s).path) = count_more [] (edits_in bs) (edit_of (branch_of bs s)) in
-    let so_far : kept xs ≡ revision_count (edits_in bs) = ih (front xs s a) in
-    let whole : kept (xs ++ s ∷ []) ≡ revision_count (edits_in bs ++ edit_of (branch_of bs s) ∷ []) = omega (arith, kept-append xs (s ∷ []), more, so_far, number) in
-    whole ∙ ap revision_count (sym (ap edits_in (one_stem_more xs s) ∙ map-append edit_of bs (branch_of bs s ∷ [])))
+    let b = branch_of (chain_of (chains_of xs) s) in
+    let rest = rest_known xs s a in
+    let brought : missing (edits_in bs) [] b.path ≡ new_of xs s.revisions = missing_new xs (front xs s a) b.path ∙ (ap (new_of xs) rest.1 ∙ new_front xs s.revisions rest.0 rest.2) in
+    let number : length (missing (edits_in bs) [] b.path) ≡ length (new_of xs s.revisions) = ap length brought in
+    let more : revision_count (edits_in bs ++ edit_of b ∷ []) ≡ revision_count (edits_in bs) + length (missing (edits_in bs) [] b.path) = count_more [] (edits_in bs) (edit_of b) in
+    let so_far : brought_after [] xs ≡ revision_count (edits_in bs) = ih (front xs s a) in
+    let whole : brought_after [] (xs ++ s ∷ []) ≡ revision_count (edits_in bs ++ edit_of b ∷ []) = omega (arith, brought_more [] xs s, more, so_far, number) in
+    whole ∙ ap revision_count (sym (ap edits_in (one_stem_more xs s) ∙ map-append edit_of bs (b ∷ [])))
 
--- each revision is kept once
-pub counted : (xs : List Stem) → AreStems xs → kept xs ≡ revision_count (edits_in (branches_of xs))
+-- each revision is counted once
+pub counted : (xs : List Stem) → AreStems xs → brought_after [] xs ≡ revision_count (edits_in (branches_of xs))
 counted = from_end AreCounted (λ a. refl) counted_more
 
 -- one stem more of a sum that stays within its type
-pub kept_more : (xs : List Stem) (k : ℕ) (s : Stem) → slice_get xs k ≡ Some s → kept (take (k + 1) xs) ≡ kept (take k xs) + length s.revisions
-kept_more xs k s e = rw (add-one k) (more xs k e)
+pub brought_one : (xs : List Stem) (k : ℕ) (s : Stem) → slice_get xs k ≡ Some s → brought_after [] (take (k + 1) xs) ≡ brought_after [] (take k xs) + length (new_of (take k xs) s.revisions)
+brought_one xs k s e = ap (brought_after []) (split xs k e) ∙ brought_more [] (take k xs) s
   where
-    more : (xs : List Stem) (k : ℕ) → slice_get xs k ≡ Some s → kept (take (suc k) xs) ≡ kept (take k xs) + length s.revisions
+    more : (xs : List Stem) (k : ℕ) → slice_get xs k ≡ Some s → take (suc k) xs ≡ take k xs ++ s ∷ []
     more [] k e = absurd (cc)
-    more (x ∷ xs) zero e = let same : length x.revisions ≡ length s.revisions = ap (λ (z : Stem). length z.revisions) (same_Some x s e) in omega (arith, same)
-    more (x ∷ xs) (suc k) e = omega (arith, more xs k e)
+    more (x ∷ xs) zero e = ap (λ z. z ∷ []) (same_Some x s e)
+    more (x ∷ xs) (suc k) e = ap (λ z. x ∷ z) (more xs k e)
 
-pub saturated_more : (xs : List Stem) (k : ℕ) (s : Stem) (count len next most : ℕ) → k < length xs → s ≡ get_or xs k s → count ≡ min (kept (take k xs)) most → len ≡ length s.revisions → next ≡ min (count + len) most → next ≡ min (kept (take (k + 1) xs)) most
-saturated_more xs k s count len next most low item so_far number is =
-    let more = kept_more xs k s (slice_get_read xs _ k s refl low item) in omega (arith, so_far, number, is, more)
+    split : (xs : List Stem) (k : ℕ) → slice_get xs k ≡ Some s → take (k + 1) xs ≡ take k xs ++ s ∷ []
+    split xs k e = rw (add-one k) (more xs k e)
 
-pub saturated_all : (xs ys : List Stem) (k count most : ℕ) → AreStems xs → ys ≡ xs → length ys ≤ k → count ≡ min (kept (take k ys)) most → count ≡ min (revision_count (edits_in (branches_of xs))) most
-saturated_all xs ys k count most a same past is =
-    let all : kept (take k ys) ≡ kept xs = ap kept (take_all k ys past ∙ same) in omega (arith, is, all, counted xs a)
+pub saturated_more : (xs : List Stem) (k : ℕ) (s : Stem) (count new next most : ℕ) → slice_get xs k ≡ Some s → count ≡ min (brought_after [] (take k xs)) most → new ≡ length (new_of (take k xs) s.revisions) → next ≡ min (count + new) most → next ≡ min (brought_after [] (take (k + 1) xs)) most
+saturated_more xs k s count new next most e so_far number is = let more = brought_one xs k s e in omega (arith, so_far, number, is, more)
+
+pub saturated_all : (xs : List Stem) (k count most : ℕ) → AreStems xs → length xs ≤ k → count ≡ min (brought_after [] (take k xs)) most → count ≡ min (revision_count (edits_in (branches_of xs))) most
+saturated_all xs k count most a past is =
+    let all : brought_after [] (take k xs) ≡ brought_after [] xs = ap (brought_after []) (take_all k xs past) in omega (arith, is, all, counted xs a)
+
+-- some of the stems, the first ones, are such stems too
+are_front : (xs ys : List Stem) → AreStems (xs ++ ys) → AreStems xs
+are_front xs [] a = subst AreStems (append-nil xs) a
+are_front xs (y ∷ ys) a = front xs y (are_front (xs ++ y ∷ []) ys (subst AreStems (sym (append_assoc xs (y ∷ []) ys)) a))
+
+pub are_taken : (k : ℕ) (xs : List Stem) → AreStems xs → AreStems (take k xs)
+are_taken k xs a = are_front (take k xs) (drop k xs) (subst AreStems (sym (take-append-drop k xs)) a)
+
+-- how many of the first revisions are new: no more than they are
+pub new_few : (earlier : List Stem) (p : List Revision) (at count : ℕ) → count ≡ length (new_of earlier (take at p)) → count ≤ at
+new_few earlier p at count so_far =
+    let all = length-filter_both (λ r. not (has_revision earlier r)) (λ r. not (not (has_revision earlier r))) (λ r. refl) (take at p) in
+    omega (arith, so_far, all, length-take at p)
+
+new_next : (earlier : List Stem) (p : List Revision) (at : ℕ) (r : Revision) (known : Bool) → slice_get p at ≡ Some r → has_revision earlier r ≡ known → length (new_of earlier (take (at + 1) p)) ≡ length (new_of earlier (take at p)) + cond (not known) 1 0
+new_next earlier p at r known e is =
+    length-filter_more (λ s. not (has_revision earlier s)) p at r (slice_get_within p at r e)
+    ∙ ap (λ s. length (new_of earlier (take at p)) + cond (not (has_revision earlier s)) 1 0) (get_or_from_slice_get p at r r e)
+    ∙ ap (λ b. length (new_of earlier (take at p)) + cond (not b) 1 0) is
+
+-- with the next one, one more where that is new
+pub new_more : (earlier : List Stem) (p : List Revision) (at count : ℕ) (r : Revision) → slice_get p at ≡ Some r → has_revision earlier r ≡ false → count ≡ length (new_of earlier (take at p)) → count + 1 ≡ length (new_of earlier (take (at + 1) p))
+new_more earlier p at count r e new so_far = omega (arith, so_far, new_next earlier p at r false e new)
+
+-- and as many where it is not
+pub new_same : (earlier : List Stem) (p : List Revision) (at count : ℕ) (r : Revision) → slice_get p at ≡ Some r → has_revision earlier r ≡ true → count ≡ length (new_of earlier (take at p)) → count ≡ length (new_of earlier (take (at + 1) p))
+new_same earlier p at count r e known so_far = omega (arith, so_far, new_next earlier p at r true e known)

@@ -128,9 +128,9 @@ module _ (es : List Edit) (tree : IsRevTree es) (id : List ℕ) (parent : Option
   stood = stands parent ((drafts_extend es [] parent older tree.legal).0 on)
 
   history_on : (m : Revision) (p : List Revision) → m.generation ≡ generation_of (parent_of p) + 1 → (p ≡ []) ⊎ IsHistory p → IsHistory (m ∷ p)
-  history_on m [] up h = record { falls = omega (arith, up); full = ([], m, refl, up) }
+  history_on m [] up h = record { falls = omega (arith, up) }
   history_on m (x ∷ p) up (inl e) = absurd (cc)
-  history_on m (x ∷ p) up (inr h) = let f = h.full in record { falls = (up, h.falls); full = (m ∷ f.0, f.1, ap (λ (z : List Revision). m ∷ z) f.2, f.3) }
+  history_on m (x ∷ p) up (inr h) = record { falls = (up, h.falls) }
 
   pub next_history : IsHistory (next ∷ older)
   next_history = history_on next older refl (elim stood [

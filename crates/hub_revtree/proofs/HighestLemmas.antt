@@ -11,7 +11,7 @@ use Rattle.hub_model.specs.Leaves.{is_behind_head}
 use Rattle.hub_model.proofs.Legal.{falls_below}
 use Rattle.hub_model.proofs.Tests.{names_is, same_is}
 use Rattle.hub_revtree.specs.Branch.{edit_of}
-use Rattle.hub_revtree.specs.Stem.{Stem, AreStems, AreUpTo, branch_of, branches_of, has_revision, is_behind_newest}
+use Rattle.hub_revtree.specs.Stem.{Stem, AreStems, AreUpTo, branch_of, branches_of, chain_of, chains_of, has_revision, is_behind_newest}
 use Rattle.hub_revtree.proofs.StemLemmas.{named_in, one_stem_more}
 use Rattle.hub_revtree.proofs.StemLooks.{behind_in}
 
@@ -43,18 +43,18 @@ either P xs x t f = last (P x) (ap (λ b. b || (P x || false)) (sym f) ∙ (sym 
 
 -- one stem more
 pub up_to_more : (xs : List Stem) (s : Stem) (path : List Revision) (x : Revision) (highest next : ℕ) → AreStems xs → AreStems (xs ++ s ∷ []) → AreUpTo xs highest → IsPath path → slice_get path 0 ≡ Some x
-    → (branch_of (branches_of xs) s).path ≡ path → next ≡ max x.generation highest → AreUpTo (xs ++ s ∷ []) next
+    → (branch_of (chain_of (chains_of xs) s)).path ≡ path → next ≡ max x.generation highest → AreUpTo (xs ++ s ∷ []) next
 up_to_more xs s path x highest next a more up falls head whole is = record {
   known = λ r t. elim (cases_Bool (has_revision xs r)) [
     | inl u ↦ omega (arith, up.known r u, is)
     | inr u ↦
-        let new = either (λ b. names b.path r) (branches_of xs) (branch_of (branches_of xs) s) (ap (list_any (λ b. names b.path r)) (sym (one_stem_more xs s)) ∙ (named_in (xs ++ s ∷ []) r ∙ t)) (named_in xs r ∙ u) in
+        let new = either (λ b. names b.path r) (branches_of xs) (branch_of (chain_of (chains_of xs) s)) (ap (list_any (λ b. names b.path r)) (sym (one_stem_more xs s)) ∙ (named_in (xs ++ s ∷ []) more r ∙ t)) (named_in xs a r ∙ u) in
         omega (arith, named_up_to path x r falls head (subst (λ p. names p r ≡ true) whole new), is)
   ];
   behind = λ r t. elim (cases_Bool (list_any (is_behind_newest xs r) xs)) [
     | inl u ↦ omega (arith, up.behind r u, is)
     | inr u ↦
-        let new = either (λ b. is_behind_head r (edit_of b)) (branches_of xs) (branch_of (branches_of xs) s) (ap (list_any (λ b. is_behind_head r (edit_of b))) (sym (one_stem_more xs s)) ∙ (behind_in (xs ++ s ∷ []) more r ∙ t)) (behind_in xs a r ∙ u) in
+        let new = either (λ b. is_behind_head r (edit_of b)) (branches_of xs) (branch_of (chain_of (chains_of xs) s)) (ap (list_any (λ b. is_behind_head r (edit_of b))) (sym (one_stem_more xs s)) ∙ (behind_in (xs ++ s ∷ []) more r ∙ t)) (behind_in xs a r ∙ u) in
         omega (arith, behind_below path x r falls head (subst (λ p. names (drop 1 p) r ≡ true) whole new), is)
   ];
 }

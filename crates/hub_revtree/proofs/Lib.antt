@@ -16,3 +16,7 @@ pub mod WinnerLemmas
 pub mod SoughtLemmas
 pub mod IndexLemmas
 pub mod KeyLemmas
+pub mod MeetLemmas
+pub mod BringLemmas
+pub mod StepLemmas
+pub mod CommonLemmas

@@ -1,6 +1,6 @@
 -- The revisions that a run keeps.
 use Rattle.std.proofs.Common.{◌≡◌, ℕ, zero, suc, ◌+◌, ◌-◌, ◌<◌, ◌≤◌, min, List, [], ◌∷◌, ◌++◌, length, get_or, drop, take, map, Bool, true, false, ◌&&◌, inl, inr, refl, sym, ap, ap₂, ◌∙◌, subst, add-one, arith}
-use Rattle.std.specs.Prelude.{Option, Some, None, IfSome, IfNone, ◌↔◌, slice_get, option_map, is_some, nat_eq}
+use Rattle.std.specs.Prelude.{Option, Some, None, IfSome, IfNone, slice_get, option_map, is_some, nat_eq}
 use Rattle.std.specs.Bool.{then_some}
 use Rattle.std.specs.Str.{bytes_eq}
 use Rattle.std.proofs.lemmas.Bool.{both_ways, cases_Bool, cases_lt}
@@ -159,25 +159,6 @@ module _ (p : List Revision) (path : IsPath p) (n : ℕ) (newest : option_map (�
 -- one revision on
 pub one_on : (p line : List Revision) (k : ℕ) (r : Revision) → slice_get p k ≡ Some r → (line ++ r ∷ []) ++ drop (k + 1) p ≡ line ++ drop k p
 one_on p line k r e = rw (add-one k) (append_assoc line (r ∷ []) (drop (suc k) p) ∙ ap (λ z. line ++ z) (sym (dropped_one p k r e)))
-
--- what stands behind the front of some revisions, one more at a time
-module _ (rest others p tail : List Revision) (k : ℕ) (first : Revision) (low : k < length p) (split : rest ≡ first ∷ others) (b : Bool) (is : b ≡ is_first first (drop k p)) where
-  next_one : (x : Revision) × (drop k p ++ tail ≡ x ∷ (drop (k + 1) p ++ tail)) × (b ≡ is_same first x)
-  next_one = let x = get_some p k low in (x.0, rw (add-one k) (ap (λ z. z ++ tail) (dropped_one p k x.0 x.1)), is ∙ first_drop p k first x.0 x.1)
-
-  pub front_more : b ≡ true → (rest ≡ drop k p ++ tail) ↔ (others ≡ drop (k + 1) p ++ tail)
-  front_more t =
-      let x = next_one in
-      let next = x.1 in
-      let same : first ≡ x.0 = same_is first x.0 (sym x.2 ∙ t) in
-      (λ e. (cc), λ e. (cc))
-
-  pub front_other : b ≡ false → ¬ (rest ≡ drop k p ++ tail)
-  front_other f = λ e.
-      let x = next_one in
-      let next = x.1 in
-      let same : first ≡ x.0 = (cc) in
-      both_ways b f (x.2 ∙ subst (λ z. is_same first z ≡ true) same (same_self first))
 
 -- the digests of a path's front are a run of it
 nothing_left : (ds : List (List ℕ)) (k : ℕ) → map encode_lower ds ≡ map (λ (r : Revision). r.hash) (take k []) → ds ≡ []

@@ -9,7 +9,9 @@ use Rattle.hex.specs.Hex.{encode_lower}
 use Rattle.hub_model.specs.Revision.{Revision}
 use Rattle.hub_model.specs.Path.{names}
 use Rattle.hub_revtree.specs.Key.{IsKey}
-use Rattle.hub_revtree.specs.Stem.{Stem, branches_of, path_in, revisions_at}
+use Rattle.hub_revtree.specs.Branch.{edits_in}
+use Rattle.hub_revtree.specs.Extend.{line_to}
+use Rattle.hub_revtree.specs.Stem.{Stem, branches_of, revisions_at}
 use Rattle.hub_revtree.specs.declared.index.Index.{Index}
 use Rattle.hub_revtree.specs.declared.index.Lead.{Lead}
 use Rattle.hub_revtree.specs.declared.index.Lead.TheVariants.{Nowhere, Only, Anywhere}
@@ -36,16 +38,20 @@ AreIn entry number revisions =
 abbrev pub IsIndexOf : (ℕ → Option ℕ) → List Stem → Type 0
 IsIndexOf entry stems = (number : ℕ) (stem : Stem) → slice_get stems number ≡ Some stem → AreIn entry number stem.revisions
 
--- the digests, if there are some, are those whose texts are the hashes of the newest stem's path
-abbrev pub IsNewestPath : Option (List (List ℕ)) → List Stem → Type 0
-IsNewestPath None stems = Unit {0}
-IsNewestPath (Some digests) stems =
-    map encode_lower digests ≡ map (λ r. r.hash) (path_in (slice_get (branches_of stems) (length stems - 1)))
+-- the newest revision of the newest stem, if there is one
+abbrev pub newest_rev : List Stem → Option Revision
+newest_rev stems = slice_get (revisions_at stems (length stems - 1)) 0
 
--- the index is one of the stems, if there is one, and the path that it has is the newest one's
+-- the digests, if there are some, are those whose texts are the hashes of that revision and of all that stands behind it
+abbrev pub IsNewestLine : Option (List (List ℕ)) → List Stem → Type 0
+IsNewestLine None stems = Unit {0}
+IsNewestLine (Some digests) stems =
+    map encode_lower digests ≡ map (λ r. r.hash) (line_to (edits_in (branches_of stems)) (newest_rev stems))
+
+-- the index is one of the stems, if there is one, and the line that it has is the newest one's
 abbrev pub IsIndexed : Option Index → List Stem → Type 0
 IsIndexed None stems = Unit {0}
-IsIndexed (Some index) stems = IsIndexOf (entry_in index) stems × IsNewestPath index.line stems
+IsIndexed (Some index) stems = IsIndexOf (entry_in index) stems × IsNewestLine index.line stems
 
 -- what leads to a stem still does
 abbrev pub Keeps : (ℕ → Option ℕ) → (ℕ → Option ℕ) → Type 0

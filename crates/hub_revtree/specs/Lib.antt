@@ -8,3 +8,4 @@ pub mod Count
 pub mod Sought
 pub mod Key
 pub mod Index
+pub mod Common

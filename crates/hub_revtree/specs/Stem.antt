@@ -1,22 +1,30 @@
 -- What the edits of a tree brought, and the paths that they have by it (own). An example: an edit with the path
 -- 2-b 1-a came first, then one with 3-c 2-b 1-a, then one with 3-d 2-e 1-a. The first stem has the revisions
 -- 2-b 1-a and stands on nothing, the second 3-c and stands on place 0 of stem 0, which is 2-b, the third 3-d 2-e
--- and stands on place 1 of stem 0, which is 1-a. So `branches_of` these three stems has the paths 2-b 1-a, then
--- 3-c and the first path from place 0 on, 3-c 2-b 1-a, then 3-d 2-e and the first path from place 1 on,
--- 3-d 2-e 1-a.
-use Rattle.std.specs.Prelude.{◌≡◌, ℕ, ◌<◌, ◌≤◌, List, [], ◌∷◌, ◌++◌, length, drop, take, slice_get, Option, Some, None}
+-- and stands on place 1 of stem 0, which is 1-a. So the chains of these three stems are 2-b 1-a, then 3-c and the
+-- first chain from place 0 on, 3-c 2-b 1-a, then 3-d 2-e and the first chain from place 1 on, 3-d 2-e 1-a; and since
+-- the counts are 2, 3 and 3, these are the paths.
+-- Another one: 3-c came alone, then 2-b alone, then 4-d 3-c 2-b. No chain has 3-c and 2-b behind it, so that the third
+-- stem has 4-d and 3-c, and stands on place 0 of stem 1. A chain is never changed: that 2-b stands behind 3-c is found
+-- in the third one.
+-- A chain may go on behind the edit's path: where 5-e 4-d came first and then 6-f 5-e, the second stem has 6-f and
+-- stands on place 0 of stem 0, its chain is 6-f 5-e 4-d, and its count 2, so that its path is 6-f 5-e.
+use Rattle.std.specs.Prelude.{◌≡◌, ℕ, ◌<◌, ◌≤◌, List, [], ◌∷◌, ◌++◌, length, drop, take, map, slice_get, Option, Some, None}
 use Rattle.std.specs.Prelude.{Bool, true, false, ◌||◌}
 use Rattle.std.specs.List.{list_any}
 use Rattle.hub_model.specs.Revision.{Revision}
-use Rattle.hub_model.specs.Path.{IsPath, names, is_first}
+use Rattle.hub_model.specs.Path.{IsNext, IsPath, names, is_first}
 use Rattle.hub_revtree.specs.declared.stem.Place.{Place}
 use Rattle.hub_revtree.specs.Branch.{Branch}
 
--- what an edit brought: those of its path's revisions that were unknown, where the revision behind them stands,
--- and the rest of the edit
+-- what an edit brought: the first of its path's revisions, where the one behind them stands, how many revisions its
+-- path has, how many its chain has, whether one of its revisions was known before, and the rest of the edit
 pub record Stem : Type 0 where
   pub revisions : List Revision
   pub parent : Option Place
+  pub count : ℕ
+  pub reach : ℕ
+  pub joins : Bool
   pub deleted : Bool
   pub body : List ℕ
 
@@ -34,33 +42,55 @@ revisions_in (Some stem) = stem.revisions
 abbrev pub revisions_at : List Stem → ℕ → List Revision
 revisions_at stems number = revisions_in (slice_get stems number)
 
--- the path of a branch; none where there is no branch
-abbrev pub path_in : Option Branch → List Revision
-path_in None = []
-path_in (Some branch) = branch.path
+-- the revision at a place, if there is one
+abbrev pub rev_at : List Stem → Option Place → Option Revision
+rev_at stems None = None
+rev_at stems (Some place) = slice_get (revisions_at stems place.stem) place.at
 
--- a place in the branch of its number and all that stands behind it there
-abbrev pub path_from : List Branch → Option Place → List Revision
-path_from branches None = []
-path_from branches (Some place) = drop place.at (path_in (slice_get branches place.stem))
+-- the revisions of a stem and all that they stand on by the stems' parents; and the rest of the edit
+pub record Chain : Type 0 where
+  pub whole : List Revision
+  pub count : ℕ
+  pub deleted : Bool
+  pub body : List ℕ
 
--- the branch of a stem, after these earlier branches: its own revisions, then the path that they stand on
-abbrev pub branch_of : List Branch → Stem → Branch
-branch_of earlier stem =
+-- the revisions of a chain; none where there is no chain
+abbrev pub whole_in : Option Chain → List Revision
+whole_in None = []
+whole_in (Some chain) = chain.whole
+
+-- a place in the chain of its number and all that stands behind it there
+abbrev pub chain_from : List Chain → Option Place → List Revision
+chain_from chains None = []
+chain_from chains (Some place) = drop place.at (whole_in (slice_get chains place.stem))
+
+-- the chain of a stem, after these earlier chains: its own revisions, then the chain that they stand on
+abbrev pub chain_of : List Chain → Stem → Chain
+chain_of earlier stem =
     record {
-      path = stem.revisions ++ path_from earlier stem.parent;
+      whole = stem.revisions ++ chain_from earlier stem.parent;
+      count = stem.count;
       deleted = stem.deleted;
       body = stem.body;
     }
 
--- these branches, and those of the stems after them
-abbrev pub branches_after : List Branch → List Stem → List Branch
-branches_after earlier [] = earlier
-branches_after earlier (stem ∷ later) = branches_after (earlier ++ branch_of earlier stem ∷ []) later
+-- these chains, and those of the stems after them
+abbrev pub chains_after : List Chain → List Stem → List Chain
+chains_after earlier [] = earlier
+chains_after earlier (stem ∷ later) = chains_after (earlier ++ chain_of earlier stem ∷ []) later
+
+-- the chains of the stems
+abbrev pub chains_of : List Stem → List Chain
+chains_of stems = chains_after [] stems
+
+-- the branch of a chain: its path is the chain's front
+abbrev pub branch_of : Chain → Branch
+branch_of chain =
+    record { path = take chain.count chain.whole; deleted = chain.deleted; body = chain.body }
 
 -- the branches of the stems
 abbrev pub branches_of : List Stem → List Branch
-branches_of stems = branches_after [] stems
+branches_of stems = map branch_of (chains_of stems)
 
 -- whether one of the stems has r
 abbrev pub has_revision : List Stem → Revision → Bool
@@ -70,16 +100,41 @@ has_revision stems r = list_any (λ s. names s.revisions r) stems
 abbrev pub IsWithin : List Stem → Place → Type 0
 IsWithin stems place = place.at < length (revisions_at stems place.stem)
 
--- each stem has a revision at least, and their generations fall by one; none of them is an earlier one's; and it
--- stands on a place of an earlier one, or on nothing
+-- each stem has a revision at least, and their generations fall by one; its newest is none of an earlier one's, and
+-- where it joins none, none of the others is; it stands on a place of an earlier one, or on nothing; its path has its
+-- revisions, and the one that they stand on, and is a front of its chain, whose length it knows
 pub record AreStems (stems : List Stem) : Type 0 where
   pub falling : (k : ℕ) (stem : Stem) → slice_get stems k ≡ Some stem → IsPath stem.revisions
+  pub newest :
+      (k : ℕ) (stem : Stem) (r : Revision) → slice_get stems k ≡ Some stem → slice_get stem.revisions 0 ≡ Some r
+      → has_revision (take k stems) r ≡ false
   pub fresh :
-      (k : ℕ) (stem : Stem) → slice_get stems k ≡ Some stem
+      (k : ℕ) (stem : Stem) → slice_get stems k ≡ Some stem → stem.joins ≡ false
       → list_any (has_revision (take k stems)) stem.revisions ≡ false
   pub earlier :
       (k : ℕ) (stem : Stem) (place : Place) → slice_get stems k ≡ Some stem → stem.parent ≡ Some place
       → (place.stem < k) × IsWithin stems place
+  pub counted :
+      (k : ℕ) (stem : Stem) → slice_get stems k ≡ Some stem
+      → (length stem.revisions ≤ stem.count) × (stem.count ≤ stem.reach)
+      × ((place : Place) → stem.parent ≡ Some place → length stem.revisions < stem.count)
+  pub reached :
+      (k : ℕ) (stem : Stem) → slice_get stems k ≡ Some stem
+      → stem.reach ≡ length (whole_in (slice_get (chains_of stems) k))
+
+-- a revision, if there is one, as a list
+abbrev pub one_of : Option Revision → List Revision
+one_of None = []
+one_of (Some r) = r ∷ []
+
+-- the revisions of a stem and the one that they stand on
+abbrev pub own_path : List Stem → Stem → List Revision
+own_path stems stem = stem.revisions ++ one_of (rev_at stems stem.parent)
+
+-- r stands directly behind s in what a stem brought
+abbrev pub IsBrought : List Stem → Revision → Revision → Type 0
+IsBrought stems r s =
+    (k : ℕ) × (stem : Stem) × (slice_get stems k ≡ Some stem) × IsNext (own_path stems stem) s r
 
 -- whether r is the revision at the place, if there is one
 abbrev pub is_at : List Stem → Revision → Option Place → Bool

@@ -1,6 +1,6 @@
 //! The stored edits of a document, which share what stands behind them.
 
-ghost use Rattle.std.specs.Prelude.{◌≡◌, ◌≤◌, ◌<◌, ◌++◌, ◌∷◌, List, Some, [], ◌-◌, ◌^◌, length, map, min, take, is_some, false, find, option_map, option_and_then, slice_get, IfSome, IfOk, IsSomeAnd, IsTrue, OnOk, OnErr};
+ghost use Rattle.std.specs.Prelude.{◌≡◌, ◌≤◌, ◌<◌, ◌+◌, ◌++◌, ◌∷◌, List, Some, [], ◌-◌, ◌^◌, length, map, min, take, is_some, false, find, option_map, option_and_then, slice_get, IfSome, IfOk, IsSomeAnd, IsTrue, OnOk, OnErr};
 ghost use Rattle.std.specs.List.{list_any, list_all};
 ghost use Rattle.hex.specs.Hex.{encode_lower};
 ghost use Rattle.hub_document.specs.Changes.{IsDigestText};
@@ -13,7 +13,9 @@ ghost use Rattle.hub_revtree.specs.Branch.{earlier_branches, edit_of, edits_in, 
 ghost use Rattle.hub_revtree.specs.Count.{revision_count as count_of};
 ghost use Rattle.hub_revtree.specs.Extend.{line_to};
 ghost use Rattle.hub_revtree.specs.Index.{IsIndexed};
-ghost use Rattle.hub_revtree.specs.Stem.{Stem};
+ghost use Rattle.hub_model.specs.Revision.{Revision};
+ghost use Rattle.hub_revtree.specs.Common.{last_in};
+ghost use Rattle.hub_revtree.specs.Stem.{Stem, AreStems, IsBrought, branches_of};
 ghost use Rattle.hub_revtree.specs.Tree.{nameless, tip, tip_of};
 
 use crate::heads::StoredEdit;
@@ -21,10 +23,10 @@ use crate::index::{Index, renewed};
 use crate::leaf::Winner;
 use crate::line::Line;
 use crate::run::Run;
-use crate::stem::Stem;
+use crate::stem::{Standing, Stem};
 use crate::stems::{
-    append_digests, append_from, first_known, first_known_of, headed, is_behind, is_behind_last,
-    is_line, is_newest, place_of, place_up_to,
+    Meeting, agreeing, append_digests, append_from, headed, is_behind, is_behind_last, is_newest,
+    line_length, met_by, new_in, place_behind, place_of, place_up_to,
 };
 use hub_document::{Body, Changes, Path, RevId};
 use std::alloc::{AllocError, Global};
@@ -72,11 +74,13 @@ fn stored(stem: &Stem) -> StoredEdit<'_>
     ensures rev { slice_get stem.now.revisions 0 ≡ Some result.rev }
     ensures deleted { result.deleted ≡ stem.now.deleted }
     ensures body { result.body.now ≡ stem.now.body }
+    ensures count { result.count ≡ stem.now.count }
 {
     StoredEdit {
         rev: stem.head(),
         deleted: stem.deleted(),
         body: stem.body(),
+        count: stem.count(),
     }
 }
 
@@ -109,6 +113,39 @@ fn without_line(index: Option<Box<Index>>) -> Option<Box<Index>>
     }
 }
 
+// Whether nothing stands behind the path's last revision. Constant time where that is of the first generation,
+// or the index tells the only stem that may have it; else one look a stem.
+fn ends(stems: &[Stem], index: Option<&Index>, path: &Run) -> bool
+    requires stems { AreStems stems.now }
+    requires index { IsIndexed (option_map (λ i. i.now) index) stems.now }
+    requires legal { IsLegal (edits_in (branches_of stems.now)) }
+    requires path { IsPath path.now }
+    ensures { IsTrue result → (x r : Revision) → last_in path.now ≡ Some x → ¬ IsBrought stems.now r x }
+{
+    if path.len() == usize::from(path.generation()) {
+        return true;
+    }
+    place_behind(stems, index, &path.at(path.len() - 1)).is_none()
+}
+
+// How a path of so many revisions goes on behind those that its stem keeps.
+fn standing_of(met: &Meeting, count: usize) -> Standing
+    requires kept { met.now.at ≤ count }
+    requires short { count < 2 ^ 16 }
+    requires reach { met.now.at + met.now.behind < 2 ^ 16 }
+    ensures parent { result.parent ≡ met.now.place }
+    ensures count { result.count ≡ count }
+    ensures reach { result.reach ≡ met.now.at + met.now.behind }
+    ensures joins { result.joins ≡ met.now.joins }
+{
+    Standing {
+        parent: met.place,
+        count: count as u16,
+        reach: (met.at + met.behind) as u16,
+        joins: met.joins,
+    }
+}
+
 impl Branches {
     /// No edits, and no memory for one.
     pub(crate) fn new(alloc: Global) -> Branches
@@ -133,20 +170,24 @@ impl Branches {
         self.stems.len()
     }
 
-    /// How many revisions are kept, each once. One step an edit.
+    /// How many different revisions are kept. One step an edit, but for one that joins others: for it a look an
+    /// edit for each revision that it keeps.
     pub(crate) fn revision_count(&self) -> usize
         ensures { result ≡ min (count_of (edits_in self.now.list)) (2 ^ 64 - 1) }
     {
+        let stems = self.stems.as_slice();
         let mut count = 0usize;
-        for stem in &self.stems {
-            count = count.saturating_add(stem.len());
+        for number in 0..stems.len() {
+            count = count.saturating_add(new_in(stems, number));
         }
         count
     }
 
     /// The edit of this number. Constant time.
     pub(crate) fn edit(&self, at: usize) -> Option<StoredEdit<'_>>
-        ensures { option_map (λ e. tip e.rev e.deleted e.body.now) result ≡ option_map (λ b. tip_of (edit_of b)) (slice_get self.now.list at) }
+        ensures tip { option_map (λ e. tip e.rev e.deleted e.body.now) result ≡ option_map (λ b. tip_of (edit_of b)) (slice_get self.now.list at) }
+        ensures count { option_map (λ e. e.count) result ≡ option_map (λ b. length b.path) (slice_get self.now.list at) }
+        ensures some { IfSome result (λ e. 1 ≤ e.count) }
     {
         let stem = self.stems.as_slice().get(at)?;
         Some(stored(stem))
@@ -154,7 +195,8 @@ impl Branches {
 
     /// The edit that the revision heads. One find.
     pub(crate) fn headed(&self, rev: &RevId) -> Option<StoredEdit<'_>>
-        ensures { option_map (λ e. tip e.rev e.deleted e.body.now) result ≡ option_map (λ b. tip_of (edit_of b)) (find (λ b. is_first rev.now b.path) self.now.list) }
+        ensures tip { option_map (λ e. tip e.rev e.deleted e.body.now) result ≡ option_map (λ b. tip_of (edit_of b)) (find (λ b. is_first rev.now b.path) self.now.list) }
+        ensures count { option_map (λ e. e.count) result ≡ option_map (λ b. length b.path) (find (λ b. is_first rev.now b.path) self.now.list) }
     {
         let stem = headed(self.stems.as_slice(), lent(&self.index), rev)?;
         Some(stored(stem))
@@ -234,14 +276,30 @@ impl Branches {
         is_behind_last(self.stems.as_slice(), rev)
     }
 
+    /// How many revisions this one and all that stand behind it are; 0 where no path names it. It costs a find;
+    /// and for each chain that ends above the first generation a step a stem of it, and a find.
+    pub(crate) fn line_length(&self, rev: &RevId) -> u16
+        requires { IsLegal (edits_in self.now.list) }
+        ensures { result ≡ length (line_to (edits_in self.now.list) (Some rev.now)) }
+    {
+        // They are no more than the revision's generation.
+        let _revisions_at_most = rev.generation();
+        let index = lent(&self.index);
+        match place_of(self.stems.as_slice(), index, rev) {
+            Some(place) => line_length(self.stems.as_slice(), index, place),
+            None => 0,
+        }
+    }
+
     /// Puts the revision and all that stands behind it behind what the vector holds; nothing where no
     /// path names it. It costs a find, and the length of what it puts there.
     pub(crate) fn append_line(&self, rev: &RevId, line: &mut Vec<RevId>) -> Result<(), AllocError>
         requires { IsLegal (edits_in self.now.list) }
         ensures { OnOk result (line.new.items ≡ line.old.items ++ line_to (edits_in self.now.list) (Some rev.now)) }
     {
-        match place_of(self.stems.as_slice(), lent(&self.index), rev) {
-            Some(place) => append_from(self.stems.as_slice(), place, line),
+        let index = lent(&self.index);
+        match place_of(self.stems.as_slice(), index, rev) {
+            Some(place) => append_from(self.stems.as_slice(), index, place, line),
             None => Ok(()),
         }
     }
@@ -257,8 +315,9 @@ impl Branches {
         requires { IsLegal (edits_in self.now.list) }
         ensures { IfOk result (λ all. IsTrue all → map encode_lower digests.new.items ≡ map encode_lower digests.old.items ++ map (λ r. r.hash) (line_to (edits_in self.now.list) (Some rev.now))) }
     {
-        match place_of(self.stems.as_slice(), lent(&self.index), rev) {
-            Some(place) => append_digests(self.stems.as_slice(), place, digests),
+        let index = lent(&self.index);
+        match place_of(self.stems.as_slice(), index, rev) {
+            Some(place) => append_digests(self.stems.as_slice(), index, place, digests),
             None => Ok(true),
         }
     }
@@ -282,21 +341,21 @@ impl Branches {
         Some(line)
     }
 
-    /// How many revisions are new of a path that agrees with all stored ones; None where it does not agree.
-    /// It costs a find for each of the path's revisions that no path names, but for those of a generation
-    /// above all others, and for the first of the others; and the number of these.
+    /// Of a path that agrees with all stored ones, how many of its revisions its edit is to keep: all up to the
+    /// last that is new, or behind which no edit has the next one. None where it does not agree. It costs what
+    /// `agreeing` does.
     pub(crate) fn new_count(&self, path: &Path) -> Option<usize>
         requires legal { IsLegal (edits_in self.now.list) }
         requires history { IsHistory path.now }
         ensures agrees { is_some result ≡ list_all (λ b. agrees_with path.now b.path) self.now.list }
-        ensures new { IfSome result (λ n. n ≡ length (missing_from (edits_in self.now.list) [] path.now)) }
+        ensures within { IfSome result (λ n. n ≤ length path.now) }
     {
-        let stems = self.stems.as_slice();
-        let revisions = path.revisions();
-        match first_known(stems, lent(&self.index), self.highest, revisions) {
-            Some(met) => is_line(stems, met.place, &revisions[met.at..]).then_some(met.at),
-            None => Some(revisions.len()),
-        }
+        agreeing(
+            self.stems.as_slice(),
+            lent(&self.index),
+            self.highest,
+            path.revisions(),
+        )
     }
 
     /// Makes room for one more edit: exactly for the first, since most documents have one.
@@ -322,24 +381,17 @@ impl Branches {
         requires room { 1 ≤ self.old.spare }
         ensures { edits_in self.new.list ≡ edits_in self.old.list ++ nameless path deleted body ∷ [] }
     {
-        let mut parent = None;
-        let met = first_known_of(
-            self.stems.as_slice(),
-            lent(&self.index),
-            self.highest,
-            &path,
-        );
+        let stems = self.stems.as_slice();
+        let met = met_by(stems, lent(&self.index), self.highest, &path);
         let newest = path.generation();
+        let whole = ends(stems, lent(&self.index), &path);
         self.highest = newest.max(self.highest);
-        let mut new = path.len();
-        if let Some(met) = met {
-            new = met.at;
-            parent = Some(met.place);
-        }
+        let standing = standing_of(&met, path.len());
         let index = without_line(self.index.take());
-        let (run, line) = kept(run, path, new);
+        let (run, line) = kept(run, path, met.at);
+        let line = if whole { line } else { None };
         self.stems
-            .push_reserved(Stem::new(run, parent, deleted, body));
+            .push_reserved(Stem::new(run, standing, deleted, body));
         self.index = renewed(*self.stems.allocator(), index, self.stems.as_slice(), line);
     }
 }

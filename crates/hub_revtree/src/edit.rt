@@ -94,6 +94,16 @@ impl RevTree {
         }
     }
 
+    // How many revisions this one, if there is one, and all that stand behind it are.
+    fn line_length(&self, rev: &Option<RevId>) -> u16
+        ensures { result ≡ length (line_to self.now.edits rev.now) }
+    {
+        match rev {
+            Some(rev) => self.branches().line_length(rev),
+            None => 0,
+        }
+    }
+
     // Puts the digests of the revision, if there is one, and of all that stands behind it behind what the
     // vector holds; false where one of the revisions is kept otherwise.
     fn append_digests(
@@ -120,7 +130,7 @@ impl RevTree {
         requires { IsHistory (rev.now ∷ line_to self.now.edits older.now) }
         ensures { IfOk result (λ found. IfSome found (λ path. path ≡ rev.now ∷ line_to self.now.edits older.now)) }
     {
-        let mut digests = Vec::with_capacity(alloc, usize::from(rev.generation()))?;
+        let mut digests = Vec::with_capacity(alloc, 1 + usize::from(self.line_length(older)))?;
         digests.push(rev.digest())?;
         if !self.append_digests(older, &mut digests)? {
             return Ok(None);
@@ -142,7 +152,7 @@ impl RevTree {
             let line = line.share()?;
             return Ok(Some(line));
         }
-        let mut digests = Vec::with_capacity(alloc, usize::from(rev.generation()))?;
+        let mut digests = Vec::with_capacity(alloc, usize::from(branches.line_length(rev)))?;
         if !branches.append_digests(rev, &mut digests)? {
             return Ok(None);
         }
@@ -179,7 +189,7 @@ impl RevTree {
     ) -> Result<Run, AllocError>
         ensures { IfOk result (λ path. path ≡ rev.now ∷ line_to self.now.edits older.now) }
     {
-        let mut revisions = Vec::with_capacity(alloc, usize::from(rev.generation()))?;
+        let mut revisions = Vec::with_capacity(alloc, 1 + usize::from(self.line_length(older)))?;
         revisions.push(rev.rev())?;
         if let Some(older) = older {
             self.branches().append_line(older, &mut revisions)?;

@@ -1,6 +1,6 @@
 //! The stored edits of a tree, one by one.
 
-ghost use Rattle.std.specs.Prelude.{◌≡◌, [], Some, find, option_map, slice_get};
+ghost use Rattle.std.specs.Prelude.{◌≡◌, ◌≤◌, [], IfSome, Some, find, option_map, slice_get, take};
 ghost use Rattle.hub_model.specs.Journal.{edits_of};
 ghost use Rattle.hub_model.specs.Walk.{is_head};
 ghost use Rattle.hub_revtree.specs.Extend.{path_to};
@@ -9,7 +9,8 @@ ghost use Rattle.hub_revtree.specs.Tree.{tip, tip_of};
 use crate::tree::RevTree;
 use hub_document::{Body, RevId};
 
-/// An edit that a tree has. `RevTree::path` gives what stands behind it.
+/// An edit that a tree has. `RevTree::path` gives what stands behind it by now: its path is the first of these, so
+/// many as `count` says.
 #[derive(Clone, Copy, Debug)]
 pub struct StoredEdit<'a> {
     /// Its revision.
@@ -18,13 +19,16 @@ pub struct StoredEdit<'a> {
     pub deleted: bool,
     /// Its members.
     pub body: &'a Body,
+    /// How many revisions its path has.
+    pub count: u16,
 }
 
 impl RevTree {
     /// The edit of this number, from 0 in the order in which they were taken. Constant time.
     pub fn edit(&self, at: usize) -> Option<StoredEdit<'_>>
         ensures tip { option_map (λ e. tip e.rev e.deleted e.body.now) result ≡ option_map tip_of (slice_get self.now.edits at) }
-        ensures path { option_map (λ e. path_to self.now.edits e.rev) result ≡ option_map (λ e. Some e.path) (slice_get self.now.edits at) }
+        ensures path { option_map (λ e. option_map (take e.count) (path_to self.now.edits e.rev)) result ≡ option_map (λ e. Some e.path) (slice_get self.now.edits at) }
+        ensures some { IfSome result (λ e. 1 ≤ e.count) }
     {
         self.branches().edit(at)
     }
@@ -33,7 +37,7 @@ impl RevTree {
     /// inside a history alone. One find.
     pub fn headed(&self, rev: &RevId) -> Option<StoredEdit<'_>>
         ensures tip { option_map (λ e. tip e.rev e.deleted e.body.now) result ≡ option_map tip_of (find (is_head rev.now) (edits_of self.now.edits [])) }
-        ensures path { option_map (λ e. path_to self.now.edits e.rev) result ≡ option_map (λ e. Some e.path) (find (is_head rev.now) (edits_of self.now.edits [])) }
+        ensures path { option_map (λ e. option_map (take e.count) (path_to self.now.edits e.rev)) result ≡ option_map (λ e. Some e.path) (find (is_head rev.now) (edits_of self.now.edits [])) }
     {
         self.branches().headed(rev)
     }

@@ -1,7 +1,7 @@
 //! An index of a tree's revisions.
 
 ghost use Rattle.std.specs.Prelude.{◌≡◌, ◌-◌, None, length, map, option_map, take, IfSome, IfOk, OnOk};
-ghost use Rattle.hub_revtree.specs.Index.{AreIn, IsIndexOf, IsIndexed, IsLead, IsNewestPath, Keeps, LeadsTo, entry_in};
+ghost use Rattle.hub_revtree.specs.Index.{AreIn, IsIndexOf, IsIndexed, IsLead, IsNewestLine, Keeps, LeadsTo, entry_in};
 
 use crate::key::key_of_rev;
 use crate::line::Line;
@@ -23,8 +23,8 @@ pub(crate) struct Index {
     /// From the key of a digest to the number of the stem that has a revision with that key, or to `MANY`. Only
     /// revisions whose hash is a digest's text are in it. It takes some 30 to 60 bytes for each of them.
     stems: HashMap<u64, u32>,
-    /// The path of the newest stem, for the next one that stands on it; None where it was not made so, and
-    /// where the memory for it was not to be had.
+    /// The newest stem's newest revision and all that stands behind it, for the next one that stands on it; None
+    /// where it was not made so, and where the memory for it was not to be had.
     line: Option<Line>,
 }
 
@@ -66,7 +66,7 @@ impl Index {
         Ok(())
     }
 
-    /// The path of the newest stem, if it is kept.
+    /// The newest revision and all that stands behind it, if these are kept.
     pub(crate) fn line(&self) -> Option<&Line>
         ensures { option_map (λ l. l.now) result ≡ self.now.line }
     {
@@ -170,7 +170,7 @@ pub(crate) fn renewed(
     line: Option<Line>,
 ) -> Option<Box<Index>>
     requires { IsIndexed (option_map (λ i. i.value) index) (take (length stems.now - 1) stems.now) }
-    ensures { IsNewestPath line stems.now → IsIndexed (option_map (λ i. i.value) result) stems.now }
+    ensures { IsNewestLine line stems.now → IsIndexed (option_map (λ i. i.value) result) stems.now }
 {
     match index {
         Some(index) => with_newest(index, stems, line),

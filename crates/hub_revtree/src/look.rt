@@ -38,17 +38,19 @@ impl RevTree {
         Ok(Revisions::new(revs))
     }
 
-    /// A known revision and all that stands behind it, in memory of its own; None of one that is not
-    /// known. It costs two finds, and the length of the path.
+    /// A known revision and all that stands behind it, in memory of its own, with room for these alone;
+    /// None of one that is not known. It costs two finds, and the length of the path.
     pub fn path(&self, alloc: Global, rev: &RevId) -> Result<Option<Path>, AllocError>
         ensures ok { IfOk result (λ path. path ≡ path_to self.now.edits rev.now) }
         ensures memory { OnErr result (IsKnown self.now.edits [] rev.now) }
     {
-        if !self.knows(rev) {
+        let branches = self.branches();
+        let count = branches.line_length(rev);
+        if count == 0 {
             return Ok(None);
         }
-        let mut revisions = Vec::with_capacity(alloc, usize::from(rev.generation()))?;
-        self.branches().append_line(rev, &mut revisions)?;
+        let mut revisions = Vec::with_capacity(alloc, usize::from(count))?;
+        branches.append_line(rev, &mut revisions)?;
         Ok(Some(Path::new(revisions)))
     }
 

@@ -7,6 +7,7 @@ ghost use Rattle.hub_document.specs.Changes.{IsDigestText};
 ghost use Rattle.hub_model.specs.Revision.{Revision};
 ghost use Rattle.hub_model.specs.Path.{IsPath, is_first, names};
 ghost use Rattle.hub_revtree.specs.Key.{HasKey};
+ghost use Rattle.hub_revtree.specs.Common.{common as common_of};
 ghost use Rattle.hub_revtree.specs.Run.{kept_in, revisions_from};
 
 use crate::key::{key_of, key_of_rev};
@@ -380,21 +381,19 @@ impl Run {
         Ok(true)
     }
 
-    /// What stands behind the first of these revisions, where they begin with the one at this place and
-    /// those behind it. It costs their number.
-    pub(crate) fn rest_behind<'a>(&self, at: usize, revisions: &'a [RevId]) -> Option<&'a [RevId]>
-        requires { IsPath self.now }
-        ensures found { IfSome result (λ rest. revisions.now ≡ drop at self.now ++ rest.now) }
-        ensures none { IfNone result ((rest : List Revision) → ¬ (revisions.now ≡ drop at self.now ++ rest)) }
+    /// For how many the revisions from this place on are these, as far as both go; None where one of them
+    /// differs. It costs their number.
+    pub(crate) fn common(&self, at: usize, revisions: &[RevId]) -> Option<usize>
+        requires path { IsPath self.now }
+        requires within { at ≤ length self.now }
+        ensures { result ≡ common_of revisions.now (drop at self.now) }
     {
-        let mut rest = revisions;
-        for place in at..self.len() {
-            let (first, others) = rest.split_first()?;
-            if !self.is_at(place, &Sought::once(first)) {
+        let count = (self.len() - at).min(revisions.len());
+        for place in 0..count {
+            if !self.is_at(at + place, &Sought::once(&revisions[place])) {
                 return None;
             }
-            rest = others;
         }
-        Some(rest)
+        Some(count)
     }
 }

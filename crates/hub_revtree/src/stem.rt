@@ -1,10 +1,11 @@
 //! What one edit of a tree brought.
 
-ghost use Rattle.std.specs.Prelude.{◌≡◌, ◌<◌, ◌++◌, List, Some, false, drop, length, map, slice_get, take, IfSome, IfNone, IfOk, IsSomeAnd, IsTrue, OnErr, OnOk};
+ghost use Rattle.std.specs.Prelude.{◌≡◌, ◌≤◌, ◌<◌, ◌++◌, Some, false, drop, length, map, option_map, slice_get, take, IfSome, IfNone, IfOk, IsSomeAnd, IsTrue, OnErr, OnOk};
 ghost use Rattle.hex.specs.Hex.{encode_lower};
 ghost use Rattle.hub_document.specs.Changes.{IsDigestText};
 ghost use Rattle.hub_model.specs.Path.{IsPath, names, is_first};
 ghost use Rattle.hub_model.specs.Revision.{Revision};
+ghost use Rattle.hub_revtree.specs.Common.{common as common_of};
 ghost use Rattle.hub_revtree.specs.Key.{HasKey};
 
 use crate::run::Run;
@@ -22,9 +23,10 @@ pub(crate) struct Place {
     pub(crate) at: u16,
 }
 
-/// What an edit brought: those of its path's revisions that were unknown, newest first; where the
-/// revision behind them stands, whose path is the rest of the edit's; whether it deletes the document;
-/// and the members. It takes 72 bytes, and what the revisions and the members take.
+/// What an edit brought: the first of its path's revisions, newest first, up to the last that was unknown, or
+/// behind which no other edit had the next one; where the revision behind them stands, whose chain has the rest of
+/// the edit's path; how many revisions the path has; whether it deletes the document; and the members. It takes 72
+/// bytes, and what the revisions and the members take.
 #[derive(Debug, Drop)]
 pub(crate) struct Stem {
     run: Run,
@@ -32,9 +34,26 @@ pub(crate) struct Stem {
     /// The number of the stem that it stands on, and the place there; 0 where it stands on none.
     below: usize,
     at: u16,
-    /// Whether it stands on one.
-    stands: bool,
+    /// How many revisions the edit's path has.
+    count: u16,
+    /// How many revisions its chain has: more than its own where it stands on one.
+    reach: u16,
+    /// Whether one of its own revisions was known before.
+    joins: bool,
     deleted: bool,
+}
+
+/// How an edit's path goes on behind the revisions that its stem keeps.
+#[derive(Clone, Copy, Debug)]
+pub(crate) struct Standing {
+    /// Where the next revision stands, if there is one that an edit brought.
+    pub(crate) parent: Option<Place>,
+    /// How many revisions the path has.
+    pub(crate) count: u16,
+    /// How many revisions the chain has.
+    pub(crate) reach: u16,
+    /// Whether one of the stem's revisions was known before.
+    pub(crate) joins: bool,
 }
 
 const _: () = prove!(size_of::<Stem>() == 72);
@@ -44,22 +63,27 @@ impl Model for Stem {
 
     ghost Value = { Stem };
 
-    ghost view = { λ a. record { revisions = a.run; parent = standing a.stands a.below a.at; deleted = a.deleted; body = a.body } };
+    ghost use Rattle.std.specs.Prelude.{length, nat_lt};
+
+    ghost view = { λ a. record { revisions = a.run; parent = standing (nat_lt (length a.run) a.reach) a.below a.at; count = a.count; reach = a.reach; joins = a.joins; deleted = a.deleted; body = a.body } };
 }
 
 impl Stem {
     /// The stem of these.
-    pub(crate) fn new(run: Run, parent: Option<Place>, deleted: bool, body: Body) -> Stem
-        ensures { result ≡ record { revisions = run; parent = parent; deleted = deleted; body = body } }
+    pub(crate) fn new(run: Run, standing: Standing, deleted: bool, body: Body) -> Stem
+        requires stands { IfSome standing.parent (λ _. length run < standing.reach) }
+        requires free { IfNone standing.parent (standing.reach ≤ length run) }
+        ensures { result ≡ record { revisions = run; parent = standing.parent; count = standing.count; reach = standing.reach; joins = standing.joins; deleted = deleted; body = body } }
     {
-        let stands = parent.is_some();
-        let place = parent.unwrap_or(Place { stem: 0, at: 0 });
+        let place = standing.parent.unwrap_or(Place { stem: 0, at: 0 });
         Stem {
             run,
             body,
             below: place.stem,
             at: place.at,
-            stands,
+            count: standing.count,
+            reach: standing.reach,
+            joins: standing.joins,
             deleted,
         }
     }
@@ -68,10 +92,32 @@ impl Stem {
     pub(crate) fn parent(&self) -> Option<Place>
         ensures { result ≡ self.now.parent }
     {
-        self.stands.then_some(Place {
+        let stands = self.run.len() < usize::from(self.reach);
+        stands.then_some(Place {
             stem: self.below,
             at: self.at,
         })
+    }
+
+    /// How many revisions the edit's path has.
+    pub(crate) fn count(&self) -> u16
+        ensures { result ≡ self.now.count }
+    {
+        self.count
+    }
+
+    /// How many revisions its chain has.
+    pub(crate) fn reach(&self) -> u16
+        ensures { result ≡ self.now.reach }
+    {
+        self.reach
+    }
+
+    /// Whether one of its own revisions was known before.
+    pub(crate) fn joins(&self) -> bool
+        ensures { result ≡ self.now.joins }
+    {
+        self.joins
     }
 
     /// Whether the edit deletes the document.
@@ -174,12 +220,29 @@ impl Stem {
         self.run.append_digests(usize::from(at), digests)
     }
 
-    /// As `Run::rest_behind`.
-    pub(crate) fn rest_behind<'a>(&self, at: u16, revisions: &'a [RevId]) -> Option<&'a [RevId]>
-        requires { IsPath self.now.revisions }
-        ensures found { IfSome result (λ rest. revisions.now ≡ drop at self.now.revisions ++ rest.now) }
-        ensures none { IfNone result ((rest : List Revision) → ¬ (revisions.now ≡ drop at self.now.revisions ++ rest)) }
+    /// As `Run::common`.
+    pub(crate) fn common(&self, at: u16, revisions: &[RevId]) -> Option<usize>
+        requires path { IsPath self.now.revisions }
+        requires within { at ≤ length self.now.revisions }
+        ensures { result ≡ common_of revisions.now (drop at self.now.revisions) }
     {
-        self.run.rest_behind(usize::from(at), revisions)
+        self.run.common(usize::from(at), revisions)
+    }
+
+    /// The revision at this place. Constant time.
+    pub(crate) fn rev(&self, at: usize) -> RevId
+        requires path { IsPath self.now.revisions }
+        requires within { at < length self.now.revisions }
+        ensures { slice_get self.now.revisions at ≡ Some result }
+    {
+        self.run.at(at)
+    }
+
+    /// The newest one's generation.
+    pub(crate) fn generation(&self) -> u16
+        requires { IsPath self.now.revisions }
+        ensures { option_map (λ r. r.generation) (slice_get self.now.revisions 0) ≡ Some result }
+    {
+        self.run.generation()
     }
 }

@@ -1,12 +1,17 @@
 //! The revisions of a tree, as its edits brought them.
 
-ghost use Rattle.std.specs.Prelude.{◌≡◌, ◌-◌, ◌++◌, ◌↔◌, List, length, Some, false, map, take, find, slice_get, option_map, IsTrue, IfSome, IfNone, IfOk, OnOk};
-ghost use Rattle.std.specs.List.{list_any};
+ghost use Rattle.std.specs.Prelude.{◌≡◌, ◌≤◌, ◌<◌, ◌-◌, ◌^◌, ◌++◌, length, Some, false, map, take, filter, not, find, is_some, slice_get, option_map, IsTrue, IfSome, IfNone, IfOk, OnOk};
+ghost use Rattle.std.specs.List.{list_any, list_all};
 ghost use Rattle.hex.specs.Hex.{encode_lower};
+ghost use Rattle.hub_model.specs.Journal.{IsLegal};
 ghost use Rattle.hub_model.specs.Revision.{Revision};
-ghost use Rattle.hub_model.specs.Path.{IsPath, is_first, names};
+ghost use Rattle.hub_model.specs.Path.{IsHistory, IsNext, IsPath, agrees as agrees_with, is_first, names};
+ghost use Rattle.hub_model.specs.Walk.{behind_in as behind_of};
+ghost use Rattle.hub_revtree.specs.Branch.{edits_in};
+ghost use Rattle.hub_revtree.specs.Common.{common as common_of, last_in};
+ghost use Rattle.hub_revtree.specs.Extend.{line_to};
 ghost use Rattle.hub_revtree.specs.Index.{IsIndexed};
-ghost use Rattle.hub_revtree.specs.Stem.{AreStems, AreUpTo, IsWithin, branches_of, has_revision, is_at as is_revision_at, is_behind_newest, path_from, revisions_at};
+ghost use Rattle.hub_revtree.specs.Stem.{Stem as StemModel, AreStems, AreUpTo, IsBrought, IsWithin, branches_of, chain_from, chains_of, has_revision, is_at as is_revision_at, is_behind_newest, own_path, rev_at, revisions_at};
 
 use crate::index::{Index, Lead, lead_to};
 use crate::run::Run;
@@ -14,14 +19,6 @@ use crate::sought::Sought;
 use crate::stem::{Place, Stem};
 use hub_document::RevId;
 use std::alloc::AllocError;
-
-/// Where a path meets the stored ones: its first known revision, counted from its head, and where that
-/// stands.
-#[derive(Clone, Copy, Debug)]
-pub(crate) struct Meeting {
-    pub(crate) at: usize,
-    pub(crate) place: Place,
-}
 
 // Where the revision stands. One look an edit, from the newest on up to the one that brought it.
 fn place_among(stems: &[Stem], rev: &RevId) -> Option<Place>
@@ -184,16 +181,21 @@ pub(crate) fn is_newest(stems: &[Stem], rev: &RevId) -> bool
     }
 }
 
-/// Puts the revision at the place, and all that stands behind it, behind what the vector holds. It
-/// costs their number.
-pub(crate) fn append_from(
-    stems: &[Stem],
-    place: Place,
-    line: &mut Vec<RevId>,
-) -> Result<(), AllocError>
+// How many revisions the chain has from the place on. Constant time.
+fn reach_from(stems: &[Stem], place: Place) -> usize
     requires stems { AreStems stems.now }
     requires within { IsWithin stems.now place }
-    ensures { OnOk result (line.new.items ≡ line.old.items ++ path_from (branches_of stems.now) (Some place)) }
+    ensures { result ≡ length (chain_from (chains_of stems.now) (Some place)) }
+{
+    usize::from(stems[place.stem].reach()) - usize::from(place.at)
+}
+
+// Puts the revision at the place, and those behind it in its chain, behind what the vector holds. It costs
+// their number.
+fn append_chain(stems: &[Stem], place: Place, line: &mut Vec<RevId>) -> Result<(), AllocError>
+    requires stems { AreStems stems.now }
+    requires within { IsWithin stems.now place }
+    ensures { OnOk result (line.new.items ≡ line.old.items ++ chain_from (chains_of stems.now) (Some place)) }
 {
     let mut next = Some(place);
     while let Some(place) = next {
@@ -204,16 +206,16 @@ pub(crate) fn append_from(
     Ok(())
 }
 
-/// Puts the digests of the same revisions behind what the vector holds; false, and nothing or some of
-/// them, where one is kept otherwise. It costs a copy of 16 bytes for each.
-pub(crate) fn append_digests(
+// Puts the digests of the same revisions behind what the vector holds; false, and nothing or some of them,
+// where one is kept otherwise. It costs a copy of 16 bytes for each.
+fn append_chain_digests(
     stems: &[Stem],
     place: Place,
     digests: &mut Vec<[u8; 16]>,
 ) -> Result<bool, AllocError>
     requires stems { AreStems stems.now }
     requires within { IsWithin stems.now place }
-    ensures { IfOk result (λ all. IsTrue all → map encode_lower digests.new.items ≡ map encode_lower digests.old.items ++ map (λ r. r.hash) (path_from (branches_of stems.now) (Some place))) }
+    ensures { IfOk result (λ all. IsTrue all → map encode_lower digests.new.items ≡ map encode_lower digests.old.items ++ map (λ r. r.hash) (chain_from (chains_of stems.now) (Some place))) }
 {
     let mut next = Some(place);
     while let Some(place) = next {
@@ -226,71 +228,317 @@ pub(crate) fn append_digests(
     Ok(true)
 }
 
-/// Whether these are the revision at the place and all that stands behind it. It costs their number.
-pub(crate) fn is_line(stems: &[Stem], place: Place, revisions: &[RevId]) -> bool
+// For how many these are the revision at the place and those behind it in its chain, as far as both go; None
+// where one of them differs. It costs their number.
+fn common(stems: &[Stem], place: Place, revisions: &[RevId]) -> Option<usize>
     requires stems { AreStems stems.now }
     requires within { IsWithin stems.now place }
-    ensures { IsTrue result ↔ (revisions.now ≡ path_from (branches_of stems.now) (Some place)) }
+    ensures { result ≡ common_of revisions.now (chain_from (chains_of stems.now) (Some place)) }
 {
-    let mut rest = revisions;
+    let mut at = 0usize;
     let mut next = Some(place);
     while let Some(place) = next {
         let stem = &stems[place.stem];
-        let Some(behind) = stem.rest_behind(place.at, rest) else {
-            return false;
-        };
-        rest = behind;
+        let count = stem.common(place.at, &revisions[at..])?;
+        at += count;
+        if at == revisions.len() {
+            return Some(at);
+        }
         next = stem.parent();
     }
-    rest.is_empty()
+    Some(at)
 }
 
-/// The first of the revisions that an edit brought, of stems with no revision of a generation above the
-/// highest. It costs what `place_of` does for each revision up to it; constant time for each of such a
-/// generation.
-pub(crate) fn first_known(
+// The last revision of the chain from the place on. One step a stem.
+fn end_of(stems: &[Stem], place: Place) -> RevId
+    requires stems { AreStems stems.now }
+    requires within { IsWithin stems.now place }
+    ensures { last_in (chain_from (chains_of stems.now) (Some place)) ≡ Some result }
+{
+    let mut at = place.stem;
+    while let Some(below) = stems[at].parent() {
+        at = below.stem;
+    }
+    let stem = &stems[at];
+    stem.rev(stem.len() - 1)
+}
+
+// The place directly behind the revision in what the stem of this number brought. Constant time.
+fn behind_in(stems: &[Stem], number: usize, sought: &Sought) -> Option<Place>
+    requires stems { AreStems stems.now }
+    requires within { number < length stems.now }
+    ensures found { IfSome result (λ place. IsWithin stems.now place × ((r : Revision) → rev_at stems.now (Some place) ≡ Some r → IsBrought stems.now r sought.now)) }
+    ensures none { IfNone result ((stem : StemModel) (r : Revision) → slice_get stems.now number ≡ Some stem → ¬ IsNext (own_path stems.now stem) sought.now r) }
+{
+    let stem = &stems[number];
+    let at = stem.position(sought)?;
+    // A stem has no more revisions than its newest one's generation.
+    let _revisions_at_most = stem.generation();
+    if usize::from(at) + 1 < stem.len() {
+        Some(Place {
+            stem: number,
+            at: at + 1,
+        })
+    } else {
+        stem.parent()
+    }
+}
+
+// The place directly behind the revision in what a stem brought. One look a stem.
+fn behind_among(stems: &[Stem], rev: &RevId) -> Option<Place>
+    requires stems { AreStems stems.now }
+    ensures found { IfSome result (λ place. IsWithin stems.now place × ((r : Revision) → rev_at stems.now (Some place) ≡ Some r → IsBrought stems.now r rev.now)) }
+    ensures none { IfNone result ((r : Revision) → ¬ IsBrought stems.now r rev.now) }
+{
+    let sought = Sought::among(rev, stems.len());
+    for number in 0..stems.len() {
+        if let Some(place) = behind_in(stems, number, &sought) {
+            return Some(place);
+        }
+    }
+    None
+}
+
+/// The place directly behind the revision in what a stem brought. Constant time where the index tells the only
+/// stem that may have the revision; else one look a stem.
+pub(crate) fn place_behind(stems: &[Stem], index: Option<&Index>, rev: &RevId) -> Option<Place>
+    requires stems { AreStems stems.now }
+    requires index { IsIndexed (option_map (λ i. i.now) index) stems.now }
+    ensures found { IfSome result (λ place. IsWithin stems.now place × ((r : Revision) → rev_at stems.now (Some place) ≡ Some r → IsBrought stems.now r rev.now)) }
+    ensures none { IfNone result ((r : Revision) → ¬ IsBrought stems.now r rev.now) }
+{
+    match lead_to(stems, index, rev) {
+        Lead::Nowhere => None,
+        Lead::Only(number) => {
+            if number >= stems.len() {
+                return None;
+            }
+            behind_in(stems, number, &Sought::once(rev))
+        }
+        Lead::Anywhere => behind_among(stems, rev),
+    }
+}
+
+// Where the revision stands that is directly behind the last one of the chain from the place on, if there is
+// one. A chain that ends with the first generation has none, in constant time; else it costs a step a stem of
+// the chain, and what `place_behind` does.
+fn beyond(stems: &[Stem], index: Option<&Index>, place: Place) -> Option<Place>
+    requires stems { AreStems stems.now }
+    requires index { IsIndexed (option_map (λ i. i.now) index) stems.now }
+    requires legal { IsLegal (edits_in (branches_of stems.now)) }
+    requires within { IsWithin stems.now place }
+    ensures within { IfSome result (IsWithin stems.now) }
+    ensures behind { (x : Revision) → last_in (chain_from (chains_of stems.now) (Some place)) ≡ Some x → rev_at stems.now result ≡ behind_of x (edits_in (branches_of stems.now)) }
+{
+    let stem = &stems[place.stem];
+    if stem.generation() == stem.reach() {
+        return None;
+    }
+    let last = end_of(stems, place);
+    place_behind(stems, index, &last)
+}
+
+/// How many revisions the one at the place and all that stand behind it are. It costs for each chain what
+/// `beyond` does: constant time where the first one ends with the first generation.
+pub(crate) fn line_length(stems: &[Stem], index: Option<&Index>, place: Place) -> u16
+    requires stems { AreStems stems.now }
+    requires index { IsIndexed (option_map (λ i. i.now) index) stems.now }
+    requires legal { IsLegal (edits_in (branches_of stems.now)) }
+    requires within { IsWithin stems.now place }
+    requires short { length (line_to (edits_in (branches_of stems.now)) (rev_at stems.now (Some place))) < 2 ^ 16 }
+    ensures { result ≡ length (line_to (edits_in (branches_of stems.now)) (rev_at stems.now (Some place))) }
+{
+    let mut count = 0usize;
+    let mut next = Some(place);
+    while let Some(place) = next {
+        next = beyond(stems, index, place);
+        count += reach_from(stems, place);
+    }
+    count as u16
+}
+
+/// Puts the revision at the place, and all that stands behind it, behind what the vector holds. It
+/// costs their number, and for each chain but the last what `beyond` does.
+pub(crate) fn append_from(
+    stems: &[Stem],
+    index: Option<&Index>,
+    place: Place,
+    line: &mut Vec<RevId>,
+) -> Result<(), AllocError>
+    requires stems { AreStems stems.now }
+    requires index { IsIndexed (option_map (λ i. i.now) index) stems.now }
+    requires legal { IsLegal (edits_in (branches_of stems.now)) }
+    requires within { IsWithin stems.now place }
+    ensures { OnOk result (line.new.items ≡ line.old.items ++ line_to (edits_in (branches_of stems.now)) (rev_at stems.now (Some place))) }
+{
+    let mut next = Some(place);
+    while let Some(place) = next {
+        append_chain(stems, place, line)?;
+        next = beyond(stems, index, place);
+    }
+    Ok(())
+}
+
+/// Puts the digests of the same revisions behind what the vector holds; false, and nothing or some of
+/// them, where one is kept otherwise. It costs a copy of 16 bytes for each, and for each chain but the last what
+/// `beyond` does.
+pub(crate) fn append_digests(
+    stems: &[Stem],
+    index: Option<&Index>,
+    place: Place,
+    digests: &mut Vec<[u8; 16]>,
+) -> Result<bool, AllocError>
+    requires stems { AreStems stems.now }
+    requires index { IsIndexed (option_map (λ i. i.now) index) stems.now }
+    requires legal { IsLegal (edits_in (branches_of stems.now)) }
+    requires within { IsWithin stems.now place }
+    ensures { IfOk result (λ all. IsTrue all → map encode_lower digests.new.items ≡ map encode_lower digests.old.items ++ map (λ r. r.hash) (line_to (edits_in (branches_of stems.now)) (rev_at stems.now (Some place)))) }
+{
+    let mut next = Some(place);
+    while let Some(place) = next {
+        if !append_chain_digests(stems, place, digests)? {
+            return Ok(false);
+        }
+        next = beyond(stems, index, place);
+    }
+    Ok(true)
+}
+
+// Where a revision of a path stands: at this place, if one is told, else where it is found.
+fn place_or_told(
+    stems: &[Stem],
+    index: Option<&Index>,
+    highest: u16,
+    told: Option<Place>,
+    rev: &RevId,
+) -> Option<Place>
+    requires stems { AreStems stems.now }
+    requires index { IsIndexed (option_map (λ i. i.now) index) stems.now }
+    requires highest { AreUpTo stems.now highest }
+    requires told { IfSome told (IsWithin stems.now) }
+    ensures told { IfSome told (λ place. result ≡ Some place) }
+    ensures within { IfSome result (IsWithin stems.now) }
+    ensures found { IfNone told (IfSome result (λ place. rev_at stems.now (Some place) ≡ Some rev.now)) }
+    ensures none { IfNone result (has_revision stems.now rev.now ≡ false) }
+{
+    match told {
+        Some(place) => Some(place),
+        None => place_up_to(stems, index, highest, rev),
+    }
+}
+
+/// Of a path that agrees with all stored ones, how many of its revisions its edit's stem is to keep; None where
+/// it does not agree. It costs what `place_of` does for each revision that no path names, but constant time for
+/// each of a generation above the highest; and the path's length; and what `beyond` does for each chain behind
+/// which it goes on.
+pub(crate) fn agreeing(
     stems: &[Stem],
     index: Option<&Index>,
     highest: u16,
     revisions: &[RevId],
-) -> Option<Meeting>
+) -> Option<usize>
     requires stems { AreStems stems.now }
     requires index { IsIndexed (option_map (λ i. i.now) index) stems.now }
     requires highest { AreUpTo stems.now highest }
-    ensures new { IfSome result (λ m. list_any (has_revision stems.now) (take m.at revisions.now) ≡ false) }
-    ensures within { IfSome result (λ m. IsWithin stems.now m.place) }
-    ensures same { IfSome result (λ m. slice_get revisions.now m.at ≡ slice_get (revisions_at stems.now m.place.stem) m.place.at) }
-    ensures none { IfNone result (list_any (has_revision stems.now) revisions.now ≡ false) }
+    requires legal { IsLegal (edits_in (branches_of stems.now)) }
+    requires history { IsHistory revisions.now }
+    ensures agrees { is_some result ≡ list_all (λ b. agrees_with revisions.now b.path) (branches_of stems.now) }
+    ensures within { IfSome result (λ n. n ≤ length revisions.now) }
 {
-    for (at, rev) in revisions.iter().enumerate() {
-        if let Some(place) = place_up_to(stems, index, highest, rev) {
-            return Some(Meeting { at, place });
+    let mut at = 0usize;
+    let mut told = None;
+    while at < revisions.len() {
+        match place_or_told(stems, index, highest, told, &revisions[at]) {
+            Some(place) => {
+                let count = common(stems, place, &revisions[at..])?;
+                if count == revisions.len() - at {
+                    return Some(at);
+                }
+                at += count;
+                told = beyond(stems, index, place);
+            }
+            None => {
+                at += 1;
+                told = None;
+            }
         }
     }
-    None
+    Some(revisions.len())
 }
 
-/// The same of the revisions of a run.
-pub(crate) fn first_known_of(
-    stems: &[Stem],
-    index: Option<&Index>,
-    highest: u16,
-    path: &Run,
-) -> Option<Meeting>
+/// How a path that may be stored meets the stored ones.
+#[derive(Clone, Copy, Debug)]
+pub(crate) struct Meeting {
+    /// How many of its revisions its edit's stem keeps.
+    pub(crate) at: usize,
+    /// Where the next one stands, if there is one.
+    pub(crate) place: Option<Place>,
+    /// How many revisions the chain has from there on; 0 where there is none.
+    pub(crate) behind: usize,
+    /// Whether one of those that are kept was known.
+    pub(crate) joins: bool,
+}
+
+/// How a path that may be stored meets the stored ones: what is left of it behind those that its stem keeps is
+/// the front of one chain. It costs what `place_of` does for each revision that no path names, but constant time
+/// for each of a generation above the highest.
+pub(crate) fn met_by(stems: &[Stem], index: Option<&Index>, highest: u16, path: &Run) -> Meeting
     requires stems { AreStems stems.now }
     requires index { IsIndexed (option_map (λ i. i.now) index) stems.now }
     requires highest { AreUpTo stems.now highest }
     requires path { IsPath path.now }
-    ensures new { IfSome result (λ m. list_any (has_revision stems.now) (take m.at path.now) ≡ false) }
-    ensures within { IfSome result (λ m. IsWithin stems.now m.place) }
-    ensures same { IfSome result (λ m. slice_get path.now m.at ≡ slice_get (revisions_at stems.now m.place.stem) m.place.at) }
-    ensures none { IfNone result (list_any (has_revision stems.now) path.now ≡ false) }
+    ensures kept { result.at ≤ length path.now }
+    ensures within { IfSome result.place (IsWithin stems.now) }
+    ensures same { IfSome result.place (λ p. slice_get path.now result.at ≡ rev_at stems.now (Some p)) }
+    ensures behind { result.behind ≡ length (chain_from (chains_of stems.now) result.place) }
+    ensures rest { length path.now - result.at ≤ result.behind }
+    ensures none { IfNone result.place (result.at ≡ length path.now) }
+    ensures fresh { result.joins ≡ false → list_any (has_revision stems.now) (take result.at path.now) ≡ false }
 {
-    for at in 0..path.len() {
-        let rev = path.at(at);
-        if let Some(place) = place_up_to(stems, index, highest, &rev) {
-            return Some(Meeting { at, place });
+    let mut at = 0usize;
+    let mut joins = false;
+    while at < path.len() {
+        match place_up_to(stems, index, highest, &path.at(at)) {
+            Some(place) => {
+                let behind = reach_from(stems, place);
+                if path.len() - at <= behind {
+                    return Meeting {
+                        at,
+                        place: Some(place),
+                        behind,
+                        joins,
+                    };
+                }
+                at += behind;
+                joins = true;
+            }
+            None => at += 1,
         }
     }
-    None
+    Meeting {
+        at,
+        place: None,
+        behind: 0,
+        joins,
+    }
+}
+
+/// How many of the revisions that the stem of this number keeps none of the earlier ones has. Constant time
+/// where it joins none; else a look an edit for each of them.
+pub(crate) fn new_in(stems: &[Stem], number: usize) -> usize
+    requires stems { AreStems stems.now }
+    requires within { number < length stems.now }
+    ensures { (stem : StemModel) → slice_get stems.now number ≡ Some stem → result ≡ length (filter (λ r. not (has_revision (take number stems.now) r)) stem.revisions) }
+{
+    let stem = &stems[number];
+    if !stem.joins() {
+        return stem.len();
+    }
+    let mut count = 0usize;
+    for at in 0..stem.len() {
+        if place_among(&stems[..number], &stem.rev(at)).is_none() {
+            count += 1;
+        }
+    }
+    count
 }

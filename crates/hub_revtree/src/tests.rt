@@ -7,6 +7,7 @@ mod keeps;
 mod lines;
 mod looks;
 mod merges;
+mod partial;
 mod shared;
 
 use crate::tests::Step::{

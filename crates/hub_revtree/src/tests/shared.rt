@@ -111,3 +111,61 @@ fn line_is_shared_with_an_edit_that_is_not_taken(rt: HostRuntime) -> Result<(), 
     assert_eq!(rt; tree.len(), 321);
     Ok(())
 }
+
+// Merges an edit that tells what stands behind the oldest of the line, which comes to its front; false where
+// it is not taken, or the line is another then.
+fn tell(
+    alloc: Global,
+    tree: &mut RevTree,
+    line: &mut Vec<RevId>,
+    text: &str,
+    older: &[&str],
+) -> Result<bool, AllocError> {
+    if merge(alloc, tree, text) != Some(ADDED) {
+        return Ok(false);
+    }
+    for rev in revs_of(alloc, older)? {
+        line.insert(0, rev)?;
+    }
+    is_path(alloc, tree, line.as_slice())
+}
+
+const ALONE: &str = "5-00000000000000000000000000000005";
+
+const BEHIND_IT: &str =
+    r#"{"_id":"a","_deleted":true,"_revisions":{"start":6,"ids":["00000000000000000000000000000066","00000000000000000000000000000005","00000000000000000000000000000004","00000000000000000000000000000003"]}}"#;
+
+const TO_THE_FIRST: &str =
+    r#"{"_id":"a","_deleted":true,"_revisions":{"start":4,"ids":["00000000000000000000000000000044","00000000000000000000000000000003","00000000000000000000000000000002","00000000000000000000000000000001"]}}"#;
+
+// A line of so many edits that they share their path, on a revision alone. What stands behind this comes
+// later, in two parts.
+#[test]
+fn line_that_gets_older_revisions(rt: HostRuntime) -> Result<(), Fail> {
+    let alloc = rt.alloc();
+    let mut tree = RevTree::new(alloc);
+    assert_eq!(rt;
+        merge(
+            alloc,
+            &mut tree,
+            r#"{"_id":"a","_rev":"5-00000000000000000000000000000005"}"#
+        ),
+        Some(ADDED)
+    );
+    let mut line = revs_of(alloc, &[ALONE])?;
+    assert!(rt; grow(alloc, &mut tree, &mut line, false, 300)?);
+    let older = [
+        "4-00000000000000000000000000000004",
+        "3-00000000000000000000000000000003",
+    ];
+    assert!(rt; tell(alloc, &mut tree, &mut line, BEHIND_IT, &older)?);
+    assert!(rt; grow(alloc, &mut tree, &mut line, false, 20)?);
+    let oldest = [
+        "2-00000000000000000000000000000002",
+        "1-00000000000000000000000000000001",
+    ];
+    assert!(rt; tell(alloc, &mut tree, &mut line, TO_THE_FIRST, &oldest)?);
+    assert!(rt; grow(alloc, &mut tree, &mut line, false, 20)?);
+    assert_eq!(rt; (tree.len(), tree.nodes()), (343, 347));
+    Ok(())
+}

@@ -1,15 +1,16 @@
-use Rattle.std.proofs.Common.{◌≡◌, ◌++◌, map}
+use Rattle.std.proofs.Common.{◌≡◌, ◌++◌, length, map}
 use Rattle.std.specs.Prelude.{IfSome}
 use Rattle.hex.specs.Hex.{encode_lower}
-use Rattle.hub_revtree.specs.Stem.{IsWithin, branches_of, path_from}
-use Rattle.hub_revtree.proofs.StemLemmas.{steps_left}
+use Rattle.hub_revtree.specs.Branch.{edits_in}
+use Rattle.hub_revtree.specs.Extend.{line_to}
+use Rattle.hub_revtree.specs.Stem.{IsWithin, branches_of, rev_at}
 use Rattle.hub_revtree.proofs.stems.append_digests.Given as goal
 
 abbrev pub invariant-loop-next : goal.invariant-loop-next
 invariant-loop-next l = record {
   within : IfSome l.next (IsWithin l.stems);
-  whole : map encode_lower l.digests.items ++ map (λ r. r.hash) (path_from (branches_of l.stems) l.next) ≡ map encode_lower l.initial.digests.items ++ map (λ r. r.hash) (path_from (branches_of l.stems) l.initial.next);
+  whole : map encode_lower l.digests.items ++ map (λ r. r.hash) (line_to (edits_in (branches_of l.stems)) (rev_at l.stems l.next)) ≡ map encode_lower l.initial.digests.items ++ map (λ r. r.hash) (line_to (edits_in (branches_of l.stems)) (rev_at l.stems l.initial.next));
 }
 
 abbrev pub decreases-loop-next : goal.decreases-loop-next
-decreases-loop-next l = steps_left l.next
+decreases-loop-next l = length (line_to (edits_in (branches_of l.stems)) (rev_at l.stems l.next))

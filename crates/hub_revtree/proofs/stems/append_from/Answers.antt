@@ -1,19 +1,24 @@
-use Rattle.std.proofs.Common.{◌++◌, ◌∙◌, ap, sym, append_assoc, drop}
-use Rattle.hub_revtree.specs.Stem.{branches_of, path_from}
-use Rattle.hub_revtree.proofs.StemLooks.{walk_on, walk_next, walk_ends}
+use Rattle.std.proofs.Common.{◌++◌, ◌∙◌, ap, sym, append_assoc}
+use Rattle.hub_revtree.specs.Branch.{edits_in}
+use Rattle.hub_revtree.specs.Extend.{line_to}
+use Rattle.hub_revtree.specs.Stem.{branches_of, chain_from, chains_of, rev_at}
+use Rattle.std.specs.Prelude.{Some}
+use Rattle.hub_revtree.proofs.JoinLemmas.{walk_less, walk_step}
 use Rattle.hub_revtree.proofs.stems.append_from.Goals as goal
 
 pub loop-next-smaller : goal.loop-next-smaller
-loop-next-smaller c = rw c.parent-next.ensures (walk_ends c.args.stems.now c.requires.stems c.loop-next.next c.in-Some.place c.index-stems-place.result c.loop-next.invariant.within c.in-Some.is c.index-stems-place.is)
+loop-next-smaller c = walk_less c.args.stems.now c.requires.stems c.requires.legal c.loop-next.next c.beyond-next.result c.in-Some.place c.in-Some.is (rw c.in-Some.is at c.loop-next.invariant.within) c.beyond-next.ensures.behind
 
 pub loop-next-preserved : goal.loop-next-preserved
 loop-next-preserved c =
-    let rest = path_from (branches_of c.args.stems.now) c.index-stems-place.result.parent in
-    rw c.parent-next.ensures (record {
-      within = walk_next c.args.stems.now c.requires.stems c.loop-next.next c.in-Some.place c.index-stems-place.result c.loop-next.invariant.within c.in-Some.is c.index-stems-place.is;
+    let xs = c.args.stems.now in
+    let chain = chain_from (chains_of xs) (Some c.in-Some.place) in
+    let rest = line_to (edits_in (branches_of xs)) (rev_at xs c.beyond-next.result) in
+    record {
+      within = c.beyond-next.ensures.within;
       whole =
-          ap (λ z. z ++ rest) c.in_ok-append_from.ensures
-          ∙ append_assoc c.loop-next.line.items (drop c.in-Some.place.at c.index-stems-place.result.revisions) rest
-          ∙ ap (λ z. c.loop-next.line.items ++ z) (sym (walk_on c.args.stems.now c.requires.stems c.loop-next.next c.in-Some.place c.index-stems-place.result c.loop-next.invariant.within c.in-Some.is c.index-stems-place.is))
+          ap (λ z. z ++ rest) c.in_ok-append_chain.ensures
+          ∙ append_assoc c.loop-next.line.items chain rest
+          ∙ ap (λ z. c.loop-next.line.items ++ z) (sym (walk_step xs c.requires.stems c.requires.legal c.loop-next.next c.beyond-next.result c.in-Some.place c.in-Some.is (rw c.in-Some.is at c.loop-next.invariant.within) c.beyond-next.ensures.behind))
           ∙ c.loop-next.invariant.whole;
-    })
+    }

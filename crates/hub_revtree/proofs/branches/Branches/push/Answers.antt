@@ -1,74 +1,98 @@
-use Rattle.std.proofs.Common.{◌≡◌, ◌∙◌, sym, ap, take, max, arith}
-use Rattle.std.proofs.lemmas.List.{take_all}
+use Rattle.std.proofs.Common.{◌++◌, ◌∷◌, [], ◌∙◌, refl, sym, ap, max, arith}
+use Rattle.hub_revtree.specs.Index.{IsNewestLine}
 use Rattle.hub_revtree.specs.Stem.{Stem}
-use Rattle.hub_revtree.proofs.BranchLemmas.{some_history}
+use Rattle.hub_revtree.proofs.BranchLemmas.{within_generation}
+use Rattle.hub_revtree.proofs.BringLemmas.{Brings, Meets, brought_edit, brought_line, brought_stems, met_brings, reach_low, some_kept, stands_low}
 use Rattle.hub_revtree.proofs.HighestLemmas.{up_to_more}
-use Rattle.hub_revtree.proofs.JoinLemmas.{Brings, brought_edit, brought_line, brought_stems, met_brings, met_later, met_within, new_brings}
 use Rattle.hub_revtree.proofs.RunLemmas.{newest_of}
 use Rattle.hub_revtree.proofs.branches.Branches.push.Goals as goal
-use Rattle.hub_revtree.proofs.branches.Branches.push.Goals.{Joined-self-renewed, in-Some, in_default}
+use Rattle.hub_revtree.proofs.branches.Branches.push.Goals.{Joined-drop, then-whole, else-whole}
 
--- the stem brings what is new of the path
-brings : (c : Joined-self-renewed) → Brings c.self.inside.stems.items c.args.path (record { revisions = c.kept-run.result.0; parent = c.match-met.parent; deleted = c.args.deleted; body = c.args.body })
+pub standing_of-standing-requires-clause-short : goal.standing_of-standing-requires-clause-short
+standing_of-standing-requires-clause-short c =
+    let head = newest_of c.args.path c.generation-newest.result c.generation-newest.ensures in
+    omega (arith, within_generation c.args.path head.0 c.requires.acceptable.history head.1, head.2)
+
+pub standing_of-standing-requires-clause-reach : goal.standing_of-standing-requires-clause-reach
+standing_of-standing-requires-clause-reach c =
+    let xs = c.self.inside.stems.items in
+    let legal = rw (sym c.self.view_is) at c.requires.legal in
+    let ok = rw (sym c.self.view_is) at c.requires.acceptable in
+    let met = rw c.as_slice-stems.ensures.value at c.met_by-met.ensures in
+    let is : Meets xs c.args.path c.met_by-met.result.at c.met_by-met.result.place c.met_by-met.result.behind c.met_by-met.result.joins = record { kept = met.kept; within = met.within; same = met.same; long = met.behind; rest = met.rest; none = met.none; fresh = met.fresh } in
+    let head = newest_of c.args.path c.generation-newest.result c.generation-newest.ensures in
+    let low = reach_low xs c.self.invariant.0 legal c.args.path c.args.deleted c.args.body ok _ _ _ _ is head.0 head.1 in
+    omega (arith, low, head.2)
+
+pub kept-run-requires-clause-some : goal.kept-run-requires-clause-some
+kept-run-requires-clause-some c =
+    let xs = c.self.inside.stems.items in
+    let legal = rw (sym c.self.view_is) at c.requires.legal in
+    let ok = rw (sym c.self.view_is) at c.requires.acceptable in
+    let met = rw c.as_slice-stems.ensures.value at c.met_by-met.ensures in
+    let is : Meets xs c.args.path c.met_by-met.result.at c.met_by-met.result.place c.met_by-met.result.behind c.met_by-met.result.joins = record { kept = met.kept; within = met.within; same = met.same; long = met.behind; rest = met.rest; none = met.none; fresh = met.fresh } in
+    some_kept xs c.self.invariant.0 legal c.args.path c.args.deleted c.args.body ok _ _ _ _ is
+
+pub new-requires-clause-stands : goal.new-requires-clause-stands
+new-requires-clause-stands c =
+    let xs = c.self.inside.stems.items in
+    let legal = rw (sym c.self.view_is) at c.requires.legal in
+    let ok = rw (sym c.self.view_is) at c.requires.acceptable in
+    let met = rw c.as_slice-stems.ensures.value at c.met_by-met.ensures in
+    let is : Meets xs c.args.path c.met_by-met.result.at c.met_by-met.result.place c.met_by-met.result.behind c.met_by-met.result.joins = record { kept = met.kept; within = met.within; same = met.same; long = met.behind; rest = met.rest; none = met.none; fresh = met.fresh } in
+    stands_low xs c.self.invariant.0 legal c.args.path c.args.deleted c.args.body ok _ _ _ _ is c.standing_of-standing.result.parent c.kept-run.result.0 c.standing_of-standing.result.reach c.standing_of-standing.ensures.parent c.kept-run.ensures.run c.standing_of-standing.ensures.reach
+
+-- the stem that is put to them
+abbrev stem_of : Joined-drop → Stem
+stem_of c = record {
+  revisions = c.kept-run.result.0;
+  parent = c.standing_of-standing.result.parent;
+  count = c.standing_of-standing.result.count;
+  reach = c.standing_of-standing.result.reach;
+  joins = c.standing_of-standing.result.joins;
+  deleted = c.args.deleted;
+  body = c.args.body;
+}
+
+brings : (c : Joined-drop) → Brings c.self.inside.stems.items c.args.path (stem_of c)
 brings c =
     let xs = c.self.inside.stems.items in
     let legal = rw (sym c.self.view_is) at c.requires.legal in
     let ok = rw (sym c.self.view_is) at c.requires.acceptable in
-    let stem : Stem = record { revisions = c.kept-run.result.0; parent = c.match-met.parent; deleted = c.args.deleted; body = c.args.body } in
-    let own : c.kept-run.result.0 ≡ take c.match-met.new c.args.path = c.kept-run.ensures.run in
-    elim c.match-met.branch [
-      | in-Some w ↦
-          let met = rw c.as_slice.ensures.value at w.in-Some.ensures in
-          met_brings xs c.self.invariant.0 legal c.args.path c.args.deleted c.args.body ok stem w.in-Some.met.at w.in-Some.met.place met.new met.within met.same
-          (own ∙ ap (λ n. take n c.args.path) w.new-is)
-          w.parent-is
-      | in_default w ↦
-          new_brings xs c.self.invariant.0 legal c.args.path c.args.deleted c.args.body ok stem (rw c.as_slice.ensures.value at w.in_default.ensures.none)
-          (own ∙ take_all c.match-met.new c.args.path (omega (arith, w.new-is, c.len-new.ensures)))
-          w.parent-is
-    ]
+    let met = rw c.as_slice-stems.ensures.value at c.met_by-met.ensures in
+    let is : Meets xs c.args.path c.met_by-met.result.at c.met_by-met.result.place c.met_by-met.result.behind c.met_by-met.result.joins = record { kept = met.kept; within = met.within; same = met.same; long = met.behind; rest = met.rest; none = met.none; fresh = met.fresh } in
+    met_brings xs c.self.invariant.0 legal c.args.path c.args.deleted c.args.body ok _ _ _ _ is (stem_of c) c.kept-run.ensures.run c.standing_of-standing.ensures.parent (c.standing_of-standing.ensures.count ∙ c.len.ensures) c.standing_of-standing.ensures.reach c.standing_of-standing.ensures.joins
 
-pub first_known_of-met-requires-clause-path : goal.first_known_of-met-requires-clause-path
-first_known_of-met-requires-clause-path c = c.requires.acceptable.history.falls
-
-pub generation-newest-requires : goal.generation-newest-requires
-generation-newest-requires c = c.requires.acceptable.history.falls
-
-pub kept-run-requires-clause-some : goal.kept-run-requires-clause-some
-kept-run-requires-clause-some c =
+-- the line that is kept is its path, where nothing stands behind that
+line_of : (c : Joined-drop) → IsNewestLine c.if-whole.line2 (c.self.inside.stems.items ++ stem_of c ∷ [])
+line_of c =
+    let xs = c.self.inside.stems.items in
     let legal = rw (sym c.self.view_is) at c.requires.legal in
     let ok = rw (sym c.self.view_is) at c.requires.acceptable in
-    elim c.match-met.branch [
-      | in-Some w ↦
-          let met = rw c.as_slice.ensures.value at w.in-Some.ensures in
-          rw w.new-is (met_later c.self.inside.stems.items c.self.invariant.0 legal c.args.path c.args.deleted c.args.body ok w.in-Some.met.at w.in-Some.met.place met.within met.same)
-      | in_default w ↦ omega (arith, w.new-is, c.len-new.ensures, some_history c.args.path c.requires.acceptable.history)
-    ]
-
-pub kept-run-requires-clause-within : goal.kept-run-requires-clause-within
-kept-run-requires-clause-within c =
-    elim c.match-met.branch [
-      | in-Some w ↦
-          let met = rw c.as_slice.ensures.value at w.in-Some.ensures in
-          rw w.new-is (met_within c.self.inside.stems.items c.args.path w.in-Some.met.at w.in-Some.met.place met.within met.same)
-      | in_default w ↦ omega (arith, w.new-is, c.len-new.ensures)
+    let ends = rw c.as_slice-stems.ensures.value at c.ends-whole.ensures in
+    elim c.if-whole.branch [
+      | then-whole w ↦ rw w.line2-is (brought_line xs c.self.invariant.0 legal c.args.path c.args.deleted c.args.body ok (stem_of c) (brings c) refl refl c.kept-run.result.1 c.kept-run.ensures.line (ends w.if-whole.true))
+      | else-whole w ↦ rw w.line2-is tt
     ]
 
 pub invariant_of-self : goal.invariant_of-self
 invariant_of-self c =
     let xs = c.self.inside.stems.items in
     let path = brings c in
-    let more = brought_stems xs c.self.invariant.0 (rw (sym c.self.view_is) at c.requires.legal) c.args.path _ path in
+    let legal = rw (sym c.self.view_is) at c.requires.legal in
+    let ok = rw (sym c.self.view_is) at c.requires.acceptable in
+    let more = brought_stems xs c.self.invariant.0 legal c.args.path c.args.deleted c.args.body ok (stem_of c) path in
     let head = newest_of c.args.path c.generation-newest.result c.generation-newest.ensures in
     rw (c.push_reserved.ensures.items, c.new.ensures) (
       more,
-      up_to_more xs _ c.args.path head.0 c.self.inside.highest c.max-self-inside.result c.self.invariant.0 more c.self.invariant.1 c.requires.acceptable.history.falls head.1 path.whole
+      up_to_more xs (stem_of c) c.args.path head.0 c.self.inside.highest c.max-self-inside.result c.self.invariant.0 more c.self.invariant.1 c.requires.acceptable.history.falls head.1 path.whole
           (c.max-self-inside.ensures ∙ ap (λ n. max n c.self.inside.highest) (sym head.2)),
-      rw (c.as_slice-2.ensures.value, c.push_reserved.ensures.items, c.new.ensures) at c.renewed.ensures
-          (brought_line xs c.self.invariant.0 (rw (sym c.self.view_is) at c.requires.legal) c.args.path _ c.kept-run.result.1 path c.kept-run.ensures.line),
+      rw (c.as_slice.ensures.value, c.push_reserved.ensures.items, c.new.ensures) at c.renewed.ensures (line_of c),
     )
 
 pub returns : goal.returns
 returns c =
+    let legal = rw (sym c.self.view_is) at c.requires.legal in
+    let ok = rw (sym c.self.view_is) at c.requires.acceptable in
     rw (c.push_reserved.ensures.items, c.new.ensures, sym c.self.view_is)
-    (brought_edit c.self.inside.stems.items c.self.invariant.0 (rw (sym c.self.view_is) at c.requires.legal) c.args.path _ (brings c))
+    (brought_edit c.self.inside.stems.items c.self.invariant.0 legal c.args.path c.args.deleted c.args.body ok (stem_of c) (brings c))

@@ -1,6 +1,6 @@
-use Rattle.std.proofs.Common.{◌≡◌, ◌-◌, ◌^◌, min, take}
-use Rattle.hub_revtree.proofs.CountLemmas.{kept}
+use Rattle.std.proofs.Common.{◌≡◌, ◌-◌, ◌^◌, [], min, take}
+use Rattle.hub_revtree.proofs.CountLemmas.{brought_after}
 use Rattle.hub_revtree.proofs.branches.Branches.revision_count.Given as goal
 
-abbrev pub invariant-loop-stem : goal.invariant-loop-stem
-invariant-loop-stem l = l.count ≡ min (kept (take l.stem-index l.stem-items)) (2 ^ 64 - 1)
+abbrev pub invariant-loop-number : goal.invariant-loop-number
+invariant-loop-number l = l.count ≡ min (brought_after [] (take l.number l.stems)) (2 ^ 64 - 1)

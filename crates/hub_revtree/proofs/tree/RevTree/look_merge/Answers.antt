@@ -1,6 +1,4 @@
-use Rattle.std.proofs.Common.{false, true, sym, refl, arith}
-use Rattle.hub_revtree.specs.Branch.{edits_in}
-use Rattle.hub_revtree.proofs.CountLemmas.{missing_within}
+use Rattle.std.proofs.Common.{false, true, sym, refl}
 use Rattle.hub_revtree.proofs.TreeLemmas.{rev_tree, head_known, head_new, acceptable, contradicts}
 use Rattle.hub_revtree.proofs.tree.RevTree.look_merge.Goals as goal
 
@@ -15,7 +13,7 @@ returns-then-is_named-clause-known c =
     )
 
 pub made_ready-requires : goal.made_ready-requires
-made_ready-requires c = omega (arith, c.in-Some.ensures.new, missing_within (edits_in c.self.inside.branches.list) c.args.path)
+made_ready-requires c = c.in-Some.ensures.within
 
 pub returns-in_default-clause-tree : goal.returns-in_default-clause-tree
 returns-in_default-clause-tree c = rw (sym c.self.view_is) (rev_tree _ c.self.invariant.legal)

@@ -1,0 +1,16 @@
+-- How far two lists of revisions are one (own). An example: 5-e 4-d and 5-e 4-d 3-c are one for 2, and 5-e 4-d and 5-e 4-q
+-- are not, since both have a second one.
+use Rattle.std.specs.Prelude.{ℕ, suc, List, [], ◌∷◌, Option, Some, None, option_map, if◌then◌else◌}
+use Rattle.hub_model.specs.Revision.{Revision, is_same}
+
+-- for how many they are one, where that is as far as both go; None where one of them differs before
+abbrev pub common : List Revision → List Revision → Option ℕ
+common [] q = Some 0
+common (x ∷ p) [] = Some 0
+common (x ∷ p) (y ∷ q) = if is_same x y then option_map suc (common p q) else None
+
+-- the last of some revisions, if there is one
+abbrev pub last_in : List Revision → Option Revision
+last_in [] = None
+last_in (x ∷ []) = Some x
+last_in (x ∷ y ∷ p) = last_in (y ∷ p)
