@@ -1,5 +1,5 @@
 -- What a document's tree shows is what the journal has of it.
-use Rattle.std.proofs.Common.{◌≡◌, ℕ, List, [], ◌∷◌, Bool, true, false, ap, refl, sym, ◌∙◌}
+use Rattle.std.proofs.Common.{◌≡◌, ℕ, zero, suc, List, [], ◌∷◌, take, Bool, true, false, ap, refl, sym, ◌∙◌}
 use Rattle.std.proofs.Common.{subst}
 use Rattle.std.specs.Prelude.{Option, Some, None, Contains, map, find, option_map, slice_get, get_or}
 use Rattle.std.specs.Prelude.{if◌then◌else◌}
@@ -74,7 +74,7 @@ module _ (d : Document) (r h : Revision) (deleted : Bool) (body : List ℕ) wher
   edits = d.tree.edits
 
   module _ (e : Edit) (found : find (is_head r) (edits_of edits []) ≡ Some e) (same : tip h deleted body ≡ tip_of e)
-      (on : path_to edits h ≡ Some e.path) where
+      (count : ℕ) (on : option_map (take count) (path_to edits h) ≡ Some e.path) where
     is : (is_first r e.path ≡ true) × Contains (edits_of edits []) e
     is = find_is (is_head r) (edits_of edits []) e found
 
@@ -86,10 +86,17 @@ module _ (d : Document) (r h : Revision) (deleted : Bool) (body : List ℕ) wher
     rev : h ≡ r
     rev = sym (head_first e.path r h is.0 (sym (ap (λ (t : Tip). t.rev) same)))
 
-    line_is : line_of edits [] r ≡ e.path
-    line_is =
-        same_Some (line_of edits [] r) e.path
-        (sym (ap (λ b. if b then Some (line_of edits [] r) else None) known) ∙ subst (λ z. path_to edits z ≡ Some e.path) rev on)
+    -- the edit's path is the front of all that stands behind its revision
+    front : take count (line_of edits [] r) ≡ e.path
+    front =
+        same_Some (take count (line_of edits [] r)) e.path
+        (sym (ap (λ b. option_map (take count) (if b then Some (line_of edits [] r) else None)) known)
+        ∙ subst (λ z. option_map (take count) (path_to edits z) ≡ Some e.path) rev on)
+
+    first_of_front : (n : ℕ) (p : List Revision) → Some h ≡ slice_get (take n p) 0 → Some h ≡ slice_get p 0
+    first_of_front zero p t = absurd (cc)
+    first_of_front (suc n) [] t = t
+    first_of_front (suc n) (x ∷ p) t = t
 
     whole : (revs : Bool)
         → history_of revs edits r ≡ (if revs then Some (line_of edits [] r) else None)
@@ -97,7 +104,9 @@ module _ (d : Document) (r h : Revision) (deleted : Bool) (body : List ℕ) wher
     whole false = refl
 
     head : Some h ≡ slice_get (line_of edits [] r) 0
-    head = ap (λ (t : Tip). t.rev) same ∙ ap (λ (p : List Revision). slice_get p 0) (sym line_is)
+    head =
+        first_of_front count (line_of edits [] r)
+        (ap (λ (t : Tip). t.rev) same ∙ ap (λ (p : List Revision). slice_get p 0) (sym front))
 
     doc_of_edit : (revs : Bool) (history : Option (List Revision)) → history ≡ history_of revs edits r
         → Some (record { id = d.id; rev = Some h; path = history; deleted = deleted; body = body })
@@ -111,13 +120,14 @@ module _ (d : Document) (r h : Revision) (deleted : Bool) (body : List ℕ) wher
         ∙ ap (λ o. option_map (doc_shown revs) (option_map (named d.id) (shown_of edits [] r o))) (sym found)))
 
   pub doc_found : Some (tip h deleted body) ≡ option_map tip_of (find (is_head r) (edits_of edits []))
-      → Some (path_to edits h) ≡ option_map (λ e. Some e.path) (find (is_head r) (edits_of edits []))
+      → (count : ℕ)
+      → Some (option_map (take count) (path_to edits h)) ≡ option_map (λ e. Some e.path) (find (is_head r) (edits_of edits []))
       → (revs : Bool) (history : Option (List Revision)) → history ≡ history_of revs edits r
       → Some (record { id = d.id; rev = Some h; path = history; deleted = deleted; body = body })
       ≡ option_map (doc_shown revs) (shown_in d r)
-  doc_found same on revs history is_so =
-      lent (find (is_head r) (edits_of edits [])) (tip h deleted body) (path_to edits h) same on
-      (λ e found tips path. doc_of_edit e found tips path revs history is_so)
+  doc_found same count on revs history is_so =
+      lent (find (is_head r) (edits_of edits [])) (tip h deleted body) (option_map (take count) (path_to edits h)) same on
+      (λ e found tips path. doc_of_edit e found tips count path revs history is_so)
 
 -- what is shown of a leaf is of the edit that it heads
 module _ (J : List Edit) (id : List ℕ) (legal : IsLegal J) where

@@ -142,8 +142,8 @@ impl DbState {
         self.contents.entry(seq)
     }
 
-    /// The edit of this sequence, with its history; None of a sequence that no edit has. It costs
-    /// a copy of the edit.
+    /// The edit of this sequence, with the history that it came with; None of a sequence that no edit has.
+    /// It costs a copy of the edit.
     pub fn entry_doc(&self, seq: u64) -> Result<Option<Doc>, AllocError>
         ensures doc { IfOk result (λ doc. doc ≡ entry_doc_of self.now.journal seq) }
         ensures memory { OnErr result (IsSome (entry_at self.now.journal seq)) }

@@ -1,6 +1,6 @@
 //! The edits of a database by their sequences.
 
-ghost use Rattle.std.specs.Prelude.{◌≡◌, false, Some, IfOk, IsSome, OnErr, option_map};
+ghost use Rattle.std.specs.Prelude.{◌≡◌, ◌≤◌, false, Some, IfOk, IfSome, IsSome, OnErr, option_map, take};
 ghost use Rattle.hub_revtree.specs.Extend.{path_to};
 ghost use Rattle.hub_database.specs.Reads.{bare_doc, doc_shown, entry_at, entry_of, entry_doc_of};
 ghost use Rattle.hub_database.specs.Store.{IsStore, edits_of_store};
@@ -8,7 +8,7 @@ ghost use Rattle.hub_database.specs.Store.{IsStore, edits_of_store};
 use crate::contents::Contents;
 use crate::document::Document;
 use crate::store::Store;
-use hub_document::{Doc, RevId};
+use hub_document::{Doc, Path, RevId};
 use hub_revtree::StoredEdit;
 use std::alloc::AllocError;
 
@@ -18,8 +18,9 @@ impl Store {
         requires { IsStore self.now }
         ensures edit { option_map (λ p. bare_doc p.0.now.id p.1.rev p.1.deleted p.1.body.now) result
             ≡ option_map (doc_shown false) (entry_at (edits_of_store self.now) seq) }
-        ensures path { option_map (λ p. path_to p.0.now.tree.edits p.1.rev) result
+        ensures path { option_map (λ p. option_map (take p.1.count) (path_to p.0.now.tree.edits p.1.rev)) result
             ≡ option_map (λ e. Some e.path) (entry_at (edits_of_store self.now) seq) }
+        ensures some { IfSome result (λ p. 1 ≤ p.1.count) }
     {
         let at = seq.checked_sub(1)?;
         let entry = self.journal.get(at as usize)?;
@@ -28,6 +29,17 @@ impl Store {
             return None;
         };
         Some((document, edit))
+    }
+}
+
+// The first of a path's revisions, so many.
+fn front_of(path: Option<Path>, count: u16) -> Option<Path>
+    requires { 1 ≤ count }
+    ensures { result ≡ option_map (take count) path }
+{
+    match path {
+        Some(path) => Some(path.front(count)),
+        None => None,
     }
 }
 
@@ -43,8 +55,8 @@ impl Contents {
         Some((document.id.as_str(), edit.rev))
     }
 
-    /// The edit of this sequence, with its history; None of a sequence that no edit has. It costs a
-    /// look an edit of its document, and a copy.
+    /// The edit of this sequence, with the history that it came with; None of a sequence that no edit has.
+    /// It costs a look an edit of its document, and a copy of all that stands behind its revision by now.
     pub fn entry_doc(&self, seq: u64) -> Result<Option<Doc>, AllocError>
         ensures doc { IfOk result (λ doc. doc ≡ entry_doc_of self.now.journal seq) }
         ensures memory { OnErr result (IsSome (entry_at self.now.journal seq)) }
@@ -53,10 +65,11 @@ impl Contents {
         let Some((document, edit)) = self.store.edit(seq) else {
             return Ok(None);
         };
+        let path = document.tree.path(alloc, &edit.rev)?;
         Ok(Some(Doc {
             id: document.id.copy()?,
             rev: Some(edit.rev),
-            path: document.tree.path(alloc, &edit.rev)?,
+            path: front_of(path, edit.count),
             deleted: edit.deleted,
             body: edit.body.copy(alloc)?,
         }))

@@ -1,4 +1,4 @@
-use Rattle.std.proofs.Common.{◌≡◌, Some, false, suc, arith, refl, sym, ap, ◌∙◌}
+use Rattle.std.proofs.Common.{◌≡◌, Some, false, take, suc, arith, refl, sym, ap, ◌∙◌}
 use Rattle.std.specs.Prelude.{option_map, slice_get}
 use Rattle.hub_revtree.specs.Extend.{path_to}
 use Rattle.hub_revtree.specs.declared.heads.StoredEdit.{StoredEdit}
@@ -49,5 +49,5 @@ returns-clause-path c =
     let a = c.in_ok-at.ensures in
     let next : c.args.seq ≡ suc c.in_ok-at.at = omega (arith, a) in
     let entry = found ∙ sym (at_sequence (edits_of_store c.args.self.now) c.args.seq c.in_ok-at.at next) in
-    path_lent c.index-document.result.now.id (path_to c.index-document.result.now.tree.edits c.in-Some.edit.rev) (slice_get c.index-document.result.now.tree.edits c.in_ok-entry.entry.now.revision) c.in-Some.ensures.path
+    path_lent c.index-document.result.now.id (option_map (take c.in-Some.edit.count) (path_to c.index-document.result.now.tree.edits c.in-Some.edit.rev)) (slice_get c.index-document.result.now.tree.edits c.in_ok-entry.entry.now.revision) c.in-Some.ensures.path
     ∙ ap (option_map (λ e. Some e.path)) entry

@@ -11,6 +11,27 @@ use Rattle.hub_database.proofs.ReadyLemmas.{not_full, ready_needs}
 use Rattle.hub_database.proofs.StoreLemmas.{first_stored}
 use Rattle.hub_database.proofs.store.Store.insert.Goals as goal
 
+pub returns-in_err-reserve_one-in-Ready-clause-memory : goal.returns-in_err-reserve_one-in-Ready-clause-memory
+returns-in_err-reserve_one-in-Ready-clause-memory c =
+    let none : c.new-document.result.tree.edits ≡ [] = ap (λ (z : Filed). z.edits) c.new-document.ensures in
+    subst (λ es. OnErr c.from_residual-in_err-reserve_one-in-Ready.result (NeedsRoomFor es [] c.args.edit)) none
+    (ready_needs c.from_residual-in_err-reserve_one-in-Ready.result c.new-document.result.id c.new-document.result.tree.edits _ c.args.edit c.in_ok-look.field-0 c.in-Ready.ready c.in-Ready.is
+    c.in_ok-look.ensures.storable c.in_ok-look.ensures.looked)
+
+pub returns-in_err-reserve_one-in-Ready-2-clause-memory : goal.returns-in_err-reserve_one-in-Ready-2-clause-memory
+returns-in_err-reserve_one-in-Ready-2-clause-memory c =
+    let none : c.new-document.result.tree.edits ≡ [] = ap (λ (z : Filed). z.edits) c.new-document.ensures in
+    subst (λ es. OnErr c.from_residual-in_err-reserve_one-in-Ready-2.result (NeedsRoomFor es [] c.args.edit)) none
+    (ready_needs c.from_residual-in_err-reserve_one-in-Ready-2.result c.new-document.result.id c.new-document.result.tree.edits _ c.args.edit c.in_ok-look.field-0 c.in-Ready.ready c.in-Ready.is
+    c.in_ok-look.ensures.storable c.in_ok-look.ensures.looked)
+
+pub overflow_cast-number : goal.overflow_cast-number
+overflow_cast-number c =
+    let takes : nat_le c.args.self.now.limits.journal c.len.result ≡ false = not_full (nat_le c.args.self.now.limits.journal c.len.result) _ c.in-Ready.ready (sym c.in-Ready.is ∙ c.in_ok-look.ensures.looked) in
+    let number : c.len-number.result ≡ length c.args.self.now.documents.items = omega (arith, c.len-number.ensures, c.reserve_one.ensures.len, c.args.self.now.documents.ok.0) in
+    let many : c.len.result ≡ length c.args.self.now.journal.items = omega (arith, c.len.ensures, c.args.self.now.journal.ok.0) in
+    grind (arith, nat_tests, takes, number, many, c.requires.few, c.args.self.now.limits.limited.journal_most)
+
 pub returns-in_err-enter-in-Ready-clause-memory : goal.returns-in_err-enter-in-Ready-clause-memory
 returns-in_err-enter-in-Ready-clause-memory c =
     let none : c.new-document.result.tree.edits ≡ [] = ap (λ (z : Filed). z.edits) c.new-document.ensures in

@@ -1,15 +1,24 @@
-use Rattle.std.proofs.Common.{◌≡◌, ◌∙◌, Some, ap, refl, sym}
+use Rattle.std.proofs.Common.{◌≡◌, ◌∙◌, Some, ap, arith, refl, sym}
 use Rattle.std.specs.Prelude.{option_map}
 use Rattle.hub_database.specs.Indexed.{latest_of}
 use Rattle.hub_database.specs.Filed.{Filed}
 use Rattle.hub_database.specs.Looked.{look_in}
 use Rattle.hub_database.specs.Store.{deleted_in, filed, files, number_by, setting_of}
 use Rattle.hub_database.proofs.IndexedLemmas.{rows_below}
-use Rattle.hub_database.proofs.StoreLemmas.{filed_at, no_row, document_there, few_edits, mark_counted}
+use Rattle.hub_database.proofs.StoreLemmas.{filed_at, no_row, number_below, document_there, few_edits, mark_counted}
 use Rattle.hub_database.proofs.StoreLemmas.{unchanged, extended, inserted_all, err_then, needs_at}
 use Rattle.hub_database.proofs.StoreLemmas.{needs_first, store_stays, id_kept}
 use Rattle.hub_database.proofs.store.Store.store.Goals as goal
 use Rattle.hub_revtree.proofs.BranchLemmas.{on_err}
+
+pub index_mut-document-requires : goal.index_mut-document-requires
+index_mut-document-requires c =
+    let s = c.args.self.now in
+    let k = c.in-Some.number in
+    let there : number_by s c.args.id ≡ Some k =
+    sym (rw c.as_str.ensures.value at c.in-Some.ensures) in
+    let low = number_below s.limits.journal (number_by s) s.documents.items s.journal.items c.requires.state.filed c.args.id k there in
+    omega (arith, low, s.documents.ok.0)
 
 pub extend-requires-clause-few : goal.extend-requires-clause-few
 extend-requires-clause-few c =
