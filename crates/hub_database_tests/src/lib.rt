@@ -6,6 +6,8 @@ mod deletion_tests;
 #[cfg(test)]
 mod feed_tests;
 #[cfg(test)]
+mod history_tests;
+#[cfg(test)]
 mod host_tests;
 #[cfg(test)]
 mod listed_tests;
@@ -13,6 +15,10 @@ mod listed_tests;
 mod local_tests;
 #[cfg(test)]
 mod made_tests;
+#[cfg(test)]
+mod model;
+#[cfg(test)]
+mod random_tests;
 #[cfg(test)]
 mod read_tests;
 #[cfg(test)]

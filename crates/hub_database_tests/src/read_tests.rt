@@ -41,15 +41,15 @@ pub(crate) enum Shown {
 
 /// Revisions of a document that are asked for.
 pub(crate) struct Wanted {
-    id: &'static str,
-    revs: &'static [&'static str],
+    pub(crate) id: &'static str,
+    pub(crate) revs: &'static [&'static str],
 }
 
 /// What a document misses of the revisions that are asked for.
 pub(crate) struct Missed {
-    id: &'static str,
-    missing: &'static [&'static str],
-    ancestors: &'static [&'static str],
+    pub(crate) id: &'static str,
+    pub(crate) missing: &'static [&'static str],
+    pub(crate) ancestors: &'static [&'static str],
 }
 
 // Whether this is the winner of a document, with its mark.

@@ -13,6 +13,8 @@ mod documents;
 mod feed_tests;
 mod feeds;
 #[cfg(test)]
+mod history_tests;
+#[cfg(test)]
 mod hub_tests;
 mod laws;
 mod locals;

@@ -114,12 +114,13 @@ fn members(alloc: Global, random: &mut Random) -> Result<String, Fail> {
     Ok(format!(in alloc; r#""v":{value},"_deleted":{deleted}"#)?)
 }
 
-// A document with a history of one to three revisions.
+// A document with a history of one to three revisions, which may end above the first generation.
 fn historical(alloc: Global, random: &mut Random) -> Result<Doc, Fail> {
     let id = one_of(random, &IDS);
     let start = random.below(3) + 1;
+    let count = random.below(start) + 1;
     let mut hashes = String::from_str(alloc, "")?;
-    for at in 0..start {
+    for at in 0..count {
         let comma = if at == 0 { "" } else { "," };
         let hash = one_of(random, &HASHES);
         hashes = format!(in alloc; r#"{hashes}{comma}"{hash}""#)?;

@@ -1,6 +1,6 @@
 use super::tables::{is_shown, parts};
-use hub_document::{Doc, DocFault, Limits, RevId, Revisions};
-use std::alloc::Global;
+use hub_document::{Doc, DocFault, Limits, Path, RevId, Revisions};
+use std::alloc::{AllocError, Global};
 use std::test::Fail;
 
 const FULL: &str = concat!(
@@ -69,6 +69,49 @@ fn is_path(doc: &Doc) -> bool {
 fn a_path(rt: HostRuntime) -> Result<(), Fail> {
     let doc = Doc::read(rt.alloc(), FULL.as_bytes(), false)?;
     assert!(rt; is_path(&doc));
+    Ok(())
+}
+
+// Documents, their paths, and the first two revisions of these.
+const HISTORIES: &str = concat!(
+    r#"{"_id":"a","_rev":"5-e"} | 5-e  | 5-e "#,
+    "\n",
+    r#"{"_id":"a","_revisions":{"start":5,"ids":["e"]}} | 5-e  | 5-e "#,
+    "\n",
+    r#"{"_id":"a","_revisions":{"start":6,"ids":["f","e","d"]}} | 6-f 5-e 4-d  | 6-f 5-e "#,
+    "\n",
+    r#"{"_id":"a","_rev":"3-c","_revisions":{"start":3,"ids":["c","b","a"]}} | 3-c 2-b 1-a  | 3-c 2-b "#
+);
+
+// The texts of a path's revisions, each with a blank behind it.
+fn texts_of(alloc: Global, path: &Path) -> Result<Vec<u8>, AllocError> {
+    let mut out = Vec::new(alloc);
+    for rev in path.revisions() {
+        rev.print(&mut out)?;
+        out.push(b' ')?;
+    }
+    Ok(out)
+}
+
+// Whether these are the path of the document that a text is, and the first two of them.
+fn has_path(alloc: Global, text: &str, whole: &str, front: &str) -> Result<bool, Fail> {
+    let Doc { path, .. } = Doc::read(alloc, text.as_bytes(), false)?;
+    let Some(path) = path else {
+        return Ok(false);
+    };
+    let all = texts_of(alloc, &path)?;
+    let two = texts_of(alloc, &path.front(2))?;
+    Ok(all.as_slice() == whole.as_bytes() && two.as_slice() == front.as_bytes())
+}
+
+// A history may end above the first generation, and a revision alone is one.
+#[test]
+fn histories(rt: HostRuntime) -> Result<(), Fail> {
+    for line in HISTORIES.lines() {
+        let (text, rest) = parts(line);
+        let (whole, front) = parts(rest);
+        assert!(rt; has_path(rt.alloc(), text, whole, front)?, "{text}");
+    }
     Ok(())
 }
 

@@ -51,14 +51,22 @@ null | NotObject
 const ELSEWHERE: &str = r#"{"_id":"a"} | BadRev
 {"_id":"a","_rev":null} | BadRev
 {"_id":"a","_rev":"1-a"} | none
-{"_id":"a","_rev":"2-a"} | BadRevisions
+{"_id":"a","_rev":"2-a"} | none
+{"_id":"a","_rev":"65535-a"} | none
 {"_id":"a","_revisions":null} | BadRevisions
 {"_id":"a","_revisions":{"start":1,"ids":["a"]}} | none
 {"_id":"a","_revisions":{"start":1,"ids":["a"],"x":[]}} | none
 {"_id":"a","_rev":"2-a","_revisions":{"start":2,"ids":["a","b"]}} | none
 {"_id":"a","_rev":"2-b","_revisions":{"start":2,"ids":["a","b"]}} | BadRevisions
 {"_id":"a","_rev":"1-b","_revisions":{"start":2,"ids":["a","b"]}} | BadRevisions
-{"_id":"a","_revisions":{"start":2,"ids":["a"]}} | BadRevisions
+{"_id":"a","_revisions":{"start":2,"ids":["a"]}} | none
+{"_id":"a","_revisions":{"start":3,"ids":["c","b"]}} | none
+{"_id":"a","_revisions":{"start":65535,"ids":["a"]}} | none
+{"_id":"a","_rev":"3-c","_revisions":{"start":3,"ids":["c","b"]}} | none
+{"_id":"a","_rev":"2-b","_revisions":{"start":3,"ids":["c","b"]}} | BadRevisions
+{"_id":"a","_rev":"2-c","_revisions":{"start":3,"ids":["c","b"]}} | BadRevisions
+{"_id":"a","_revisions":{"start":2,"ids":[]}} | BadRevisions
+{"_id":"a","_revisions":{"start":1,"ids":["a","b"]}} | BadRevisions
 {"_id":"a","_revisions":{"start":2,"ids":["a","b","c"]}} | BadRevisions
 {"_id":"a","_revisions":{"start":0,"ids":[]}} | BadRevisions
 {"_id":"a","_revisions":{"start":65536,"ids":["a"]}} | BadRevisions
@@ -74,7 +82,7 @@ const TWO: &str = r#"[1.5 | NotJson
 {"_id":1.5} | BadNumber
 {"_id":"_a","_rev":"x"} | BadId
 {"_id":"a","_rev":"x","_revisions":1} | BadRev
-{"_id":"a","_rev":"2-a","_x":1} | BadRevisions"#;
+{"_id":"a","_rev":"2-a","_revisions":[],"_x":1} | BadRevisions"#;
 
 fn fault(alloc: Global, text: &str, new_edits: bool) -> &'static str {
     fault_name(Doc::read(alloc, text.as_bytes(), new_edits).err())

@@ -18,6 +18,12 @@ const ELSEWHERE: &str = concat!(
     r#"{"_id":"a","_rev":"1-c","v":[]} | "#,
     r#"{"_id":"a","_rev":"1-c","_revisions":{"start":1,"ids":["c"]},"v":[]}"#,
     "\n",
+    r#"{"_id":"a","_rev":"5-e"} | "#,
+    r#"{"_id":"a","_rev":"5-e","_revisions":{"start":5,"ids":["e"]}}"#,
+    "\n",
+    r#"{"_id":"a","_revisions":{"start":6,"ids":["f","e","d"]},"v":1} | "#,
+    r#"{"_id":"a","_rev":"6-f","_revisions":{"start":6,"ids":["f","e","d"]},"v":1}"#,
+    "\n",
     r#"{"_id":"a","_deleted":true,"v":1,"_revisions":{"ids":["c","b","a"],"start":3}} | "#,
     r#"{"_id":"a","_rev":"3-c","_deleted":true,"_revisions":{"start":3,"ids":["c","b","a"]},"v":1}"#
 );

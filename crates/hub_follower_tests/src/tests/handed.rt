@@ -214,8 +214,12 @@ const CASES: &[(u64, &[Shown], bool)] = &[
 ];
 
 // The first case that is decided otherwise.
-fn first_other(alloc: Global, db: &DbState) -> Result<Option<usize>, Fail> {
-    for (at, (since, all, right)) in CASES.iter().enumerate() {
+fn first_other(
+    alloc: Global,
+    db: &DbState,
+    cases: &[(u64, &[Shown], bool)],
+) -> Result<Option<usize>, Fail> {
+    for (at, (since, all, right)) in cases.iter().enumerate() {
         let Some(items) = items_of(alloc, all) else {
             return Err(Fail::new("no items"));
         };
@@ -230,9 +234,35 @@ fn first_other(alloc: Global, db: &DbState) -> Result<Option<usize>, Fail> {
 fn cases_are_decided(rt: HostRuntime) -> Result<(), Fail> {
     let mut db = DbState::new(rt.alloc(), Limits::full());
     write(rt.alloc(), &mut db, &FIVE)?;
-    assert_eq!(rt; first_other(rt.alloc(), &db)?, None);
+    assert_eq!(rt; first_other(rt.alloc(), &db, CASES)?, None);
     assert!(rt; db.delete().is_ok());
-    assert_eq!(rt; first_other(rt.alloc(), &db)?, None);
+    assert_eq!(rt; first_other(rt.alloc(), &db, CASES)?, None);
+    Ok(())
+}
+
+// Two revisions alone, and a later one behind which both stand.
+const LATE: [&str; 3] = [
+    r#"{"_id":"x","_rev":"2-b"}"#,
+    r#"{"_id":"x","_rev":"3-c"}"#,
+    r#"{"_id":"x","_revisions":{"start":4,"ids":["d","c","b"]}}"#,
+];
+
+const D4: Shown = Row(3, "x", &["4-d"], 3);
+
+// Items, and whether they are right behind LATE: before the last came, both of the others were leaves.
+const LATE_CASES: &[(u64, &[Shown], bool)] = &[
+    (0, &[D4, End(3)], true),
+    (1, &[Row(2, "x", &["3-c", "2-b"], 2), D4, End(3)], true),
+    (1, &[Row(2, "x", &["3-c"], 2), D4, End(3)], false),
+    (1, &[Row(2, "x", &["3-c", "2-b"], 3), D4, End(3)], false),
+    (0, &[Row(3, "x", &["4-d", "2-b"], 3), End(3)], false),
+];
+
+#[test]
+fn rows_before_a_parent_came_are_decided(rt: HostRuntime) -> Result<(), Fail> {
+    let mut db = DbState::new(rt.alloc(), Limits::full());
+    write(rt.alloc(), &mut db, &LATE)?;
+    assert_eq!(rt; first_other(rt.alloc(), &db, LATE_CASES)?, None);
     Ok(())
 }
 

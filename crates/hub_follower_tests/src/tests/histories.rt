@@ -1,6 +1,7 @@
 //! Documents with several leaves.
 
-use crate::tests::{copy_all, database, edits, leaves_text, start, write};
+use crate::tests::{copy_all, database, edits, leaves_text, round_into, start, write};
+use hub_follower::{Follower, Peer, Round};
 use hub_threads::{Db, Plain};
 use std::alloc::Global;
 use std::sync::Wait;
@@ -64,6 +65,47 @@ fn a_leaf_that_goes_on_is_copied(rt: HostRuntime) -> Result<(), Fail> {
         let stored = grow(&rt, rt.alloc(), &source, &target, &texts, &leaves)?;
         assert_eq!(rt; stored, (expected, expected));
     }
+    Ok(())
+}
+
+const B: &str = r#"{"_id":"x","_rev":"2-b","_revisions":{"start":2,"ids":["b"]}}"#;
+
+const C: &str = r#"{"_id":"x","_rev":"3-c","_revisions":{"start":3,"ids":["c"]}}"#;
+
+const D: &str = r#"{"_id":"x","_rev":"4-d","_revisions":{"start":4,"ids":["d","c","b"]}}"#;
+
+// Stores a text at the source; what a round does then, the place behind it, and how many edits the target
+// has.
+fn round_behind<R: Wait, S: Peer + Drop, T: Peer + Drop>(
+    rt: &R,
+    alloc: Global,
+    follower: &mut Follower<S, T>,
+    (source, target): (&Db<Plain>, &Db<Plain>),
+    text: &str,
+) -> Result<(Round, Option<u64>, u64), Fail> {
+    write(rt, alloc, source, &[text])?;
+    round_into(rt, follower, target)
+}
+
+// Of a revision whose parent is not known the parent may come later, with a new head; a known head with more
+// behind it changes nothing. The copy has what the source has.
+#[test]
+fn a_parent_that_comes_later_is_copied(rt: HostRuntime) -> Result<(), Fail> {
+    let (source, target) = (database(rt.alloc())?, database(rt.alloc())?);
+    let both = [r#"{"_id":"x","_rev":"2-b"}"#, r#"{"_id":"x","_rev":"3-c"}"#];
+    let known = r#"{"_id":"x","_revisions":{"start":3,"ids":["c","b"]}}"#;
+    let four = r#"{"_id":"x","_revisions":{"start":4,"ids":["d","c","b"]}}"#;
+    let stored = grow(&rt, rt.alloc(), &source, &target, &both, &[C, B])?;
+    assert_eq!(rt; stored, (2, 2));
+    let mut follower = start(&rt, rt.alloc(), &source, &target, "S")?;
+    assert!(rt; copy_all(&mut follower).is_ok());
+    let peers = (&source, &target);
+    let idle = round_behind(&rt, rt.alloc(), &mut follower, peers, known)?;
+    assert_eq!(rt; idle, (Round::Idle, Some(2), 2));
+    assert!(rt; have_leaves(&rt, rt.alloc(), &source, &target, &[C, B])?);
+    let moved = round_behind(&rt, rt.alloc(), &mut follower, peers, four)?;
+    assert_eq!(rt; moved, (Round::Moved, Some(3), 3));
+    assert!(rt; have_leaves(&rt, rt.alloc(), &source, &target, &[D])?);
     Ok(())
 }
 

@@ -49,32 +49,73 @@ pub(crate) fn session<R: Wait>(
     Ok(follower.checkpoint())
 }
 
+// What a source has when a first session copies it, what it gets then, and which documents it has. The second
+// session loses a call.
+#[derive(Clone, Copy)]
+struct Writes<'a> {
+    before: &'a [&'a str],
+    after: &'a [&'a str],
+    ids: &'a [&'a str],
+}
+
+// A session without losses.
+fn whole<R: Wait>(
+    rt: &R,
+    alloc: Global,
+    source: &Db<Plain>,
+    target: &Db<Plain>,
+    session_id: &str,
+) -> Result<(), Fail> {
+    let mut follower = start(rt, alloc, source, target, session_id)?;
+    if copy_all(&mut follower).is_err() {
+        return Err(Fail::new("a second fault"));
+    }
+    checkpoint(&mut follower)
+}
+
+// Whether both databases have so many edits, which both logs record.
+fn are_recorded<R: Wait>(
+    rt: &R,
+    alloc: Global,
+    source: &Db<Plain>,
+    target: &Db<Plain>,
+) -> Result<bool, Fail> {
+    let count = Some(edits(rt, source)?);
+    Ok(
+        Some(edits(rt, target)?) == count
+            && recorded(rt, alloc, source)? == count
+            && recorded(rt, alloc, target)? == count,
+    )
+}
+
 // A session with losses, and where one failed another without any: whether a call was lost.
-fn run<R: Wait>(rt: &R, alloc: Global, losses: Losses) -> Result<bool, Fail> {
+fn run<R: Wait>(rt: &R, alloc: Global, writes: Writes<'_>, losses: Losses) -> Result<bool, Fail> {
     let (source, target) = (database(alloc)?, database(alloc)?);
-    write(rt, alloc, &source, &FIVE)?;
+    if !writes.before.is_empty() {
+        write(rt, alloc, &source, writes.before)?;
+        whole(rt, alloc, &source, &target, "S0")?;
+    }
+    write(rt, alloc, &source, writes.after)?;
     let is_lost = session(rt, alloc, &source, &target, "S1", losses)?.is_err();
     if is_lost {
-        let mut follower = start(rt, alloc, &source, &target, "S2")?;
-        if copy_all(&mut follower).is_err() {
-            return Err(Fail::new("a second fault"));
-        }
-        checkpoint(&mut follower)?;
+        whole(rt, alloc, &source, &target, "S2")?;
     }
-    if !agree(rt, alloc, &source, &target, &["a", "b", "x"])? {
+    if !agree(rt, alloc, &source, &target, writes.ids)? {
         return Err(Fail::new("other leaves"));
     }
-    if edits(rt, &target)? != 5 {
+    if !are_recorded(rt, alloc, &source, &target)? {
         return Err(Fail::new("other edits"));
-    }
-    if recorded(rt, alloc, &source)? != Some(5) || recorded(rt, alloc, &target)? != Some(5) {
-        return Err(Fail::new("other logs"));
     }
     Ok(is_lost)
 }
 
 // How many calls of the source are lost in turn, and how many of the target.
-fn count<R: Wait>(rt: &R, alloc: Global, loss: Loss) -> Result<(u64, u64), Fail> {
+fn count<R: Wait>(
+    rt: &R,
+    alloc: Global,
+    writes: Writes<'_>,
+    loss: Loss,
+) -> Result<(u64, u64), Fail> {
     let mut counts = (0u64, 0u64);
     for call in 1..20 {
         let source = Losses {
@@ -82,7 +123,7 @@ fn count<R: Wait>(rt: &R, alloc: Global, loss: Loss) -> Result<(u64, u64), Fail>
             target_call: 0,
             loss,
         };
-        if run(rt, alloc, source)? {
+        if run(rt, alloc, writes, source)? {
             counts.0 = counts.0.saturating_add(1);
         }
         let target = Losses {
@@ -90,7 +131,7 @@ fn count<R: Wait>(rt: &R, alloc: Global, loss: Loss) -> Result<(u64, u64), Fail>
             target_call: call,
             loss,
         };
-        if run(rt, alloc, target)? {
+        if run(rt, alloc, writes, target)? {
             counts.1 = counts.1.saturating_add(1);
         }
     }
@@ -101,8 +142,49 @@ fn count<R: Wait>(rt: &R, alloc: Global, loss: Loss) -> Result<(u64, u64), Fail>
 // the target for its log, what it misses, to store, and to keep its log.
 #[test]
 fn whatever_is_lost_all_is_copied(rt: HostRuntime) -> Result<(), Fail> {
+    let writes = Writes {
+        before: &[],
+        after: &FIVE,
+        ids: &["a", "b", "x"],
+    };
     for loss in [Loss::Before, Loss::After] {
-        assert_eq!(rt; count(&rt, rt.alloc(), loss)?, (7, 4));
+        assert_eq!(rt; count(&rt, rt.alloc(), writes, loss)?, (7, 4));
+    }
+    Ok(())
+}
+
+// Revisions alone, of which one is deleted.
+const ROOTS: [&str; 6] = [
+    r#"{"_id":"x","_rev":"2-b"}"#,
+    r#"{"_id":"x","_rev":"3-c","_deleted":true}"#,
+    r#"{"_id":"y","_rev":"5-e"}"#,
+    r#"{"_id":"z","_rev":"7-g"}"#,
+    r#"{"_id":"z","_revisions":{"start":5,"ids":["e","d"]}}"#,
+    r#"{"_id":"z","_rev":"2-b"}"#,
+];
+
+// Edits that tell their parents: on a known head, which changes nothing, and on new ones. Of z the first line
+// is joined by the second edit, and that by the third.
+const PARENTS: [&str; 6] = [
+    r#"{"_id":"x","_revisions":{"start":3,"ids":["c","b"]}}"#,
+    r#"{"_id":"x","_revisions":{"start":4,"ids":["d","c","b"]}}"#,
+    r#"{"_id":"y","_revisions":{"start":6,"ids":["f","e","d"]},"_deleted":true}"#,
+    r#"{"_id":"z","_revisions":{"start":8,"ids":["h","g","f","e"]}}"#,
+    r#"{"_id":"z","_revisions":{"start":6,"ids":["k","e","d","c","b"]}}"#,
+    r#"{"_id":"z","_revisions":{"start":3,"ids":["m","b","a"]}}"#,
+];
+
+// The same of histories that end above the first generation, whose parents come behind a first copy: leaves,
+// winners and what stands behind each are copied.
+#[test]
+fn whatever_is_lost_parents_are_copied(rt: HostRuntime) -> Result<(), Fail> {
+    let writes = Writes {
+        before: &ROOTS,
+        after: &PARENTS,
+        ids: &["x", "y", "z"],
+    };
+    for loss in [Loss::Before, Loss::After] {
+        assert_eq!(rt; count(&rt, rt.alloc(), writes, loss)?, (7, 4));
     }
     Ok(())
 }
