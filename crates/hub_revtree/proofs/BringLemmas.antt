@@ -236,6 +236,10 @@ module _ (xs : List Stem) (a : AreStems xs) (legal : IsLegal (edits_in (branches
         newest = λ r e. unknown r (take_head at path r (ap (λ z. slice_get z 0) (sym own) ∙ e));
         fresh = λ j. rw own (m.fresh (sym joined ∙ j));
         within = λ p e. subst (λ o. IfSome o (IsWithin xs)) (sym stands ∙ e) m.within;
+        lower = λ p r x e h i.
+            let there : slice_get path at ≡ Some r = subst (λ o. IfSome o (λ p. slice_get path at ≡ rev_at xs (Some p))) (sym stands ∙ e) m.same ∙ i in
+            let first = take_head at path x (ap (λ z. slice_get z 0) (sym own) ∙ h) in
+            omega (arith, at_place path at x r ok.history.falls first there, some_kept);
         counted = (
           omega (arith, size, count, m.kept),
           omega (arith, count, reach, m.rest, m.kept),

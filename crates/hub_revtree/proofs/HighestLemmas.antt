@@ -1,6 +1,6 @@
 -- What the highest generation of stems shows of a revision.
 use Rattle.std.proofs.Common.{◌≡◌, ℕ, ◌<◌, ◌≤◌, List, [], ◌∷◌, ◌++◌, drop, Bool, true, false, inl, inr, refl, sym, ap, ◌∙◌, subst, ◌||◌, arith}
-use Rattle.std.specs.Prelude.{Some, slice_get, max}
+use Rattle.std.specs.Prelude.{Option, Some, None, slice_get, max}
 use Rattle.std.specs.List.{list_any}
 use Rattle.std.proofs.lemmas.Bool.{cases_Bool}
 use Rattle.std.proofs.lemmas.List.Folds.{list_any-append}
@@ -11,9 +11,10 @@ use Rattle.hub_model.specs.Leaves.{is_behind_head}
 use Rattle.hub_model.proofs.Legal.{falls_below}
 use Rattle.hub_model.proofs.Tests.{names_is, same_is}
 use Rattle.hub_revtree.specs.Branch.{edit_of}
-use Rattle.hub_revtree.specs.Stem.{Stem, AreStems, AreUpTo, branch_of, branches_of, chain_of, chains_of, has_revision, is_behind_newest}
+use Rattle.hub_revtree.specs.declared.stem.Place.{Place}
+use Rattle.hub_revtree.specs.Stem.{Stem, AreStems, AreUpTo, branch_of, branches_of, chain_of, chains_of, has_revision, is_at, is_behind_newest, revisions_at}
 use Rattle.hub_revtree.proofs.StemLemmas.{named_in, one_stem_more}
-use Rattle.hub_revtree.proofs.StemLooks.{behind_in}
+use Rattle.hub_revtree.proofs.StemLooks.{behind_in, first_there}
 
 -- a revision of the highest generation stands behind nothing
 pub highest_leads : (xs : List Stem) (highest : ℕ) (r : Revision) → AreStems xs → AreUpTo xs highest → highest ≤ r.generation → list_any (λ b. is_behind_head r (edit_of b)) (branches_of xs) ≡ false
@@ -33,6 +34,17 @@ named_up_to (y ∷ p) x r f e n = elim (cases_Bool (is_same r y)) [
   | inl t ↦ let same : r.generation ≡ x.generation = ap (λ (z : Revision). z.generation) (same_is r y t ∙ same_Some y x e) in omega (arith, same)
   | inr t ↦ let low = behind_below (y ∷ p) x r f e (rw t at n) in omega (arith, low)
 ]
+
+-- what stands behind a stem's newest revision is of a lower generation
+pub behind_is_lower : (xs : List Stem) (k : ℕ) (s : Stem) (x r : Revision) → AreStems xs → slice_get xs k ≡ Some s → slice_get s.revisions 0 ≡ Some x → is_behind_newest xs r s ≡ true → r.generation < x.generation
+behind_is_lower xs k s x r a e h t = elim (cases_Bool (names (drop 1 s.revisions) r)) [
+  | inl u ↦ behind_below s.revisions x r (a.falling k s e) h u
+  | inr u ↦ from s.parent refl (rw u at t)
+]
+  where
+    from : (o : Option Place) → s.parent ≡ o → is_at xs r o ≡ true → r.generation < x.generation
+    from None q v = absurd (cc)
+    from (Some p) q v = a.lower k s p r x e q h (first_there p.at (revisions_at xs p.stem) r v)
 
 either : {A : Type 0} (P : A → Bool) (xs : List A) (x : A) → list_any P (xs ++ x ∷ []) ≡ true → list_any P xs ≡ false → P x ≡ true
 either P xs x t f = last (P x) (ap (λ b. b || (P x || false)) (sym f) ∙ (sym (list_any-append P xs (x ∷ [])) ∙ t))

@@ -137,6 +137,17 @@ within_rev xs p w = get_some (revisions_at xs p.stem) p.at w
 pub rev_within : (xs : List Stem) (p : Place) (r : Revision) → rev_at xs (Some p) ≡ Some r → IsWithin xs p
 rev_within xs p r e = slice_get_within (revisions_at xs p.stem) p.at r e
 
+-- it is the same one among more stems
+rev_more : (xs ys : List Stem) (p : Place) (r : Revision) → rev_at xs (Some p) ≡ Some r → rev_at (xs ++ ys) (Some p) ≡ Some r
+rev_more xs ys p r e =
+    let i = within_stem xs p (rev_within xs p r e) in
+    rw (get_front xs ys p.stem i.0 i.1) (rw i.1 at e)
+
+rev_front : (xs ys : List Stem) (p : Place) (r : Revision) → IsWithin xs p → rev_at (xs ++ ys) (Some p) ≡ Some r → rev_at xs (Some p) ≡ Some r
+rev_front xs ys p r w e =
+    let i = within_stem xs p w in
+    rw i.1 (rw (get_front xs ys p.stem i.0 i.1) at e)
+
 -- the chain of a number among more stems
 chain_front : (xs : List Stem) (s t : Stem) (k : ℕ) → slice_get xs k ≡ Some t → slice_get (chains_of (xs ++ s ∷ [])) k ≡ slice_get (chains_of xs) k
 chain_front xs s t k e =
@@ -152,6 +163,7 @@ front xs s a = record {
       let i = a.earlier k t p (get_front xs (s ∷ []) k t e) q in
       let low = slice_get_within xs k t e in
       (i.0, within_front xs (s ∷ []) p (omega (arith, low, i.0)) i.1);
+  lower = λ k t p r x e q h i. a.lower k t p r x (get_front xs (s ∷ []) k t e) q h (rev_more xs (s ∷ []) p r i);
   counted = λ k t e. a.counted k t (get_front xs (s ∷ []) k t e);
   reached = λ k t e. a.reached k t (get_front xs (s ∷ []) k t e) ∙ ap (λ o. length (whole_in o)) (chain_front xs s t k e);
 }
@@ -165,6 +177,7 @@ pub record IsNextStem (xs : List Stem) (s : Stem) : Type 0 where
   pub newest : (r : Revision) → slice_get s.revisions 0 ≡ Some r → has_revision xs r ≡ false
   pub fresh : s.joins ≡ false → list_any (has_revision xs) s.revisions ≡ false
   pub within : (p : Place) → s.parent ≡ Some p → IsWithin xs p
+  pub lower : (p : Place) (r x : Revision) → s.parent ≡ Some p → slice_get s.revisions 0 ≡ Some x → rev_at xs (Some p) ≡ Some r → r.generation < x.generation
   pub counted : (length s.revisions ≤ s.count) × (s.count ≤ s.reach) × ((p : Place) → s.parent ≡ Some p → length s.revisions < s.count)
   pub reached : s.reach ≡ length (chain_of (chains_of xs) s).whole
 
@@ -189,6 +202,12 @@ stems_more xs s a n = record {
         let w = n.within p (ap (λ (z : Stem). z.parent) f.1 ∙ q) in
         let i = within_stem xs p w in
         (omega (arith, slice_get_within xs p.stem i.0 i.1, f.0), within_more xs (s ∷ []) p w)
+  ];
+  lower = λ k t p r x e q h i. elim (get_pushed xs s k t e) [
+    | inl f ↦ a.lower k t p r x f q h (rev_front xs (s ∷ []) p r (a.earlier k t p f q).1 i)
+    | inr f ↦
+        let stands : s.parent ≡ Some p = ap (λ (z : Stem). z.parent) f.1 ∙ q in
+        n.lower p r x stands (ap (λ (z : Stem). slice_get z.revisions 0) f.1 ∙ h) (rev_front xs (s ∷ []) p r (n.within p stands) i)
   ];
   counted = λ k t e. elim (get_pushed xs s k t e) [
     | inl f ↦ a.counted k t f

@@ -29,6 +29,13 @@ pub first_named : (p : List Revision) (r : Revision) → is_first r p ≡ true �
 first_named [] r t = absurd (cc)
 first_named (x ∷ p) r t = or_left (is_same r x) (names p r) t
 
+-- what begins the rest of a path stands there
+pub first_there : (n : ℕ) (p : List Revision) (r : Revision) → is_first r (drop n p) ≡ true → slice_get p n ≡ Some r
+first_there zero [] r t = absurd (cc)
+first_there zero (x ∷ p) r t = ap Some (sym (same_is r x t))
+first_there (suc n) [] r t = absurd (cc)
+first_there (suc n) (x ∷ p) r t = first_there n p r t
+
 -- what a path's rest names behind its first revision stands behind the path's
 names_behind : (n : ℕ) (p : List Revision) (r : Revision) → names (drop n p) r ≡ true → is_first r (drop n p) ≡ false → names (drop 1 p) r ≡ true
 names_behind zero [] r h f = absurd (cc)
@@ -273,16 +280,12 @@ pub none_headed : (xs : List Stem) → AreStems xs → (rev : Revision) → None
 none_headed xs a rev e = headed_in rev xs a ∙ ap (option_map tip_in) (sym e)
 
 -- no two stems have one newest revision
-pub newest_there : (p : List Revision) (r : Revision) → is_first r p ≡ true → slice_get p 0 ≡ Some r
-newest_there [] r t = absurd (cc)
-newest_there (x ∷ p) r t = ap Some (sym (same_is r x t))
-
 heads_differ : (xs : List Stem) → AreStems xs → (r : Revision) (k : ℕ) (s : Stem) → slice_get xs k ≡ Some s → is_first r s.revisions ≡ true → list_any (λ z. is_first r z.revisions) (take k xs) ≡ false
 heads_differ xs a r k s e first = elim (cases_Bool (list_any (λ (z : Stem). is_first r z.revisions) (take k xs))) [
   | inl t ↦
       let i = any_place (λ (z : Stem). is_first r z.revisions) (take k xs) t in
       let old = any_at (λ (z : Stem). names z.revisions r) (take k xs) i.0 i.1 i.2 (first_named i.1.revisions r i.3) in
-      absurd (both_ways _ (a.newest k s r e (newest_there s.revisions r first)) old)
+      absurd (both_ways _ (a.newest k s r e (first_there 0 s.revisions r first)) old)
   | inr t ↦ t
 ]
 

@@ -101,8 +101,9 @@ abbrev pub IsWithin : List Stem → Place → Type 0
 IsWithin stems place = place.at < length (revisions_at stems place.stem)
 
 -- each stem has a revision at least, and their generations fall by one; its newest is none of an earlier one's, and
--- where it joins none, none of the others is; it stands on a place of an earlier one, or on nothing; its path has its
--- revisions, and the one that they stand on, and is a front of its chain, whose length it knows
+-- where it joins none, none of the others is; it stands on a place of an earlier one, whose revision is of a lower
+-- generation than its newest, or on nothing; its path has its revisions, and the one that they stand on, and is a
+-- front of its chain, whose length it knows
 pub record AreStems (stems : List Stem) : Type 0 where
   pub falling : (k : ℕ) (stem : Stem) → slice_get stems k ≡ Some stem → IsPath stem.revisions
   pub newest :
@@ -114,6 +115,10 @@ pub record AreStems (stems : List Stem) : Type 0 where
   pub earlier :
       (k : ℕ) (stem : Stem) (place : Place) → slice_get stems k ≡ Some stem → stem.parent ≡ Some place
       → (place.stem < k) × IsWithin stems place
+  pub lower :
+      (k : ℕ) (stem : Stem) (place : Place) (r s : Revision) → slice_get stems k ≡ Some stem
+      → stem.parent ≡ Some place → slice_get stem.revisions 0 ≡ Some s → rev_at stems (Some place) ≡ Some r
+      → r.generation < s.generation
   pub counted :
       (k : ℕ) (stem : Stem) → slice_get stems k ≡ Some stem
       → (length stem.revisions ≤ stem.count) × (stem.count ≤ stem.reach)

@@ -292,7 +292,8 @@ impl Branches {
     }
 
     /// Puts the revision and all that stands behind it behind what the vector holds; nothing where no
-    /// path names it. It costs a find, and the length of what it puts there.
+    /// path names it. It costs a find, the length of what it puts there, and for each join of the line a look
+    /// for the edit that goes on: a look at each edit, or constant where the index tells that edit.
     pub(crate) fn append_line(&self, rev: &RevId, line: &mut Vec<RevId>) -> Result<(), AllocError>
         requires { IsLegal (edits_in self.now.list) }
         ensures { OnOk result (line.new.items ≡ line.old.items ++ line_to (edits_in self.now.list) (Some rev.now)) }

@@ -97,13 +97,17 @@ fn is_at(stems: &[Stem], place: Option<Place>, sought: &Sought) -> bool
     }
 }
 
-/// Whether the revision stands behind the newest of a stem. One look an edit.
+/// Whether the revision stands behind the newest of a stem. One look an edit: at its generation alone, where that is
+/// not above the revision's.
 pub(crate) fn is_behind(stems: &[Stem], rev: &RevId) -> bool
     requires { AreStems stems.now }
     ensures { result ≡ list_any (is_behind_newest stems.now rev.now) stems.now }
 {
     let sought = Sought::among(rev, stems.len());
     for stem in stems {
+        if stem.generation() <= sought.generation() {
+            continue;
+        }
         if stem.has_behind(&sought) || is_at(stems, stem.parent(), &sought) {
             return true;
         }

@@ -1,0 +1,150 @@
+#!/usr/bin/env python3
+"""How many instructions the hub takes for each kind of request, beside other builds of it.
+
+    python3 bench/instructions.py [--only TEXT] PROGRAM [PROGRAM ..]
+
+runs each program over the same requests under valgrind's callgrind, and prints instructions case by case:
+those of the first program, and of each other one the ratio to the first. A program is any build of
+changes_hub, so two states of the hub can be compared. Instructions repeat where times do not. A case that
+reads has a setup, which is run alone too, and the difference is told. All programs are to answer with the
+same bytes; a case in which they do not says so.
+"""
+
+import argparse
+import hashlib
+import os
+import re
+import subprocess
+import sys
+import tempfile
+
+from bench import MAKE, batches, compact, diffs, feed, gets, leaves, line, puts, request, revision
+
+
+def digest(text):
+    return hashlib.md5(text.encode()).hexdigest()
+
+
+def write(docs):
+    return request("POST /d/_bulk_docs", compact({"docs": docs, "new_edits": False}))
+
+
+def growing(count):
+    """A document that comes again and again, each time with a history that is one longer."""
+    ids = []
+    parts = [MAKE]
+    for number in range(count):
+        ids.insert(0, digest("g%d" % number))
+        parts.append(write([{"_id": "doc", "_revisions": {"start": len(ids), "ids": ids}}]))
+    return b"".join(parts)
+
+
+def replicated(count, revisions):
+    """Documents that come with histories of so many revisions."""
+    docs = []
+    for number in range(count):
+        ids = [digest("%d.%d" % (number, at)) for at in range(revisions)]
+        docs.append({"_id": "doc%07d" % number, "_revisions": {"start": revisions, "ids": ids}, "v": number})
+    return MAKE + b"".join(write(docs[at : at + 1000]) for at in range(0, count, 1000))
+
+
+def leaf_revisions(count):
+    """The leaves of `leaves(count)`."""
+    return ["2-" + digest(str(number)) for number in range(count)]
+
+
+def deletions(count):
+    return b"".join(("DELETE /d/doc?rev=%s HTTP/1.1\r\n\r\n" % it).encode() for it in leaf_revisions(count))
+
+
+def edits_of_leaves(count):
+    body = compact({"v": 0})
+    return b"".join(request("PUT /d/doc?rev=" + it, body) for it in leaf_revisions(count))
+
+
+def by_turns(lines, count):
+    """PUTs on the lines of a document, one after the other."""
+    heads = leaf_revisions(lines)
+    parts = []
+    for number in range(count):
+        body = compact({"v": number})
+        parts.append(request("PUT /d/doc?rev=" + heads[number % lines], body))
+        heads[number % lines] = revision(heads[number % lines], "doc", body)
+    return b"".join(parts)
+
+
+def cases():
+    """The cases: a name, the setup or nothing, the requests, how many they are counted as."""
+    stored = batches(10000, 100)
+    get = b"GET /d/doc%s HTTP/1.1\r\n\r\n"
+    found = [
+        ("a PUT of a new document, 10,000", None, puts(10000, 100), 10000),
+        ("a document in batches of 100", None, batches(10000, 100, 100), 10000),
+        ("a document in batches of 1,000", None, stored, 10000),
+        ("one with 3 revisions", None, replicated(10000, 3), 10000),
+        ("one with 20 revisions", None, replicated(10000, 20), 10000),
+        ("a PUT in a line of 1,000", None, line(1000), 1000),
+        ("a PUT in a line of 5,000", None, line(5000), 5000),
+        ("a history that grows to 300", None, growing(300), 300),
+        ("a history that grows to 1,000", None, growing(1000), 1000),
+        ("a leaf of 250", None, leaves(250), 250),
+        ("a leaf of 1,000", None, leaves(1000), 1000),
+        ("a leaf of 2,000", None, leaves(2000), 2000),
+        ("a row", stored, feed() * 5, 50000),
+        ("a row with its document", stored, feed("?include_docs=true") * 5, 50000),
+        ("a row with all leaves", stored, feed("?style=all_docs") * 5, 50000),
+        ("an empty feed", stored, feed("?since=now") * 1000, 1000),
+        ("a feed of ten rows", stored, feed("?since=9990") * 1000, 1000),
+        ("a GET", stored, gets(10000), 10000),
+        ("an id of _revs_diff", stored, diffs(10000) * 10, 10000),
+        ("a GET with revs, of 3", replicated(1000, 3), (get % b"0000007?revs=true") * 1000, 1000),
+        ("a GET with revs, of 1,000", line(1000), (get % b"?revs=true") * 100, 100),
+    ]
+    opened = (get % b"?open_revs=all") * 100
+    for count in [10, 100, 300, 1000]:
+        found.append(("open_revs=all of a line of %d" % count, line(count), opened, 100))
+    found += [
+        ("a leaf of 500 deleted", leaves(500), deletions(500), 500),
+        ("a leaf of 500 edited", leaves(500), edits_of_leaves(500), 500),
+        ("a PUT by turns on 2 lines", leaves(2), by_turns(2, 1000), 1000),
+        ("a PUT by turns on 10 lines", leaves(10), by_turns(10, 1000), 1000),
+    ]
+    return found
+
+
+def run(program, data, folder):
+    """The instructions that the program takes for these requests, and a digest of its answers."""
+    source = os.path.join(folder, "requests")
+    with open(source, "wb") as out:
+        out.write(data)
+    tool = ["valgrind", "--tool=callgrind", "--callgrind-out-file=/dev/null"]
+    with open(source, "rb") as stdin:
+        done = subprocess.run([*tool, program, "stdin"], stdin=stdin, capture_output=True)
+    told = re.search(rb"Collected : (\d+)", done.stderr)
+    if done.returncode != 0 or told is None:
+        sys.exit("%s ended with status %d" % (program, done.returncode))
+    return int(told.group(1)), hashlib.md5(done.stdout).hexdigest()
+
+
+def main():
+    parser = argparse.ArgumentParser(description=__doc__.split("\n\n")[0])
+    parser.add_argument("--only", default="", help="cases whose name has this text")
+    parser.add_argument("programs", nargs="+", metavar="PROGRAM")
+    options = parser.parse_args()
+    with tempfile.TemporaryDirectory() as folder:
+        for name, setup, asked, count in cases():
+            if options.only not in name:
+                continue
+            each, answers = [], set()
+            for program in options.programs:
+                before = 0 if setup is None else run(program, setup, folder)[0]
+                whole, told = run(program, (setup or b"") + asked, folder)
+                each.append((whole - before) / count)
+                answers.add(told)
+            ratios = "".join("%9.3f" % (it / each[0]) for it in each[1:])
+            note = "" if len(answers) == 1 else "  other answers"
+            print("%-34s %12.0f%s%s" % (name, each[0], ratios, note), flush=True)
+
+
+if __name__ == "__main__":
+    main()
