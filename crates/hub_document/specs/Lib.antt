@@ -17,5 +17,6 @@ pub mod Put
 pub mod Read
 pub mod RevisionLaws
 pub mod RevisionText
+pub mod SequenceText
 pub mod SpecialMembers
 pub mod SpecialText

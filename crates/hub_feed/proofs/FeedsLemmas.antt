@@ -7,11 +7,10 @@ use Rattle.std.proofs.lemmas.List.Kept.{AllPairs-cons}
 use Rattle.std.proofs.lemmas.Option.{none-some}
 use Rattle.hub_model.specs.Current.{Current}
 use Rattle.hub_model.specs.Entries.{changed, entry_in, without, AreRising}
-use Rattle.hub_model.specs.Feed.{Feed, Params, Status, Open, Ending, Ended, Finished, Due, DueRow, DueEnd, DueNothing, DueGone, begin, due, due_at, due_open, is_in_reach, is_open, waits, expire, end, bound_of, bound_after, after_due, after_nothing, since_of}
+use Rattle.hub_model.specs.Feed.{Feed, Params, Status, Open, Ending, Ended, Finished, Due, DueRow, DueEnd, DueNothing, DueGone, begin, due, due_at, due_open, is_in_reach, is_open, waits, expire, end, bound_of, bound_after, after_due, after_nothing}
 use Rattle.hub_model.specs.declared.feeds.Mode.{Mode}
 use Rattle.hub_model.specs.declared.feeds.Mode.TheVariants.{Normal, Longpoll, Continuous}
-use Rattle.hub_model.specs.declared.feeds.Since.{Since}
-use Rattle.hub_model.specs.declared.feeds.Since.TheVariants.{From, Now}
+use Rattle.hub_model.proofs.Fitting.{since_within}
 use Rattle.hub_model.proofs.Entries.{changed_here, none_above, stays_here, rising_changed, rising_without, below_changed, below_without}
 use Rattle.hub_model.proofs.Shown.{find_is}
 use Rattle.hub_feed.specs.Feeds.{AreBehind, AreNumbered, IsBehind, ended}
@@ -54,18 +53,14 @@ module _ (id : ℕ) (change : Feed → Feed) where
   behind_changed len feeds keeps behind = All-map (λ (p : ℕ × Feed). IsBehind len p.1) changed_one feeds (λ k d l. one_behind len keeps (get_or feeds k d) (behind k d l))
 
 -- a feed that is opened begins behind the last edit
-since_behind : (since : Since) (len : ℕ) → since_of since len ≤ len
-since_behind (From seq) len = omega arith
-since_behind Now len = omega arith
-
 bound_behind : (mode : Mode) (len : ℕ) → IfSome (bound_of mode len) (λ bound. bound ≤ len)
 bound_behind Normal len = omega arith
 bound_behind Longpoll len = tt
 bound_behind Continuous len = tt
 
-pub behind_opened : (len number : ℕ) (params : Params) (feeds : List (ℕ × Feed)) → AreBehind len feeds → AreBehind len (feeds ++ (number, begin params len) ∷ [])
-behind_opened len number params feeds behind =
-    All-push (λ (p : ℕ × Feed). IsBehind len p.1) feeds (number, begin params len) behind (since_behind params.since len, bound_behind params.mode len)
+pub behind_opened : (len life number : ℕ) (params : Params) (feeds : List (ℕ × Feed)) → AreBehind len feeds → AreBehind len (feeds ++ (number, begin params len life) ∷ [])
+behind_opened len life number params feeds behind =
+    All-push (λ (p : ℕ × Feed). IsBehind len p.1) feeds (number, begin params len life) behind (since_within params.since len life, bound_behind params.mode len)
 
 -- a feed that looks, or goes on, stays behind it
 behind_bound : (len : ℕ) (mode : Mode) (bound : Option ℕ) → IfSome bound (λ b. b ≤ len) → IfSome (bound_after mode bound len) (λ b. b ≤ len)

@@ -36,6 +36,7 @@ ended p = (p.0, end p.1)
 abbrev pub over : {R : Type 0} → ℕ → List Current → (Style → Bool → Current → R) → FeedList → Hosted R
 over length current shown list = record {
   length = length;
+  life = 0;
   current = current;
   shown = shown;
   feeds = list.feeds;

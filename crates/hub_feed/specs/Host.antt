@@ -17,6 +17,7 @@ use Rattle.hub_feed.specs.declared.next.Next.TheVariants.{Give, Nothing, Gone}
 -- what the feeds follow, and the feeds
 pub record Hosted (R : Type 0) : Type 0 where
   pub length : ℕ  -- how many edits there are
+  pub life : ℕ  -- the number of the life that they are of
   pub current : List Current
   -- a current row as it is shown now, in a style, with its document or without
   pub shown : Style → Bool → Current → R
@@ -45,7 +46,10 @@ opening_fault h = unwrap_or (refuses h) NoMemory
 -- with feeds 3 and 5, of which 5 was the last to come, the next one gets 6, and the one behind it 7
 abbrev pub opened : {R : Type 0} → Hosted R → Params → Hosted R
 opened h params =
-    record h { feeds = h.feeds ++ (h.next_feed, begin params h.length) ∷ []; next_feed = h.next_feed + 1 }
+    record h {
+      feeds = h.feeds ++ (h.next_feed, begin params h.length h.life) ∷ [];
+      next_feed = h.next_feed + 1;
+    }
 
 -- what is due to a feed of these rows: nothing any more where there is no feed
 abbrev pub due_of : List Current → Option Feed → Due

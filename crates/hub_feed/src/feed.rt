@@ -128,11 +128,12 @@ fn first_of<S: Source>(source: &S, ids: &[String], place: u64, bound: Option<u64
 }
 
 impl FeedState {
-    /// A feed that is opened while there are `length` edits. Constant time.
-    pub fn begin(params: FeedParams, length: u64) -> FeedState
-        ensures { result ≡ begin (params_of params) length }
+    /// A feed that is opened while there are `length` edits of the life of this number. Where it is
+    /// asked to begin at a sequence of another life it begins at the first edit. Constant time.
+    pub fn begin(params: FeedParams, length: u64, life: u64) -> FeedState
+        ensures { result ≡ begin (params_of params) length life }
     {
-        let since = params.since.within(length);
+        let since = params.since.within(length, life);
         let bound = bound_of(params.mode, length);
         FeedState {
             params,

@@ -70,14 +70,14 @@ impl Feeds {
         self.list.len() as u64 >= limit || self.next == u64::MAX
     }
 
-    /// Opens a feed while there are `length` edits, under a number that no feed had before. It costs
-    /// what a list does that grows by one.
-    pub fn open(&mut self, params: FeedParams, length: u64) -> Result<FeedId, AllocError>
+    /// Opens a feed while there are `length` edits of the life of this number, under a number that no
+    /// feed had before. It costs what a list does that grows by one.
+    pub fn open(&mut self, params: FeedParams, length: u64, life: u64) -> Result<FeedId, AllocError>
         requires left { self.old.next < 2 ^ 64 - 1 }
         ensures number { IfOk result (λ id. id.number ≡ self.old.next) }
         ensures fresh { IfOk result (λ id. entry_in id.number self.old.feeds ≡ None) }
         ensures ok { OnOk result (self.new ≡ record {
-          feeds = self.old.feeds ++ (self.old.next, begin (params_of params) length) ∷ [];
+          feeds = self.old.feeds ++ (self.old.next, begin (params_of params) length life) ∷ [];
           next = self.old.next + 1;
         }) }
         ensures err { OnErr result (self.new ≡ self.old) }
@@ -86,7 +86,7 @@ impl Feeds {
         self.list.try_reserve(1)?;
         let number = self.next;
         self.list
-            .push_reserved((number, FeedState::begin(params, length)));
+            .push_reserved((number, FeedState::begin(params, length, life)));
         self.next += 1;
         Ok(FeedId { number })
     }

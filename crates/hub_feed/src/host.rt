@@ -63,7 +63,12 @@ pub trait FeedHost {
     /// takes no memory.
     fn length(&self) -> u64
         ensures length { result ≡ (hosted self.now).length }
-        ensures begins { (params : Params) → fits self.now (begin params (hosted self.now).length) [] };
+        ensures begins { (params : Params)
+            → fits self.now (begin params (hosted self.now).length (hosted self.now).life) [] };
+
+    /// The number of the life that they are of. It takes no memory.
+    fn life(&self) -> u64
+        ensures { result ≡ (hosted self.now).life };
 
     /// Why no feed is opened now, where memory is not what is missing. It takes no memory.
     fn refusal(&self) -> Option<OpenFault>

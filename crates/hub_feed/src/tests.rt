@@ -68,7 +68,7 @@ fn next_step_of(next: &Next<Shown>) -> Step {
 fn begin(params: FeedParams, edits: &Edits) -> FeedState
     ensures { IsWithin result (length edits.now.ids.now) }
 {
-    FeedState::begin(params, edits.length())
+    FeedState::begin(params, edits.length(), edits.life())
 }
 
 // What the feed hands now, without taking it.
@@ -112,7 +112,7 @@ const THREE: Edits = Edits {
 
 #[test]
 fn a_normal_feed_shows_what_is_there(rt: HostRuntime) -> Result<(), Fail> {
-    let mut feed = begin(params(Mode::Normal, Since::From(0), None), &THREE);
+    let mut feed = begin(params(Mode::Normal, Since::Plain(0), None), &THREE);
     walk(
         &rt,
         &mut feed,
@@ -132,15 +132,19 @@ fn a_normal_feed_shows_what_is_there(rt: HostRuntime) -> Result<(), Fail> {
 fn since_and_limit_cut_a_feed(rt: HostRuntime) -> Result<(), Fail> {
     let ended = Step::End(5, 0);
     for (since, limit, first, second) in [
-        (Since::From(1), Some(1), row(2), Step::End(2, 2)),
-        (Since::From(2), Some(1), row(3), Step::End(3, 1)),
-        (Since::From(2), Some(0), row(3), Step::End(3, 1)),
-        (Since::From(3), Some(1), row(5), Step::End(5, 0)),
-        (Since::From(3), None, row(5), ended),
-        (Since::From(5), None, ended, Step::Gone),
-        (Since::From(6), None, ended, Step::Gone),
-        (Since::From(u64::MAX), Some(1), ended, Step::Gone),
+        (Since::Plain(1), Some(1), row(2), Step::End(2, 2)),
+        (Since::Plain(2), Some(1), row(3), Step::End(3, 1)),
+        (Since::Plain(2), Some(0), row(3), Step::End(3, 1)),
+        (Since::Plain(3), Some(1), row(5), Step::End(5, 0)),
+        (Since::Plain(3), None, row(5), ended),
+        (Since::Plain(5), None, ended, Step::Gone),
+        (Since::Plain(6), None, ended, Step::Gone),
+        (Since::Plain(u64::MAX), Some(1), ended, Step::Gone),
         (Since::Now, None, ended, Step::Gone),
+        (Since::Tagged(2, 4), Some(1), row(3), Step::End(3, 1)),
+        (Since::Tagged(6, 4), None, ended, Step::Gone),
+        (Since::Tagged(2, 7), Some(1), row(2), Step::End(2, 2)),
+        (Since::Tagged(u64::MAX, 0), Some(1), row(2), Step::End(2, 2)),
     ] {
         let mut feed = begin(params(Mode::Normal, since, limit), &THREE);
         walk(&rt, &mut feed, &THREE, &[first, second, Step::Gone])?;
@@ -150,7 +154,7 @@ fn since_and_limit_cut_a_feed(rt: HostRuntime) -> Result<(), Fail> {
 
 #[test]
 fn a_limit_counts_rows_that_pass(rt: HostRuntime) -> Result<(), Fail> {
-    let mut asked = params(Mode::Normal, Since::From(0), Some(1));
+    let mut asked = params(Mode::Normal, Since::Plain(0), Some(1));
     asked.filter = Filter::Design;
     let mut feed = begin(asked, &THREE);
     walk(
@@ -164,7 +168,7 @@ fn a_limit_counts_rows_that_pass(rt: HostRuntime) -> Result<(), Fail> {
     let mut ids = Vec::new(alloc);
     ids.push(String::from_str(alloc, "c")?)?;
     ids.push(String::from_str(alloc, "x")?)?;
-    let mut asked = params(Mode::Normal, Since::From(0), Some(2));
+    let mut asked = params(Mode::Normal, Since::Plain(0), Some(2));
     asked.filter = Filter::DocIds(DocIds::new(ids));
     let mut feed = begin(asked, &THREE);
     walk(
@@ -197,7 +201,7 @@ fn a_longpoll_feed_waits_for_a_row(rt: HostRuntime) -> Result<(), Fail> {
 #[test]
 fn a_continuous_feed_goes_on(rt: HostRuntime) -> Result<(), Fail> {
     let none = Edits { ids: &[] };
-    let mut asked = params(Mode::Continuous, Since::From(0), None);
+    let mut asked = params(Mode::Continuous, Since::Plain(0), None);
     asked.heartbeat = Some(1_000);
     let mut feed = begin(asked, &none);
     walk(&rt, &mut feed, &none, &[Step::Nothing])?;
@@ -217,7 +221,7 @@ fn a_continuous_feed_goes_on(rt: HostRuntime) -> Result<(), Fail> {
 
 #[test]
 fn nothing_moves_a_feed_to_the_end(rt: HostRuntime) -> Result<(), Fail> {
-    let mut asked = params(Mode::Continuous, Since::From(0), None);
+    let mut asked = params(Mode::Continuous, Since::Plain(0), None);
     asked.filter = Filter::Design;
     let mut feed = begin(asked, &THREE);
     walk(&rt, &mut feed, &THREE, &[row(3), Step::Nothing])?;
@@ -228,7 +232,7 @@ fn nothing_moves_a_feed_to_the_end(rt: HostRuntime) -> Result<(), Fail> {
 #[test]
 fn feeds_end_at_their_places(rt: HostRuntime) -> Result<(), Fail> {
     for mode in [Mode::Normal, Mode::Longpoll, Mode::Continuous] {
-        let mut feed = begin(params(mode, Since::From(0), None), &THREE);
+        let mut feed = begin(params(mode, Since::Plain(0), None), &THREE);
         walk(&rt, &mut feed, &THREE, &[row(2)])?;
         assert!(rt; !feed.beat_due());
         feed.end();
@@ -244,7 +248,7 @@ fn only_feeds_that_wait_expire(rt: HostRuntime) -> Result<(), Fail> {
         (Mode::Longpoll, Step::End(2, 2)),
         (Mode::Continuous, Step::End(2, 2)),
     ] {
-        let mut asked = params(mode, Since::From(0), None);
+        let mut asked = params(mode, Since::Plain(0), None);
         asked.heartbeat = Some(1_000);
         let mut feed = begin(asked, &THREE);
         walk(&rt, &mut feed, &THREE, &[row(2)])?;

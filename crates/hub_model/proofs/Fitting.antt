@@ -11,7 +11,7 @@ use Rattle.hub_model.specs.Current.{Current, current, pending}
 use Rattle.hub_model.specs.declared.feeds.Mode.{Mode}
 use Rattle.hub_model.specs.declared.feeds.Mode.TheVariants.{Normal, Longpoll, Continuous}
 use Rattle.hub_model.specs.declared.feeds.Since.{Since}
-use Rattle.hub_model.specs.declared.feeds.Since.TheVariants.{From, Now}
+use Rattle.hub_model.specs.declared.feeds.Since.TheVariants.{Now, Plain, Tagged}
 use Rattle.hub_model.specs.declared.feeds.Item.{Item}
 use Rattle.hub_model.specs.declared.feeds.Item.TheVariants.{Row, Beat, End}
 use Rattle.hub_model.specs.Feed.{Status, Open, Ending, Ended, Finished, Feed, Due, DueRow, DueEnd, DueNothing, DueGone, since_of, bound_of, due, is_in_reach, bound_after, after_due, after_row, after_end, after_nothing, is_open, is_over, waits}
@@ -26,6 +26,12 @@ use Rattle.hub_model.proofs.Items.{rows_of-row, rows_of-beat, rows_of-end, ends_
 use Rattle.hub_model.proofs.Right.{some_weaker, right_grows, right_moves, right_row}
 use Rattle.hub_model.proofs.Rows.{current_within, find_first, find_none}
 
+-- a feed begins no later than the last edit
+pub since_within : (s : Since) (len life : ℕ) → since_of s len life ≤ len
+since_within Now len life = omega arith
+since_within (Plain seq) len life = omega arith
+since_within (Tagged seq of) len life = omega arith
+
 module _ {R : Type 0} (kind : RowKind R) where
   pub fits_grows : GrownFits kind
   fits_grows J es f items h = record {
@@ -35,10 +41,6 @@ module _ {R : Type 0} (kind : RowKind R) where
     over = h.over;
     bounded = some_weaker f.bound _ _ h.bounded (λ n p. (p.0, omega (arith, p.1, length-append J es)));
   }
-
-  since_within : (s : Since) (len : ℕ) → since_of s len ≤ len
-  since_within (From seq) len = omega arith
-  since_within Now len = omega arith
 
   bound_within : (m : Mode) (s len : ℕ) → s ≤ len → IfSome (bound_of m len) (λ b. (s ≤ b) × (b ≤ len))
   bound_within Normal s len h = (h, omega arith)
@@ -50,12 +52,12 @@ module _ {R : Type 0} (kind : RowKind R) where
   none_handed (Some n) = omega arith
 
   pub fits_begin : OpenedFits kind
-  fits_begin J params = record {
+  fits_begin J params life = record {
     right = record {
       rising = λ i j d a b. absurd (omega (arith, b));
       rows = All-nil _;
       from_since = omega arith;
-      to_length = since_within params.since (length J);
+      to_length = since_within params.since (length J) life;
       ends = tt;
       whole = λ c h q a b. absurd (omega arith);
       limited = some_weaker params.limit _ _ (none_handed params.limit) (λ n h. omega arith);
@@ -64,7 +66,7 @@ module _ {R : Type 0} (kind : RowKind R) where
     counted = refl;
     fewer = λ e. none_handed params.limit;
     over = λ e. absurd (cc);
-    bounded = bound_within params.mode _ (length J) (since_within params.since (length J));
+    bounded = bound_within params.mode _ (length J) (since_within params.since (length J) life);
   }
 
   -- an End was handed only by a feed that is over

@@ -1,12 +1,12 @@
 -- A feed, and what its next step is: it reads only the length and the current rows of what it follows
 -- (CouchDB API reference, _changes).
 use Rattle.std.specs.Prelude.{ℕ, ◌+◌, List, min, Bool, true, false, ◌&&◌, if◌then◌else◌, Option, Some, None}
-use Rattle.std.specs.Prelude.{nat_lt, nat_le, find}
+use Rattle.std.specs.Prelude.{nat_lt, nat_le, nat_eq, find}
 use Rattle.hub_model.specs.Current.{Current}
 use Rattle.hub_model.specs.declared.feeds.Mode.{Mode}
 use Rattle.hub_model.specs.declared.feeds.Mode.TheVariants.{Normal, Longpoll, Continuous}
 use Rattle.hub_model.specs.declared.feeds.Since.{Since}
-use Rattle.hub_model.specs.declared.feeds.Since.TheVariants.{From, Now}
+use Rattle.hub_model.specs.declared.feeds.Since.TheVariants.{Now, Plain, Tagged}
 use Rattle.hub_model.specs.declared.feeds.Style.{Style}
 use Rattle.hub_model.specs.Filter.{Filter, passes}
 
@@ -36,10 +36,15 @@ pub record Feed : Type 0 where
   pub rows : ℕ  -- how many rows it has handed
   pub status : Status
 
--- what a feed begins after, while there are len edits: never above them
-abbrev pub since_of : Since → ℕ → ℕ
-since_of (From seq) len = min seq len
-since_of Now len = len
+-- a sequence of one life as it counts in this one: as 0, where they are not the same
+abbrev pub counted_in : (life seq of : ℕ) → ℕ
+counted_in life seq of = if nat_eq of life then seq else 0
+
+-- what a feed begins after, while there are len edits of this life: never above them
+abbrev pub since_of : Since → (len life : ℕ) → ℕ
+since_of Now len life = len
+since_of (Plain seq) len life = min seq len
+since_of (Tagged seq of) len life = min (counted_in life seq of) len
 
 -- where a feed stops, while there are len edits
 abbrev pub bound_of : Mode → ℕ → Option ℕ
@@ -47,13 +52,13 @@ bound_of Normal len = Some len
 bound_of Longpoll len = None
 bound_of Continuous len = None
 
--- a feed that is opened while there are len edits
-abbrev pub begin : Params → ℕ → Feed
-begin params len = record {
+-- a feed that is opened while there are len edits of this life
+abbrev pub begin : Params → (len life : ℕ) → Feed
+begin params len life = record {
   params = params;
-  since = since_of params.since len;
+  since = since_of params.since len life;
   bound = bound_of params.mode len;
-  place = since_of params.since len;
+  place = since_of params.since len life;
   rows = 0;
   status = Open;
 }

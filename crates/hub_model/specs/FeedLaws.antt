@@ -11,9 +11,9 @@ use Rattle.hub_model.specs.declared.feeds.Item.TheVariants.{Beat}
 use Rattle.hub_model.specs.RightlyHanded.{Fits, rows_of}
 
 module _ {R : Type 0} (kind : RowKind R) where
-  -- a feed that is opened has handed nothing
+  -- a feed that is opened has handed nothing, whichever life the edits are of
   abbrev pub OpenedFits : Type 0
-  OpenedFits = (J : List Edit) (params : Params) → Fits kind J (begin params (length J)) []
+  OpenedFits = (J : List Edit) (params : Params) (life : ℕ) → Fits kind J (begin params (length J) life) []
 
   -- the journal gets more edits
   abbrev pub GrownFits : Type 0

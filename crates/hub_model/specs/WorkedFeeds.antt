@@ -3,7 +3,8 @@ use Rattle.std.specs.Prelude.{◌≡◌, ℕ, List, [], ◌∷◌, false, map, O
 use Rattle.hub_model.specs.Revision.{Revision}
 use Rattle.hub_model.specs.Journal.{Edit}
 use Rattle.hub_model.specs.declared.feeds.Mode.TheVariants.{Normal}
-use Rattle.hub_model.specs.declared.feeds.Since.TheVariants.{From}
+use Rattle.hub_model.specs.declared.feeds.Since.{Since}
+use Rattle.hub_model.specs.declared.feeds.Since.TheVariants.{Plain, Tagged}
 use Rattle.hub_model.specs.declared.feeds.Style.TheVariants.{MainOnly}
 use Rattle.hub_model.specs.Row.{ChangeRow}
 use Rattle.hub_model.specs.Current.{current}
@@ -30,12 +31,12 @@ five_edits =
     ∷ doc (codes "a") (rev 2 (codes "a") ∷ rev 1 (codes "a") ∷ [])
     ∷ doc (codes "a") (rev 3 (codes "a") ∷ rev 2 (codes "a") ∷ rev 1 (codes "a") ∷ []) ∷ []
 
--- everything after this sequence, so many rows at most
-abbrev pub asked : ℕ → Option ℕ → Params
+-- everything after where it begins, so many rows at most
+abbrev pub asked : Since → Option ℕ → Params
 asked since limit =
     record {
       mode = Normal;
-      since = From since;
+      since = since;
       limit = limit;
       style = MainOnly;
       include_docs = false;
@@ -51,23 +52,32 @@ shown seq id winner =
 -- after 2: a at 5, then c at 3, and nothing between
 abbrev pub FallsAfterTwo : Type 0
 FallsAfterTwo =
-    descending five_edits (asked 2 None)
+    descending five_edits 1 (asked (Plain 2) None)
     ≡ record {
       rows = shown 5 (codes "a") (rev 3 (codes "a")) ∷ shown 3 (codes "c") (rev 1 (codes "c"))
           ∷ [];
       last_seq = 3;
       pending = 0;
+      life = 1;
     }
 
 -- after a sequence above the journal: no row, and the journal's length
 abbrev pub FallsAfterAll : Type 0
-FallsAfterAll = descending five_edits (asked 9 None) ≡ record { rows = []; last_seq = 5; pending = 0 }
+FallsAfterAll =
+    descending five_edits 1 (asked (Plain 9) None)
+    ≡ record { rows = []; last_seq = 5; pending = 0; life = 1 }
+
+-- after 2 of its own life it is the same; 2 of another life counts as 0, and all rows are shown
+abbrev pub FallsByLife : Type 0
+FallsByLife =
+    (descending five_edits 1 (asked (Tagged 2 1) None) ≡ descending five_edits 1 (asked (Plain 2) None))
+    × (descending five_edits 1 (asked (Tagged 2 7) None) ≡ descending five_edits 1 (asked (Plain 0) None))
 
 -- a limit of 0 acts as 1: b and c are left out
 abbrev pub FallsOnce : Type 0
 FallsOnce =
-    descending five_edits (asked 0 (Some 0))
-    ≡ record { rows = shown 5 (codes "a") (rev 3 (codes "a")) ∷ []; last_seq = 5; pending = 2 }
+    descending five_edits 1 (asked (Plain 0) (Some 0))
+    ≡ record { rows = shown 5 (codes "a") (rev 3 (codes "a")) ∷ []; last_seq = 5; pending = 2; life = 1 }
 
 -- that this happened to the database d
 abbrev pub of_d : UpdateKind → Note

@@ -43,20 +43,25 @@ pub enum Style {
 /// Where a feed begins.
 #[derive(Clone, Copy, Debug, PartialEq, Eq)]
 pub enum Since {
-    /// After this sequence.
-    From(u64),
     /// After everything that is there when it is opened.
     Now,
+    /// After this sequence, whichever life it is of.
+    Plain(u64),
+    /// After this sequence of the life of this number; in another life from the first one on.
+    Tagged(u64, u64),
 }
 
 impl Since {
-    /// The sequence that a feed begins after, while there are `length` edits: none above the last.
-    pub fn within(self, length: u64) -> u64
-        ensures { result ≡ since_of self length }
+    /// The sequence that a feed begins after, in the life of this number and while there are `length`
+    /// edits: none above the last.
+    pub fn within(self, length: u64, life: u64) -> u64
+        ensures { result ≡ since_of self length life }
     {
         match self {
-            Since::From(seq) => seq.min(length),
             Since::Now => length,
+            Since::Plain(seq) => seq.min(length),
+            Since::Tagged(seq, of) if of == life => seq.min(length),
+            Since::Tagged(_seq, _of) => 0,
         }
     }
 }

@@ -8,7 +8,7 @@ ghost use Rattle.hub_model.specs.FeedLaws.{OpenedFits, GrownFits, HandedFits, Wa
 ghost use Rattle.hub_model.specs.RowKind.{change_rows, update_rows};
 ghost use Rattle.hub_model.specs.Updates.{NotesReadBack};
 ghost use Rattle.hub_model.specs.WorkedHistories.{LateIsStored, LateIsJoined, PartialIsStored};
-ghost use Rattle.hub_model.specs.WorkedFeeds.{FallsAfterTwo, FallsAfterAll, FallsOnce, UpdatesAgain};
+ghost use Rattle.hub_model.specs.WorkedFeeds.{FallsAfterTwo, FallsAfterAll, FallsByLife, FallsOnce, UpdatesAgain};
 
 mod arms;
 mod feeds;
@@ -94,6 +94,7 @@ pub fn worked_histories()
 pub fn worked_feeds()
     ensures two { FallsAfterTwo }
     ensures all { FallsAfterAll }
+    ensures life { FallsByLife }
     ensures once { FallsOnce }
     ensures again { UpdatesAgain }
 {}

@@ -2,3 +2,4 @@ pub mod FeedLemmas
 pub mod QueryLemmas
 pub mod RoomLemmas
 pub mod ParsedLemmas
+pub mod QuoteLemmas

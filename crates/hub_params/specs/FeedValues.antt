@@ -1,8 +1,9 @@
 -- The values of the parameters of a changes feed (CouchDB API reference, _changes; the limits of numbers are
 -- own). None is a fault.
-use Rattle.std.specs.Prelude.{ℕ, ◌^◌, List, length, codes, Bool, true, false, ◌&&◌, nat_le, nat_lt, min, max}
-use Rattle.std.specs.Prelude.{if◌then◌else◌, Option, Some, None, option_map, option_and_then}
-use Rattle.std.specs.List.{list_all}
+use Rattle.std.specs.Prelude.{ℕ, ◌^◌, List, [], ◌∷◌, length, codes, nat_eq, eqb, Bool, true, false, ◌&&◌, nat_le, nat_lt, min, max}
+use Rattle.std.specs.Prelude.{if◌then◌else◌, Option, Some, None, option_map, option_and_then, unwrap_or}
+use Rattle.std.specs.Option.{option_or}
+use Rattle.std.specs.List.{list_all, before_first, after_first}
 use Rattle.std.specs.Str.{bytes_eq}
 use Rattle.std.specs.Str.Parse.{digits_value}
 use Rattle.hub_model.specs.declared.feeds.Mode.{Mode}
@@ -10,7 +11,7 @@ use Rattle.hub_model.specs.declared.feeds.Mode.TheVariants.{Normal, Longpoll, Co
 use Rattle.hub_model.specs.declared.feeds.Style.{Style}
 use Rattle.hub_model.specs.declared.feeds.Style.TheVariants.{MainOnly, AllDocs}
 use Rattle.hub_model.specs.declared.feeds.Since.{Since}
-use Rattle.hub_model.specs.declared.feeds.Since.TheVariants.{From, Now}
+use Rattle.hub_model.specs.declared.feeds.Since.TheVariants.{Now, Plain, Tagged}
 use Rattle.hub_params.specs.declared.feed_values.Shown.{Shown}
 use Rattle.hub_params.specs.declared.feed_values.Shown.TheVariants.{All, Listed, Designs}
 
@@ -27,10 +28,38 @@ abbrev pub number_in : List ℕ → Option ℕ
 number_in text =
     if is_numeral text && nat_lt (digits_value 10 text) (2 ^ 64) then Some (digits_value 10 text) else None
 
--- where the feed begins: after 0 where nothing is said
+-- what stands in front of a double quote that ends the text
+abbrev pub before_last_quote : List ℕ → Option (List ℕ)
+before_last_quote [] = None
+before_last_quote (b ∷ []) = if nat_eq b 34 then Some [] else None
+before_last_quote (b ∷ c ∷ text) = option_map (λ inner. b ∷ inner) (before_last_quote (c ∷ text))
+
+-- what stands within the double quotes round a text, where it has some
+abbrev pub within_quotes : List ℕ → Option (List ℕ)
+within_quotes [] = None
+within_quotes (b ∷ text) = if nat_eq b 34 then before_last_quote text else None
+
+-- a hyphen
+abbrev pub is_hyphen : ℕ → Bool
+is_hyphen b = eqb b 45
+
+-- a sequence, a hyphen, and the number of its life
+abbrev pub tagged_in : List ℕ → Option (ℕ × ℕ)
+tagged_in text =
+    option_and_then (λ seq. option_map (λ life. (seq, life)) (number_in (after_first is_hyphen text)))
+    (number_in (before_first is_hyphen text))
+
+-- where the feed begins that is asked for so: `now`, a sequence, or a sequence with its life
+abbrev pub since_text : List ℕ → Option Since
+since_text text =
+    if bytes_eq text (codes "now") then Some Now
+    else option_or (option_map Plain (number_in text)) (option_map (λ p. Tagged p.0 p.1) (tagged_in text))
+
+-- where the feed begins: after 0 where nothing is said; one pair of double quotes is dropped (own), so
+-- 3-1 and "3-1" are the same
 abbrev pub since_in : Option (List ℕ) → Option Since
-since_in None = Some (From 0)
-since_in (Some text) = if bytes_eq text (codes "now") then Some Now else option_map From (number_in text)
+since_in None = Some (Plain 0)
+since_in (Some text) = since_text (unwrap_or (within_quotes text) text)
 
 -- how many rows at most: 0 acts as 1
 abbrev pub limit_in : Option (List ℕ) → Option (Option ℕ)

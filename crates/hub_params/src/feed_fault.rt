@@ -11,7 +11,7 @@ pub enum ParamFault {
     /// A growth was refused.
     #[error("out of memory")]
     NoMemory,
-    /// `since` is neither a number below 2^64 nor `now`.
+    /// `since` is neither `now` nor a number below 2^64, alone or with the number of its life.
     #[error("bad since")]
     BadSince,
     /// `limit` is no number below 2^64.

@@ -1,8 +1,8 @@
 //! The values of the parameters of a feed, each by itself. None is a fault.
 
-ghost use Rattle.std.specs.Prelude.{◌≡◌, option_map};
+ghost use Rattle.std.specs.Prelude.{◌≡◌, option_map, unwrap_or};
 ghost use Rattle.std.specs.List.{list_all};
-ghost use Rattle.hub_params.specs.FeedValues.{is_digit as is_digit_byte, is_numeral as is_numeral_text, number_in, since_in, limit_in, style_in, mode_in, shown_in, heartbeat_in, timeout_in, flag_in};
+ghost use Rattle.hub_params.specs.FeedValues.{is_digit as is_digit_byte, is_numeral as is_numeral_text, number_in, since_in, tagged_in, within_quotes, limit_in, style_in, mode_in, shown_in, heartbeat_in, timeout_in, flag_in};
 
 use hub_model::{Mode, Since, Style};
 
@@ -51,18 +51,50 @@ fn number(text: &str) -> Option<u64>
     }
 }
 
+// The text without one pair of double quotes round it.
+fn unquoted(text: &str) -> &str
+    ensures { result.now ≡ unwrap_or (within_quotes text.now) text.now }
+{
+    let Some(rest) = text.strip_prefix('"') else {
+        return text;
+    };
+    match rest.strip_suffix('"') {
+        Some(inner) => inner,
+        None => text,
+    }
+}
+
+/// The sequence and the number of its life that a text writes as `N-L`, each in decimal digits, with
+/// any zeros in front; None where it is no such text, or one of them is past 2^64 - 1.
+pub fn read_tagged(text: &str) -> Option<(u64, u64)>
+    ensures { result ≡ tagged_in text.now }
+{
+    let Some((seq, life)) = text.split_once('-') else {
+        return None;
+    };
+    match (number(seq), number(life)) {
+        (Some(seq), Some(life)) => Some((seq, life)),
+        (Some(_seq), None) => None,
+        (None, _life) => None,
+    }
+}
+
 /// Where a feed begins (`since`).
 pub(crate) fn since_of(value: Option<&str>) -> Option<Since>
     ensures { result ≡ since_in (option_map (λ s. s.now) value.entry) }
 {
     let Some(text) = value else {
-        return Some(Since::From(0));
+        return Some(Since::Plain(0));
     };
+    let text = unquoted(text);
     if text == "now" {
         return Some(Since::Now);
     }
-    match number(text) {
-        Some(n) => Some(Since::From(n)),
+    if let Some(seq) = number(text) {
+        return Some(Since::Plain(seq));
+    }
+    match read_tagged(text) {
+        Some((seq, life)) => Some(Since::Tagged(seq, life)),
         None => None,
     }
 }

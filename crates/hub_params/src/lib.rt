@@ -13,5 +13,6 @@ mod query;
 pub use doc_params::DocParams;
 pub use feed_fault::ParamFault;
 pub use feed_params::FeedParams;
+pub use feed_values::read_tagged;
 pub use hub_model::Mode;
 pub use query::values_are_parsed;

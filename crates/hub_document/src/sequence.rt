@@ -1,0 +1,24 @@
+//! The texts of sequences.
+
+ghost use Rattle.std.specs.Prelude.{◌≡◌, ◌++◌, length, take, OnOk};
+ghost use Rattle.hub_document.specs.SequenceText.{sequence_text};
+
+use itoa::Buffer;
+use std::alloc::AllocError;
+
+/// Writes a sequence of the life of this number as a JSON string behind what the vector holds, as
+/// `"12-3"`. After an error what was held still stands in front, and a part of the string may stand
+/// behind it.
+#[tactic(auto, unfolding(crate::specs::SequenceText::sequence_text))]
+pub fn put_sequence(out: &mut Vec<u8>, seq: u64, life: u64) -> Result<(), AllocError>
+    ensures ok { OnOk result (out.new.items ≡ out.old.items ++ sequence_text seq life) }
+    ensures front { take (length out.old.items) out.new.items ≡ out.old.items }
+{
+    let mut number = Buffer::new();
+    out.extend_from_slice(b"\"")?;
+    out.extend_from_slice(number.format(seq).as_bytes())?;
+    out.extend_from_slice(b"-")?;
+    out.extend_from_slice(number.format(life).as_bytes())?;
+    out.extend_from_slice(b"\"")?;
+    Ok(())
+}
