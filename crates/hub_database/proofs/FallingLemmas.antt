@@ -302,9 +302,9 @@ module _ (J : List Edit) (asked : Params) (since : ℕ) where
   nothing_shown (c ∷ cs) e = absurd (cc)
 
   -- and has one where one is due
-  pub answer_some : since ≡ since_of asked.since (length J) → ¬ (falling_rows J asked since ≡ [])
-      → ¬ ((descending J asked).rows ≡ [])
-  answer_some begin some =
+  pub answer_some : (life : ℕ) → since ≡ since_of asked.since (length J) life → ¬ (falling_rows J asked since ≡ [])
+      → ¬ ((descending J life asked).rows ≡ [])
+  answer_some life begin some =
       λ e. some (nothing_shown (falling_rows J asked since) (ap (λ n. map (row_of J asked.style asked.include_docs) (falling_rows J asked n)) begin ∙ e))
 
   -- and lies above where the feed begins
@@ -337,15 +337,15 @@ module _ (J : List Edit) (asked : Params) (since : ℕ) where
     last_high = let l = lowest_high (falling_rows J asked since) rows_above in omega (arith, l, last_is)
 
     -- the whole answer
-    pub answer_is : (count : ℕ)
+    pub answer_is : (life count : ℕ)
         → count ≡ count_by (λ (c : Current). nat_lt since c.seq && nat_lt c.seq last) (current J)
-        → since ≡ since_of asked.since (length J)
-        → ◌≡◌ {A = Descending} (record { rows = rows; last_seq = last; pending = count }) (descending J asked)
-    answer_is count many begin =
-        ap (λ (n : ℕ). record { rows = rows; last_seq = last; pending = n }) many
-        ∙ (ap (λ (n : ℕ). record { rows = rows; last_seq = n; pending = count_by (λ (c : Current). nat_lt since c.seq && nat_lt c.seq n) (current J) }) last_is
-        ∙ (ap (λ (rs : List ChangeRow). record { rows = rs; last_seq = lowest since (falling_rows J asked since); pending = count_by (λ (c : Current). nat_lt since c.seq && nat_lt c.seq (lowest since (falling_rows J asked since))) (current J) }) all
-        ∙ ap (λ (n : ℕ). falling J asked n (falling_rows J asked n)) begin))
+        → since ≡ since_of asked.since (length J) life
+        → ◌≡◌ {A = Descending} (record { rows = rows; last_seq = last; pending = count; life = life }) (descending J life asked)
+    answer_is life count many begin =
+        ap (λ (n : ℕ). record { rows = rows; last_seq = last; pending = n; life = life }) many
+        ∙ (ap (λ (n : ℕ). record { rows = rows; last_seq = n; pending = count_by (λ (c : Current). nat_lt since c.seq && nat_lt c.seq n) (current J); life = life }) last_is
+        ∙ (ap (λ (rs : List ChangeRow). record { rows = rs; last_seq = lowest since (falling_rows J asked since); pending = count_by (λ (c : Current). nat_lt since c.seq && nat_lt c.seq (lowest since (falling_rows J asked since))) (current J); life = life }) all
+        ∙ ap (λ (n : ℕ). falling J life asked n (falling_rows J asked n)) begin))
 
 -- the last of falling rows is the lowest
 pub lowest_last : (since : ℕ) (rows : List ChangeRow) (k : ℕ) (r : ChangeRow) → k ≡ length rows - 1

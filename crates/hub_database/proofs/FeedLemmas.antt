@@ -69,9 +69,9 @@ write_grows new_edits limit J doc o K h =
     from false = merges_grow limit J (edits.edit_of doc)
 
 -- a write changes the journal alone
-pub contents_stay : (J : List Edit) {l l' : List Local} {m m' : Limits} → l ≡ l' → m ≡ m'
-    → ◌≡◌ {A = Contents} (record { journal = J; locals = l; limits = m }) (record { journal = J; locals = l'; limits = m' })
-contents_stay J a d = rw (a, d) refl
+pub contents_stay : (J : List Edit) {l l' : List Local} {m m' : Limits} {n n' : ℕ} → l ≡ l' → m ≡ m' → n ≡ n'
+    → ◌≡◌ {A = Contents} (record { journal = J; locals = l; limits = m; life = n }) (record { journal = J; locals = l'; limits = m'; life = n' })
+contents_stay J a d e = rw (a, d, e) refl
 
 -- a deleted database refuses each document
 pub all_refused : {A : Type 0} (store : List Edit → A → Stores) (J : List Edit) (xs : List A)

@@ -16,11 +16,11 @@ pub count_below : (store : Store) → IsStore store → IsCounted store → stor
 count_below store st counted = omega (arith, counted, deleted_few (edits_of_store store), st.filed.each, length-map store.documents.items filed)
 
 -- the answer
-pub info_by : (store : Store) → IsStore store → IsCounted store → (live updates : ℕ) → live + store.deleted ≡ length store.documents.items → updates ≡ length (edits_of_store store)
-    → ◌≡◌ {A = Info} (record { doc_count = live; doc_del_count = store.deleted; update_seq = updates }) (info_of (edits_of_store store))
-info_by store st counted live updates sum many =
+pub info_by : (store : Store) → IsStore store → IsCounted store → (live updates life : ℕ) → live + store.deleted ≡ length store.documents.items → updates ≡ length (edits_of_store store)
+    → ◌≡◌ {A = Info} (record { doc_count = live; doc_del_count = store.deleted; update_seq = updates; life = life }) (info_of (edits_of_store store) life)
+info_by store st counted live updates life sum many =
     let documents : length (files store.documents.items) ≡ length store.documents.items = length-map store.documents.items filed in
     let lives : live ≡ count_by (λ c. not (is_deleted (leaves_of (edits_of_store store) c.id))) (current (edits_of_store store)) = omega (arith, sum, counted, documents, st.filed.each, live_in (edits_of_store store)) in
-    ap (λ (n : ℕ). record { doc_count = n; doc_del_count = store.deleted; update_seq = updates }) lives
-    ∙ (ap (λ (n : ℕ). record { doc_count = count_by (λ c. not (is_deleted (leaves_of (edits_of_store store) c.id))) (current (edits_of_store store)); doc_del_count = n; update_seq = updates }) counted
-    ∙ ap (λ (n : ℕ). record { doc_count = count_by (λ c. not (is_deleted (leaves_of (edits_of_store store) c.id))) (current (edits_of_store store)); doc_del_count = deleted_in (edits_of_store store); update_seq = n }) many)
+    ap (λ (n : ℕ). record { doc_count = n; doc_del_count = store.deleted; update_seq = updates; life = life }) lives
+    ∙ (ap (λ (n : ℕ). record { doc_count = count_by (λ c. not (is_deleted (leaves_of (edits_of_store store) c.id))) (current (edits_of_store store)); doc_del_count = n; update_seq = updates; life = life }) counted
+    ∙ ap (λ (n : ℕ). record { doc_count = count_by (λ c. not (is_deleted (leaves_of (edits_of_store store) c.id))) (current (edits_of_store store)); doc_del_count = deleted_in (edits_of_store store); update_seq = n; life = life }) many)

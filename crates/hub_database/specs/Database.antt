@@ -21,6 +21,7 @@ pub record Database : Type 0 where
   pub feeds : List (ℕ × Feed)  -- those that are not finished, with their numbers, which rise
   pub next_feed : ℕ  -- the number of the next feed
   pub limits : Limits
+  pub life : ℕ  -- the number of its life: of the hub's databases none before it had this one
 
 -- What a database keeps, whether it stands or was deleted: all of it but its feeds. A database of two edits,
 -- one local document and three feeds has the contents of two edits and that local document.
@@ -28,10 +29,17 @@ pub record Contents : Type 0 where
   pub journal : List Edit  -- the accepted edits, first to last
   pub locals : List Local  -- in the byte order of their ids
   pub limits : Limits
+  pub life : ℕ
+
+-- what feeds follow: edits, and the number of the life that they are of
+pub record Followed : Type 0 where
+  pub edits : List Edit
+  pub life : ℕ
 
 -- the contents of a database
 abbrev pub contents_of : Database → Contents
-contents_of db = record { journal = db.journal; locals = db.locals; limits = db.limits }
+contents_of db =
+    record { journal = db.journal; locals = db.locals; limits = db.limits; life = db.life }
 
 -- why a call that reads gives up: once the database is deleted that is told before anything else
 abbrev pub reading_fault : Database → DbFault

@@ -10,6 +10,7 @@ use Rattle.hub_database.specs.Database.{Database}
 abbrev pub hosted_of : Database → Hosted ChangeRow
 hosted_of db = record {
   length = length db.journal;
+  life = db.life;
   current = current db.journal;
   shown = row_of db.journal;
   feeds = db.feeds;

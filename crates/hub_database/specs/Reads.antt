@@ -71,13 +71,14 @@ lookup J id revs = lookup_of J id revs (leaves_of J id)
 abbrev pub HasDocument : List Edit → List ℕ → Bool → Type 0
 HasDocument J id revs = (doc : Doc) × (lookup J id revs ≡ looked.Found doc)
 
--- how many documents have a winner that is not deleted, how many have a deleted one, and how many edits there
--- are
-abbrev pub info_of : List Edit → Info
-info_of J = record {
+-- how many documents have a winner that is not deleted, how many have a deleted one, how many edits there
+-- are, and of which life
+abbrev pub info_of : List Edit → (life : ℕ) → Info
+info_of J life = record {
   doc_count = count_by (λ c. not (is_deleted (leaves_of J c.id))) (current J);
   doc_del_count = count_by (λ c. is_deleted (leaves_of J c.id)) (current J);
   update_seq = length J;
+  life = life;
 }
 
 -- the edit of this sequence

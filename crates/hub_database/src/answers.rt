@@ -32,6 +32,8 @@ pub struct Info {
     pub doc_del_count: u64,
     /// How many edits were accepted.
     pub update_seq: u64,
+    /// The number of the life that they are of.
+    pub life: u64,
 }
 
 /// What a document misses of the revisions that were asked for (CouchDB API reference,

@@ -28,6 +28,8 @@ pub struct Contents {
     pub(crate) store: Store,
     /// The local documents by their ids.
     pub(crate) locals: BTreeMap<String, Local>,
+    /// The number of its life.
+    pub(crate) life: u64,
 }
 
 impl Model for Contents {
@@ -42,6 +44,7 @@ impl Model for Contents {
       journal = edits_of_store a.store;
       locals = kept a.locals;
       limits = a.store.limits;
+      life = a.life;
     } };
 
     ghost invariant = { λ a. IsStore a.store × IsCounted a.store × HasRows a.store };
@@ -60,14 +63,16 @@ fn reply(outcome: Outcome<RevId>) -> Result<RevId, DbFault>
 
 impl Contents {
     /// Those of a database with no document.
-    pub(crate) fn new(alloc: Global, limits: Limits) -> Contents
+    pub(crate) fn new(alloc: Global, limits: Limits, life: u64) -> Contents
         ensures journal { result.journal ≡ [] }
         ensures locals { result.locals ≡ [] }
         ensures limits { result.limits ≡ limits }
+        ensures life { result.life ≡ life }
     {
         Contents {
             store: Store::new(alloc, limits),
             locals: BTreeMap::new(alloc),
+            life,
         }
     }
 
@@ -85,9 +90,19 @@ impl Contents {
 
     /// The current rows, as feeds read them.
     pub(crate) fn rows(&self) -> Rows<'_>
-        ensures { result ≡ self.now.journal }
+        ensures { result ≡ record { edits = self.now.journal; life = self.now.life } }
     {
-        Rows { store: &self.store }
+        Rows {
+            store: &self.store,
+            life: self.life,
+        }
+    }
+
+    /// The number of the life of the database.
+    pub(crate) fn life(&self) -> u64
+        ensures { result ≡ self.now.life }
+    {
+        self.life
     }
 
     /// How many edits were accepted: the sequence of the last one.
@@ -101,7 +116,7 @@ impl Contents {
 
     /// How many documents there are, and how many edits. Constant time: the counts are kept.
     pub fn info(&self) -> Info
-        ensures { result ≡ info_of self.now.journal }
+        ensures { result ≡ info_of self.now.journal self.now.life }
     {
         let doc_count = self.store.documents.len() as u64;
         let doc_del_count = self.store.deleted;
@@ -109,6 +124,7 @@ impl Contents {
             doc_count: doc_count - doc_del_count,
             doc_del_count,
             update_seq: self.update_seq(),
+            life: self.life,
         }
     }
 

@@ -60,6 +60,7 @@ impl Model for DbState {
       feeds = a.feeds.feeds;
       next_feed = a.feeds.next;
       limits = a.contents.limits;
+      life = a.contents.life;
     } };
 
     ghost invariant = { λ a. AreBehind (length a.contents.journal) a.feeds.feeds
@@ -80,17 +81,18 @@ fn refuse_all(alloc: Global, count: usize) -> Result<Batch, DbFault>
 }
 
 impl DbState {
-    /// A database with no document.
-    pub fn new(alloc: Global, limits: Limits) -> DbState
+    /// A database with no document, of the life of this number.
+    pub fn new(alloc: Global, limits: Limits, life: u64) -> DbState
         ensures journal { result.journal ≡ [] }
         ensures stands { result.deleted ≡ false }
         ensures locals { result.locals ≡ [] }
         ensures feeds { result.feeds ≡ [] }
         ensures numbers { result.next_feed ≡ 0 }
         ensures limits { result.limits ≡ limits }
+        ensures life { result.life ≡ life }
     {
         DbState {
-            contents: Contents::new(alloc, limits),
+            contents: Contents::new(alloc, limits, life),
             deleted: false,
             feeds: Feeds::new(alloc),
             listing: Listing::new(alloc),
@@ -126,6 +128,13 @@ impl DbState {
         self.contents.update_seq()
     }
 
+    /// The number of its life.
+    pub fn life(&self) -> u64
+        ensures { result ≡ self.now.life }
+    {
+        self.contents.life()
+    }
+
     /// The winner of a document, with its mark; None where there is no such document. It costs what
     /// `Contents::winner` does.
     pub fn winner(&self, id: &str) -> Option<Winner>
@@ -154,7 +163,8 @@ impl DbState {
     /// How many documents there are, and how many edits (CouchDB API reference, `GET /{db}`).
     /// Constant time: the counts are kept.
     pub fn info(&self) -> Result<Info, DbFault>
-        ensures ok { IfOk result (λ info. (self.now.deleted ≡ false) × (info ≡ info_of self.now.journal)) }
+        ensures ok { IfOk result (λ info.
+            (self.now.deleted ≡ false) × (info ≡ info_of self.now.journal self.now.life)) }
         ensures err { IfErr result (λ e. (self.now.deleted ≡ true) × (e ≡ DbFault.Refused Deleted)) }
     {
         Ok(self.standing()?.info())
@@ -200,10 +210,10 @@ impl DbState {
     /// `Contents::changes_descending` does.
     pub fn changes_descending(&self, params: &FeedParams) -> Result<Descending, DbFault>
         ensures ok { IfOk result (λ answer. (self.now.deleted ≡ false)
-            × (answer ≡ descending self.now.journal (params_of params.now))) }
+            × (answer ≡ descending self.now.journal self.now.life (params_of params.now))) }
         ensures err { IfErr result (λ e. e ≡ reading_fault self.now) }
         ensures memory { IfErr result (GivesUp self.now
-            (¬ ((descending self.now.journal (params_of params.now)).rows ≡ []))) }
+            (¬ ((descending self.now.journal self.now.life (params_of params.now)).rows ≡ []))) }
     {
         Ok(self.standing()?.changes_descending(params)?)
     }

@@ -25,6 +25,8 @@ pub struct Descending {
     pub last_seq: u64,
     /// How many current rows lie between where it began and that.
     pub pending: u64,
+    /// The number of the life that the sequences are of.
+    pub life: u64,
 }
 
 impl Model for Descending {
@@ -33,7 +35,12 @@ impl Model for Descending {
 
     ghost Value = { Falling };
 
-    ghost view = { λ a. record { rows = a.rows.items; last_seq = a.last_seq; pending = a.pending } };
+    ghost view = { λ a. record {
+      rows = a.rows.items;
+      last_seq = a.last_seq;
+      pending = a.pending;
+      life = a.life;
+    } };
 }
 
 // How many rows are shown at most, of so many.
@@ -61,7 +68,8 @@ impl Rows<'_> {
     fn count_between(&self, since: u64, last_seq: u64) -> u64
         requires { since ≤ last_seq }
         ensures { result
-            ≡ count_by (λ (c : Current). nat_lt since c.seq && nat_lt c.seq last_seq) (current self.now) }
+            ≡ count_by (λ (c : Current). nat_lt since c.seq && nat_lt c.seq last_seq)
+            (current self.now.edits) }
     {
         let above = self.count_after(last_seq.saturating_sub(1));
         self.count_after(since).saturating_sub(above)
@@ -71,8 +79,9 @@ impl Rows<'_> {
     fn falling(&self, params: &FeedParams, since: u64) -> Result<Vec<ChangeRow>, AllocError>
         ensures ok { let asked = params_of params.now in
             IfOk result (λ rows. rows.items
-            ≡ map (row_of self.now asked.style asked.include_docs) (falling_rows self.now asked since)) }
-        ensures memory { OnErr result (¬ (falling_rows self.now (params_of params.now) since ≡ [])) }
+            ≡ map (row_of self.now.edits asked.style asked.include_docs)
+            (falling_rows self.now.edits asked since)) }
+        ensures memory { OnErr result (¬ (falling_rows self.now.edits (params_of params.now) since ≡ [])) }
     {
         let most = most_of(params.limit, self.length());
         let mut rows = Vec::new(self.store.alloc);
@@ -100,11 +109,14 @@ impl Contents {
     /// each row from the end to the last that is shown, what each shown row costs, and two counts of
     /// rows, of which each is a step for each page of the index above its place.
     pub fn changes_descending(&self, params: &FeedParams) -> Result<Descending, AllocError>
-        ensures ok { IfOk result (λ answer. answer ≡ descending self.now.journal (params_of params.now)) }
-        ensures memory { OnErr result (¬ ((descending self.now.journal (params_of params.now)).rows ≡ [])) }
+        ensures ok { IfOk result (λ answer.
+            answer ≡ descending self.now.journal self.now.life (params_of params.now)) }
+        ensures memory { OnErr result
+            (¬ ((descending self.now.journal self.now.life (params_of params.now)).rows ≡ [])) }
     {
         let rows = self.rows();
-        let since = params.since.within(rows.length());
+        let life = rows.life();
+        let since = params.since.within(rows.length(), life);
         let falling = rows.falling(params, since)?;
         let last_seq = lowest_row(falling.as_slice(), since);
         let pending = rows.count_between(since, last_seq);
@@ -112,6 +124,7 @@ impl Contents {
             rows: falling,
             last_seq,
             pending,
+            life,
         })
     }
 }

@@ -46,7 +46,8 @@ impl DbState {
             return Err(OpenFault::TooManyFeeds);
         }
         let length = self.contents.update_seq();
-        match self.feeds.open(params, length) {
+        let life = self.contents.life();
+        match self.feeds.open(params, length, life) {
             Ok(feed) => Ok(feed),
             Err(AllocError) => Err(OpenFault::NoMemory),
         }

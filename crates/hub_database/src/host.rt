@@ -63,6 +63,11 @@ impl FeedHost for DbState {
     }
 
     /// Constant time.
+    fn life(&self) -> u64 {
+        DbState::life(self)
+    }
+
+    /// Constant time.
     fn refusal(&self) -> Option<OpenFault> {
         if self.deleted {
             return Some(OpenFault::Deleted);

@@ -36,7 +36,8 @@ fn push_some(list: &mut Vec<u64>, seq: Option<u64>) -> Result<(), AllocError>
 // The sequences of the current rows of the documents with these ids, in the order of the ids. A search
 // for each.
 fn gather(list: &mut Vec<u64>, rows: &Rows<'_>, ids: &[String]) -> Result<(), AllocError>
-    ensures { OnOk result (list.new.items ≡ filter_map (seq_of_row rows.now) (map string_bytes ids.now)) }
+    ensures { OnOk result (list.new.items
+        ≡ filter_map (seq_of_row rows.now.edits) (map string_bytes ids.now)) }
 {
     list.clear();
     for id in ids {
@@ -79,7 +80,7 @@ impl Listing {
     // Finds the rows of the feed of this number, which lists these ids.
     fn list(&mut self, number: u64, rows: &Rows<'_>, ids: &[String]) -> Result<(), AllocError>
         ensures ok { OnOk result ((self.new.feed ≡ Some number)
-            × (self.new.rows.items ≡ passing (DocIds (map string_bytes ids.now)) rows.now)) }
+            × (self.new.rows.items ≡ passing (DocIds (map string_bytes ids.now)) rows.now.edits)) }
         ensures err { OnErr result (self.new.feed ≡ None) }
     {
         self.feed = None;
@@ -95,10 +96,11 @@ impl Listing {
     /// found. Where memory is short they are not kept. Once they are: constant time.
     pub(crate) fn holds(&mut self, number: u64, rows: &Rows<'_>, ids: &[String]) -> bool
         requires kept { self.old.feed ≡ Some number
-            → self.old.rows.items ≡ passing (DocIds (map string_bytes ids.now)) rows.now }
+            → self.old.rows.items ≡ passing (DocIds (map string_bytes ids.now)) rows.now.edits }
         ensures held { IsTrue result
-            → self.new.rows.items ≡ passing (DocIds (map string_bytes ids.now)) rows.now }
-        ensures new { KeepsOrLists number (DocIds (map string_bytes ids.now)) rows.now self.old self.new }
+            → self.new.rows.items ≡ passing (DocIds (map string_bytes ids.now)) rows.now.edits }
+        ensures new { KeepsOrLists number (DocIds (map string_bytes ids.now)) rows.now.edits
+            self.old self.new }
     {
         let again = self.asked == Some(number);
         self.asked = Some(number);

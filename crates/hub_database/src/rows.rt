@@ -11,21 +11,21 @@ use hub_model::Style;
 use std::alloc::AllocError;
 use std::marker::Model;
 
-/// The rows of a store, seen as its journal.
+/// The rows of a store, seen as its journal and the number of its life.
 #[derive(Debug, Drop)]
 pub(crate) struct Rows<'a> {
     pub(crate) store: &'a Store,
+    pub(crate) life: u64,
 }
 
 impl<'a> Model for Rows<'a> {
-    ghost use Rattle.std.specs.Prelude.{List};
-    ghost use Rattle.hub_model.specs.Journal.{Edit};
+    ghost use Rattle.hub_database.specs.Database.{Followed};
 
-    ghost Value = { List Edit };
+    ghost Value = { Followed };
 
     ghost use Rattle.hub_database.specs.Store.{IsStore, HasRows, edits_of_store};
 
-    ghost view = { λ a. edits_of_store a.store.now };
+    ghost view = { λ a. record { edits = edits_of_store a.store.now; life = a.life } };
 
     ghost invariant = { λ a. IsStore a.store.now × HasRows a.store.now };
 }
@@ -34,7 +34,7 @@ impl Rows<'_> {
     /// The last current row below a place: its sequence and its id. It takes no memory.
     pub(crate) fn last_before(&self, place: u64) -> Option<(u64, &str)>
         ensures { option_map (λ p. record { seq = p.0; id = p.1.now }) result
-            ≡ find (λ (c : Current). nat_lt c.seq place) (reverse (current self.now)) }
+            ≡ find (λ (c : Current). nat_lt c.seq place) (reverse (current self.now.edits)) }
     {
         let Some((seq, number)) = self.store.index.last_before(place) else {
             return None;
@@ -48,30 +48,36 @@ impl Source for Rows<'_> {
     ghost use Rattle.std.specs.Prelude.{length};
     ghost use Rattle.hub_model.specs.Current.{current};
     ghost use Rattle.hub_model.specs.Row.{ChangeRow, row_of};
-    ghost use Rattle.hub_model.specs.Journal.{Edit};
     ghost use Rattle.hub_model.proofs.Laws.{rows_rise};
     ghost use Rattle.hub_database.specs.Laid.{rows_below};
     ghost use Rattle.std.proofs.Common.{refl};
 
     type Row = ChangeRow;
 
-    ghost length = { λ J. length J };
+    ghost length = { λ f. length f.edits };
 
-    ghost current = { λ J. current J };
+    ghost life = { λ f. f.life };
 
-    ghost shown = { λ J style include_docs c. row_of J style include_docs c };
+    ghost current = { λ f. current f.edits };
+
+    ghost shown = { λ f style include_docs c. row_of f.edits style include_docs c };
 
     ghost seq_of = { λ (r : ChangeRow). r.seq };
 
-    ghost rise = { λ J. rows_rise J };
+    ghost rise = { λ f. rows_rise f.edits };
 
-    ghost within = { λ J c. rows_below J c };
+    ghost within = { λ f c. rows_below f.edits c };
 
-    ghost keeps = { λ J style include_docs c. refl };
+    ghost keeps = { λ f style include_docs c. refl };
 
     /// Constant time.
     fn length(&self) -> u64 {
         self.store.journal.len() as u64
+    }
+
+    /// Constant time.
+    fn life(&self) -> u64 {
+        self.life
     }
 
     /// It costs what `SeqIndex::next_after` does.

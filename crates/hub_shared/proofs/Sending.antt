@@ -175,16 +175,16 @@ module _ {S R : Type 0} (hosted : S → Hosted R) (with_hosted : S → Hosted R 
         seen s feeds h.next_feed (without id senders) (sender_goes (fits s) (fits (moved s feeds h.next_feed)) (stays s (with_feeds h feeds h.next_feed)) id h (with_feeds h feeds h.next_feed) (λ q n. other_without id q n h.feeds) senders refl d (own_without id h.feeds))
 
   -- the label of a feed that begins now allows that nothing was sent
-  pub nothing_allowed : (s : S) (params : FeedParams) → ((p : Params) → fits s (begin p (hosted s).length) []) → Allows (label_of params (hosted s).length) []
-  nothing_allowed s params begins = rightly s (begin (params_of params) (hosted s).length) [] (begins (params_of params))
+  pub nothing_allowed : (s : S) (params : FeedParams) → ((p : Params) → fits s (begin p (hosted s).length (hosted s).life) []) → Allows (label_of params (hosted s)) []
+  nothing_allowed s params begins = rightly s (begin (params_of params) (hosted s).length (hosted s).life) [] (begins (params_of params))
 
   -- it comes, with its sender at the end
-  pub comes : (s : S) (params : FeedParams) (lane : ℕ) (senders : List (ℕ × FeedSender R)) → ((p : Params) → fits s (begin p (hosted s).length) []) → entry_in (hosted s).next_feed (hosted s).feeds ≡ None → Serves s senders
-      → Serves (with_hosted s (opened (hosted s) (params_of params))) (senders ++ ((hosted s).next_feed, new_sender (label_of params (hosted s).length) lane) ∷ [])
+  pub comes : (s : S) (params : FeedParams) (lane : ℕ) (senders : List (ℕ × FeedSender R)) → ((p : Params) → fits s (begin p (hosted s).length (hosted s).life) []) → entry_in (hosted s).next_feed (hosted s).feeds ≡ None → Serves s senders
+      → Serves (with_hosted s (opened (hosted s) (params_of params))) (senders ++ ((hosted s).next_feed, new_sender (label_of params (hosted s)) lane) ∷ [])
   comes s params lane senders begins fresh d =
       let h = hosted s in
-      let f = begin (params_of params) h.length in
-      let x : FeedSender R = new_sender (label_of params h.length) lane in
+      let f = begin (params_of params) h.length h.life in
+      let x : FeedSender R = new_sender (label_of params h) lane in
       let feeds = h.feeds ++ (h.next_feed, f) ∷ [] in
       let new = moved s feeds (h.next_feed + 1) in
       let mine : IsSenderOf (fits new) f x = record {

@@ -1,15 +1,18 @@
 -- What the ends of a lane know of its feed (own; CouchDB API reference, _changes).
 use Rattle.std.specs.Prelude.{ℕ}
 use Rattle.hub_model.specs.Feed.{since_of}
+use Rattle.hub_feed.specs.Host.{Hosted}
 use Rattle.hub_params.specs.FeedParams.{FeedAsked}
 use Rattle.hub_params.specs.FeedShown.{params_asked}
 use Rattle.hub_params.specs.declared.feed_params.FeedParams.{FeedParams}
 
--- what was asked for, and where the feed began
+-- what was asked for, where the feed began, and in which life
 pub record Label : Type 0 where
   pub asked : FeedAsked
   pub since : ℕ  -- it shows what lies above
+  pub life : ℕ  -- the number of the life that its sequences are of
 
--- the label of a feed that is opened with these parameters while there are len edits
-abbrev pub label_of : FeedParams → ℕ → Label
-label_of params len = record { asked = params_asked params; since = since_of params.since len }
+-- the label of a feed that is opened with these parameters while what it follows is so
+abbrev pub label_of : {R : Type 0} → FeedParams → Hosted R → Label
+label_of params h =
+    record { asked = params_asked params; since = since_of params.since h.length h.life; life = h.life }

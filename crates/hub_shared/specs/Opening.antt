@@ -16,7 +16,7 @@ module _ {S R : Type 0} (hosted : S → Hosted R) (with_hosted : S → Hosted R 
       let h = hosted l.state in
       record l {
         state = with_hosted l.state (opened h (params_of params));
-        senders = l.senders ++ (h.next_feed, new_sender (label_of params h.length) l.lane) ∷ [];
+        senders = l.senders ++ (h.next_feed, new_sender (label_of params h) l.lane) ∷ [];
       }
 
   -- a feed of a new number was opened, with a sender, and this is its receiver
@@ -25,5 +25,5 @@ module _ {S R : Type 0} (hosted : S → Hosted R) (with_hosted : S → Hosted R 
     pub free : refuses (hosted l.state) ≡ None
     pub fresh : entry_in number (hosted l.state).feeds ≡ None
     pub next : number ≡ (hosted l.state).next_feed
-    pub receives : receiver ≡ new_receiver (label_of params (hosted l.state).length)
+    pub receives : receiver ≡ new_receiver (label_of params (hosted l.state))
     pub step : new ≡ begun l params

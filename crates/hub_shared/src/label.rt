@@ -9,12 +9,13 @@ use hub_model::Item;
 use hub_params::FeedParams;
 use std::marker::{Model, PhantomData};
 
-/// What a feed of a host `S` was asked for, and where it began. It says which lists of items may be
-/// sent for the feed: those that the host calls right for such a feed.
+/// What a feed of a host `S` was asked for, where it began, and in which life. It says which lists of items
+/// may be sent for the feed: those that the host calls right for such a feed.
 #[derive(Drop)]
 pub struct FeedLabel<S> {
     params: FeedParams,
     since: u64,
+    life: u64,
     host: PhantomData<S>,
 }
 
@@ -24,16 +25,17 @@ impl<S> Model for FeedLabel<S> {
 
     ghost Value = { Label };
 
-    ghost view = { λ a. record { asked = params_asked a.params; since = a.since } };
+    ghost view = { λ a. record { asked = params_asked a.params; since = a.since; life = a.life } };
 }
 
 impl<S> FeedLabel<S> {
-    pub(crate) fn new(params: FeedParams, since: u64) -> FeedLabel<S>
-        ensures { result ≡ record { asked = params_asked params; since = since } }
+    pub(crate) fn new(params: FeedParams, since: u64, life: u64) -> FeedLabel<S>
+        ensures { result ≡ record { asked = params_asked params; since = since; life = life } }
     {
         FeedLabel {
             params,
             since,
+            life,
             host: PhantomData,
         }
     }
@@ -50,6 +52,13 @@ impl<S> FeedLabel<S> {
         ensures { result ≡ self.now.since }
     {
         self.since
+    }
+
+    /// The number of the life that its sequences are of. Constant time.
+    pub fn life(&self) -> u64
+        ensures { result ≡ self.now.life }
+    {
+        self.life
     }
 }
 

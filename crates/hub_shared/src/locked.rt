@@ -102,13 +102,15 @@ impl<S: FeedHost> Locked<S> {
     // The ends of a lane for a feed of these parameters that begins now.
     fn ends_for(&self, params: &FeedParams) -> Result<Ends<S>, AllocError>
         ensures sender { IfOk result (λ ends. ends.0
-            ≡ new_sender (label_of params.now (S.hosted self.now.state).length) self.now.lane) }
+            ≡ new_sender (label_of params.now (S.hosted self.now.state)) self.now.lane) }
         ensures receiver { IfOk result (λ ends. ends.1
-            ≡ new_receiver (label_of params.now (S.hosted self.now.state).length)) }
-        ensures begins { (p : Params) → S.fits self.now.state (begin p (S.hosted self.now.state).length) [] }
+            ≡ new_receiver (label_of params.now (S.hosted self.now.state))) }
+        ensures begins { (p : Params)
+            → S.fits self.now.state (begin p (S.hosted self.now.state).length (S.hosted self.now.state).life) [] }
     {
-        let since = params.since.within(self.state.length());
-        let label = FeedLabel::new(params.copy(self.alloc)?, since);
+        let life = self.state.life();
+        let since = params.since.within(self.state.length(), life);
+        let label = FeedLabel::new(params.copy(self.alloc)?, since, life);
         Lane::new(self.alloc, self.lane, label)
     }
 

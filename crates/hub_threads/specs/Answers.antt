@@ -20,14 +20,14 @@ local_named id l = record { id = id; count = l.count; body = l.body }
 
 -- the answer to each question is the one of its own kind, by the words of databases
 abbrev pub IsAnswer : Database → Question → Answer → Type 0
-IsAnswer db asks.Info (says.Info info) = info ≡ info_of db.journal
+IsAnswer db asks.Info (says.Info info) = info ≡ info_of db.journal db.life
 IsAnswer db (asks.Get id revs) (says.Get found) = found ≡ lookup db.journal (string_bytes id) revs
 IsAnswer db (asks.Winner id) (says.Winner found) = found ≡ winner_of (leaves_of db.journal (string_bytes id))
 IsAnswer db (asks.OpenRevs id which revs) (says.OpenRevs found) =
     found.items ≡ open_revs db.journal (string_bytes id) which revs
 IsAnswer db (asks.RevsDiff asked) (says.RevsDiff found) = found.items ≡ diffs db.journal asked.items
 IsAnswer db (asks.Descending params) (says.Descending found) =
-    found ≡ descending db.journal (params_of params)
+    found ≡ descending db.journal db.life (params_of params)
 IsAnswer db (asks.Local id) (says.Local found) =
     option_map (local_named (string_bytes id)) found ≡ local_of db.locals (string_bytes id)
 IsAnswer db question answer = ⊥
@@ -40,5 +40,5 @@ TakesMemory db (asks.Get id revs) = HasDocument db.journal (string_bytes id) rev
 TakesMemory db (asks.Winner id) = ⊥
 TakesMemory db (asks.OpenRevs id which revs) = ¬ (open_revs db.journal (string_bytes id) which revs ≡ [])
 TakesMemory db (asks.RevsDiff asked) = ¬ (diffs db.journal asked.items ≡ [])
-TakesMemory db (asks.Descending params) = ¬ ((descending db.journal (params_of params)).rows ≡ [])
+TakesMemory db (asks.Descending params) = ¬ ((descending db.journal db.life (params_of params)).rows ≡ [])
 TakesMemory db (asks.Local id) = IsSome (local_of db.locals (string_bytes id))

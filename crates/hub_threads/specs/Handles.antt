@@ -1,11 +1,13 @@
 -- What a handle on a database knows of it (own).
 use Rattle.std.specs.Prelude.{◌≡◌, ℕ, ◌≤◌, ◌<◌, List, length, take, min, Bool, true, false, IsTrue}
+use Rattle.hub_model.specs.Feed.{counted_in}
 use Rattle.hub_model.specs.Journal.{IsLegal}
 use Rattle.hub_model.specs.declared.feeds.Since.{Since}
-use Rattle.hub_model.specs.declared.feeds.Since.TheVariants.{From, Now}
+use Rattle.hub_model.specs.declared.feeds.Since.TheVariants.{Now, Plain, Tagged}
 use Rattle.hub_document.specs.declared.doc.Doc.{Doc}
 use Rattle.hub_database.specs.Database.{Database}
 use Rattle.hub_database.specs.Edits.{writes}
+use Rattle.hub_shared.specs.Label.{Label}
 use Rattle.hub_shared.specs.Receipts.{ids_of, receipts_from}
 use Rattle.hub_shared.specs.declared.write.Accepted.{Accepted}
 use Rattle.hub_threads.specs.Answers.{IsAnswer}
@@ -44,9 +46,17 @@ module _ (counts : Bool) (all_parts : ℕ) (h : HandleState) where
     pub whole : a.stopped ≡ false → length a.replies ≡ length docs
     pub stopped : IsTrue a.stopped → length a.replies < length docs
 
--- where a feed begins that was asked for with this since, by a handle that has counted so many edits: not
--- above a sequence that was given, and not below it unless the journal is shorter; with now behind all edits
--- since=7 by a handle that counted 5 begins at 5, 6 or 7
-abbrev pub IsBeginningFor : Since → ℕ → ℕ → Type 0
-IsBeginningFor (From seq) count since = (since ≤ seq) × (min seq count ≤ since)
-IsBeginningFor Now count since = count ≤ since
+-- where a feed begins that was asked to begin at this sequence, by a handle that has counted so many edits:
+-- not above it, and not below it unless the journal is shorter
+-- at 7 by a handle that counted 5 it begins at 5, 6 or 7
+abbrev pub IsBeginningAt : (seq count since : ℕ) → Type 0
+IsBeginningAt seq count since = (since ≤ seq) × (min seq count ≤ since)
+
+-- the label of a feed that was asked for with this since, by a handle that has counted so many edits: with now
+-- it begins behind all of these, and a sequence of another life counts as 0
+-- since=7-2 by a handle that counted 5 begins at 5, 6 or 7 in the second life, and in any other at 0
+abbrev pub IsBeginningFor : Since → (count : ℕ) → Label → Type 0
+IsBeginningFor Now count label = count ≤ label.since
+IsBeginningFor (Plain seq) count label = IsBeginningAt seq count label.since
+IsBeginningFor (Tagged seq of) count label =
+    IsBeginningAt (counted_in label.life seq of) count label.since

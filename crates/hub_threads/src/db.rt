@@ -13,13 +13,18 @@ use std::alloc::{AllocError, Global};
 pub type Db<C> = Host<Guarded<C>>;
 
 impl<C: Count> Host<Guarded<C>> {
-    /// An empty database, and the handle that has every part of the count.
-    pub fn new(alloc: Global, limits: Limits, count: C) -> Result<(Db<C>, Handle<C>), AllocError>
+    /// An empty database, of the life of this number, and the handle that has every part of the count.
+    pub fn new(
+        alloc: Global,
+        limits: Limits,
+        life: u64,
+        count: C,
+    ) -> Result<(Db<C>, Handle<C>), AllocError>
         ensures count { IfOk result (λ made. made.1.count ≡ 0) }
         ensures parts { IfOk result (λ made. C.counts ≡ true → made.1.parts ≡ C.all_parts) }
     {
         let (book, share) = count.open();
-        let db = Host::of(alloc, Guarded::new(alloc, limits, book))?;
+        let db = Host::of(alloc, Guarded::new(alloc, limits, life, book))?;
         let handle = Handle::new(db.again()?, share);
         Ok((db, handle))
     }

@@ -55,14 +55,14 @@ impl<C: Count> Model for Guarded<C> {
 }
 
 impl<C: Count> Guarded<C> {
-    /// An empty database. It takes no memory.
-    pub(crate) fn new(alloc: Global, limits: Limits, book: C::Book) -> Guarded<C>
+    /// An empty database, of the life of this number. It takes no memory.
+    pub(crate) fn new(alloc: Global, limits: Limits, life: u64, book: C::Book) -> Guarded<C>
         requires { C.total book ≡ 0 }
     {
         Guarded {
             served: Served::new(
                 alloc,
-                DbState::new(alloc, limits),
+                DbState::new(alloc, limits, life),
                 limits.lane as usize,
                 limits.hold,
             ),
@@ -136,7 +136,7 @@ impl<C: Count> Guarded<C> {
     ) -> Result<OpenedFeed<DbState>, OpenFault>
         ensures asks { IfOk result (λ opened. opened.receiver.label.asked ≡ params_asked params) }
         ensures begins { IfOk result (λ opened.
-            IsBeginningFor params.since (C.amount share.old) opened.receiver.label.since) }
+            IsBeginningFor params.since (C.amount share.old) opened.receiver.label) }
         ensures none { IfOk result (λ opened. opened.receiver.taken ≡ []) }
         ensures err { IfErr result (λ e. e ≡ opening_fault (hosted_of self.old.state)) }
         ensures same { (C.amount share.new ≡ C.amount share.old) × (C.parts share.new ≡ C.parts share.old) }

@@ -130,7 +130,7 @@ impl<C: Count> Handle<C> {
     pub fn open_feed<R: Wait>(&mut self, rt: &R, params: FeedParams) -> Result<Feed<C>, OpenFault>
         ensures asks { IfOk result (λ feed. feed.label.asked ≡ params_asked params) }
         ensures begins { IfOk result (λ feed.
-            IsBeginningFor params.since self.old.count feed.label.since) }
+            IsBeginningFor params.since self.old.count feed.label) }
         ensures none { IfOk result (λ feed. feed.taken ≡ []) }
         ensures err { IfErr result (λ e. (e ≡ OpenFault.NoMemory)
             ⊎ ((db : Database) × (e ≡ opening_fault (hosted_of db)))) }

@@ -31,11 +31,11 @@ impl Served<UpdatesState> {
 }
 
 impl Host<Served<UpdatesState>> {
-    /// A log of nothing.
+    /// A log of nothing. Its life is 0, which no database has.
     pub fn of_updates(alloc: Global, limits: Limits) -> Result<Updates, AllocError> {
         let served = Served::new(
             alloc,
-            UpdatesState::new(alloc, limits),
+            UpdatesState::new(alloc, limits, 0),
             limits.lane as usize,
             limits.hold,
         );
@@ -56,7 +56,7 @@ impl Host<Served<UpdatesState>> {
     /// something `pump` for it, and `HostFeed::take`. It costs the wait for the lock, and what `Locked::begin` does.
     pub fn open_feed<R: Wait>(&self, rt: &R, params: FeedParams) -> Result<UpdatesFeed, OpenFault>
         ensures asks { IfOk result (λ feed. feed.label.asked ≡ params_asked params) }
-        ensures begins { IfOk result (λ feed. IsBeginningFor params.since 0 feed.label.since) }
+        ensures begins { IfOk result (λ feed. IsBeginningFor params.since 0 feed.label) }
         ensures none { IfOk result (λ feed. feed.taken ≡ []) }
         ensures err { IfErr result (λ e. (e ≡ OpenFault.NoMemory) ⊎ (e ≡ OpenFault.TooManyFeeds)) }
     {

@@ -16,6 +16,12 @@ pub record Updates : Type 0 where
   pub feeds : List (ℕ × Feed)  -- those that are not finished, with their numbers, which rise
   pub next_feed : ℕ  -- the number of the next feed
   pub limits : Limits
+  pub life : ℕ  -- the number of its life
+
+-- what its feeds follow: what happened, and the number of its life
+pub record Noted : Type 0 where
+  pub notes : List Note
+  pub life : ℕ
 
 -- What the feeds of a log follow, and the feeds. The notes are followed as edits: one is current until the
 -- same happens to the same database again. Where d was created, updated and updated again, the current rows
@@ -23,6 +29,7 @@ pub record Updates : Type 0 where
 abbrev pub hosted_of : Updates → Hosted UpdateRow
 hosted_of log = record {
   length = length log.notes;
+  life = log.life;
   current = current (edits_of_log log.notes);
   shown = update_row_of (edits_of_log log.notes);
   feeds = log.feeds;

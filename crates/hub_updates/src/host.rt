@@ -3,7 +3,7 @@
 use crate::log::Log;
 use crate::state::UpdatesState;
 use hub_document::UpdateRow;
-use hub_feed::{FeedHost, FeedId, Mark, Next, OpenFault};
+use hub_feed::{FeedHost, FeedId, Mark, Next, OpenFault, Source};
 use hub_model::Item;
 use hub_params::FeedParams;
 use std::alloc::AllocError;
@@ -61,6 +61,11 @@ impl FeedHost for UpdatesState {
     }
 
     /// Constant time.
+    fn life(&self) -> u64 {
+        self.log.life()
+    }
+
+    /// Constant time.
     fn refusal(&self) -> Option<OpenFault> {
         if self.feeds.is_full(self.limits.feeds) {
             return Some(OpenFault::TooManyFeeds);
@@ -73,7 +78,7 @@ impl FeedHost for UpdatesState {
         if self.feeds.is_full(self.limits.feeds) {
             return Err(OpenFault::TooManyFeeds);
         }
-        match self.feeds.open(params, self.log.len()) {
+        match self.feeds.open(params, self.log.len(), self.log.life()) {
             Ok(feed) => Ok(feed),
             Err(AllocError) => Err(OpenFault::NoMemory),
         }

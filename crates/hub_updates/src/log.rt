@@ -36,18 +36,19 @@ pub(crate) struct Log {
     pub(crate) numbers: BTreeMap<String, u32>,
     /// The pairs' numbers by the sequences of their latest notes.
     pub(crate) index: PageIndex,
+    /// The number of its life.
+    pub(crate) life: u64,
     pub(crate) alloc: Global,
 }
 
 impl Model for Log {
-    ghost use Rattle.std.specs.Prelude.{List};
     ghost use Rattle.std.specs.BTreeMap.{get_by_text};
-    ghost use Rattle.hub_model.specs.Updates.{Note};
     ghost use Rattle.hub_updates.specs.Kept.{IsKept, ids_of, notes_of};
+    ghost use Rattle.hub_updates.specs.Log.{Noted};
 
-    ghost Value = { List Note };
+    ghost Value = { Noted };
 
-    ghost view = { λ a. notes_of (ids_of a.pairs.items) a.notes.items };
+    ghost view = { λ a. record { notes = notes_of (ids_of a.pairs.items) a.notes.items; life = a.life } };
 
     ghost invariant = { λ a. IsKept (get_by_text a.numbers) (ids_of a.pairs.items) a.notes.items a.index };
 }
@@ -163,22 +164,24 @@ fn add(
 }
 
 impl Log {
-    /// A log of nothing. It takes no memory yet; `note` takes it from this allocator.
-    pub(crate) fn new(alloc: Global) -> Log
-        ensures { result ≡ [] }
+    /// A log of nothing, of the life of this number. It takes no memory yet; `note` takes it from this
+    /// allocator.
+    pub(crate) fn new(alloc: Global, life: u64) -> Log
+        ensures { result ≡ record { notes = []; life = life } }
     {
         Log {
             notes: Vec::new(alloc),
             pairs: Vec::new(alloc),
             numbers: BTreeMap::new(alloc),
             index: PageIndex::new(alloc),
+            life,
             alloc,
         }
     }
 
     /// How many notes there are. Constant time.
     pub(crate) fn len(&self) -> u64
-        ensures { result ≡ length self.now }
+        ensures { result ≡ length self.now.notes }
     {
         self.notes.len() as u64
     }
@@ -186,8 +189,8 @@ impl Log {
     /// Adds a note at the end. It costs a copy of the name, one more for the first note of a pair, a
     /// look in the map of ids, and a move in the index of rows. An error leaves all as it was.
     pub(crate) fn note(&mut self, notice: &Notice) -> Result<(), AllocError>
-        requires room { length self.old < 2 ^ 32 - 1 }
-        ensures ok { OnOk result (self.new ≡ self.old ++ notice.now ∷ []) }
+        requires room { length self.old.notes < 2 ^ 32 - 1 }
+        ensures ok { OnOk result (self.new ≡ record self.old { notes = self.old.notes ++ notice.now ∷ [] }) }
         ensures err { OnErr result (self.new ≡ self.old) }
     {
         let id = id_of(self.alloc, notice)?;

@@ -38,23 +38,30 @@ impl Source for Log {
 
     type Row = UpdateRow;
 
-    ghost length = { λ notes. length notes };
+    ghost length = { λ log. length log.notes };
 
-    ghost current = { λ notes. current (edits_of_log notes) };
+    ghost life = { λ log. log.life };
 
-    ghost shown = { λ notes style include_docs c. update_row_of (edits_of_log notes) style include_docs c };
+    ghost current = { λ log. current (edits_of_log log.notes) };
+
+    ghost shown = { λ log style include_docs c. update_row_of (edits_of_log log.notes) style include_docs c };
 
     ghost seq_of = { λ (r : Shown). r.seq };
 
-    ghost rise = { λ notes. rows_rise (edits_of_log notes) };
+    ghost rise = { λ log. rows_rise (edits_of_log log.notes) };
 
-    ghost within = { λ notes c. rows_below notes c };
+    ghost within = { λ log c. rows_below log.notes c };
 
-    ghost keeps = { λ notes style include_docs c. refl };
+    ghost keeps = { λ log style include_docs c. refl };
 
     /// Constant time.
     fn length(&self) -> u64 {
         self.len()
+    }
+
+    /// Constant time.
+    fn life(&self) -> u64 {
+        self.life
     }
 
     /// It costs what `SeqIndex::next_after` does.

@@ -35,22 +35,24 @@ impl Model for UpdatesState {
     ghost Value = { Updates };
 
     ghost view = { λ a. record {
-      notes = a.log;
+      notes = a.log.notes;
       feeds = a.feeds.feeds;
       next_feed = a.feeds.next;
       limits = a.limits;
+      life = a.log.life;
     } };
 
-    ghost invariant = { λ a. AreBehind (length a.log) a.feeds.feeds };
+    ghost invariant = { λ a. AreBehind (length a.log.notes) a.feeds.feeds };
 }
 
 impl UpdatesState {
-    /// A log of nothing. It takes no memory yet; later calls take it from this allocator.
-    pub fn new(alloc: Global, limits: Limits) -> UpdatesState
-        ensures { result ≡ record { notes = []; feeds = []; next_feed = 0; limits = limits } }
+    /// A log of nothing, of the life of this number. It takes no memory yet; later calls take it from
+    /// this allocator.
+    pub fn new(alloc: Global, limits: Limits, life: u64) -> UpdatesState
+        ensures { result ≡ record { notes = []; feeds = []; next_feed = 0; limits = limits; life = life } }
     {
         UpdatesState {
-            log: Log::new(alloc),
+            log: Log::new(alloc, life),
             feeds: Feeds::new(alloc),
             limits,
         }

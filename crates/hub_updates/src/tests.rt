@@ -151,7 +151,7 @@ fn holds(alloc: Global, state: &mut UpdatesState, step: &Step) -> bool {
 // How many steps have their answers in a new log within these limits, before the first that has
 // another.
 fn count_within(alloc: Global, limits: Limits, steps: &[Step]) -> usize {
-    let mut state = UpdatesState::new(alloc, limits);
+    let mut state = UpdatesState::new(alloc, limits, 0);
     let mut count = 0usize;
     for step in steps {
         if !holds(alloc, &mut state, step) {
@@ -233,6 +233,29 @@ const FOLLOWED: &[Step] = &[
 #[test]
 fn a_continuous_feed_hands_rows_as_they_come(rt: HostRuntime) {
     assert_within(&rt, rt.alloc(), Limits::full(), FOLLOWED);
+}
+
+// A feed begins at a sequence of the log's life, 0, and with the first row at one of another life.
+const LIVES: &[Step] = &[
+    Note(Created, "d", Ok(())),
+    Note(Created, "e", Ok(())),
+    Open("since=1-0", Ok(FIRST)),
+    Hands(FIRST, &[Row(Created, "e", 2, 2), End(2, 0), Gone]),
+    Open("since=1-1", Ok(SECOND)),
+    Hands(
+        SECOND,
+        &[
+            Row(Created, "d", 1, 2),
+            Row(Created, "e", 2, 2),
+            End(2, 0),
+            Gone,
+        ],
+    ),
+];
+
+#[test]
+fn a_sequence_of_a_database_is_none_of_the_log(rt: HostRuntime) {
+    assert_within(&rt, rt.alloc(), Limits::full(), LIVES);
 }
 
 // Limits within which a log has one note, and one feed.

@@ -20,7 +20,7 @@ use Rattle.hub_world.specs.Handed.{handed_by, taken_by, handed, taken}
 -- what may happen to a subscription s, whose list of handed items is h and of taken ones t
 pub record IsKept (Q : List Edit → Subscription → List ChangeItem → List ChangeItem → Type 0) : Type 0 where
   pub grows : (J es : List Edit) (s : Subscription) (h t : List ChangeItem) → Q J s h t → Q (J ++ es) s h t
-  pub begins : (J : List Edit) (params : Params) → Q J (record { feed = begin params (length J); lane = [] }) [] []
+  pub begins : (J : List Edit) (params : Params) (life : ℕ) → Q J (record { feed = begin params (length J) life; lane = [] }) [] []
   pub hands : (J : List Edit) (s : Subscription) (h t : List ChangeItem) (item : ChangeItem) → change_due J s.feed ≡ Some item → Q J s h t → Q J (pushed s (after_due s.feed (due_in J s.feed) (length J)) item) (h ++ item ∷ []) t
   pub beats : (J : List Edit) (s : Subscription) (h t : List ChangeItem) → beat_due s.feed ≡ true → Q J s h t → Q J (pushed s s.feed Beat) (h ++ Beat ∷ []) t
   pub waits : (J : List Edit) (s : Subscription) (h t : List ChangeItem) → due_in J s.feed ≡ DueNothing → Q J s h t → Q J (record s { feed = after_nothing s.feed (length J) }) h t
@@ -85,12 +85,12 @@ module _ (Q : List Edit → Subscription → List ChangeItem → List ChangeItem
   more_edits J K (Some s) h t a i = simp append-nil (subst (λ L. Q L s h t) (sym a.1) (k.grows J a.0 s h t i))
 
   -- a feed is opened
-  opens : (J : List Edit) (xs : List Subscription) (params : Params) (g : ℕ) (h t : List ChangeItem) → In Q J (slice_get xs g) h t → In Q J (slice_get (xs ++ record { feed = begin params (length J); lane = [] } ∷ []) g) (h ++ []) (t ++ [])
-  opens J xs params g h t i =
-      elim (get_push xs (record { feed = begin params (length J); lane = [] }) g) [
+  opens : (J : List Edit) (xs : List Subscription) (params : Params) (life g : ℕ) (h t : List ChangeItem) → In Q J (slice_get xs g) h t → In Q J (slice_get (xs ++ record { feed = begin params (length J) life; lane = [] } ∷ []) g) (h ++ []) (t ++ [])
+  opens J xs params life g h t i =
+      elim (get_push xs (record { feed = begin params (length J) life; lane = [] }) g) [
         | inl e ↦ subst (λ o. In Q J o (h ++ []) (t ++ [])) (sym e) (stays J (slice_get xs g) h t i)
         | inr e ↦ let none : In Q J None h t = subst (λ o. In Q J o h t) e.0 i in
-            subst (λ o. In Q J o (h ++ []) (t ++ [])) (sym e.1) (rw (append-nil h ∙ none.0, append-nil t ∙ none.1) (k.begins J params))
+            subst (λ o. In Q J o (h ++ []) (t ++ [])) (sym e.1) (rw (append-nil h ∙ none.0, append-nil t ∙ none.1) (k.begins J params life))
       ]
 
   -- every open feed is closed
@@ -139,7 +139,7 @@ module _ (Q : List Edit → Subscription → List ChangeItem → List ChangeItem
   step_keeps old (Write edits) _ new g h t m i = absurd m
   step_keeps old (Interactive drafts) (Outcomes outcomes) new g h t m i = rw m.1 (more_edits old.journal (drafted old drafts).journal (subscription old g) h t (all_add (makes old.limits.journal) (make_adds old.limits.journal) old.deleted old.journal drafts) i)
   step_keeps old (Interactive drafts) _ new g h t m i = absurd m
-  step_keeps old (Begin params) (Opened f) new g h t m i = rw m.3 (opens old.journal old.feeds params g h t i)
+  step_keeps old (Begin params) (Opened f) new g h t m i = rw m.3 (opens old.journal old.feeds params old.life g h t i)
   step_keeps old (Begin params) DatabaseDeleted new g h t m i = rw m.1 (stays old.journal (subscription old g) h t i)
   step_keeps old (Begin params) TooManyFeeds new g h t m i = rw m.2 (stays old.journal (subscription old g) h t i)
   step_keeps old (Begin params) _ new g h t m i = absurd m

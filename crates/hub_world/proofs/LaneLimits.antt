@@ -69,7 +69,7 @@ step_limited n old (Write edits) (Outcomes outcomes) new m h = rw m.1 (record { 
 step_limited n old (Write edits) _ new m h = absurd m
 step_limited n old (Interactive drafts) (Outcomes outcomes) new m h = rw m.1 (record { limit = h.limit; lanes = h.lanes })
 step_limited n old (Interactive drafts) _ new m h = absurd m
-step_limited n old (Begin params) (Opened f) new m h = rw m.3 (record { limit = h.limit; lanes = opened_limited n old.feeds (begin params (length old.journal)) h.lanes })
+step_limited n old (Begin params) (Opened f) new m h = rw m.3 (record { limit = h.limit; lanes = opened_limited n old.feeds (begin params (length old.journal) old.life) h.lanes })
 step_limited n old (Begin params) DatabaseDeleted new m h = rw m.1 h
 step_limited n old (Begin params) TooManyFeeds new m h = rw m.2 h
 step_limited n old (Begin params) _ new m h = absurd m

@@ -27,7 +27,7 @@ fitting_kept : IsKept FitsAlone
 unfolding FitsAlone
 fitting_kept = record {
   grows = λ J es s h t q. fits_grows change_rows J es s.feed h q;
-  begins = λ J params. fits_begin change_rows J params;
+  begins = λ J params life. fits_begin change_rows J params life;
   hands = λ J s h t item d q. fits_handed change_rows J s.feed h item d q;
   beats = λ J s h t d q. fits_beat change_rows J s.feed h d q;
   waits = λ J s h t d q. fits_nothing change_rows J s.feed h d q;
@@ -91,7 +91,7 @@ goes_in t lane dropped h item d e =
 told_kept : IsKept Told
 told_kept = record {
   grows = λ J es s h t q. record { fits = fits_grows change_rows J es s.feed h q.fits; dropped = q.dropped; in_order = q.in_order; none = q.none };
-  begins = λ J params. record { fits = fits_begin change_rows J params; dropped = []; in_order = refl; none = λ e. refl };
+  begins = λ J params life. record { fits = fits_begin change_rows J params life; dropped = []; in_order = refl; none = λ e. refl };
   hands = λ J s h t item d q. record {
     fits = fits_handed change_rows J s.feed h item d q.fits;
     dropped = [];

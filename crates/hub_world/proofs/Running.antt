@@ -20,9 +20,10 @@ use Rattle.hub_world.proofs.Answering.{is_only_answer}
 use Rattle.hub_world.proofs.Faithful.{after-append}
 
 -- a core without edits and feeds shows an empty world
-pub new_shows : (c : Core) (limits : hub.Limits) → c.db.journal ≡ [] → c.db.deleted ≡ false → c.db.feeds ≡ [] → c.db.next_feed ≡ 0 → c.db.limits ≡ limits → c.lanes ≡ [] → Shows c (empty (limits_of limits))
-new_shows c limits journal deleted feeds next_feed same lanes = record {
+pub new_shows : (c : Core) (limits : hub.Limits) → c.db.journal ≡ [] → c.db.deleted ≡ false → c.db.feeds ≡ [] → c.db.next_feed ≡ 0 → c.db.limits ≡ limits → c.db.life ≡ 1 → c.lanes ≡ [] → Shows c (empty (limits_of limits))
+new_shows c limits journal deleted feeds next_feed same life lanes = record {
   limits = ap limits_of (sym same);
+  life = sym life;
   journal = sym journal;
   deleted = sym deleted;
   given = sym next_feed;

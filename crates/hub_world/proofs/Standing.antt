@@ -70,6 +70,7 @@ pub entry_changed : (c : Core) (w : World) (f : ℕ) (φ : Feed → Feed) (ψ : 
     → φ s.feed ≡ new.feed → ψ s.lane ≡ new.lane → Shows (with_entry c f φ ψ) (with_subscription w f new)
 entry_changed c w f φ ψ s new sh i stands stands' feed lane = record {
   limits = sh.limits;
+  life = sh.life;
   journal = sh.journal;
   deleted = sh.deleted;
   given = length-set w.feeds f new ∙ sh.given;
@@ -80,7 +81,7 @@ entry_changed c w f φ ψ s new sh i stands stands' feed lane = record {
 
 -- its journal is another
 pub journal_changed : (c : Core) (w : World) (J : List Edit) → Shows c w → Shows (record c { db = record c.db { journal = J } }) (record w { journal = J })
-journal_changed c w J sh = record { limits = sh.limits; journal = refl; deleted = sh.deleted; given = sh.given; feeds = sh.feeds; lanes = sh.lanes; emptied = sh.emptied }
+journal_changed c w J sh = record { limits = sh.limits; life = sh.life; journal = refl; deleted = sh.deleted; given = sh.given; feeds = sh.feeds; lanes = sh.lanes; emptied = sh.emptied }
 
 -- room for one more
 pub room_shown : (c : Core) (w : World) → Shows c w → is_full (hosted_of c.db) ≡ has_no_room w
@@ -93,14 +94,15 @@ room_shown c w sh =
 pub feed_opened : (c : Core) (w : World) (params : Params) → Shows c w
     → Shows (record { db = with_hosted c.db (opened (hosted_of c.db) params); lanes = c.lanes ++ (c.db.next_feed, []) ∷ [] }) (with_feed w params)
 feed_opened c w params sh =
-    let new : Subscription = record { feed = begin params (length w.journal); lane = [] } in
+    let new : Subscription = record { feed = begin params (length w.journal) w.life; lane = [] } in
+    let begun : new.feed ≡ begin params (length c.db.journal) c.db.life = ap₂ (λ (J : List Edit) (life : ℕ). begin params (length J) life) sh.journal sh.life in
     record {
       limits = sh.limits;
+      life = sh.life;
       journal = sh.journal;
       deleted = sh.deleted;
       given = omega (arith, length_push w.feeds new, sh.given);
-      feeds = added (λ s. s.feed) 0 c.db.next_feed w.feeds new (omega (arith, sh.given)) refl
-          ∙ ap₂ (λ (fs : List (ℕ × Feed)) (J : List Edit). fs ++ (c.db.next_feed, begin params (length J)) ∷ []) sh.feeds sh.journal;
+      feeds = added (λ s. s.feed) 0 c.db.next_feed w.feeds new (omega (arith, sh.given)) refl ∙ ap₂ (λ (fs : List (ℕ × Feed)) (f : Feed). fs ++ (c.db.next_feed, f) ∷ []) sh.feeds begun;
       lanes = added (λ s. s.lane) 0 c.db.next_feed w.feeds new (omega (arith, sh.given)) refl ∙ ap (λ (ls : Lanes). ls ++ (c.db.next_feed, []) ∷ []) sh.lanes;
       emptied = All-push IsEmptied w.feeds new sh.emptied (λ t. refl);
     }
@@ -114,6 +116,7 @@ feed_finished c w f sh = from (subscription w f) refl (feed_seen c w f sh) (lane
         → Shows (record { db = record c.db { feeds = without f c.db.feeds }; lanes = without f c.lanes }) (finished o f w)
     from None q e l = record {
       limits = sh.limits;
+      life = sh.life;
       journal = sh.journal;
       deleted = sh.deleted;
       given = sh.given;
@@ -125,6 +128,7 @@ feed_finished c w f sh = from (subscription w f) refl (feed_seen c w f sh) (lane
         let new : Subscription = record { feed = finish s.feed; lane = [] } in
         record {
           limits = sh.limits;
+          life = sh.life;
           journal = sh.journal;
           deleted = sh.deleted;
           given = length-set w.feeds f new ∙ sh.given;
@@ -137,6 +141,7 @@ feed_finished c w f sh = from (subscription w f) refl (feed_seen c w f sh) (lane
 pub feeds_deleted : (c : Core) (w : World) → Shows c w → Shows (record c { db = deleted c.db }) (record w { deleted = true; feeds = map ended w.feeds })
 feeds_deleted c w sh = record {
   limits = sh.limits;
+  life = sh.life;
   journal = sh.journal;
   deleted = refl;
   given = length-map w.feeds ended ∙ sh.given;

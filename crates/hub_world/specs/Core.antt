@@ -41,6 +41,7 @@ IsEmptied s = is_finished s.feed.status ≡ true → s.lane ≡ []
 -- the core shows this world
 pub record Shows (c : Core) (w : World) : Type 0 where
   pub limits : w.limits ≡ limits_of c.db.limits
+  pub life : w.life ≡ c.db.life
   pub journal : w.journal ≡ c.db.journal
   pub deleted : w.deleted ≡ c.db.deleted
   pub given : length w.feeds ≡ c.db.next_feed

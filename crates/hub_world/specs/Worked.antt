@@ -10,7 +10,7 @@ use Rattle.hub_model.specs.declared.feeds.Item.TheVariants.{Row, Beat, End}
 use Rattle.hub_model.specs.declared.feeds.Mode.{Mode}
 use Rattle.hub_model.specs.declared.feeds.Mode.TheVariants.{Normal, Longpoll, Continuous}
 use Rattle.hub_model.specs.declared.feeds.Since.{Since}
-use Rattle.hub_model.specs.declared.feeds.Since.TheVariants.{From, Now}
+use Rattle.hub_model.specs.declared.feeds.Since.TheVariants.{Plain, Tagged, Now}
 use Rattle.hub_model.specs.declared.feeds.Style.{Style}
 use Rattle.hub_model.specs.declared.feeds.Style.TheVariants.{MainOnly, AllDocs}
 use Rattle.hub_model.specs.declared.outcomes.Fault.TheVariants.{Deleted, Contradicts, Conflict}
@@ -64,7 +64,7 @@ second id = doc id (rev 2 (codes "b") ∷ rev 1 (codes "a") ∷ [])
 abbrev pub AgainIsLater : Type 0
 AgainIsLater =
     replies_to (holding roomy (first (codes "a") ∷ first (codes "b") ∷ second (codes "a")
-    ∷ [])) (Begin (asks Normal (From 0) None Everything) ∷ Hand 0 ∷ Hand 0 ∷ Hand 0 ∷ Hand 0 ∷ [])
+    ∷ [])) (Begin (asks Normal (Plain 0) None Everything) ∷ Hand 0 ∷ Hand 0 ∷ Hand 0 ∷ Hand 0 ∷ [])
     ≡ Opened 0 ∷ Pushed (row 2 (codes "b") (rev 1 (codes "a")) 3)
     ∷ Pushed (row 3 (codes "a") (rev 2 (codes "b")) 3) ∷ Pushed (End 3 0) ∷ Gone ∷ []
 
@@ -87,7 +87,7 @@ shown_as style =
     handed_out roomy (Write three_leaves
     ∷ Begin (record {
       mode = Continuous;
-      since = From 0;
+      since = Plain 0;
       limit = None;
       style = style;
       include_docs = true;
@@ -122,7 +122,7 @@ eight =
 -- a normal feed on them; after its third row those at 3 and 5 are written again, and so lie above its bound
 abbrev pub BoundHolds : Type 0
 BoundHolds =
-    handed_out roomy (Write eight ∷ Begin (asks Normal (From 0) None Everything) ∷ Hand 0 ∷ Hand 0 ∷ Hand 0
+    handed_out roomy (Write eight ∷ Begin (asks Normal (Plain 0) None Everything) ∷ Hand 0 ∷ Hand 0 ∷ Hand 0
     ∷ Write (second (3 ∷ []) ∷ second (5 ∷ []) ∷ []) ∷ Hand 0 ∷ Hand 0 ∷ Hand 0 ∷ Hand 0 ∷ Hand 0 ∷ []) 0
     ≡ row 1 (1 ∷ []) (rev 1 (codes "a")) 8 ∷ row 2 (2 ∷ []) (rev 1 (codes "a")) 8
     ∷ row 3 (3 ∷ []) (rev 1 (codes "a")) 8
@@ -140,14 +140,23 @@ third n = row n (n ∷ []) (rev 1 (codes "a")) 3
 -- a lane of two takes a third item only once one was taken
 abbrev pub LaneFills : Type 0
 LaneFills =
-    replies_to three (Begin (asks Continuous (From 0) None Everything) ∷ Hand 0 ∷ Hand 0 ∷ Hand 0 ∷ Take 0
+    replies_to three (Begin (asks Continuous (Plain 0) None Everything) ∷ Hand 0 ∷ Hand 0 ∷ Hand 0 ∷ Take 0
     ∷ Hand 0 ∷ [])
     ≡ Opened 0 ∷ Pushed (third 1) ∷ Pushed (third 2) ∷ Full ∷ Took (Some (third 1)) ∷ Pushed (third 3) ∷ []
+
+-- a feed that begins after 2 of the database's life begins with the third row, and after 2 of another life with
+-- the first
+abbrev pub LivesCount : Type 0
+LivesCount =
+    (replies_to three (Begin (asks Normal (Tagged 2 1) None Everything) ∷ Hand 0 ∷ Hand 0 ∷ [])
+    ≡ Opened 0 ∷ Pushed (third 3) ∷ Pushed (End 3 0) ∷ [])
+    × (replies_to three (Begin (asks Normal (Tagged 2 7) None Everything) ∷ Hand 0 ∷ [])
+    ≡ Opened 0 ∷ Pushed (third 1) ∷ [])
 
 -- a feed hands out three rows, and is finished when one was taken
 abbrev pub left_early : List Event
 left_early =
-    Write eight ∷ Begin (asks Normal (From 5) None Everything) ∷ Hand 0 ∷ Hand 0 ∷ Take 0 ∷ Hand 0 ∷ Finish 0
+    Write eight ∷ Begin (asks Normal (Plain 5) None Everything) ∷ Hand 0 ∷ Hand 0 ∷ Take 0 ∷ Hand 0 ∷ Finish 0
     ∷ Take 0 ∷ []
 
 -- what is in the lane of a finished feed is never taken
@@ -161,7 +170,7 @@ TakesAFront =
 -- a longpoll feed for design documents waits for one, and then ends
 abbrev pub LongpollWaits : Type 0
 LongpollWaits =
-    replies_to three (Begin (asks Longpoll (From 0) None Design) ∷ Hand 0
+    replies_to three (Begin (asks Longpoll (Plain 0) None Design) ∷ Hand 0
     ∷ Write (first (codes "_design/x") ∷ []) ∷ Hand 0 ∷ Hand 0 ∷ Hand 0 ∷ [])
     ≡ Opened 0 ∷ Nothing ∷ Outcomes (Stored (rev 1 (codes "a")) ∷ [])
     ∷ Pushed (row 4 (codes "_design/x") (rev 1 (codes "a")) 4) ∷ Pushed (End 4 0) ∷ Gone ∷ []
@@ -169,9 +178,9 @@ LongpollWaits =
 -- and where its time is over it ends at its place; a normal feed's time is never over
 abbrev pub TimeEnds : Type 0
 TimeEnds =
-    (replies_to three (Begin (asks Longpoll (From 0) None Design) ∷ Hand 0 ∷ Expire 0 ∷ Hand 0 ∷ [])
+    (replies_to three (Begin (asks Longpoll (Plain 0) None Design) ∷ Hand 0 ∷ Expire 0 ∷ Hand 0 ∷ [])
     ≡ Opened 0 ∷ Nothing ∷ Nothing ∷ Pushed (End 3 0) ∷ [])
-    × (replies_to three (Begin (asks Normal (From 0) None Everything) ∷ Expire 0 ∷ Hand 0 ∷ [])
+    × (replies_to three (Begin (asks Normal (Plain 0) None Everything) ∷ Expire 0 ∷ Hand 0 ∷ [])
     ≡ Opened 0 ∷ Nothing ∷ Pushed (third 1) ∷ [])
 
 -- what is known, what contradicts, and a draft on no leaf change nothing
@@ -194,7 +203,7 @@ abbrev pub asks_beats : Mode → Params
 asks_beats mode =
     record {
       mode = mode;
-      since = From 0;
+      since = Plain 0;
       limit = None;
       style = MainOnly;
       include_docs = false;
@@ -209,13 +218,13 @@ BeatsAreAsked =
     ∷ Finish 0 ∷ Take 0 ∷ Hand 0 ∷ [])
     ≡ Opened 0 ∷ Pushed Beat ∷ Pushed Beat ∷ Full ∷ Full ∷ Left (Beat ∷ Beat ∷ []) ∷ Took None ∷ Gone ∷ [])
     × (replies_to three (Begin (asks_beats Normal) ∷ Heartbeat 0 ∷ []) ≡ Opened 0 ∷ Nothing ∷ [])
-    × (replies_to three (Begin (asks Continuous (From 0) None Everything) ∷ Heartbeat 0 ∷ Heartbeat 7 ∷ [])
+    × (replies_to three (Begin (asks Continuous (Plain 0) None Everything) ∷ Heartbeat 0 ∷ Heartbeat 7 ∷ [])
     ≡ Opened 0 ∷ Nothing ∷ Nothing ∷ [])
 
 -- a deleted database ends its feeds, and takes nothing more
 abbrev pub DeletionEnds : Type 0
 DeletionEnds =
-    replies_to three (Begin (asks Continuous (From 1) None Everything) ∷ Hand 0 ∷ Delete ∷ Hand 0 ∷ Hand 0
+    replies_to three (Begin (asks Continuous (Plain 1) None Everything) ∷ Hand 0 ∷ Delete ∷ Hand 0 ∷ Hand 0
     ∷ Delete ∷ Begin (asks Normal Now None Everything) ∷ Write (first (codes "a") ∷ []) ∷ [])
     ≡ Opened 0 ∷ Pushed (third 2) ∷ Nothing ∷ Pushed (End 2 1) ∷ Gone ∷ DatabaseDeleted ∷ DatabaseDeleted
     ∷ Outcomes (Refused Deleted ∷ []) ∷ []
@@ -223,7 +232,7 @@ DeletionEnds =
 -- the limit counts what passes, and 0 acts as 1
 abbrev pub LimitCountsRows : Type 0
 LimitCountsRows =
-    replies_to three (Begin (asks Normal (From 0) (Some 0) (DocIds ((3 ∷ []) ∷ (2 ∷ []) ∷ []))) ∷ Hand 0
+    replies_to three (Begin (asks Normal (Plain 0) (Some 0) (DocIds ((3 ∷ []) ∷ (2 ∷ []) ∷ []))) ∷ Hand 0
     ∷ Hand 0 ∷ []) ≡ Opened 0 ∷ Pushed (third 2) ∷ Pushed (End 2 1) ∷ []
 
 -- one feed more than there may be is refused until one is finished; no number is given twice

@@ -24,13 +24,14 @@ pub record Subscription : Type 0 where
 -- a database; a feed's number is its place in `feeds`, from 0, and finished feeds stay there
 pub record World : Type 0 where
   pub limits : Limits
+  pub life : ℕ  -- the number of its life, which stays
   pub journal : List Edit
   pub deleted : Bool
   pub feeds : List Subscription
 
--- a database with no edits and no feeds
+-- a database with no edits and no feeds, in its first life
 abbrev pub empty : Limits → World
-empty limits = record { limits = limits; journal = []; deleted = false; feeds = [] }
+empty limits = record { limits = limits; life = 1; journal = []; deleted = false; feeds = [] }
 
 -- whether its subscriber is gone
 abbrev pub is_finished : Status → Bool
@@ -75,7 +76,7 @@ drafted w drafts = stores_all (makes w.limits.journal) w.deleted w.journal draft
 -- one feed more, with an empty lane
 abbrev pub with_feed : World → Params → World
 with_feed w params =
-    record w { feeds = w.feeds ++ record { feed = begin params (length w.journal); lane = [] } ∷ [] }
+    record w { feeds = w.feeds ++ record { feed = begin params (length w.journal) w.life; lane = [] } ∷ [] }
 
 -- the item goes into the lane, and the feed goes on so
 abbrev pub pushed : Subscription → Feed → ChangeItem → Subscription

@@ -3,7 +3,7 @@
 
 ghost use Rattle.hub_world.specs.Laws.{IsAnswered, IsOnlyAnswer, RunsOnce, StaysLegal, KeepsFitting, HandsRightly, TakesInOrder, HoldsTheRest, LanesAreLimited};
 ghost use Rattle.hub_world.specs.Headline.{Headline};
-ghost use Rattle.hub_world.specs.Worked.{AgainIsLater, StylesList, BoundHolds, LaneFills, TakesAFront, LongpollWaits, TimeEnds, WritesAnswer, BeatsAreAsked, DeletionEnds, LimitCountsRows, FeedsAreCounted};
+ghost use Rattle.hub_world.specs.Worked.{AgainIsLater, StylesList, BoundHolds, LaneFills, TakesAFront, LongpollWaits, TimeEnds, WritesAnswer, BeatsAreAsked, DeletionEnds, LimitCountsRows, LivesCount, FeedsAreCounted};
 
 /// Over every list of events, what a feed's connection has taken is a prefix of what the feed handed
 /// out: rows in strictly rising sequence, each its document's current row at its step, each passing
@@ -53,5 +53,6 @@ pub fn worked_runs()
     ensures beats { BeatsAreAsked }
     ensures deletion { DeletionEnds }
     ensures limit { LimitCountsRows }
+    ensures lives { LivesCount }
     ensures feeds { FeedsAreCounted }
 {}

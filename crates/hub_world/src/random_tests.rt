@@ -178,10 +178,11 @@ fn mode(random: &mut Random) -> Mode {
 
 // Where a feed begins.
 fn since(random: &mut Random) -> Since {
-    match random.below(4) {
+    match random.below(5) {
         0 => Since::Now,
-        1 => Since::From(random.below(16)),
-        _ => Since::From(0),
+        1 => Since::Plain(random.below(16)),
+        2 => Since::Tagged(random.below(16), random.below(3)),
+        _ => Since::Plain(0),
     }
 }
 
@@ -403,9 +404,9 @@ impl Told {
         }
     }
 
-    // How many documents there are.
-    fn count(&self) -> usize {
-        self.last.iter().filter(|seq| **seq > 0).count()
+    // How many documents were stored last behind this sequence.
+    fn count_behind(&self, seq: u64) -> usize {
+        self.last.iter().filter(|last| **last > seq).count()
     }
 }
 
@@ -442,15 +443,18 @@ impl Run {
         Ok(())
     }
 
-    // A feed of all rows, once every other is finished; none where the database is deleted.
-    fn last_feed(&mut self) -> Result<Option<FeedId>, Fail> {
+    // A feed that begins there, once every other is finished; none where the database is deleted.
+    fn last_feed(&mut self, since: Since) -> Result<Option<FeedId>, Fail> {
         for number in 0..self.seen.feeds {
             self.world.apply(Event::Finish(FeedId { number }))?;
         }
         let Ok(params) = FeedParams::read(self.alloc, b"", b"") else {
             return Err(Fail::new("no parameters"));
         };
-        match self.world.apply(Event::Begin(params))? {
+        match self
+            .world
+            .apply(Event::Begin(FeedParams { since, ..params }))?
+        {
             Reply::Opened(feed) => Ok(Some(feed)),
             Reply::DatabaseDeleted => Ok(None),
             _ => Err(Fail::new("no feed")),
@@ -472,13 +476,14 @@ impl Run {
         }
     }
 
-    // Whether the rows that are left are the last ones that the replies told, each once and rising.
-    fn rows_are_told(&mut self) -> Result<bool, Fail> {
-        let Some(feed) = self.last_feed()? else {
+    // Whether the rows behind this sequence of a life are the last ones that the replies told, each once
+    // and rising: of another life than 1 the sequence counts as 0.
+    fn rows_are_told(&mut self, seq: u64, life: u64) -> Result<bool, Fail> {
+        let Some(feed) = self.last_feed(Since::Tagged(seq, life))? else {
             return Ok(true);
         };
-        let mut last = 0;
-        for _ in 0..self.told.count() {
+        let mut last = if life == 1 { seq } else { 0 };
+        for _ in 0..self.told.count_behind(last) {
             let Some((seq, place)) = self.next_row(feed)? else {
                 return Ok(false);
             };
@@ -501,7 +506,8 @@ fn each_reply_comes_and_the_rows_are_those_that_were_told(rt: HostRuntime) -> Re
         for _ in 0..100 {
             run.step(&mut random, &mut counts)?;
         }
-        assert!(rt; run.rows_are_told()?, "in run {number}");
+        let (seq, life) = (random.below(16), random.below(3));
+        assert!(rt; run.rows_are_told(seq, life)?, "in run {number}");
     }
     for (kind, count) in counts.named() {
         assert!(rt; count > 0, "no reply of the kind: {kind}");

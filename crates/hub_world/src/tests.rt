@@ -225,6 +225,25 @@ fn a_since_above_the_end_is_the_end(rt: HostRuntime) -> Result<(), Fail> {
     )
 }
 
+#[test]
+fn a_since_of_another_life_is_the_beginning(rt: HostRuntime) -> Result<(), Fail> {
+    is_told(
+        &rt,
+        rt.alloc(),
+        Limits::full(),
+        &[
+            (Step::Write(&[A, B, C]), "wrote 1-a 1-b 1-c"),
+            (Step::Begin("since=2-1"), "opened 0"),
+            (Step::Hand(0), "row 3 c 1-c"),
+            (Step::Hand(0), "end 3 pending 0"),
+            (Step::Begin("since=2-7"), "opened 1"),
+            (Step::Hand(1), "row 1 a 1-a"),
+            (Step::Begin("since=%2299-1%22"), "opened 2"),
+            (Step::Hand(2), "end 3 pending 0"),
+        ],
+    )
+}
+
 // Eight documents.
 const EIGHT: [&str; 8] = [
     r#"{"_id":"1","_rev":"1-a"}"#,

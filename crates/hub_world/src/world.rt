@@ -48,12 +48,12 @@ impl Model for World {
 }
 
 impl World {
-    /// A database with no document and no feed.
+    /// A database with no document and no feed, in its first life.
     pub fn new(alloc: Global, limits: Limits) -> World
         ensures { Shows result (empty (limits_of limits)) }
     {
         World {
-            db: DbState::new(alloc, limits),
+            db: DbState::new(alloc, limits, 1),
             lanes: Vec::new(alloc),
             lane: limits.lane,
             alloc,

@@ -20,6 +20,7 @@ loop-doc-preserved c =
       rows = c.in-Ok.ensures.rows;
       limits = c.in-Ok.ensures.limits ∙ i.limits;
       locals = i.locals;
+      life = i.life;
       grown = omega (arith, i.grown, write_grows c.args.new_edits c.args.self.now.limits.journal (edits_of_store c.loop-doc.self-inside.store) c.in-Some.doc c.in-Ok.outcome (edits_of_store c.write.new.self) ok);
       all = rw (c.push_reserved.ensures.items) all;
       docs = append_assoc c.loop-doc.yielded (c.in-Some.doc ∷ []) c.next.new.self.rest.items ∙ (ap (λ ds. c.loop-doc.yielded ++ ds) (sym step.0) ∙ i.docs);
@@ -28,7 +29,7 @@ loop-doc-preserved c =
     }
 
 pub returns-clause-rest : goal.returns-clause-rest
-returns-clause-rest c = let i = c.loop-doc.invariant in contents_stay (edits_of_store c.loop-doc.self-inside.store) i.locals i.limits
+returns-clause-rest c = let i = c.loop-doc.invariant in contents_stay (edits_of_store c.loop-doc.self-inside.store) i.locals i.limits i.life
 
 pub returns-in-Err-clause-rest : goal.returns-in-Err-clause-rest
-returns-in-Err-clause-rest c = let i = c.loop-doc.invariant in contents_stay (edits_of_store c.write.new.self) i.locals (c.in-Err.ensures.limits ∙ i.limits)
+returns-in-Err-clause-rest c = let i = c.loop-doc.invariant in contents_stay (edits_of_store c.write.new.self) i.locals (c.in-Err.ensures.limits ∙ i.limits) i.life

@@ -1,16 +1,16 @@
-use Rattle.std.proofs.Common.{List, length, subst}
+use Rattle.std.proofs.Common.{length, subst}
 use Rattle.hub_model.specs.Current.{current}
-use Rattle.hub_model.specs.Journal.{Edit}
 use Rattle.hub_model.specs.Row.{ChangeRow, row_of}
 use Rattle.hub_feed.specs.Feeds.{AreBehind}
+use Rattle.hub_database.specs.Database.{Followed}
 use Rattle.hub_database.proofs.ListingLemmas.{handed_kept}
 use Rattle.hub_database.proofs.database.DbState.accept_marked.Goals as goal
 
 pub invariant_of-self : goal.invariant_of-self
 invariant_of-self c =
     let new = c.accept_marked.new.self in
-    let J = c.rows-rows.result in (
-      subst (λ (edits : List Edit). AreBehind (length edits) new.feeds) c.rows-rows.ensures
+    let J = c.rows-rows.result.edits in (
+      subst (λ (f : Followed). AreBehind (length f.edits) new.feeds) c.rows-rows.ensures
           c.accept_marked.ensures.behind,
       handed_kept {R = ChangeRow} c.self.inside.contents.journal (length J) (current J)
           (row_of J) c.self.inside.feeds new c.args.feed.number c.self.inside.listing

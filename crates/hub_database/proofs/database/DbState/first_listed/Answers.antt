@@ -1,24 +1,23 @@
 -- What is found among the rows that are kept is the first in reach.
-use Rattle.std.proofs.Common.{◌<◌, AllPairs, List, map, string_bytes, refl, subst, sym}
+use Rattle.std.proofs.Common.{◌<◌, AllPairs, map, string_bytes, refl, subst, sym}
 use Rattle.hub_model.specs.Current.{current}
 use Rattle.hub_model.specs.Entries.{entry_in}
 use Rattle.hub_model.specs.Filter.{DocIds}
-use Rattle.hub_model.specs.Journal.{Edit}
 use Rattle.hub_feed.specs.Reach.{IsFirst}
-use Rattle.hub_database.specs.Database.{Database}
+use Rattle.hub_database.specs.Database.{Database, Followed}
 use Rattle.hub_database.proofs.ListingLemmas.{first_is, passing_rises}
 use Rattle.hub_database.proofs.database.DbState.first_listed.Goals as goal
 
 pub first_between-requires : goal.first_between-requires
 first_between-requires c =
     subst (AllPairs (λ m n. m < n)) (sym (c.if-not-holds.ensures.held refl))
-    (passing_rises (DocIds (map string_bytes c.in_ok-ids.ids.now)) c.rows-rows.result)
+    (passing_rises (DocIds (map string_bytes c.in_ok-ids.ids.now)) c.rows-rows.result.edits)
 
 pub returns-clause-first : goal.returns-clause-first
 returns-clause-first c =
     let id = c.args.feed.number in
     let first = c.first_between.result in
-    let J = c.rows-rows.result in
+    let J = c.rows-rows.result.edits in
     let is =
     first_is c.in_ok-state.state.now J
     (map string_bytes c.in_ok-ids.ids.now) c.place-2.result c.bound.result c.holds.new.self.rows.items
@@ -26,6 +25,6 @@ returns-clause-first c =
     c.in_ok-ids.ensures c.place-2.ensures c.bound.ensures
     (c.if-not-holds.ensures.held refl) c.first_between.ensures in
     let there = subst (IsFirst first (current J)) c.in_ok-state.ensures.found is in
-    let here = subst (λ (edits : List Edit). IsFirst first (current edits)
+    let here = subst (λ (f : Followed). IsFirst first (current f.edits)
     (entry_in id c.self.inside.feeds.feeds)) c.rows-rows.ensures there in
     subst (λ (db : Database). IsFirst first (current db.journal) (entry_in id db.feeds)) c.self.view_is here

@@ -13,7 +13,7 @@ invariant_of-self c =
     let new = c.open.new.self in
     let J = c.self.inside.contents.journal in
     let listing = c.self.inside.listing in
-    let begun = begin (params_of c.args.params) c.update_seq-length.result in (
+    let begun = begin (params_of c.args.params) c.update_seq-length.result c.life-life.result in (
       subst (λ n. AreBehind n new.feeds) c.update_seq-length.ensures.value
           (c.open.ensures.behind
           (subst (λ n. AreBehind n old.feeds)
