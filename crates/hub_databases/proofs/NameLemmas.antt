@@ -1,5 +1,5 @@
 -- The keys of a map as names.
-use Rattle.std.proofs.Common.{◌≡◌, ◌∙◌, ℕ, List, [], ◌∷◌, Bool, true, false, ap, arith, refl, sym, subst}
+use Rattle.std.proofs.Common.{◌≡◌, ◌∙◌, ℕ, suc, List, [], ◌∷◌, Bool, true, false, ap, arith, refl, sym, subst}
 use Rattle.std.specs.Prelude.{◌↔◌, ◌≤◌, ◌||◌, All, Contains, cond, length, IsSome, IfSome, Some, map, String, string_bytes}
 use Rattle.std.specs.BTreeMap.{insert_entry, is_at}
 use Rattle.std.specs.BTreeSet.{insert_key}
@@ -20,7 +20,8 @@ use Rattle.std.proofs.lemmas.Map.Lookups.{exact_bytes}
 use Rattle.std.proofs.lemmas.Map.Made.{is_some-lookup}
 use Rattle.std.proofs.lemmas.Map.Text.{is_eq-slice_cmp}
 use Rattle.std.proofs.lemmas.Map.Views.{All-insert_key, All-remove_key, Contains-from_any, list_any-from_Contains, tells_apart}
-use Rattle.hub_databases.specs.Kept.{AreKept, most_databases, names_of}
+use Rattle.std.proofs.lemmas.Slice.Eq.{bytes_eq-Decides}
+use Rattle.hub_databases.specs.Kept.{AreKept, NamesState, most_databases, names_of, with_name, without_name}
 use Rattle.hub_databases.specs.Names.{is_name}
 
 -- with an entry put in
@@ -48,6 +49,22 @@ names_taken (e ∷ es) name =
         → names_of (cond b es (e ∷ remove_entry (is_at (λ k. slice_cmp nat_cmp name (string_bytes k))) es)) ≡ cond b (names_of es) (string_bytes e.0 ∷ remove_key (bytes_eq name) (names_of es))
     from true h = refl
     from false h = ap (λ ns. string_bytes e.0 ∷ ns) h
+
+-- a name that was put in where it was not, and taken out again
+out_again : (names : List (List ℕ)) (name : List ℕ) → ¬ Contains names name → remove_key (bytes_eq name) (insert_key (slice_cmp nat_cmp) names name) ≡ names
+out_again [] name absent = ap (λ b. cond b [] (name ∷ [])) ((bytes_eq-Decides name name).1 refl)
+out_again (n ∷ names) name absent = from (slice_cmp nat_cmp name n) refl (out_again names name (λ there. absent (suc there.0, omega arith, there.2)))
+  where
+    from : (o : Ordering) → slice_cmp nat_cmp name n ≡ o → remove_key (bytes_eq name) (insert_key (slice_cmp nat_cmp) names name) ≡ names
+        → remove_key (bytes_eq name) (match_ordering o (name ∷ n ∷ names) (n ∷ names) (n ∷ insert_key (slice_cmp nat_cmp) names name)) ≡ n ∷ names
+    from Less is h = ap (λ b. cond b (n ∷ names) (name ∷ remove_key (bytes_eq name) (n ∷ names))) ((bytes_eq-Decides name name).1 refl)
+    from Equal is h = absurd (absent (0, omega arith, sym (exact_bytes name n is)))
+    from Greater is h =
+        ap (λ b. cond b (insert_key (slice_cmp nat_cmp) names name) (n ∷ remove_key (bytes_eq name) (insert_key (slice_cmp nat_cmp) names name))) (sym (is_eq-slice_cmp name n) ∙ ap is_eq is)
+        ∙ ap (λ ns. n ∷ ns) h
+
+pub taken_back : (s : NamesState) (name : List ℕ) → ¬ Contains s.names name → without_name name (with_name name s) ≡ s
+taken_back s name absent = ap (λ (ns : List (List ℕ)). record s { names = ns }) (out_again s.names name absent)
 
 -- keys in order are names in order
 above : {Y : Type 0} (key : String Y) (keys : List (String Y)) → AllByRecursion (λ k. string_cmp key k ≡ Less) keys

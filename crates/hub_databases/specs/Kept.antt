@@ -1,5 +1,5 @@
 -- The names of a hub's databases (own).
-use Rattle.std.specs.Prelude.{◌≡◌, ◌≤◌, ℕ, List, All, String, length, map, string_bytes, true}
+use Rattle.std.specs.Prelude.{◌≡◌, ◌≤◌, ◌+◌, ℕ, List, All, String, length, map, string_bytes, true}
 use Rattle.std.specs.BTreeSet.{insert_key}
 use Rattle.std.specs.Cmp.Lexicographic.{slice_cmp}
 use Rattle.std.specs.List.Sorted.{IsStrictlySortedBy}
@@ -24,10 +24,15 @@ pub record AreNames (limit : ℕ) (names : List (List ℕ)) : Type 0 where
 pub record NamesState : Type 0 where
   pub names : List (List ℕ)  -- in the order of their bytes
   pub limit : ℕ  -- how many there may be
+  pub made : ℕ  -- how many were made so far, those that were removed included: the life of the latest
 
 -- with a name more, at its place in the order: a and c with b are a, b and c
 abbrev pub with_name : List ℕ → NamesState → NamesState
 with_name name s = record s { names = insert_key (slice_cmp nat_cmp) s.names name }
+
+-- with a database that was made under a name, and counted
+abbrev pub with_made : List ℕ → NamesState → NamesState
+with_made name s = record (with_name name s) { made = s.made + 1 }
 
 -- without a name
 abbrev pub without_name : List ℕ → NamesState → NamesState

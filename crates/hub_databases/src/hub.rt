@@ -1,9 +1,9 @@
 //! A hub of databases behind locks.
 
-ghost use Rattle.std.specs.Prelude.{◌≡◌, ◌⊎◌, [], true, false, Err, map, string_bytes, IfErr, IfOk, IsSome};
+ghost use Rattle.std.specs.Prelude.{◌≡◌, ◌⊎◌, ◌<◌, ◌-◌, ◌^◌, [], true, false, Err, map, string_bytes, Contains, IfErr, IfOk, IsSome, OnErr, OnOk};
 ghost use Rattle.std.specs.Arc.{arc_value};
 ghost use Rattle.hub_databases.specs.Asked.{updates_asked};
-ghost use Rattle.hub_databases.specs.Kept.{AreNames, most_databases};
+ghost use Rattle.hub_databases.specs.Kept.{AreNames, most_databases, with_made, with_name};
 ghost use Rattle.hub_databases.specs.Names.{is_name as is_database_name};
 ghost use Rattle.hub_params.specs.FeedShown.{params_asked};
 ghost use Rattle.hub_threads.specs.Handles.{IsBeginningFor, IsWrittenBy};
@@ -72,31 +72,47 @@ impl Hub {
         }
     }
 
-    // An empty database of this name.
-    fn named(&self, name: &str) -> Result<Arc<Named, Global>, AllocError>
+    // An empty database of this name, of the life of this number. Life 0 is that of the log.
+    fn named(&self, name: &str, life: u64) -> Result<Arc<Named, Global>, AllocError>
+        requires { 0 < life }
         ensures { IfOk result (λ named. string_bytes (arc_value named).name ≡ name.now) }
     {
         let name = name.to_string(self.alloc)?;
-        let (db, _handle) = Db::new(self.alloc, self.limits, Plain)?;
+        let (db, _handle) = Db::new(self.alloc, self.limits, life, Plain)?;
         Ok(Arc::new(self.alloc, Named { name, db })?)
     }
 
-    // Puts a database under its name and notes that, or does neither. The names are held throughout.
+    // Puts an empty database of the next life under a name. It is not counted yet.
+    fn add(&self, names: &mut Names<Arc<Named, Global>>, name: &str) -> Result<(), HubFault>
+        requires { is_database_name name.now ≡ true }
+        ensures new { OnOk result (¬ Contains names.old.names name.now) }
+        ensures low { OnOk result (names.old.made < 2 ^ 64 - 1) }
+        ensures ok { OnOk result (names.new ≡ with_name name.now names.old) }
+        ensures same { OnErr result (names.new ≡ names.old) }
+        ensures err { IfErr result (λ e. ¬ (e ≡ HubFault.BadName) × ¬ (e ≡ HubFault.Absent)) }
+    {
+        let life = names.next_life(name)?;
+        let key = name.to_string(self.alloc)?;
+        let named = self.named(name, life)?;
+        names.put(key, named)?;
+        Ok(())
+    }
+
+    // Makes an empty database under a name and notes that, or does neither. It is counted once it is
+    // noted: lives are numbered as databases are made, from 1, and no number is left out or given twice.
     fn put<R: Wait>(
         &self,
         rt: &R,
+        names: &mut Names<Arc<Named, Global>>,
         name: &str,
-        key: String,
-        named: Arc<Named, Global>,
         notice: Notice,
     ) -> Result<(), HubFault>
-        requires valid { is_database_name name.now ≡ true }
-        requires key { string_bytes key ≡ name.now }
-        requires own { string_bytes (arc_value named).name ≡ name.now }
-        ensures { IfErr result (λ e. ¬ (e ≡ HubFault.BadName) × ¬ (e ≡ HubFault.Absent)) }
+        requires { is_database_name name.now ≡ true }
+        ensures ok { OnOk result (names.new ≡ with_made name.now names.old) }
+        ensures same { OnErr result (names.new ≡ names.old) }
+        ensures err { IfErr result (λ e. ¬ (e ≡ HubFault.BadName) × ¬ (e ≡ HubFault.Absent)) }
     {
-        let mut names = self.names.write(rt);
-        if let Err(fault) = names.put(key, named) {
+        if let Err(fault) = self.add(names, name) {
             notice.lapse();
             return Err(fault);
         }
@@ -104,12 +120,13 @@ impl Hub {
             names.take(name);
             return Err(HubFault::from(fault));
         }
+        names.count();
         Ok(())
     }
 
-    /// Makes an empty database of this name, and notes that it was created. What it takes memory for is
-    /// made before a lock is taken. It costs the wait for the names and for the log, a search among
-    /// the names, and a note.
+    /// Makes an empty database of this name, and notes that it was created. Its life is the number of
+    /// databases that were made so far, itself included. It costs the wait for the names and for the
+    /// log, a search among the names, and a note. The names are held meanwhile.
     pub fn create<R: Wait>(&self, rt: &R, name: &str) -> Result<(), HubFault>
         ensures bad { is_database_name name.now ≡ false → result ≡ Err HubFault.BadName }
         ensures only_bad { result ≡ Err HubFault.BadName → is_database_name name.now ≡ false }
@@ -118,10 +135,9 @@ impl Hub {
         if !is_name(name) {
             return Err(HubFault::BadName);
         }
-        let key = name.to_string(self.alloc)?;
-        let named = self.named(name)?;
         let notice = Notice::new(self.alloc, UpdateKind::Created, name)?;
-        self.put(rt, name, key, named, notice)
+        let mut names = self.names.write(rt);
+        self.put(rt, &mut *names, name, notice)
     }
 
     /// The database of this name. It costs the wait for the names, which readers share, and a search
@@ -239,7 +255,7 @@ impl Hub {
     /// what `Updates::open_feed` does.
     pub fn updates<R: Wait>(&self, rt: &R, params: FeedParams) -> Result<UpdatesFeed, OpenFault>
         ensures asks { IfOk result (λ feed. feed.label.asked ≡ updates_asked (params_asked params)) }
-        ensures begins { IfOk result (λ feed. IsBeginningFor params.since 0 feed.label.since) }
+        ensures begins { IfOk result (λ feed. IsBeginningFor params.since 0 feed.label) }
         ensures none { IfOk result (λ feed. feed.taken ≡ []) }
         ensures err { IfErr result (λ e. (e ≡ OpenFault.NoMemory) ⊎ (e ≡ OpenFault.TooManyFeeds)) }
     {

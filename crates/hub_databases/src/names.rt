@@ -1,6 +1,6 @@
 //! What stands under each name.
 
-ghost use Rattle.std.specs.Prelude.{◌≡◌, ◌⊎◌, ◌↔◌, ◌<◌, ◌≤◌, ℕ, List, [], true, length, map, string_bytes, Contains, IsSome, OnOk, IfErr, IfOk, IfSome};
+ghost use Rattle.std.specs.Prelude.{◌≡◌, ◌⊎◌, ◌↔◌, ◌<◌, ◌≤◌, ◌+◌, ◌-◌, ◌^◌, ℕ, List, [], true, length, map, string_bytes, Contains, IsSome, OnOk, OnErr, IfErr, IfOk, IfSome};
 ghost use Rattle.hub_databases.specs.Kept.{AreNames, most_databases, with_name, without_name};
 ghost use Rattle.hub_databases.specs.Names.{is_name as is_database_name};
 
@@ -18,12 +18,14 @@ pub(crate) trait HasName: Drop {
 }
 
 /// What stands under each name: it has that name. It is seen as its names, in the order of their
-/// bytes, and how many there may be.
+/// bytes, how many there may be, and how many were made so far.
 #[derive(Drop)]
 pub(crate) struct Names<D: HasName> {
     /// How many there may be.
     limit: u64,
     list: BTreeMap<String, D>,
+    /// How many were made so far: the life of the latest.
+    made: u64,
 }
 
 impl<D: HasName> Model for Names<D> {
@@ -31,7 +33,7 @@ impl<D: HasName> Model for Names<D> {
 
     ghost Value = { NamesState };
 
-    ghost view = { λ a. record { names = names_of a.list.entries; limit = a.limit } };
+    ghost view = { λ a. record { names = names_of a.list.entries; limit = a.limit; made = a.made } };
 
     ghost invariant = { λ a. AreKept D.name_of a.limit a.list.entries };
 }
@@ -40,11 +42,12 @@ impl<D: HasName> Names<D> {
     /// No names, of which there may be so many. It takes no memory.
     pub(crate) fn new(alloc: Global, limit: u64) -> Names<D>
         requires limit { limit ≤ most_databases }
-        ensures { result ≡ record { names = []; limit = limit } }
+        ensures { result ≡ record { names = []; limit = limit; made = 0 } }
     {
         Names {
             limit,
             list: BTreeMap::new(alloc),
+            made: 0,
         }
     }
 
@@ -63,29 +66,53 @@ impl<D: HasName> Names<D> {
         self.list.get(name)
     }
 
-    /// Puts something under a name that has none. It costs a search among the names.
-    pub(crate) fn put(&mut self, name: String, what: D) -> Result<(), HubFault>
-        requires name { is_database_name (string_bytes name) ≡ true }
-        requires own { D.name_of what ≡ string_bytes name }
-        ensures new { OnOk result (¬ Contains self.old.names (string_bytes name)) }
-        ensures room { OnOk result (length self.old.names < self.old.limit) }
-        ensures ok { OnOk result (self.new ≡ with_name (string_bytes name) self.old) }
-        ensures err { IfErr result (λ e. (self.new ≡ self.old)
-            × (((e ≡ HubFault.Exists) × Contains self.old.names (string_bytes name))
-            ⊎ (¬ Contains self.old.names (string_bytes name)
-            × (((e ≡ HubFault.TooMany) × (self.old.limit ≤ length self.old.names))
-            ⊎ ((e ≡ HubFault.NoMemory) × (length self.old.names < self.old.limit)))))) }
+    /// The life of the next one, where it may come under this name: how many were made so far, and one
+    /// more. Else it is the first refusal that holds. The numbers end at 2^64 - 1: the log of updates,
+    /// which has a note for each, is full long before. It costs a search among the names.
+    pub(crate) fn next_life(&self, name: &str) -> Result<u64, HubFault>
+        ensures new { OnOk result (¬ Contains self.now.names name.now) }
+        ensures room { OnOk result (length self.now.names < self.now.limit) }
+        ensures ok { IfOk result (λ life. life ≡ self.now.made + 1) }
+        ensures err { IfErr result (λ e. ((e ≡ HubFault.Exists) × Contains self.now.names name.now)
+            ⊎ (¬ Contains self.now.names name.now
+            × (((e ≡ HubFault.TooMany) × (self.now.limit ≤ length self.now.names))
+            ⊎ ((e ≡ HubFault.SequenceFull) × (length self.now.names < self.now.limit)
+            × (self.now.made ≡ 2 ^ 64 - 1))))) }
     {
-        if self.find(name.as_str()).is_some() {
+        if self.find(name).is_some() {
             return Err(HubFault::Exists);
         }
         if self.len() as u64 >= self.limit {
             return Err(HubFault::TooMany);
         }
+        if self.made == u64::MAX {
+            return Err(HubFault::SequenceFull);
+        }
+        Ok(self.made + 1)
+    }
+
+    /// Puts something under a name that has none, where there is room. It is not counted yet. It costs
+    /// a search among the names.
+    pub(crate) fn put(&mut self, name: String, what: D) -> Result<(), AllocError>
+        requires name { is_database_name (string_bytes name) ≡ true }
+        requires own { D.name_of what ≡ string_bytes name }
+        requires new { ¬ Contains self.old.names (string_bytes name) }
+        requires room { length self.old.names < self.old.limit }
+        ensures ok { OnOk result (self.new ≡ with_name (string_bytes name) self.old) }
+        ensures err { OnErr result (self.new ≡ self.old) }
+    {
         match self.list.insert(name, what) {
             Ok(_) => Ok(()),
-            Err(_) => Err(HubFault::NoMemory),
+            Err(_) => Err(AllocError),
         }
+    }
+
+    /// Counts the one that was put last. Constant time.
+    pub(crate) fn count(&mut self)
+        requires { self.old.made < 2 ^ 64 - 1 }
+        ensures { self.new ≡ record self.old { made = self.old.made + 1 } }
+    {
+        self.made += 1;
     }
 
     /// Takes out what stands under a name. It takes no memory, and costs a search among the names.

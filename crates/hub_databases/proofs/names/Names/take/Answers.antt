@@ -14,6 +14,6 @@ returns-clause-some g c =
 
 pub returns-clause-names : goal.returns-clause-names
 returns-clause-names g c =
-    let names : names_of c.remove.new.self.entries ≡ (without_name c.args.name.now (record { names = names_of c.self.inside.list.entries; limit = c.self.inside.limit })).names =
+    let names : names_of c.remove.new.self.entries ≡ (without_name c.args.name.now (record { names = names_of c.self.inside.list.entries; limit = c.self.inside.limit; made = c.self.inside.made })).names =
     ap names_of c.remove.ensures.entries ∙ names_taken c.self.inside.list.entries c.args.name.now in
-    ap (λ (ns : List (List ℕ)). record { names = ns; limit = c.self.inside.limit }) names ∙ ap (without_name c.args.name.now) c.self.view_is
+    ap (λ (ns : List (List ℕ)). record { names = ns; limit = c.self.inside.limit; made = c.self.inside.made }) names ∙ ap (without_name c.args.name.now) c.self.view_is
