@@ -5,6 +5,7 @@ use Rattle.json.specs.Print.{quoted}
 use Rattle.hub_model.specs.Revision.{Revision, text_of}
 use Rattle.hub_model.specs.Row.{ChangeRow}
 use Rattle.hub_document.specs.DocText.{doc_text, row_doc}
+use Rattle.hub_document.specs.SequenceText.{sequence_text}
 
 -- a revision that a row lists
 unfoldable pub revision_text : Revision → List ℕ
@@ -33,14 +34,15 @@ unfoldable pub id_member : List ℕ → List ℕ
 id_member id = codes ",\"id\":" ++ (quoted id ++ codes ",\"changes\":[")
 
 -- the members at the head of a row
-unfoldable pub row_head : ℕ → List ℕ → List ℕ
-row_head seq id = codes "{\"seq\":" ++ (decimal seq ++ id_member id)
+unfoldable pub row_head : (life seq : ℕ) → List ℕ → List ℕ
+row_head life seq id = codes "{\"seq\":" ++ (sequence_text seq life ++ id_member id)
 
--- a row as a JSON object
-unfoldable pub change_row_text : ChangeRow → List ℕ
-change_row_text row = row_head row.seq row.id ++ (revisions_text row.changes ++ row_end row)
+-- a row as a JSON object, in a feed of this life: its sequence is written with the number of the life
+unfoldable pub change_row_text : (life : ℕ) → ChangeRow → List ℕ
+change_row_text life row = row_head life row.seq row.id ++ (revisions_text row.changes ++ row_end row)
 
 -- the members that end a feed, and the brace that closes it
-unfoldable pub change_end_text : ℕ → ℕ → List ℕ
-change_end_text last_seq pending =
-    codes "\"last_seq\":" ++ (decimal last_seq ++ (codes ",\"pending\":" ++ (decimal pending ++ codes "}\n")))
+unfoldable pub change_end_text : (life last_seq pending : ℕ) → List ℕ
+change_end_text life last_seq pending =
+    codes "\"last_seq\":"
+    ++ (sequence_text last_seq life ++ (codes ",\"pending\":" ++ (decimal pending ++ codes "}\n")))

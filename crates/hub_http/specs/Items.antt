@@ -29,13 +29,15 @@ before_end Normal = codes "\n],\n"
 before_end Longpoll = codes "\n],\n"
 before_end Continuous = codes "{"
 
--- the text of an item, before which so many rows came, where rows and what ends a feed have these texts
-abbrev pub item_text : {R : Type 0} → (R → List ℕ) → (ℕ → ℕ → List ℕ) → Mode → ℕ → Item R → List ℕ
-item_text row_text end_text mode rows_before (Row row) =
-    before_row mode rows_before ++ (row_text row ++ after_row mode)
-item_text row_text end_text mode rows_before Beat = codes "\n"
-item_text row_text end_text mode rows_before (End last_seq pending) =
-    before_end mode ++ end_text last_seq pending
+-- the text of an item in a feed of the life of this number, before which so many rows came, where rows and
+-- what ends a feed have these texts in a life
+abbrev pub item_text : {R : Type 0} → (ℕ → R → List ℕ) → (ℕ → ℕ → ℕ → List ℕ) → Mode
+    → (rows_before life : ℕ) → Item R → List ℕ
+item_text row_text end_text mode rows_before life (Row row) =
+    before_row mode rows_before ++ (row_text life row ++ after_row mode)
+item_text row_text end_text mode rows_before life Beat = codes "\n"
+item_text row_text end_text mode rows_before life (End last_seq pending) =
+    before_end mode ++ end_text life last_seq pending
 
 -- the text at the head of a feed: a continuous one has none
 abbrev pub feed_head : Mode → List ℕ

@@ -5,7 +5,9 @@ ghost use Rattle.json.specs.Print.{escape};
 ghost use Rattle.hub_http.specs.ChangeTexts.{revision_text, revisions_text, row_mark, doc_member, row_end, id_member, row_head, change_row_text, change_end_text};
 
 use crate::row_text::RowText;
-use hub_document::{ChangeRow, Changes, DigestRev, LentChanges, RevId, is_plain, put_quoted};
+use hub_document::{
+    ChangeRow, Changes, DigestRev, LentChanges, RevId, is_plain, put_quoted, put_sequence,
+};
 use itoa::Buffer;
 use std::alloc::AllocError;
 
@@ -92,13 +94,12 @@ fn put_id(out: &mut Vec<u8>, id: &str) -> Result<(), AllocError>
 }
 
 #[tactic(auto, unfolding(crate::specs::ChangeTexts::row_head))]
-fn put_row_head(out: &mut Vec<u8>, seq: u64, id: &str) -> Result<(), AllocError>
-    ensures ok { OnOk result (out.new.items ≡ out.old.items ++ row_head seq id.now) }
+fn put_row_head(out: &mut Vec<u8>, life: u64, seq: u64, id: &str) -> Result<(), AllocError>
+    ensures ok { OnOk result (out.new.items ≡ out.old.items ++ row_head life seq id.now) }
     ensures front { take (length out.old.items) out.new.items ≡ out.old.items }
 {
-    let mut number = Buffer::new();
     out.extend_from_slice(b"{\"seq\":")?;
-    out.extend_from_slice(number.format(seq).as_bytes())?;
+    put_sequence(out, seq, life)?;
     put_id(out, id)?;
     Ok(())
 }
@@ -165,17 +166,22 @@ impl RowText for ChangeRow {
 
     ghost end_text = { change_end_text };
 
-    fn put_row(&self, out: &mut Vec<u8>) -> Result<(), AllocError> {
-        put_row_head(out, self.seq, self.id.as_str())?;
+    fn put_row(&self, out: &mut Vec<u8>, life: u64) -> Result<(), AllocError> {
+        put_row_head(out, life, self.seq, self.id.as_str())?;
         put_changes(out, &self.changes)?;
         put_row_end(out, self)?;
         Ok(())
     }
 
-    fn put_end(out: &mut Vec<u8>, last_seq: u64, pending: u64) -> Result<(), AllocError> {
+    fn put_end(
+        out: &mut Vec<u8>,
+        life: u64,
+        last_seq: u64,
+        pending: u64,
+    ) -> Result<(), AllocError> {
         let mut number = Buffer::new();
         out.extend_from_slice(b"\"last_seq\":")?;
-        out.extend_from_slice(number.format(last_seq).as_bytes())?;
+        put_sequence(out, last_seq, life)?;
         out.extend_from_slice(b",\"pending\":")?;
         out.extend_from_slice(number.format(pending).as_bytes())?;
         out.extend_from_slice(b"}\n")?;

@@ -57,29 +57,32 @@ fn before_end(mode: Mode) -> &'static str
     )
 }
 
-/// Appends the text of an item, before which the feed wrote so many rows. After an error what was
-/// held still stands in front, and a part of the text may stand behind it. It costs the text's
-/// length, and as much again as is held, up to 16 KiB: hand it a short buffer, and use that again.
+/// Appends the text of an item of a feed of the life of this number, before which the feed wrote so
+/// many rows. After an error what was held still stands in front, and a part of the text may stand
+/// behind it. It costs the text's length, and as much again as is held, up to 16 KiB: hand it a short
+/// buffer, and use that again.
 pub fn item_text<R: RowText>(
     out: &mut Vec<u8>,
     mode: Mode,
     rows_before: u64,
+    life: u64,
     item: &Item<R>,
 ) -> Result<(), AllocError>
-    ensures ok { OnOk result (out.new.items ≡ out.old.items ++ item_text R.row_text R.end_text mode rows_before item.now) }
+    ensures ok { OnOk result (out.new.items
+        ≡ out.old.items ++ item_text R.row_text R.end_text mode rows_before life item.now) }
     ensures front { take (length out.old.items) out.new.items ≡ out.old.items }
 {
     match item {
         Item::Row(row) => {
             put_before_row(out, mode, rows_before)?;
-            row.put_row(out)?;
+            row.put_row(out, life)?;
             put_after_row(out, mode)?;
             Ok(())
         }
         Item::Beat => out.extend_from_slice(b"\n"),
         Item::End { last_seq, pending } => {
             out.extend_from_slice(before_end(mode).as_bytes())?;
-            R::put_end(out, *last_seq, *pending)?;
+            R::put_end(out, life, *last_seq, *pending)?;
             Ok(())
         }
     }

@@ -7,20 +7,21 @@ use std::alloc::AllocError;
 /// A row of a feed, written as a JSON object. After an error what was held still stands in front,
 /// and a part of the text may stand behind it.
 pub trait RowText {
-    /// The object.
-    ghost row_text: { Self → List ℕ };
+    /// The object, in a feed of the life of this number.
+    ghost row_text: { ℕ → Self → List ℕ };
 
-    /// The members that end a feed of such rows, and the brace that closes it: of the sequence that
-    /// the feed has shown everything up to, and of how many current rows lie above it.
-    ghost end_text: { ℕ → ℕ → List ℕ };
+    /// The members that end a feed of such rows, and the brace that closes it: of the number of its
+    /// life, of the sequence that the feed has shown everything up to, and of how many current rows
+    /// lie above it.
+    ghost end_text: { ℕ → ℕ → ℕ → List ℕ };
 
     /// Appends the object. It costs the text's length.
-    fn put_row(&self, out: &mut Vec<u8>) -> Result<(), AllocError>
-        ensures ok { OnOk result (out.new.items ≡ out.old.items ++ row_text self.now) }
+    fn put_row(&self, out: &mut Vec<u8>, life: u64) -> Result<(), AllocError>
+        ensures ok { OnOk result (out.new.items ≡ out.old.items ++ row_text life self.now) }
         ensures front { take (length out.old.items) out.new.items ≡ out.old.items };
 
     /// Appends the members that end a feed of such rows, and the brace. It costs the text's length.
-    fn put_end(out: &mut Vec<u8>, last_seq: u64, pending: u64) -> Result<(), AllocError>
-        ensures ok { OnOk result (out.new.items ≡ out.old.items ++ end_text last_seq pending) }
+    fn put_end(out: &mut Vec<u8>, life: u64, last_seq: u64, pending: u64) -> Result<(), AllocError>
+        ensures ok { OnOk result (out.new.items ≡ out.old.items ++ end_text life last_seq pending) }
         ensures front { take (length out.old.items) out.new.items ≡ out.old.items };
 }

@@ -371,7 +371,7 @@ fn row_with_doc(alloc: Global, text: &str, deleted: bool) -> Result<Item<ChangeR
     }))
 }
 
-// An item's text.
+// An item's text, in a feed of the first life.
 fn text_of(
     alloc: Global,
     mode: Mode,
@@ -379,7 +379,7 @@ fn text_of(
     item: &Item<ChangeRow>,
 ) -> Result<Vec<u8>, AllocError> {
     let mut out = Vec::new(alloc);
-    item_text(&mut out, mode, rows_before, item)?;
+    item_text(&mut out, mode, rows_before, 1, item)?;
     Ok(out)
 }
 
@@ -444,14 +444,14 @@ fn a_feed_of_two_rows_in_chunks(rt: HostRuntime) -> Result<(), Fail> {
         "d\r\n",
         r#"{"results":["#,
         "\n\r\n",
-        "2c\r\n",
-        r#"{"seq":1,"id":"a","changes":[{"rev":"1-a"}]}"#,
+        "30\r\n",
+        r#"{"seq":"1-1","id":"a","changes":[{"rev":"1-a"}]}"#,
         "\r\n",
-        "2e\r\n,\n",
-        r#"{"seq":2,"id":"b","changes":[{"rev":"1-b"}]}"#,
+        "32\r\n,\n",
+        r#"{"seq":"2-1","id":"b","changes":[{"rev":"1-b"}]}"#,
         "\r\n",
-        "1e\r\n\n],\n",
-        r#""last_seq":2,"pending":0}"#,
+        "22\r\n\n],\n",
+        r#""last_seq":"2-1","pending":0}"#,
         "\n\r\n"
     );
     assert_eq!(rt; sent.as_slice(), expected.as_bytes());
@@ -479,7 +479,7 @@ fn a_row_with_an_odd_id_and_two_revisions(rt: HostRuntime) -> Result<(), Fail> {
         true,
     )?;
     let expected = concat!(
-        r#"{"seq":18446744073709551615,"id":"a\"\\\u0001\n"#,
+        r#"{"seq":"18446744073709551615-1","id":"a\"\\\u0001\n"#,
         "\u{e9}",
         r#"/","changes":[{"rev":"1-Z9z"},{"rev":"65535-0"}],"deleted":true}"#,
         "\n"
@@ -488,12 +488,33 @@ fn a_row_with_an_odd_id_and_two_revisions(rt: HostRuntime) -> Result<(), Fail> {
 }
 
 #[test]
+fn the_greatest_sequence_of_the_greatest_life(rt: HostRuntime) -> Result<(), Fail> {
+    let most = 18446744073709551615;
+    let greatest = row(rt.alloc(), most, r#"{"_id":"a","_rev":"1-a"}"#, None, false)?;
+    let end: Item<ChangeRow> = Item::End {
+        last_seq: most,
+        pending: 0,
+    };
+    let mut out = Vec::new(rt.alloc());
+    item_text(&mut out, Mode::Continuous, 0, most, &greatest)?;
+    item_text(&mut out, Mode::Continuous, 1, most, &end)?;
+    let expected = concat!(
+        r#"{"seq":"18446744073709551615-18446744073709551615","id":"a","changes":[{"rev":"1-a"}]}"#,
+        "\n",
+        r#"{"last_seq":"18446744073709551615-18446744073709551615","pending":0}"#,
+        "\n"
+    );
+    assert_eq!(rt; out.as_slice(), expected.as_bytes());
+    Ok(())
+}
+
+#[test]
 fn the_end_of_a_continuous_feed(rt: HostRuntime) -> Result<(), Fail> {
     let end = Item::End {
         last_seq: 9,
         pending: 7,
     };
-    let expected = concat!(r#"{"last_seq":9,"pending":7}"#, "\n");
+    let expected = concat!(r#"{"last_seq":"9-1","pending":7}"#, "\n");
     is_shown(&rt, rt.alloc(), Mode::Continuous, 2, &end, expected)
 }
 
@@ -503,7 +524,7 @@ fn the_end_of_a_longpoll_feed(rt: HostRuntime) -> Result<(), Fail> {
         last_seq: 9,
         pending: 7,
     };
-    let expected = concat!("\n],\n", r#""last_seq":9,"pending":7}"#, "\n");
+    let expected = concat!("\n],\n", r#""last_seq":"9-1","pending":7}"#, "\n");
     is_shown(&rt, rt.alloc(), Mode::Longpoll, 2, &end, expected)
 }
 
@@ -539,7 +560,7 @@ fn is_row_with_doc(
 fn a_row_with_its_document(rt: HostRuntime) -> Result<(), Fail> {
     let doc = r#"{"_id":"a","_rev":"1-x","v":7}"#;
     let expected =
-        r#"{"seq":7,"id":"a","changes":[{"rev":"1-x"}],"doc":{"_id":"a","_rev":"1-x","v":7}}"#;
+        r#"{"seq":"7-1","id":"a","changes":[{"rev":"1-x"}],"doc":{"_id":"a","_rev":"1-x","v":7}}"#;
     is_row_with_doc(&rt, rt.alloc(), doc, false, expected)
 }
 
@@ -547,7 +568,7 @@ fn a_row_with_its_document(rt: HostRuntime) -> Result<(), Fail> {
 fn a_deleted_row_with_its_document(rt: HostRuntime) -> Result<(), Fail> {
     let doc = r#"{"_id":"b","_rev":"2-y"}"#;
     let expected = concat!(
-        r#"{"seq":7,"id":"b","changes":[{"rev":"2-y"}],"deleted":true,"#,
+        r#"{"seq":"7-1","id":"b","changes":[{"rev":"2-y"}],"deleted":true,"#,
         r#""doc":{"_id":"b","_rev":"2-y","_deleted":true}}"#
     );
     is_row_with_doc(&rt, rt.alloc(), doc, true, expected)

@@ -11,19 +11,19 @@ const ROWS: &[(&str, UpdateKind, u64, &str)] = &[
         "d",
         UpdateKind::Created,
         1,
-        r#"{"db_name":"d","type":"created","seq":1}"#,
+        r#"{"db_name":"d","type":"created","seq":"1-0"}"#,
     ),
     (
         "team/mail-1",
         UpdateKind::Updated,
         20,
-        r#"{"db_name":"team/mail-1","type":"updated","seq":20}"#,
+        r#"{"db_name":"team/mail-1","type":"updated","seq":"20-0"}"#,
     ),
     (
         "a\"b\\c\n\u{1}",
         UpdateKind::Deleted,
         18446744073709551615,
-        r#"{"db_name":"a\"b\\c\n\u0001","type":"deleted","seq":18446744073709551615}"#,
+        r#"{"db_name":"a\"b\\c\n\u0001","type":"deleted","seq":"18446744073709551615-0"}"#,
     ),
 ];
 
@@ -39,16 +39,16 @@ const PLACES: &[(Mode, u64, &str, &str)] = &[
 
 // A mode, the last sequence, and the text of the end.
 const ENDS: &[(Mode, u64, &str)] = &[
-    (Mode::Normal, 9, "\n],\n\"last_seq\":9}\n"),
-    (Mode::Longpoll, 0, "\n],\n\"last_seq\":0}\n"),
+    (Mode::Normal, 9, "\n],\n\"last_seq\":\"9-0\"}\n"),
+    (Mode::Longpoll, 0, "\n],\n\"last_seq\":\"0-0\"}\n"),
     (
         Mode::Continuous,
         18446744073709551615,
-        "{\"last_seq\":18446744073709551615}\n",
+        "{\"last_seq\":\"18446744073709551615-0\"}\n",
     ),
 ];
 
-// An item's text, behind what was held.
+// An item's text in a feed of the life 0, behind what was held.
 fn text_behind<R: RowText>(
     alloc: Global,
     held: &[u8],
@@ -58,7 +58,7 @@ fn text_behind<R: RowText>(
 ) -> Result<Vec<u8>, AllocError> {
     let mut out = Vec::new(alloc);
     out.extend_from_slice(held)?;
-    item_text(&mut out, mode, rows_before, item)?;
+    item_text(&mut out, mode, rows_before, 0, item)?;
     Ok(out)
 }
 

@@ -4,9 +4,8 @@ ghost use Rattle.std.specs.Prelude.{◌≡◌};
 ghost use Rattle.hub_http.specs.UpdateTexts.{kind_text, update_row_text, update_end_text};
 
 use crate::row_text::RowText;
-use hub_document::{UpdateRow, put_quoted};
+use hub_document::{UpdateRow, put_quoted, put_sequence};
 use hub_model::UpdateKind;
-use itoa::Buffer;
 use std::alloc::AllocError;
 
 #[tactic(auto, unfolding(crate::specs::UpdateTexts::kind_text))]
@@ -25,23 +24,26 @@ impl RowText for UpdateRow {
 
     ghost end_text = { update_end_text };
 
-    fn put_row(&self, out: &mut Vec<u8>) -> Result<(), AllocError> {
-        let mut number = Buffer::new();
+    fn put_row(&self, out: &mut Vec<u8>, life: u64) -> Result<(), AllocError> {
         out.extend_from_slice(b"{\"db_name\":")?;
         put_quoted(out, self.db_name.as_str())?;
         out.extend_from_slice(b",\"type\":")?;
         out.extend_from_slice(kind_text(self.kind).as_bytes())?;
         out.extend_from_slice(b",\"seq\":")?;
-        out.extend_from_slice(number.format(self.seq).as_bytes())?;
+        put_sequence(out, self.seq, life)?;
         out.extend_from_slice(b"}")?;
         Ok(())
     }
 
     #[tactic(auto, unfolding(crate::specs::UpdateTexts::update_end_text))]
-    fn put_end(out: &mut Vec<u8>, last_seq: u64, _pending: u64) -> Result<(), AllocError> {
-        let mut number = Buffer::new();
+    fn put_end(
+        out: &mut Vec<u8>,
+        life: u64,
+        last_seq: u64,
+        _pending: u64,
+    ) -> Result<(), AllocError> {
         out.extend_from_slice(b"\"last_seq\":")?;
-        out.extend_from_slice(number.format(last_seq).as_bytes())?;
+        put_sequence(out, last_seq, life)?;
         out.extend_from_slice(b"}\n")?;
         Ok(())
     }

@@ -6,6 +6,7 @@ use Rattle.hub_model.specs.Revision.{Revision, text_of}
 use Rattle.hub_model.specs.Missing.{Diff}
 use Rattle.hub_document.specs.declared.doc.Doc.{Doc}
 use Rattle.hub_document.specs.DocText.{doc_text, local_text}
+use Rattle.hub_document.specs.SequenceText.{sequence_text}
 use Rattle.hub_database.specs.declared.answers.Info.{Info}
 use Rattle.hub_database.specs.declared.answers.OpenRev.{OpenRev}
 use Rattle.hub_database.specs.declared.answers.OpenRev.TheVariants.{Found, Missing}
@@ -32,7 +33,7 @@ info_body name info =
     ++ (codes ",\"doc_del_count\":"
     ++ (decimal info.doc_del_count
     ++ (codes ",\"update_seq\":"
-    ++ (decimal info.update_seq ++ codes ",\"instance_start_time\":\"0\"}\n")))))))
+    ++ (sequence_text info.update_seq info.life ++ codes ",\"instance_start_time\":\"0\"}\n")))))))
 
 -- an edit that is stored: the JSON text of its document's id, and the text of its revision
 unfoldable pub edit_text : List ℕ → List ℕ → List ℕ

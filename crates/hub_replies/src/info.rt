@@ -4,7 +4,7 @@ ghost use Rattle.std.specs.Prelude.{◌≡◌, IfOk};
 ghost use Rattle.hub_replies.specs.Bodies.{info_body};
 
 use hub_database::Info;
-use hub_document::put_quoted;
+use hub_document::{put_quoted, put_sequence};
 use itoa::Buffer;
 use std::alloc::{AllocError, Global};
 
@@ -21,7 +21,7 @@ pub fn info_body(alloc: Global, name: &str, info: &Info) -> Result<Vec<u8>, Allo
     text.extend_from_slice(b",\"doc_del_count\":")?;
     text.extend_from_slice(number.format(info.doc_del_count).as_bytes())?;
     text.extend_from_slice(b",\"update_seq\":")?;
-    text.extend_from_slice(number.format(info.update_seq).as_bytes())?;
+    put_sequence(&mut text, info.update_seq, info.life)?;
     text.extend_from_slice(b",\"instance_start_time\":\"0\"}\n")?;
     Ok(text)
 }

@@ -85,18 +85,23 @@ fn databases_say_of_themselves(rt: HostRuntime) -> Result<(), Fail> {
         doc_count: 2,
         doc_del_count: 0,
         update_seq: 3,
+        life: 1,
     };
     let body = info_body(alloc, "d", &info)?;
     let expected =
-        r#"{"db_name":"d","doc_count":2,"doc_del_count":0,"update_seq":3,"instance_start_time":"0"}"#;
+        r#"{"db_name":"d","doc_count":2,"doc_del_count":0,"update_seq":"3-1","instance_start_time":"0"}"#;
     is_line(&rt, body.as_slice(), expected);
     let info = Info {
         doc_count: 10,
         doc_del_count: 4294967295,
         update_seq: 18446744073709551615,
+        life: 18446744073709551615,
     };
     let body = info_body(alloc, ODD, &info)?;
-    let counts = r#""doc_count":10,"doc_del_count":4294967295,"update_seq":18446744073709551615"#;
+    let counts = concat!(
+        r#""doc_count":10,"doc_del_count":4294967295,"#,
+        r#""update_seq":"18446744073709551615-18446744073709551615""#
+    );
     let expected = format!(in alloc;
         r#"{{"db_name":{ODD_TEXT},{counts},"instance_start_time":"0"}}"#
     )?;

@@ -77,7 +77,8 @@ some_limits = record {
 }
 
 abbrev some_database : Database
-some_database = record { journal = []; deleted = false; locals = []; feeds = []; next_feed = 0; limits = some_limits }
+some_database =
+    record { journal = []; deleted = false; locals = []; feeds = []; next_feed = 0; limits = some_limits; life = 1 }
 
 -- what is said without a look is what any database says
 pub read_anyway : (says : Database → Said) (said : Said) (r : Result Response Refusal) → IsSaid said r

@@ -183,8 +183,8 @@ complete_updates feed items t none goes =
 -- ---- an answer that was made at once
 
 -- what is left of one
-abbrev left_of : List ChangeRow → ℕ → ℕ → Descending
-left_of rows last_seq pending = record { rows = rows; last_seq = last_seq; pending = pending }
+abbrev left_of : List ChangeRow → (last_seq pending life : ℕ) → Descending
+left_of rows last_seq pending life = record { rows = rows; last_seq = last_seq; pending = pending; life = life }
 
 -- how it goes on
 listed_step : (answer : Descending) (s : Option Sent) (item : StreamItem) (mid : Option Sent) → s ≡ Some (Listed answer) → Gives s (Some item) mid
@@ -204,21 +204,21 @@ no_row item r e is = let both : false ≡ true = sym (ap stream.is_end e) ∙ is
 
 -- it hands what is left, and its end
 list_whole : {n : ℕ} {s t : Option Sent} {items : List StreamItem} {end : StreamEnd} → Streams connection_rules n s items end t → end ≡ Complete
-    → (rows : List ChangeRow) (l pending : ℕ) → s ≡ Some (Listed (left_of rows l pending)) → items ≡ whole_list (left_of rows l pending)
-list_whole (Streams.goes_on {s = s} {mid = mid} {item = item} given is more) c [] l pending at =
-    absurd (no_end item l pending (listed_step (left_of [] l pending) s item mid at given).0 is)
-list_whole (Streams.goes_on {s = s} {mid = mid} {item = item} {items = items} given is more) c (r ∷ rows) l pending at =
-    let x = listed_step (left_of (r ∷ rows) l pending) s item mid at given in
-    ap (λ i. i ∷ items) x.0 ∙ ap (λ xs. Change (Row r) ∷ xs) (list_whole more c rows l pending x.1)
-list_whole (Streams.ends {s = s} {t = t} {item = item} given is) c [] l pending at =
-    ap (λ i. i ∷ []) (listed_step (left_of [] l pending) s item t at given).0
-list_whole (Streams.ends {s = s} {t = t} {item = item} given is) c (r ∷ rows) l pending at =
-    absurd (no_row item r (listed_step (left_of (r ∷ rows) l pending) s item t at given).0 is)
-list_whole (Streams.ends_broken given is) c rows l pending at = absurd (cc)
-list_whole (Streams.stops mid given dropped) c rows l pending at = absurd (cc)
-list_whole (Streams.loses mid lost given dropped) c rows l pending at = absurd (cc)
-list_whole (Streams.breaks dropped) c rows l pending at = absurd (cc)
-list_whole (Streams.gives_up dropped many) c rows l pending at = absurd (cc)
+    → (rows : List ChangeRow) (l pending life : ℕ) → s ≡ Some (Listed (left_of rows l pending life)) → items ≡ whole_list (left_of rows l pending life)
+list_whole (Streams.goes_on {s = s} {mid = mid} {item = item} given is more) c [] l pending life at =
+    absurd (no_end item l pending (listed_step (left_of [] l pending life) s item mid at given).0 is)
+list_whole (Streams.goes_on {s = s} {mid = mid} {item = item} {items = items} given is more) c (r ∷ rows) l pending life at =
+    let x = listed_step (left_of (r ∷ rows) l pending life) s item mid at given in
+    ap (λ i. i ∷ items) x.0 ∙ ap (λ xs. Change (Row r) ∷ xs) (list_whole more c rows l pending life x.1)
+list_whole (Streams.ends {s = s} {t = t} {item = item} given is) c [] l pending life at =
+    ap (λ i. i ∷ []) (listed_step (left_of [] l pending life) s item t at given).0
+list_whole (Streams.ends {s = s} {t = t} {item = item} given is) c (r ∷ rows) l pending life at =
+    absurd (no_row item r (listed_step (left_of (r ∷ rows) l pending life) s item t at given).0 is)
+list_whole (Streams.ends_broken given is) c rows l pending life at = absurd (cc)
+list_whole (Streams.stops mid given dropped) c rows l pending life at = absurd (cc)
+list_whole (Streams.loses mid lost given dropped) c rows l pending life at = absurd (cc)
+list_whole (Streams.breaks dropped) c rows l pending life at = absurd (cc)
+list_whole (Streams.gives_up dropped many) c rows l pending life at = absurd (cc)
 
 pub complete_list : CompleteListIsWhole
-complete_list answer items t goes = list_whole goes refl answer.rows answer.last_seq answer.pending refl
+complete_list answer items t goes = list_whole goes refl answer.rows answer.last_seq answer.pending answer.life refl

@@ -37,8 +37,8 @@ use Rattle.hub_service.specs.Bulk.{Batch, readings, read_docs, faults_of, replie
 use Rattle.hub_service.specs.Said.{Said, Body, Refusing}
 
 -- what a database of this name says of itself
-abbrev pub says_info : List ℕ → List Edit → Said
-says_info name journal = Body 200 (info_body name (info_of journal))
+abbrev pub says_info : List ℕ → Database → Said
+says_info name db = Body 200 (info_body name (info_of db.journal db.life))
 
 -- a commit has nothing to do
 abbrev pub says_commit : Said

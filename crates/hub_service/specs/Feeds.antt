@@ -36,19 +36,26 @@ use Rattle.hub_service.specs.declared.sent.Sent.TheVariants.{Listed, Changes, Up
 abbrev pub FeedOf : Type 0 → Type 0
 FeedOf R = ReceiverState Label (Item R)
 
+-- the number of the life that the sequences of what is sent are of
+abbrev pub life_of : Sent → ℕ
+life_of (Listed answer) = answer.life
+life_of (Changes feed) = feed.label.life
+life_of (Updates feed) = feed.label.life
+
 -- ---- beginning one
 
 -- A feed that was opened with these parameters, of which nothing was taken. It shows what lies above a
--- sequence that is not above the one asked for, and below it only where that many edits were not there yet.
+-- sequence that is not above the one asked for, and below it only where that many edits were not there yet; a
+-- sequence of another life counts as 0.
 pub record IsNew {R : Type 0} (asked : FeedAsked) (feed : FeedOf R) : Type 0 where
   pub asks : feed.label.asked ≡ asked
-  pub begins : IsBeginningFor asked.since 0 feed.label.since
+  pub begins : IsBeginningFor asked.since 0 feed.label
   pub none : feed.taken ≡ []
 
 -- what is asked of a database is begun, in this mode: downwards it is made at once
 abbrev pub IsBegun : FeedAsked → Mode → Sent → Type 0
 IsBegun asked mode (Listed answer) = (asked.descending ≡ true) × (mode ≡ Normal)
-    × HasDatabase (λ db. (db.deleted ≡ false) × (answer ≡ descending db.journal (params_in asked)))
+    × HasDatabase (λ db. (db.deleted ≡ false) × (answer ≡ descending db.journal db.life (params_in asked)))
 IsBegun asked mode (Changes feed) = (asked.descending ≡ false) × (mode ≡ asked.mode) × IsNew asked feed
 IsBegun asked mode (Updates feed) = ⊥
 
@@ -84,14 +91,14 @@ BeginsUpdates (Ok asked) (Err e) = (e ≡ refusal.TooManyFeeds) ⊎ (e ≡ refus
 -- ---- its items
 
 -- the next item of an answer with these rows left, and what is left behind it
-abbrev pub next_of_rows : List ChangeRow → ℕ → ℕ → Item ChangeRow × Option Descending
-next_of_rows [] last_seq pending = (End last_seq pending, None)
-next_of_rows (row ∷ rows) last_seq pending =
-    (Row row, Some (record { rows = rows; last_seq = last_seq; pending = pending }))
+abbrev pub next_of_rows : List ChangeRow → (last_seq pending life : ℕ) → Item ChangeRow × Option Descending
+next_of_rows [] last_seq pending life = (End last_seq pending, None)
+next_of_rows (row ∷ rows) last_seq pending life =
+    (Row row, Some (record { rows = rows; last_seq = last_seq; pending = pending; life = life }))
 
 -- the next item of an answer that was made at once, and what is left of it
 abbrev pub next_listed : Descending → Item ChangeRow × Option Descending
-next_listed answer = next_of_rows answer.rows answer.last_seq answer.pending
+next_listed answer = next_of_rows answer.rows answer.last_seq answer.pending answer.life
 
 -- what was taken of a feed of changes is a front of a list that is rightly handed for what was asked
 abbrev pub IsRightChanges : FeedOf ChangeRow → Type 0

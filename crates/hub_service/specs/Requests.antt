@@ -29,7 +29,7 @@ use Rattle.hub_service.specs.Bulk.{batch_in}
 use Rattle.hub_service.specs.Calls.{says_info, says_commit, gets_doc, puts_doc, says_local, puts_local, says_diffs}
 use Rattle.hub_service.specs.Calls.{asked_by, stores}
 use Rattle.hub_service.specs.Deletions.{IsDeletion}
-use Rattle.hub_service.specs.Feeds.{Begins, BeginsUpdates}
+use Rattle.hub_service.specs.Feeds.{Begins, BeginsUpdates, life_of}
 use Rattle.hub_service.specs.Moments.{IsRead, IsWritten}
 use Rattle.hub_service.specs.Said.{Body, IsSaid, IsWant, Says}
 use Rattle.hub_service.specs.declared.response.Response.{Response}
@@ -39,7 +39,7 @@ use Rattle.hub_service.specs.declared.sent.Sent.TheVariants.{Listed, Changes, Up
 
 -- what a call on the database of a name, with this body, is answered
 abbrev pub AnswersCall : Call → List ℕ → List ℕ → Result Response Refusal → Type 0
-AnswersCall call.Info name body r = IsRead (λ db. says_info name db.journal) r
+AnswersCall call.Info name body r = IsRead (λ db. says_info name db) r
 AnswersCall call.BulkDocs name body r = IsWritten (λ db. stores db (batch_in body)) r
 AnswersCall (call.Changes query) name body r = Begins (feed_asked query.items body) r
 AnswersCall call.RevsDiff name body r = IsRead (λ db. says_diffs db.journal (asked_by body)) r
@@ -100,7 +100,7 @@ abbrev pub IsSent : Result Response Refusal → Answer → Option Sent → Optio
 IsSent (Ok (response.Body status body)) a s t =
     (a ≡ answer.Whole (Done status body)) × (t ≡ s)
 IsSent (Ok (response.Stream mode sent)) a s t =
-    ((a ≡ answer.Stream mode) × (t ≡ Some sent))
+    ((a ≡ answer.Stream mode (life_of sent)) × (t ≡ Some sent))
     ⊎ (IsFeed sent × (a ≡ answer.Whole (Refused NoMemory)) × (t ≡ s))
 IsSent (Err e) a s t = (a ≡ answer.Whole (Refused e)) × (t ≡ s)
 

@@ -170,8 +170,9 @@ impl<'h, N: Wait, P: Pumping> Connection<'h, N, P> {
                     sent.finish(self.rt);
                     return Answer::Whole(Reply::Refused(Refusal::NoMemory));
                 }
+                let life = sent.life();
                 self.sent = Some(sent);
-                Answer::Stream(mode)
+                Answer::Stream(mode, life)
             }
         }
     }

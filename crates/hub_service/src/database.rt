@@ -14,7 +14,7 @@ use std::sync::Wait;
 
 // What a database of this name says of itself.
 fn info<N: Wait>(target: &Target<'_, N>, name: &str) -> Result<Response, Refusal>
-    ensures { IsRead (λ db. says_info name.now db.journal) result }
+    ensures { IsRead (λ db. says_info name.now db) result }
 {
     let info = target.info()?;
     ok(info_body(target.alloc, name, &info))

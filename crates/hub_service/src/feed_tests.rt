@@ -2,7 +2,7 @@
 
 use crate::connection::Connection;
 use crate::pumping::ByTurns;
-use crate::session_tests::Answer::{Feed, Head};
+use crate::session_tests::Answer::{Feed, Found, Head, Written};
 use crate::session_tests::Ask::{Batch, Body, Line};
 use crate::session_tests::{Exchange, MAKE, STORED, answers, asks, assert_session};
 use hub_databases::Hub;
@@ -35,20 +35,33 @@ fn assert_feeds<N: Abort + Wait>(
 
 // Rows, by their document and their sequence.
 
-const A1: &str = r#"{"seq":1,"id":"a","changes":[{"rev":"1-a"}]}"#;
+const A1: &str = r#"{"seq":"1-1","id":"a","changes":[{"rev":"1-a"}]}"#;
 
-const B2: &str = r#"{"seq":2,"id":"b","changes":[{"rev":"1-b"}]}"#;
+const B2: &str = r#"{"seq":"2-1","id":"b","changes":[{"rev":"1-b"}]}"#;
 
-const A3: &str = r#"{"seq":3,"id":"a","changes":[{"rev":"2-c"}]}"#;
+const A3: &str = r#"{"seq":"3-1","id":"a","changes":[{"rev":"2-c"}]}"#;
 
-const C3: &str = r#"{"seq":3,"id":"c","changes":[{"rev":"1-c"}]}"#;
+const C3: &str = r#"{"seq":"3-1","id":"c","changes":[{"rev":"1-c"}]}"#;
 
-const V4: &str = r#"{"seq":4,"id":"_design/v","changes":[{"rev":"1-v"}]}"#;
+const V4: &str = r#"{"seq":"4-1","id":"_design/v","changes":[{"rev":"1-v"}]}"#;
 
-const A5: &str = r#"{"seq":5,"id":"a","changes":[{"rev":"3-e"}]}"#;
+const A5: &str = r#"{"seq":"5-1","id":"a","changes":[{"rev":"3-e"}]}"#;
+
+/// The feed of a database without edits.
+const EMPTY: &str = concat!(
+    "HTTP/1.1 200 OK\r\nContent-Type: application/json\r\nTransfer-Encoding: chunked\r\n\r\n",
+    "d\r\n{\"results\":[\n\r\n",
+    "22\r\n\n],\n\"last_seq\":\"0-1\",\"pending\":0}\n\r\n",
+    "0\r\n\r\n"
+);
+
+/// What the database says of itself behind three edits.
+const INFO: &str =
+    r#"{"db_name":"d","doc_count":2,"doc_del_count":0,"update_seq":"3-1","instance_start_time":"0"}"#;
 
 const SINCE: &[Exchange] = &[
     MAKE,
+    (Line("GET /d/_changes"), Written(EMPTY)),
     (
         Batch(&[
             r#"{"_id":"a","_rev":"1-a"}"#,
@@ -59,6 +72,13 @@ const SINCE: &[Exchange] = &[
     ),
     (Body("GET /d/_changes", ""), Feed(&[B2, A3], 3, 0)),
     (Body("GET /d/_changes?since=2", ""), Feed(&[A3], 3, 0)),
+    (Body("GET /d/_changes?since=2-1", ""), Feed(&[A3], 3, 0)),
+    (Line(r#"GET /d/_changes?since="2-1""#), Feed(&[A3], 3, 0)),
+    (
+        Body("GET /d/_changes?since=%222-1%22", ""),
+        Feed(&[A3], 3, 0),
+    ),
+    (Body("GET /d/_changes?since=2-7", ""), Feed(&[B2, A3], 3, 0)),
     (Body("GET /d/_changes?since=3", ""), Feed(&[], 3, 0)),
     (Body("GET /d/_changes?since=99", ""), Feed(&[], 3, 0)),
     (Body("GET /d/_changes?since=now", ""), Feed(&[], 3, 0)),
@@ -66,17 +86,20 @@ const SINCE: &[Exchange] = &[
         Body("POST /d/_changes?since=1", "{}"),
         Feed(&[B2, A3], 3, 0),
     ),
+    (Line("GET /d"), Found(INFO)),
 ];
 
-/// A feed begins above `since`, and never above the update sequence.
+/// A feed begins above `since`, which counts as 0 where it is of another life, and never above the update
+/// sequence.
 #[test]
 fn feeds_begin_above_since(rt: HostRuntime) -> Result<(), Fail> {
     assert_feeds(&rt, rt.alloc(), SINCE)
 }
 
-const WINNER: &str = r#"{"seq":3,"id":"x","changes":[{"rev":"2-a"}]}"#;
+const WINNER: &str = r#"{"seq":"3-1","id":"x","changes":[{"rev":"2-a"}]}"#;
 
-const LEAVES: &str = r#"{"seq":3,"id":"x","changes":[{"rev":"2-a"},{"rev":"1-z"},{"rev":"2-b"}]}"#;
+const LEAVES: &str =
+    r#"{"seq":"3-1","id":"x","changes":[{"rev":"2-a"},{"rev":"1-z"},{"rev":"2-b"}]}"#;
 
 const STYLES: &[Exchange] = &[
     MAKE,
@@ -213,15 +236,15 @@ fn descending_feeds(rt: HostRuntime) -> Result<(), Fail> {
     assert_feeds(&rt, rt.alloc(), DESCENDING)
 }
 
-const DELETED_B2: &str = r#"{"seq":2,"id":"b","changes":[{"rev":"1-b"}],"deleted":true}"#;
+const DELETED_B2: &str = r#"{"seq":"2-1","id":"b","changes":[{"rev":"1-b"}],"deleted":true}"#;
 
 const A1_WITH_DOCUMENT: &str = concat!(
-    r#"{"seq":1,"id":"a","changes":[{"rev":"1-a"}],"#,
+    r#"{"seq":"1-1","id":"a","changes":[{"rev":"1-a"}],"#,
     r#""doc":{"_id":"a","_rev":"1-a","k":[true],"v":7}}"#
 );
 
 const DELETED_B2_WITH_DOCUMENT: &str = concat!(
-    r#"{"seq":2,"id":"b","changes":[{"rev":"1-b"}],"deleted":true,"#,
+    r#"{"seq":"2-1","id":"b","changes":[{"rev":"1-b"}],"deleted":true,"#,
     r#""doc":{"_id":"b","_rev":"1-b","_deleted":true}}"#
 );
 

@@ -23,7 +23,7 @@ const PARTS: &[Exchange] = &[
     (
         Line("GET /d"),
         Found(
-            r#"{"db_name":"d","doc_count":1,"doc_del_count":0,"update_seq":1,"instance_start_time":"0"}"#,
+            r#"{"db_name":"d","doc_count":1,"doc_del_count":0,"update_seq":"1-1","instance_start_time":"0"}"#,
         ),
     ),
     (Line(LEAVES), Found(ALONE)),
@@ -49,7 +49,11 @@ const PARTS: &[Exchange] = &[
     ),
     (
         Line("GET /d/_changes?style=all_docs"),
-        Feed(&[r#"{"seq":2,"id":"a","changes":[{"rev":"6-f"}]}"#], 2, 0),
+        Feed(
+            &[r#"{"seq":"2-1","id":"a","changes":[{"rev":"6-f"}]}"#],
+            2,
+            0,
+        ),
     ),
 ];
 
@@ -91,7 +95,7 @@ const LATE: &[Exchange] = &[
     (
         Line("GET /d/_changes?style=all_docs"),
         Feed(
-            &[r#"{"seq":2,"id":"x","changes":[{"rev":"3-c"},{"rev":"2-b"}]}"#],
+            &[r#"{"seq":"2-1","id":"x","changes":[{"rev":"3-c"},{"rev":"2-b"}]}"#],
             2,
             0,
         ),
@@ -106,7 +110,11 @@ const LATE: &[Exchange] = &[
     ),
     (
         Line("GET /d/_changes?style=all_docs"),
-        Feed(&[r#"{"seq":3,"id":"x","changes":[{"rev":"4-d"}]}"#], 3, 0),
+        Feed(
+            &[r#"{"seq":"3-1","id":"x","changes":[{"rev":"4-d"}]}"#],
+            3,
+            0,
+        ),
     ),
     (
         Line("GET /d/x?open_revs=%5B%223-c%22,%222-b%22%5D&revs=true"),

@@ -20,7 +20,7 @@ const EMPTY_LOG: &[Exchange] = &[(
     Written(concat!(
         "HTTP/1.1 200 OK\r\nContent-Type: application/json\r\nTransfer-Encoding: chunked\r\n\r\n",
         "d\r\n{\"results\":[\n\r\n",
-        "12\r\n\n],\n\"last_seq\":0}\n\r\n",
+        "16\r\n\n],\n\"last_seq\":\"0-0\"}\n\r\n",
         "0\r\n\r\n"
     )),
 )];

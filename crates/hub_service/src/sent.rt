@@ -1,7 +1,7 @@
 //! What a connection is sending.
 
 ghost use Rattle.std.specs.Prelude.{◌≡◌};
-ghost use Rattle.hub_service.specs.Feeds.{next_listed};
+ghost use Rattle.hub_service.specs.Feeds.{life_of, next_listed};
 
 use hub_database::Descending;
 use hub_document::ChangeRow;
@@ -18,6 +18,8 @@ pub(crate) struct Listed {
     rows: IntoIter<ChangeRow>,
     last_seq: u64,
     pending: u64,
+    /// The number of the life that the sequences are of.
+    life: u64,
 }
 
 impl Model for Listed {
@@ -26,7 +28,12 @@ impl Model for Listed {
 
     ghost Value = { Answer };
 
-    ghost view = { λ a. record { rows = into_iter_items a.rows; last_seq = a.last_seq; pending = a.pending } };
+    ghost view = { λ a. record {
+      rows = into_iter_items a.rows;
+      last_seq = a.last_seq;
+      pending = a.pending;
+      life = a.life;
+    } };
 }
 
 impl Listed {
@@ -38,11 +45,13 @@ impl Listed {
             rows,
             last_seq,
             pending,
+            life,
         } = answer;
         Listed {
             rows: rows.into_iter(),
             last_seq,
             pending,
+            life,
         }
     }
 
@@ -76,6 +85,17 @@ pub(crate) enum Sent {
 }
 
 impl Sent {
+    /// The number of the life that its sequences are of. Constant time.
+    pub(crate) fn life(&self) -> u64
+        ensures { result ≡ life_of self.now }
+    {
+        match self {
+            Sent::Listed(listed) => listed.life,
+            Sent::Changes(feed) => feed.label().life(),
+            Sent::Updates(feed) => feed.label().life(),
+        }
+    }
+
     /// Gives back what it holds: a feed is forgotten by its host.
     pub(crate) fn finish<N: Wait>(self, rt: &N) {
         match self {

@@ -35,7 +35,8 @@ pub(crate) enum Answer {
     Created(&'static str),
     /// 201, with the replies to a batch.
     Replies(&'static [&'static str]),
-    /// The rows of a feed, its last sequence and how many are pending: a chunk for each row.
+    /// The rows of a feed of the database that was made first, its last sequence and how many are pending: a
+    /// chunk for each row.
     Feed(&'static [&'static str], u64, u64),
     /// A refusal: its status, its error and its reason.
     Refused(&'static str, &'static str, &'static str),
@@ -202,14 +203,14 @@ fn push_rows(alloc: Global, out: &mut String, rows: &[&str]) -> Result<(), Alloc
     Ok(())
 }
 
-/// The chunk that ends a feed.
+/// The chunk that ends a feed of the database that was made first.
 fn push_end(
     alloc: Global,
     out: &mut String,
     last_seq: u64,
     pending: u64,
 ) -> Result<(), AllocError> {
-    let text = format!(in alloc; "\n],\n\"last_seq\":{last_seq},\"pending\":{pending}}}\n")?;
+    let text = format!(in alloc; "\n],\n\"last_seq\":\"{last_seq}-1\",\"pending\":{pending}}}\n")?;
     push_chunk(alloc, out, text.as_str())
 }
 

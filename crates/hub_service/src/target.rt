@@ -54,7 +54,7 @@ impl<'a, N: Wait> Target<'a, N> {
 
     /// How many documents there are, and how many edits.
     pub(crate) fn info(&self) -> Result<Info, Refusal>
-        ensures { IsFound (λ db info. info ≡ info_of db.journal) result }
+        ensures { IsFound (λ db info. info ≡ info_of db.journal db.life) result }
     {
         match self.ask(Question::Info)? {
             Answer::Info(info) => Ok(info),
@@ -100,7 +100,7 @@ impl<'a, N: Wait> Target<'a, N> {
 
     /// The answer to a feed that goes downwards.
     pub(crate) fn descending(&self, params: FeedParams) -> Result<Descending, Refusal>
-        ensures { IsFound (λ db found. found ≡ descending db.journal (params_of params)) result }
+        ensures { IsFound (λ db found. found ≡ descending db.journal db.life (params_of params)) result }
     {
         match self.ask(Question::Descending(params))? {
             Answer::Descending(found) => Ok(found),

@@ -65,7 +65,11 @@ const LIMITS: &[Exchange] = &[
     ),
     (
         Line("GET /d/_changes?since=1"),
-        Feed(&[r#"{"seq":2,"id":"b","changes":[{"rev":"1-b"}]}"#], 2, 0),
+        Feed(
+            &[r#"{"seq":"2-1","id":"b","changes":[{"rev":"1-b"}]}"#],
+            2,
+            0,
+        ),
     ),
 ];
 
@@ -82,7 +86,11 @@ const FULL_LOG: &[Exchange] = &[
     (Batch(&[r#"{"_id":"a","_rev":"1-a"}"#]), SEQUENCE_FULL),
     (
         Line("GET /d/_changes"),
-        Feed(&[r#"{"seq":1,"id":"a","changes":[{"rev":"1-a"}]}"#], 1, 0),
+        Feed(
+            &[r#"{"seq":"1-1","id":"a","changes":[{"rev":"1-a"}]}"#],
+            1,
+            0,
+        ),
     ),
     (Batch(&[r#"{"_id":"a","_rev":"1-a"}"#]), STORED),
     (Line("DELETE /d"), SEQUENCE_FULL),

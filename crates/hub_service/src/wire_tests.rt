@@ -83,8 +83,8 @@ const RUN: &[Exchange] = &[
         Line("GET /d/_changes"),
         Feed(
             &[
-                r#"{"seq":1,"id":"a","changes":[{"rev":"1-a"}]}"#,
-                r#"{"seq":2,"id":"b","changes":[{"rev":"1-b"}]}"#,
+                r#"{"seq":"1-1","id":"a","changes":[{"rev":"1-a"}]}"#,
+                r#"{"seq":"2-1","id":"b","changes":[{"rev":"1-b"}]}"#,
             ],
             2,
             0,
@@ -219,7 +219,7 @@ const CLOSING_FEED: &[Exchange] = &[
         Written(concat!(
             "HTTP/1.1 200 OK\r\nContent-Type: application/json\r\nTransfer-Encoding: chunked\r\n",
             "Connection: close\r\n\r\n",
-            "1b\r\n{\"last_seq\":0,\"pending\":0}\n\r\n0\r\n\r\n"
+            "1f\r\n{\"last_seq\":\"0-1\",\"pending\":0}\n\r\n0\r\n\r\n"
         )),
     ),
     (Line("PUT /e"), Nothing),

@@ -54,30 +54,30 @@ module _ {S : Type 0} (rules : Rules S) (asked : Asked) (before : Moment S) (mid
     written = subst (λ b. AppendsFront before.written new (whole_text reply sent.0 b asked.close)) h sent.1;
   }
 
-  pub stream_broken : (mode : Mode) (after : Moment S) → rules.answers before.service asked (Stream mode) mid → rules.drops mid after.service
+  pub stream_broken : (mode : Mode) (life : ℕ) (after : Moment S) → rules.answers before.service asked (Stream mode life) mid → rules.drops mid after.service
       → AppendsFront before.written after.written (stream_head asked) → HasAnswer rules asked (Some Broken) before after
-  stream_broken mode after a d p = record {
-    exchange = record { asked = asked; answer = Stream mode; found = true; items = [] };
+  stream_broken mode life after a d p = record {
+    exchange = record { asked = asked; answer = Stream mode life; found = true; items = [] };
     asked_is = refl;
-    goes = record { mid = mid; answered = a; goes = Goes.head_broken mode refl refl d refl };
+    goes = record { mid = mid; answered = a; goes = Goes.head_broken mode life refl refl d refl };
     written = front_of_more before.written after.written (stream_head asked) _ p;
   }
 
-  pub stream_bare : (mode : Mode) (next : Option Closing) (after : Moment S) → rules.answers before.service asked (Stream mode) mid → rules.drops mid after.service
+  pub stream_bare : (mode : Mode) (life : ℕ) (next : Option Closing) (after : Moment S) → rules.answers before.service asked (Stream mode life) mid → rules.drops mid after.service
       → is_head asked ≡ true → next ≡ after_answer asked.close → Appends before.written after.written (stream_head asked) → HasAnswer rules asked next before after
-  stream_bare mode next after a d h e p = record {
-    exchange = record { asked = asked; answer = Stream mode; found = true; items = [] };
+  stream_bare mode life next after a d h e p = record {
+    exchange = record { asked = asked; answer = Stream mode life; found = true; items = [] };
     asked_is = refl;
-    goes = record { mid = mid; answered = a; goes = Goes.head_alone mode refl h refl d e };
+    goes = record { mid = mid; answered = a; goes = Goes.head_alone mode life refl h refl d e };
     written = rw (e, breaks-after_answer asked.close, h) (subst (Appends before.written after.written) (sym (append-nil (stream_head asked))) p);
   }
 
-  pub stream_fed : (mode : Mode) (next : Option Closing) (end : StreamEnd) (sent : Option (List ℕ)) (after : Moment S) → rules.answers before.service asked (Stream mode) mid
+  pub stream_fed : (mode : Mode) (life : ℕ) (next : Option Closing) (end : StreamEnd) (sent : Option (List ℕ)) (after : Moment S) → rules.answers before.service asked (Stream mode life) mid
       → is_head asked ≡ false → next ≡ after_stream asked.close end → Appends before.written sent (stream_head asked)
-      → IsFed rules (feed_text mode) end (moment mid sent) after → HasAnswer rules asked next before after
-  stream_fed mode next end sent after a h e p f = record {
-    exchange = record { asked = asked; answer = Stream mode; found = true; items = f.items };
+      → IsFed rules (feed_text mode life) end (moment mid sent) after → HasAnswer rules asked next before after
+  stream_fed mode life next end sent after a h e p f = record {
+    exchange = record { asked = asked; answer = Stream mode life; found = true; items = f.items };
     asked_is = refl;
-    goes = record { mid = mid; answered = a; goes = Goes.stream_sent mode end refl h f.streams e };
-    written = rw (e, breaks-after_stream asked.close end, h) (sends_after (is_broken end) before.written sent after.written (stream_head asked) (feed_text mode f.items) p f.written);
+    goes = record { mid = mid; answered = a; goes = Goes.stream_sent mode life end refl h f.streams e };
+    written = rw (e, breaks-after_stream asked.close end, h) (sends_after (is_broken end) before.written sent after.written (stream_head asked) (feed_text mode life f.items) p f.written);
   }

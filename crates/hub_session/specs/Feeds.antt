@@ -21,17 +21,18 @@ abbrev pub behind_item : StreamItem → List ℕ
 behind_item item = if is_end item then last_chunk else []
 
 -- what is sent for an item, before which so many rows came
-abbrev pub sent_text : Mode → ℕ → StreamItem → List ℕ
-sent_text mode rows item = text_chunks (stream_item_text mode rows item) ++ behind_item item
+abbrev pub sent_text : Mode → (life rows : ℕ) → StreamItem → List ℕ
+sent_text mode life rows item = text_chunks (stream_item_text mode life rows item) ++ behind_item item
 
 -- what is sent for these items, before which so many rows came
-abbrev pub items_text : Mode → ℕ → List StreamItem → List ℕ
-items_text mode rows [] = []
-items_text mode rows (item ∷ items) = sent_text mode rows item ++ items_text mode (rows_after rows item) items
+abbrev pub items_text : Mode → (life rows : ℕ) → List StreamItem → List ℕ
+items_text mode life rows [] = []
+items_text mode life rows (item ∷ items) =
+    sent_text mode life rows item ++ items_text mode life (rows_after rows item) items
 
--- what is sent for a stream of these items, behind the head of its answer
-abbrev pub feed_text : Mode → List StreamItem → List ℕ
-feed_text mode items = text_chunks (feed_head mode) ++ items_text mode 0 items
+-- what is sent for a stream of the life of this number and of these items, behind the head of its answer
+abbrev pub feed_text : Mode → (life : ℕ) → List StreamItem → List ℕ
+feed_text mode life items = text_chunks (feed_head mode) ++ items_text mode life 0 items
 
 -- a stream is not sent on once its service, now at s, gave this item: behind a row or a beat the service
 -- gives back what the stream holds, and behind an End the stream holds nothing

@@ -37,8 +37,8 @@ is_head asked = bytes_eq asked.method (codes "HEAD")
 -- the text of an answer
 abbrev pub answer_text : Answer → Bool → Bool → Bool → List StreamItem → List ℕ
 answer_text (Whole reply) found head_only close items = whole_text reply found head_only close
-answer_text (Stream mode) found head_only close items =
-    head_text 200 chunked_line close ++ (if head_only then [] else feed_text mode items)
+answer_text (Stream mode life) found head_only close items =
+    head_text 200 chunked_line close ++ (if head_only then [] else feed_text mode life items)
 
 -- what is written for a request
 abbrev pub exchange_text : Exchange → List ℕ
@@ -67,13 +67,14 @@ pub data Goes {S : Type 0} (rules : Rules S) (x : Exchange) (s : S) (next : Opti
   whole_broken : (reply : Reply) → x.answer ≡ Whole reply → x.items ≡ [] → t ≡ s
       → next ≡ Some Broken → Goes rules x s next t
   -- HEAD asked for a stream: the head of its answer is written, and the service gives back what it holds
-  head_alone : (mode : Mode) → x.answer ≡ Stream mode → is_head x.asked ≡ true → x.items ≡ [] → rules.drops s t
-      → next ≡ after_answer x.asked.close → Goes rules x s next t
+  head_alone : (mode : Mode) (life : ℕ) → x.answer ≡ Stream mode life → is_head x.asked ≡ true → x.items ≡ []
+      → rules.drops s t → next ≡ after_answer x.asked.close → Goes rules x s next t
   -- a stream: its items are sent behind the head of its answer
-  stream_sent : (mode : Mode) (end : StreamEnd) → x.answer ≡ Stream mode → is_head x.asked ≡ false
-      → Streams rules 0 s x.items end t → next ≡ after_stream x.asked.close end → Goes rules x s next t
+  stream_sent : (mode : Mode) (life : ℕ) (end : StreamEnd) → x.answer ≡ Stream mode life
+      → is_head x.asked ≡ false → Streams rules 0 s x.items end t → next ≡ after_stream x.asked.close end
+      → Goes rules x s next t
   -- the head of a stream's answer can't be written to the other side: the service gives back what it holds
-  head_broken : (mode : Mode) → x.answer ≡ Stream mode → x.items ≡ [] → rules.drops s t
+  head_broken : (mode : Mode) (life : ℕ) → x.answer ≡ Stream mode life → x.items ≡ [] → rules.drops s t
       → next ≡ Some Broken → Goes rules x s next t
 
 -- from s the service may answer the request of the exchange so and, once that is sent, stand at t; and then the

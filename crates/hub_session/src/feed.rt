@@ -90,11 +90,12 @@ impl ItemWriter {
     }
 
     /// Puts the text of an item where its chunk is written from.
-    fn put(&mut self, mode: Mode, rows: u64, item: &StreamItem) -> Result<(), AllocError>
-        ensures { OnOk result (drop head_room self.new.chunks.buffer.items ≡ stream_item_text mode rows item.now) }
+    fn put(&mut self, mode: Mode, life: u64, rows: u64, item: &StreamItem) -> Result<(), AllocError>
+        ensures { OnOk result (drop head_room self.new.chunks.buffer.items
+            ≡ stream_item_text mode life rows item.now) }
     {
         self.chunks.begin()?;
-        item.put_text(&mut self.chunks.buffer, mode, rows)?;
+        item.put_text(&mut self.chunks.buffer, mode, life, rows)?;
         Ok(())
     }
 
@@ -103,14 +104,16 @@ impl ItemWriter {
         &mut self,
         writer: &mut W,
         mode: Mode,
+        life: u64,
         rows: u64,
         item: &StreamItem,
     ) -> Result<(), ChunkFault>
-        ensures bytes { Writes (text_chunks (stream_item_text mode rows item.now)) result (W.written writer.old) (W.written writer.new) }
+        ensures bytes { Writes (text_chunks (stream_item_text mode life rows item.now)) result
+            (W.written writer.old) (W.written writer.new) }
         ensures monotone { W.fault_count writer.old ≤ W.fault_count writer.new }
         ensures fault { IsErrOf result ChunkFault.IoFault → Rose (W.fault_count writer.old) (W.fault_count writer.new) }
     {
-        if self.put(mode, rows, item).is_err() {
+        if self.put(mode, life, rows, item).is_err() {
             return Err(ChunkFault::NoMemory);
         }
         self.chunks.write(writer)
@@ -122,14 +125,16 @@ impl ItemWriter {
         writer: &mut W,
         service: &S,
         mode: Mode,
+        life: u64,
         rows: u64,
         item: &StreamItem,
     ) -> Result<(), ChunkFault>
-        ensures bytes { Writes (sent_text mode rows item.now) result (W.written writer.old) (W.written writer.new) }
+        ensures bytes { Writes (sent_text mode life rows item.now) result
+            (W.written writer.old) (W.written writer.new) }
         ensures monotone { W.fault_count writer.old ≤ W.fault_count writer.new }
         ensures fault { IsErrOf result ChunkFault.IoFault → Rose (W.fault_count writer.old) (W.fault_count writer.new) }
     {
-        match self.write(writer, mode, rows, item) {
+        match self.write(writer, mode, life, rows, item) {
             Ok(()) => {}
             Err(e) => return Err(e),
         }
@@ -164,8 +169,9 @@ fn send_items<W: Output, S: Service>(
     writer: &mut W,
     service: &mut S,
     mode: Mode,
+    life: u64,
 ) -> StreamEnd
-    ensures fed { IsFed S.rules (items_text mode 0) result
+    ensures fed { IsFed S.rules (items_text mode life 0) result
         (moment service.old (W.written writer.old)) (moment service.new (W.written writer.new)) }
     ensures monotone { W.fault_count writer.old ≤ W.fault_count writer.new }
     ensures fault { result ≡ StreamEnd.Broken → Rose (W.fault_count writer.old) (W.fault_count writer.new) }
@@ -178,7 +184,7 @@ fn send_items<W: Output, S: Service>(
             service.drop_stream();
             return StreamEnd::Stopped;
         };
-        match items.send(writer, service, mode, rows, &item) {
+        match items.send(writer, service, mode, life, rows, &item) {
             Ok(()) => {}
             Err(ChunkFault::NoMemory) => {
                 flush_cut(writer);
@@ -199,8 +205,8 @@ fn send_items<W: Output, S: Service>(
     StreamEnd::Exhausted
 }
 
-/// Sends the stream that the service answered last, behind the head of its answer: a chunk for
-/// each nonempty text, and behind the End the last chunk (RFC 9112, section 7.1).
+/// Sends the stream that the service answered last, of the life of this number, behind the head of
+/// its answer: a chunk for each nonempty text, and behind the End the last chunk (RFC 9112, section 7.1).
 ///
 /// The end of a stream is flushed, and so is what was written before an item that is not ready,
 /// since the subscriber waits for that one. What a stream wrote that stopped without its End, or
@@ -212,14 +218,15 @@ pub fn stream_feed<W: Output, S: Service>(
     writer: &mut W,
     service: &mut S,
     mode: Mode,
+    life: u64,
 ) -> StreamEnd
-    ensures fed { IsFed S.rules (feed_text mode) result
+    ensures fed { IsFed S.rules (feed_text mode life) result
         (moment service.old (W.written writer.old)) (moment service.new (W.written writer.new)) }
     ensures monotone { W.fault_count writer.old ≤ W.fault_count writer.new }
     ensures fault { result ≡ StreamEnd.Broken → Rose (W.fault_count writer.old) (W.fault_count writer.new) }
 {
     match send_ahead(writer, service, head_chunk(mode).as_bytes()) {
-        Ok(()) => send_items(alloc, writer, service, mode),
+        Ok(()) => send_items(alloc, writer, service, mode, life),
         Err(_) => {
             service.drop_stream();
             StreamEnd::Broken

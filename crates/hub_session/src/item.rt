@@ -38,19 +38,20 @@ impl StreamItem {
         }
     }
 
-    /// Appends its text, before which the stream wrote so many rows. After an error a part of the
-    /// text may stand behind what was held.
+    /// Appends its text in a stream of the life of this number, before which the stream wrote so many
+    /// rows. After an error a part of the text may stand behind what was held.
     pub(crate) fn put_text(
         &self,
         out: &mut Vec<u8>,
         mode: Mode,
+        life: u64,
         rows: u64,
     ) -> Result<(), AllocError>
-        ensures { OnOk result (out.new.items ≡ out.old.items ++ stream_item_text mode rows self.now) }
+        ensures { OnOk result (out.new.items ≡ out.old.items ++ stream_item_text mode life rows self.now) }
     {
         match self {
-            StreamItem::Change(item) => item_text(out, mode, rows, item),
-            StreamItem::Update(item) => item_text(out, mode, rows, item),
+            StreamItem::Change(item) => item_text(out, mode, rows, life, item),
+            StreamItem::Update(item) => item_text(out, mode, rows, life, item),
         }
     }
 }

@@ -11,8 +11,9 @@ use hub_model::Mode;
 pub enum Answer {
     /// One text.
     Whole(Reply),
-    /// A feed of changes or of updates: its items come one by one, by `item`.
-    Stream(Mode),
+    /// A feed of changes or of updates, with the number of the life that its sequences are of: its items
+    /// come one by one, by `item`.
+    Stream(Mode, u64),
 }
 
 /// What answers requests.

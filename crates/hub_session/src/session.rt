@@ -61,7 +61,7 @@ fn answer_one<W: Output, S: Service>(
             Ok(()) => after_answer(close),
             Err(_) => Some(Closing::Broken),
         },
-        Answer::Stream(mode) => {
+        Answer::Stream(mode, life) => {
             if head_only {
                 service.drop_stream();
                 return match send(writer, stream_head_text(close).as_bytes()) {
@@ -70,7 +70,7 @@ fn answer_one<W: Output, S: Service>(
                 };
             }
             match write_all(writer, stream_head_text(close).as_bytes()) {
-                Ok(()) => after_stream(close, stream_feed(alloc, writer, service, mode)),
+                Ok(()) => after_stream(close, stream_feed(alloc, writer, service, mode, life)),
                 Err(_) => {
                     service.drop_stream();
                     Some(Closing::Broken)

@@ -54,7 +54,7 @@ impl Rows {
     fn open(&mut self, mode: Mode) -> Answer {
         self.mode = mode;
         self.next = 0;
-        Answer::Stream(mode)
+        Answer::Stream(mode, 1)
     }
 }
 
@@ -241,14 +241,14 @@ const NORMAL: &str = concat!(
     "d\r\n",
     r#"{"results":["#,
     "\n\r\n",
-    "2c\r\n",
-    r#"{"seq":1,"id":"a","changes":[{"rev":"1-a"}]}"#,
+    "30\r\n",
+    r#"{"seq":"1-1","id":"a","changes":[{"rev":"1-a"}]}"#,
     "\r\n",
-    "3d\r\n,\n",
-    r#"{"seq":2,"id":"b","changes":[{"rev":"2-b"}],"deleted":true}"#,
+    "41\r\n,\n",
+    r#"{"seq":"2-1","id":"b","changes":[{"rev":"2-b"}],"deleted":true}"#,
     "\r\n",
-    "1e\r\n\n],\n",
-    r#""last_seq":2,"pending":0}"#,
+    "22\r\n\n],\n",
+    r#""last_seq":"2-1","pending":0}"#,
     "\n\r\n",
     "0\r\n\r\n"
 );
@@ -258,33 +258,33 @@ const LONGPOLL: &str = concat!(
     r#"{"results":["#,
     "\n\r\n",
     "1\r\n\n\r\n",
-    "2c\r\n",
-    r#"{"seq":1,"id":"a","changes":[{"rev":"1-a"}]}"#,
+    "30\r\n",
+    r#"{"seq":"1-1","id":"a","changes":[{"rev":"1-a"}]}"#,
     "\r\n",
-    "1e\r\n\n],\n",
-    r#""last_seq":2,"pending":0}"#,
+    "22\r\n\n],\n",
+    r#""last_seq":"2-1","pending":0}"#,
     "\n\r\n",
     "0\r\n\r\n"
 );
 
 const CONTINUOUS: &str = concat!(
-    "2d\r\n",
-    r#"{"seq":1,"id":"a","changes":[{"rev":"1-a"}]}"#,
+    "31\r\n",
+    r#"{"seq":"1-1","id":"a","changes":[{"rev":"1-a"}]}"#,
     "\n\r\n",
-    "3c\r\n",
-    r#"{"seq":2,"id":"b","changes":[{"rev":"2-b"}],"deleted":true}"#,
+    "40\r\n",
+    r#"{"seq":"2-1","id":"b","changes":[{"rev":"2-b"}],"deleted":true}"#,
     "\n\r\n",
     "1\r\n\n\r\n",
-    "1b\r\n",
-    r#"{"last_seq":2,"pending":0}"#,
+    "1f\r\n",
+    r#"{"last_seq":"2-1","pending":0}"#,
     "\n\r\n",
     "0\r\n\r\n"
 );
 
 /// The last chunks of a feed: its End, and the chunk that closes it.
 const NORMAL_END: &str = concat!(
-    "1e\r\n\n],\n",
-    r#""last_seq":2,"pending":0}"#,
+    "22\r\n\n],\n",
+    r#""last_seq":"2-1","pending":0}"#,
     "\n\r\n",
     "0\r\n\r\n"
 );
@@ -382,7 +382,7 @@ fn a_stopped_stream_is_flushed(rt: HostRuntime) {
     let closing = serve(alloc, &mut requests, &mut writer, &mut service);
     assert_eq!(rt; closing, Closing::Cut);
     let taker = writer.into_inner();
-    let flushed: &[usize] = &[214];
+    let flushed: &[usize] = &[222];
     assert_eq!(rt; taker.flushed.as_slice(), flushed);
 }
 
@@ -469,19 +469,19 @@ fn a_writer_that_breaks(rt: HostRuntime) -> Result<(), Fail> {
 /// A request, the numbers of the items that are not ready, and where the answer is flushed. The
 /// head has 79 bytes, and a chunk of n bytes has n, its digits and 4.
 const FLUSHES: [(&[u8], &[u64], &[usize]); 6] = [
-    (b"GET /normal HTTP/1.1\r\n\r\n", &[], &[255]),
-    (b"GET /normal HTTP/1.1\r\n\r\n", &[0, 2], &[97, 214, 255]),
-    (b"GET /longpoll HTTP/1.1\r\n\r\n", &[1], &[103, 194]),
+    (b"GET /normal HTTP/1.1\r\n\r\n", &[], &[267]),
+    (b"GET /normal HTTP/1.1\r\n\r\n", &[0, 2], &[97, 222, 267]),
+    (b"GET /longpoll HTTP/1.1\r\n\r\n", &[1], &[103, 202]),
     (
         b"GET /longpoll HTTP/1.1\r\n\r\n",
         &[0, 1, 2, 3],
-        &[97, 103, 153, 194],
+        &[97, 103, 157, 202],
     ),
-    (b"GET /continuous HTTP/1.1\r\n\r\n", &[3], &[202, 240]),
+    (b"GET /continuous HTTP/1.1\r\n\r\n", &[3], &[210, 252]),
     (
         b"GET /continuous HTTP/1.1\r\n\r\n",
         &[0, 1, 2, 3, 4],
-        &[79, 130, 196, 202, 240],
+        &[79, 134, 204, 210, 252],
     ),
 ];
 
@@ -514,7 +514,7 @@ fn one_step(rt: HostRuntime) {
     assert_eq!(rt; writer.into_inner().as_slice(), CREATED.as_bytes());
 
     let mut writer = Tally::new(Vec::new(alloc));
-    let end = stream_feed(alloc, &mut writer, &mut service, Mode::Normal);
+    let end = stream_feed(alloc, &mut writer, &mut service, Mode::Normal, 1);
     assert_eq!(rt; end, StreamEnd::Complete);
     assert_eq!(rt; writer.into_inner().as_slice(), NORMAL.as_bytes());
 }
@@ -548,15 +548,15 @@ fn interrupted_calls_change_no_byte(rt: HostRuntime) {
 #[test]
 fn streams_that_are_not_sent_on(rt: HostRuntime) {
     let alloc = rt.alloc();
-    // The head has 79 bytes, the head of the feed 18, and its rows 50 and 67: the End begins at 214.
+    // The head has 79 bytes, the head of the feed 18, and its rows 54 and 71: the End begins at 222.
     let cases: [(&[u8], usize, bool, usize); 9] = [
-        (b"GET /normal HTTP/1.1\r\n\r\n", 255, false, 0),
-        (b"GET /normal HTTP/1.1\r\n\r\n", 255, true, 1),
+        (b"GET /normal HTTP/1.1\r\n\r\n", 267, false, 0),
+        (b"GET /normal HTTP/1.1\r\n\r\n", 267, true, 1),
         (b"GET /normal HTTP/1.1\r\n\r\n", 20, false, 1),
         (b"GET /normal HTTP/1.1\r\n\r\n", 85, false, 1),
         (b"GET /normal HTTP/1.1\r\n\r\n", 120, false, 1),
-        (b"GET /normal HTTP/1.1\r\n\r\n", 254, false, 0),
-        (b"HEAD /normal HTTP/1.1\r\n\r\n", 255, false, 1),
+        (b"GET /normal HTTP/1.1\r\n\r\n", 266, false, 0),
+        (b"HEAD /normal HTTP/1.1\r\n\r\n", 267, false, 1),
         (b"HEAD /normal HTTP/1.1\r\n\r\n", 20, false, 1),
         (b"PUT /d HTTP/1.1\r\n\r\n", 20, false, 0),
     ];

@@ -22,7 +22,7 @@ impl Service for Updates {
 
     fn answer(&mut self, _request: &Request) -> Answer {
         self.next = 0;
-        Answer::Stream(self.mode)
+        Answer::Stream(self.mode, 0)
     }
 
     fn is_ready(&self) -> bool {
@@ -60,33 +60,33 @@ const NORMAL: &str = concat!(
     "d\r\n",
     r#"{"results":["#,
     "\n\r\n",
-    "28\r\n",
-    r#"{"db_name":"d","type":"created","seq":1}"#,
+    "2c\r\n",
+    r#"{"db_name":"d","type":"created","seq":"1-0"}"#,
     "\r\n",
-    "2a\r\n,\n",
-    r#"{"db_name":"d","type":"updated","seq":2}"#,
+    "2e\r\n,\n",
+    r#"{"db_name":"d","type":"updated","seq":"2-0"}"#,
     "\r\n",
-    "2a\r\n,\n",
-    r#"{"db_name":"d","type":"deleted","seq":3}"#,
+    "2e\r\n,\n",
+    r#"{"db_name":"d","type":"deleted","seq":"3-0"}"#,
     "\r\n",
-    "12\r\n\n],\n",
-    r#""last_seq":3}"#,
+    "16\r\n\n],\n",
+    r#""last_seq":"3-0"}"#,
     "\n\r\n",
     "0\r\n\r\n"
 );
 
 const CONTINUOUS: &str = concat!(
-    "29\r\n",
-    r#"{"db_name":"d","type":"created","seq":1}"#,
+    "2d\r\n",
+    r#"{"db_name":"d","type":"created","seq":"1-0"}"#,
     "\n\r\n",
-    "29\r\n",
-    r#"{"db_name":"d","type":"updated","seq":2}"#,
+    "2d\r\n",
+    r#"{"db_name":"d","type":"updated","seq":"2-0"}"#,
     "\n\r\n",
-    "29\r\n",
-    r#"{"db_name":"d","type":"deleted","seq":3}"#,
+    "2d\r\n",
+    r#"{"db_name":"d","type":"deleted","seq":"3-0"}"#,
     "\n\r\n",
-    "f\r\n",
-    r#"{"last_seq":3}"#,
+    "13\r\n",
+    r#"{"last_seq":"3-0"}"#,
     "\n\r\n",
     "0\r\n\r\n"
 );

@@ -1,6 +1,7 @@
 use Rattle.std.proofs.Common.{◌≡◌, ℕ, List, ◌++◌, codes, decimal, ◌∙◌}
 use Rattle.json.specs.Print.{quoted}
 use Rattle.hub_document.proofs.WriteLemmas.{four_parts, five_parts}
+use Rattle.hub_document.specs.SequenceText.{sequence_text}
 use Rattle.hub_replies.specs.Bodies.{info_body}
 use Rattle.hub_replies.proofs.info.info_body.Goals as goal
 
@@ -11,10 +12,8 @@ pub returns : goal.returns
 unfolding info_body
 returns c =
     rw (
-      c.in_ok-extend_from_slice-7.ensures.items,
       c.in_ok-extend_from_slice-6.ensures.items,
-      c.as_bytes-3.ensures.value,
-      c.format-3.ensures.text,
+      c.in_ok-put_sequence.ensures.ok,
       c.in_ok-extend_from_slice-5.ensures.items,
       c.in_ok-extend_from_slice-4.ensures.items,
       c.as_bytes-2.ensures.value,
@@ -27,4 +26,4 @@ returns c =
       c.in_ok-put_quoted.ensures.ok,
       c.in_ok-text.ensures.items,
     )
-    (eight_parts (codes "{\"db_name\":") (quoted c.args.name.now) (codes ",\"doc_count\":") (decimal c.args.info.now.doc_count) (codes ",\"doc_del_count\":") (decimal c.args.info.now.doc_del_count) (codes ",\"update_seq\":") (decimal c.args.info.now.update_seq) (codes ",\"instance_start_time\":\"0\"}\n"))
+    (eight_parts (codes "{\"db_name\":") (quoted c.args.name.now) (codes ",\"doc_count\":") (decimal c.args.info.now.doc_count) (codes ",\"doc_del_count\":") (decimal c.args.info.now.doc_del_count) (codes ",\"update_seq\":") (sequence_text c.args.info.now.update_seq c.args.info.now.life) (codes ",\"instance_start_time\":\"0\"}\n"))

@@ -6,8 +6,8 @@ use Rattle.hub_session.proofs.feed.stream_feed.Goals as goal
 
 pub returns-in-Ok-clause-fed : goal.returns-in-Ok-clause-fed
 returns-in-Ok-clause-fed g c =
-    fed_behind g.S.Service.rules c.args.mode _ _ _ _ (subst (Appends _ _) (c.as_bytes.ensures.value ∙ c.head_chunk.ensures) c.in-Ok.ensures.sent) c.send_items.ensures.fed
+    fed_behind g.S.Service.rules c.args.mode c.args.life _ _ _ _ (subst (Appends _ _) (c.as_bytes.ensures.value ∙ c.head_chunk.ensures) c.in-Ok.ensures.sent) c.send_items.ensures.fed
 
 pub returns-in-Err-clause-fed : goal.returns-in-Err-clause-fed
 returns-in-Err-clause-fed g c =
-    fed_broken g.S.Service.rules c.args.mode _ _ c.drop_stream.ensures (subst (AppendsFront _ _) (c.as_bytes.ensures.value ∙ c.head_chunk.ensures) c.in-Err.ensures.sent)
+    fed_broken g.S.Service.rules c.args.mode c.args.life _ _ c.drop_stream.ensures (subst (AppendsFront _ _) (c.as_bytes.ensures.value ∙ c.head_chunk.ensures) c.in-Err.ensures.sent)

@@ -17,22 +17,22 @@ returns-in-Whole-clause-told g c =
 
 pub returns-in-Err-send-clause-told : goal.returns-in-Err-send-clause-told
 returns-in-Err-send-clause-told g c =
-    stream_broken g.S.Service.rules (asked_by c.args.request.now) _ _ c.in-Stream.mode _ c.in-Stream.ensures c.drop_stream.ensures
+    stream_broken g.S.Service.rules (asked_by c.args.request.now) _ _ c.in-Stream.mode c.in-Stream.life _ c.in-Stream.ensures c.drop_stream.ensures
     (subst (AppendsFront _ _) (c.as_bytes.ensures.value ∙ c.stream_head_text.ensures) c.in-Err-send.ensures.sent)
 
 pub returns-in-Ok-send-clause-told : goal.returns-in-Ok-send-clause-told
 returns-in-Ok-send-clause-told g c =
-    stream_bare g.S.Service.rules (asked_by c.args.request.now) _ _ c.in-Stream.mode _ _ c.in-Stream.ensures c.drop_stream.ensures
+    stream_bare g.S.Service.rules (asked_by c.args.request.now) _ _ c.in-Stream.mode c.in-Stream.life _ _ c.in-Stream.ensures c.drop_stream.ensures
     (sym c.is_head-head_only.ensures ∙ c.if-head_only.true) c.after_answer-in-Ok-send.ensures
     (subst (Appends _ _) (c.as_bytes.ensures.value ∙ c.stream_head_text.ensures) c.in-Ok-send.ensures.sent)
 
 pub returns-in-Ok-write_all-clause-told : goal.returns-in-Ok-write_all-clause-told
 returns-in-Ok-write_all-clause-told g c =
-    stream_fed g.S.Service.rules (asked_by c.args.request.now) _ _ c.in-Stream.mode _ _ _ _ c.in-Stream.ensures
+    stream_fed g.S.Service.rules (asked_by c.args.request.now) _ _ c.in-Stream.mode c.in-Stream.life _ _ _ _ c.in-Stream.ensures
     (sym c.is_head-head_only.ensures ∙ c.if-head_only.false) c.after_stream.ensures
     (subst (Appends _ _) (c.as_bytes-in-Stream.ensures.value ∙ c.stream_head_text-in-Stream.ensures) c.in-Ok-write_all.ensures.ok) c.stream_feed.ensures.fed
 
 pub returns-clause-told : goal.returns-clause-told
 returns-clause-told g c =
-    stream_broken g.S.Service.rules (asked_by c.args.request.now) _ _ c.in-Stream.mode _ c.in-Stream.ensures c.drop_stream-in-Err-write_all.ensures
+    stream_broken g.S.Service.rules (asked_by c.args.request.now) _ _ c.in-Stream.mode c.in-Stream.life _ c.in-Stream.ensures c.drop_stream-in-Err-write_all.ensures
     (subst (AppendsFront _ _) (c.as_bytes-in-Stream.ensures.value ∙ c.stream_head_text-in-Stream.ensures) c.write_all.ensures.front)

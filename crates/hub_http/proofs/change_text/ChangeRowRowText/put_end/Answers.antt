@@ -6,14 +6,12 @@ pub returns-clause-ok : goal.returns-clause-ok
 unfolding change_end_text
 returns-clause-ok c =
     rw (
-      c.in_ok-extend_from_slice-5.ensures.items,
       c.in_ok-extend_from_slice-4.ensures.items,
-      c.as_bytes-2.ensures.value,
-      c.format-2.ensures.text,
       c.in_ok-extend_from_slice-3.ensures.items,
-      c.in_ok-extend_from_slice-2.ensures.items,
       c.as_bytes.ensures.value,
       c.format.ensures.text,
+      c.in_ok-extend_from_slice-2.ensures.items,
+      c.in_ok-put_sequence.ensures.ok,
       c.in_ok-extend_from_slice.ensures.items,
     )
     (five_parts c.args.out.now.items _ _ _ _ _)

@@ -6,10 +6,8 @@ pub returns-clause-ok : goal.returns-clause-ok
 unfolding update_row_text
 returns-clause-ok c =
     rw (
-      c.in_ok-extend_from_slice-6.ensures.items,
       c.in_ok-extend_from_slice-5.ensures.items,
-      c.as_bytes-2.ensures.value,
-      c.format.ensures.text,
+      c.in_ok-put_sequence.ensures.ok,
       c.in_ok-extend_from_slice-4.ensures.items,
       c.in_ok-extend_from_slice-3.ensures.items,
       c.as_bytes.ensures.value,
