@@ -1,9 +1,11 @@
 -- The number up to which all was copied: how it stays one, and the numbers that logs agree on.
-use Rattle.std.proofs.Common.{◌≡◌, ◌≢◌, ℕ, suc, ◌≤◌, min, cond, List, [], ◌∷◌, ◌++◌, length, map, take, drop, Contains, ◌⊎◌, inl, inr, refl, sym, ap, ⊎_elim, ◌∙◌, subst, arith, Bool, true, false, Option, Some, None, bytes_eq, take-append-drop, length-append}
+use Rattle.std.proofs.Common.{◌≡◌, ◌≢◌, ℕ, suc, ◌≤◌, min, cond, List, [], ◌∷◌, ◌++◌, length, map, take, drop, Contains, ◌⊎◌, inl, inr, refl, sym, ap, ⊎_elim, ◌∙◌, subst, arith, Bool, true, false, nat_eq, if◌then◌else◌, Option, Some, None, bytes_eq, take-append-drop, length-append}
 use Rattle.std.proofs.lemmas.List.Elements.{Contains-append_left, Contains-append_right, Contains-append_cases}
 use Rattle.std.proofs.lemmas.List.{drop-append-le}
 use Rattle.hub_follow_model.specs.Follower.{Session, checkpoint_log}
 use Rattle.hub_follow_model.specs.ChangesFeed.{items_of}
+use Rattle.hub_follow_model.specs.Sequence.{beginning, counted, seq_in, with_lives, lesser_seq}
+use Rattle.hub_follow_model.specs.declared.seq.Seq.{Seq}
 use Rattle.hub_follow_model.specs.ReplicationLog.{ReplicationLog, HistoryEntry, common_sequence, common_session_sequence, recorded_seq_of, lesser_sequence, history_of, IsRecordedIn}
 use Rattle.hub_model.specs.Current.{IsCurrent}
 use Rattle.hub_model.specs.Journal.{Edit, IsKnown}
@@ -73,46 +75,70 @@ abbrev pub LogDone : List Edit → List Edit → Option ReplicationLog → Type 
 LogDone J J' log = (c : ℕ) → IsRecordedIn log c → IsDone J J' c
 
 abbrev pub PastDone : List Edit → List Edit → List HistoryEntry → Type 0
-PastDone J J' past = (p : HistoryEntry) → Contains past p → IsDone J J' p.recorded_seq
+PastDone J J' past = (p : HistoryEntry) → Contains past p → IsDone J J' p.recorded_seq.n
 
 module _ (J J' : List Edit) where
   pub past_of_log : (log : Option ReplicationLog) → LogDone J J' log → PastDone J J' (history_of log)
   past_of_log None h p c = absurd (contains_none p c)
-  past_of_log (Some log) h p c = h p.recorded_seq (inr (p, c, refl))
+  past_of_log (Some log) h p c = h p.recorded_seq.n (inr (p, c, refl))
 
   pub done_min : (m n : ℕ) → IsDone J J' m → IsDone J J' n → IsDone J J' (min m n)
   done_min m n p q = ⊎_elim (λ (e : min m n ≡ m). subst (λ z. IsDone J J' z) (sym e) p) (λ (e : min m n ≡ n). subst (λ z. IsDone J J' z) (sym e) q) (grind arith)
 
-  pub done_recorded : (session : List ℕ) (past : List HistoryEntry) (n otherwise : ℕ) → PastDone J J' past → IsDone J J' n → IsDone J J' otherwise → IsDone J J' (lesser_sequence n (recorded_seq_of session past) otherwise)
+  -- a number that counts as another, or as 0
+  pub done_counted : (life : ℕ) (s : Seq) → IsDone J J' s.n → IsDone J J' (seq_in life s)
+  done_counted life s p = by_life s.life
+    where
+      same : (b : Bool) → IsDone J J' (if b then s.n else 0)
+      same true = p
+      same false = done_zero J J'
+
+      by_life : (of : Option ℕ) → IsDone J J' (counted life s.n of)
+      by_life None = p
+      by_life (Some of) = same (nat_eq of life)
+
+  pub done_lesser : (s t : Seq) → IsDone J J' s.n → IsDone J J' t.n → IsDone J J' (lesser_seq s t).n
+  done_lesser s t p q = by_lives s.life t.life
+    where
+      same : (life : ℕ) (b : Bool) → IsDone J J' (if b then record { n = min s.n t.n; life = Some life } else beginning).n
+      same life true = done_min s.n t.n p q
+      same life false = done_zero J J'
+
+      by_lives : (l k : Option ℕ) → IsDone J J' (with_lives (min s.n t.n) l k).n
+      by_lives None k = done_min s.n t.n p q
+      by_lives (Some life) None = done_min s.n t.n p q
+      by_lives (Some life) (Some other) = same life (nat_eq life other)
+
+  pub done_recorded : (session : List ℕ) (past : List HistoryEntry) (n otherwise : Seq) → PastDone J J' past → IsDone J J' n.n → IsDone J J' otherwise.n → IsDone J J' (lesser_sequence n (recorded_seq_of session past) otherwise).n
   done_recorded session [] n otherwise h p q = q
   done_recorded session (x ∷ past) n otherwise h p q = both (bytes_eq session x.session_id) (done_recorded session past n otherwise (λ y c. h y (contains_there x y past c)) p q)
     where
-      both : (b : Bool) → IsDone J J' (lesser_sequence n (recorded_seq_of session past) otherwise) → IsDone J J' (lesser_sequence n (cond b (Some x.recorded_seq) (recorded_seq_of session past)) otherwise)
-      both true ih = done_min x.recorded_seq n (h x (contains_here x past)) p
+      both : (b : Bool) → IsDone J J' (lesser_sequence n (recorded_seq_of session past) otherwise).n → IsDone J J' (lesser_sequence n (cond b (Some x.recorded_seq) (recorded_seq_of session past)) otherwise).n
+      both true ih = done_lesser x.recorded_seq n (h x (contains_here x past)) p
       both false ih = ih
 
-  pub done_past : (source target : List HistoryEntry) → PastDone J J' source → PastDone J J' target → IsDone J J' (common_session_sequence source target)
+  pub done_past : (source target : List HistoryEntry) → PastDone J J' source → PastDone J J' target → IsDone J J' (common_session_sequence source target).n
   done_past source [] h k = done_zero J J'
   done_past source (x ∷ target) h k = done_recorded x.session_id source x.recorded_seq (common_session_sequence source target) h (k x (contains_here x target)) (done_past source target h (λ y c. k y (contains_there x y target c)))
 
   -- whichever number two logs agree on
-  pub done_common : (source target : Option ReplicationLog) → LogDone J J' source → LogDone J J' target → IsDone J J' (common_sequence source target)
+  pub done_common : (source target : Option ReplicationLog) → LogDone J J' source → LogDone J J' target → IsDone J J' (common_sequence source target).n
   done_common None target h k = done_zero J J'
   done_common (Some source) None h k = done_zero J J'
   done_common (Some source) (Some target) h k = both (bytes_eq source.session_id target.session_id)
     where
-      both : (b : Bool) → IsDone J J' (cond b (min source.source_last_seq target.source_last_seq) (common_session_sequence source.history target.history))
-      both true = done_min source.source_last_seq target.source_last_seq (h source.source_last_seq (inl refl)) (k target.source_last_seq (inl refl))
+      both : (b : Bool) → IsDone J J' (cond b (lesser_seq source.source_last_seq target.source_last_seq) (common_session_sequence source.history target.history)).n
+      both true = done_lesser source.source_last_seq target.source_last_seq (h source.source_last_seq.n (inl refl)) (k target.source_last_seq.n (inl refl))
       both false = done_past source.history target.history (past_of_log (Some source) h) (past_of_log (Some target) k)
 
   pub take_in : (n : ℕ) (past : List HistoryEntry) (p : HistoryEntry) → Contains (take n past) p → Contains past p
   take_in n past p c = subst (λ z. Contains z p) (take-append-drop n past) (Contains-append_left (take n past) (drop n past) p c)
 
-  pub log_over_done : (s : Session) (past : List HistoryEntry) → IsDone J J' s.place → PastDone J J' past → LogDone J J' (Some (checkpoint_log s past))
+  pub log_over_done : (s : Session) (past : List HistoryEntry) → IsDone J J' s.place.n → PastDone J J' past → LogDone J J' (Some (checkpoint_log s past))
   log_over_done s past p h c (inl e) = subst (λ z. IsDone J J' z) e p
   log_over_done s past p h c (inr (x, d, e)) =
       let own : HistoryEntry = record { session_id = s.session_id; start_last_seq = s.start; end_last_seq = s.place; recorded_seq = s.place } in
-      ⊎_elim (λ (q : own ≡ x). subst (λ z. IsDone J J' z) (ap (λ (z : HistoryEntry). z.recorded_seq) q ∙ e) p)
+      ⊎_elim (λ (q : own ≡ x). subst (λ z. IsDone J J' z) (ap (λ (z : HistoryEntry). z.recorded_seq.n) q ∙ e) p)
       (λ q. subst (λ z. IsDone J J' z) e (h x q))
       (contains_cases own x past (take_in 50 (own ∷ past) x d))
 

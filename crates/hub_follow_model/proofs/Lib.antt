@@ -10,3 +10,4 @@ pub mod Accepts
 pub mod Example
 pub mod Ended
 pub mod Fitting
+pub mod Lives

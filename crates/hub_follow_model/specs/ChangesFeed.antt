@@ -4,7 +4,8 @@ use Rattle.std.specs.List.{list_any}
 use Rattle.std.specs.Prelude.{◌≡◌, true, ℕ, List, [], ◌∷◌, ◌++◌, length, map, false, Some}
 use Rattle.hub_model.specs.declared.feeds.Item.TheVariants.{Row, End}
 use Rattle.hub_model.specs.declared.feeds.Mode.TheVariants.{Normal}
-use Rattle.hub_model.specs.declared.feeds.Since.TheVariants.{From}
+use Rattle.hub_model.specs.declared.feeds.Since.{Since}
+use Rattle.hub_model.specs.declared.feeds.Since.TheVariants.{Plain}
 use Rattle.hub_model.specs.declared.feeds.Style.TheVariants.{AllDocs}
 use Rattle.hub_model.specs.Feed.{Params, Feed, Ended}
 use Rattle.hub_model.specs.Filter.{Everything}
@@ -15,17 +16,21 @@ use Rattle.hub_model.specs.Row.{ChangeRow}
 
 -- what a follower asks for: every leaf of the documents above a sequence, 100 rows at most (the number is
 -- own)
-abbrev pub params_after : ℕ → Params
-params_after since =
+abbrev pub params_from : Since → Params
+params_from since =
     record {
       mode = Normal;
-      since = From since;
+      since = since;
       limit = Some 100;
       style = AllDocs;
       include_docs = false;
       filter = Everything;
       heartbeat = false;
     }
+
+-- above a sequence as its source counts it
+abbrev pub params_after : ℕ → Params
+params_after since = params_from (Plain since)
 
 -- such a feed behind its End, which names `last`
 abbrev pub ended_feed : (since last rows : ℕ) → Feed
@@ -59,7 +64,7 @@ HasChangesAnswer J since rows last =
 -- the law: whatever a feed that a follower asked for has handed once it ended is an answer
 abbrev pub EndedFeedIsAnswer : Type 0
 EndedFeedIsAnswer =
-    (J : List Edit) (f : Feed) (since : ℕ) (items : List ChangeItem) → f.params ≡ params_after since
+    (J : List Edit) (f : Feed) (since : Since) (items : List ChangeItem) → f.params ≡ params_from since
     → RightlyHanded change_rows J f items → list_any is_end items ≡ true
     → (rows : List ChangeRow) × (pending : ℕ) × (items ≡ items_of rows f.place pending)
     × HasChangesAnswer J f.since rows f.place

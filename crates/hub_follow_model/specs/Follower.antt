@@ -9,6 +9,8 @@ use Rattle.hub_model.specs.Journal.{Edit}
 use Rattle.hub_model.specs.Missing.{Asked, Diff}
 use Rattle.hub_model.specs.Revision.{Revision}
 use Rattle.hub_model.specs.Row.{ChangeRow}
+use Rattle.hub_follow_model.specs.Sequence.{seq_of}
+use Rattle.hub_follow_model.specs.declared.seq.Seq.{Seq}
 use Rattle.hub_follow_model.specs.ReplicationLog.{ReplicationLog, HistoryEntry, common_sequence, history_of}
 
 -- the database that is copied, and the copy
@@ -21,7 +23,7 @@ pub data Call : Type 0 where
   -- its replication log (retrieve replication logs from source and target)
   LocalGet : (side : Side) → Call
   -- the changes above a sequence (listen to changes feed)
-  Changes : (since : ℕ) → Call
+  Changes : (since : Seq) → Call
   -- which of these revisions it misses (calculate revision difference)
   RevsDiff : (asked : List Asked) → Call
   -- these with their histories (fetch changed documents)
@@ -34,7 +36,8 @@ pub data Call : Type 0 where
 -- what it answers to each of them
 pub data Answer : Type 0 where
   LogAnswer : (log : Option ReplicationLog) → Answer
-  ChangesAnswer : (rows : List ChangeRow) (last : ℕ) → Answer
+  -- they end at this sequence, and the source is in this life
+  ChangesAnswer : (rows : List ChangeRow) (last life : ℕ) → Answer
   RevsDiffAnswer : (diffs : List Diff) → Answer
   OpenRevsAnswer : (docs : List (Option Edit)) → Answer  -- None: the revision is missing
   MergeAnswer : (outcomes : List (Outcome Revision)) → Answer
@@ -43,17 +46,17 @@ pub data Answer : Type 0 where
 -- a replication session
 pub record Session : Type 0 where
   pub session_id : List ℕ
-  pub start : ℕ  -- the sequence that it began after
-  pub place : ℕ  -- the source's sequence up to which its rounds have copied
+  pub start : Seq  -- the sequence that it began after
+  pub place : Seq  -- the source's sequence up to which its rounds have copied
   pub source_history : List HistoryEntry  -- what the source's log held when it began
   pub target_history : List HistoryEntry  -- and the target's
 
 -- what a round or a checkpoint is at; `last` is the sequence that the round's changes end at
 pub data Phase : Type 0 where
   Listing : Phase
-  Comparison : (asked : List Asked) (last : ℕ) → Phase
-  Retrieval : (next : Asked) (later : List Asked) (got : List Edit) (last : ℕ) → Phase
-  Storage : (got : List Edit) (last : ℕ) → Phase
+  Comparison : (asked : List Asked) (last : Seq) → Phase
+  Retrieval : (next : Asked) (later : List Asked) (got : List Edit) (last : Seq) → Phase
+  Storage : (got : List Edit) (last : Seq) → Phase
   SourceCheckpoint : Phase
   TargetCheckpoint : Phase
 
@@ -126,21 +129,21 @@ new_session session_id source target =
     }
 
 -- the follower behind a round, whose last sequence becomes the place
-abbrev pub ready_at : Session → ℕ → Follower
+abbrev pub ready_at : Session → Seq → Follower
 ready_at s last = Ready (record s { place = last })
 
 -- behind the changes: their revisions are compared, or the round is over where there are none
-abbrev pub comparison_or_ready : Session → List Asked → ℕ → Follower
+abbrev pub comparison_or_ready : Session → List Asked → Seq → Follower
 comparison_or_ready s [] last = ready_at s last
 comparison_or_ready s (a ∷ asked) last = Busy s (Comparison (a ∷ asked) last)
 
 -- behind the last document that was fetched: all are stored, or the round is over where there are none
-abbrev pub storage_or_ready : Session → List Edit → ℕ → Follower
+abbrev pub storage_or_ready : Session → List Edit → Seq → Follower
 storage_or_ready s [] last = ready_at s last
 storage_or_ready s (e ∷ got) last = Busy s (Storage (e ∷ got) last)
 
 -- the next document that the target misses is fetched, or all are stored where there is none
-abbrev pub retrieval_or_storage : Session → List Asked → List Edit → ℕ → Follower
+abbrev pub retrieval_or_storage : Session → List Asked → List Edit → Seq → Follower
 retrieval_or_storage s [] got last = storage_or_ready s got last
 retrieval_or_storage s (next ∷ later) got last = Busy s (Retrieval next later got last)
 
@@ -170,7 +173,7 @@ first_refusal (e ∷ docs) (outcome.Refused refusal ∷ outcomes) = Some (Refuse
 -- the answer is of the call's kind, and of as many parts
 abbrev pub IsAnswerTo : Call → Answer → Type 0
 IsAnswerTo (LocalGet side) (LogAnswer log) = Unit {0}
-IsAnswerTo (Changes since) (ChangesAnswer rows last) = Unit {0}
+IsAnswerTo (Changes since) (ChangesAnswer rows last life) = Unit {0}
 IsAnswerTo (RevsDiff asked) (RevsDiffAnswer diffs) = Unit {0}
 IsAnswerTo (OpenRevs id revs) (OpenRevsAnswer docs) = length docs ≡ length revs
 IsAnswerTo (Merge docs) (MergeAnswer outcomes) = length outcomes ≡ length docs
@@ -183,19 +186,20 @@ IsAnswerToNext None answer = ⊥
 IsAnswerToNext (Some call) answer = IsAnswerTo call answer
 
 -- the follower behind the documents of one more row
-abbrev pub after_retrieval : Session → List Asked → List Edit → ℕ → Result (List Edit) Fault
+abbrev pub after_retrieval : Session → List Asked → List Edit → Seq → Result (List Edit) Fault
     → Result Follower Fault
 after_retrieval s later got last (Ok docs) = Ok (retrieval_or_storage s later (got ++ docs) last)
 after_retrieval s later got last (Err fault) = Err fault
 
 -- the follower behind the merge, where the target refused none
-abbrev pub after_storage : Session → ℕ → Option Fault → Result Follower Fault
+abbrev pub after_storage : Session → Seq → Option Fault → Result Follower Fault
 after_storage s last None = Ok (ready_at s last)
 after_storage s last (Some fault) = Err fault
 
 -- the follower behind an answer to the call of its phase, or why the round or the checkpoint fails
 abbrev pub phase_result : Session → Phase → Answer → Result Follower Fault
-phase_result s Listing (ChangesAnswer rows last) = Ok (comparison_or_ready s (map revisions_of_row rows) last)
+phase_result s Listing (ChangesAnswer rows last life) =
+    Ok (comparison_or_ready s (map revisions_of_row rows) (seq_of life last))
 phase_result s (Comparison asked last) (RevsDiffAnswer diffs) =
     Ok (retrieval_or_storage s (map missing_revisions diffs) [] last)
 phase_result s (Retrieval next later got last) (OpenRevsAnswer docs) =

@@ -19,6 +19,8 @@ use Rattle.hub_follow_model.specs.Follower.{MergeAnswer, PutAnswer, Session, Lis
 use Rattle.hub_follow_model.specs.Follower.{SourceCheckpoint, Follower, SourceStart, Ready, Busy}
 use Rattle.hub_follow_model.specs.Follower.{RefusedDocument, MissingRevision, revisions_of_row, next_call}
 use Rattle.hub_follow_model.specs.Follower.{answer_result, after_answer}
+use Rattle.hub_follow_model.specs.Sequence.{beginning, seq_of}
+use Rattle.hub_follow_model.specs.declared.seq.Seq.{Seq}
 use Rattle.hub_follow_model.specs.ReplicationLog.{ReplicationLog, HistoryEntry}
 
 -- the calls that a follower makes while these answers come
@@ -53,15 +55,25 @@ rows_above J since = map (row_of J AllDocs false) (filter (λ c. nat_lt since c.
 abbrev pub one_of : List ℕ → Revision → Asked
 one_of id r = record { id = id; revs = r ∷ [] }
 
--- a session that began after 0, at this place
-abbrev pub session_at : ℕ → Session
+-- the sequence n of the source, which is in its first life
+abbrev pub seq : ℕ → Seq
+seq n = seq_of 1 n
+
+-- a session that began at the beginning, at this place
+abbrev pub session_at : Seq → Session
 session_at place =
-    record { session_id = codes "s1"; start = 0; place = place; source_history = []; target_history = [] }
+    record {
+      session_id = codes "s1";
+      start = beginning;
+      place = place;
+      source_history = [];
+      target_history = [];
+    }
 
 -- what source and target answer in the first round: the target is empty
 abbrev pub first_answers : List Answer
 first_answers =
-    ChangesAnswer (rows_above three_edits 0) 3
+    ChangesAnswer (rows_above three_edits 0) 3 1
     ∷ RevsDiffAnswer (diffs [] (map revisions_of_row (rows_above three_edits 0)))
     ∷ OpenRevsAnswer (map (shown three_edits (codes "a")) (rev 1 (codes "a") ∷ []))
     ∷ OpenRevsAnswer (map (shown three_edits (codes "b")) (rev 1 (codes "b") ∷ []))
@@ -71,8 +83,8 @@ first_answers =
 -- the changes after 0, all that is missing, each document, and then they are stored
 abbrev pub FirstRoundCalls : Type 0
 FirstRoundCalls =
-    calls_of (Busy (session_at 0) Listing) first_answers
-    ≡ Some (Changes 0)
+    calls_of (Busy (session_at beginning) Listing) first_answers
+    ≡ Some (Changes beginning)
     ∷ Some (RevsDiff (one_of (codes "a") (rev 1 (codes "a")) ∷ one_of (codes "b") (rev 1 (codes "b"))
     ∷ one_of (codes "c") (rev 1 (codes "c")) ∷ []))
     ∷ Some (OpenRevs (codes "a") (rev 1 (codes "a") ∷ []))
@@ -81,12 +93,13 @@ FirstRoundCalls =
 
 -- the place is the last sequence
 abbrev pub FirstRoundEnds : Type 0
-FirstRoundEnds = after_answers (Busy (session_at 0) Listing) first_answers ≡ Ready (session_at 3)
+FirstRoundEnds =
+    after_answers (Busy (session_at beginning) Listing) first_answers ≡ Ready (session_at (seq 3))
 
 -- what they answer in the second round: the target has a, b and c, and a was edited again
 abbrev pub second_answers : List Answer
 second_answers =
-    ChangesAnswer (rows_above four_edits 3) 4
+    ChangesAnswer (rows_above four_edits 3) 4 1
     ∷ RevsDiffAnswer (diffs three_edits (map revisions_of_row (rows_above four_edits 3)))
     ∷ OpenRevsAnswer (map (shown four_edits (codes "a")) (rev 2 (codes "d") ∷ []))
     ∷ MergeAnswer (merges_all 10 three_edits (second_edit ∷ [])).outcomes ∷ []
@@ -94,33 +107,35 @@ second_answers =
 -- the changes after 3, what is missing of a, and then that is stored with its history
 abbrev pub SecondRoundCalls : Type 0
 SecondRoundCalls =
-    calls_of (Busy (session_at 3) Listing) second_answers
-    ≡ Some (Changes 3) ∷ Some (RevsDiff (one_of (codes "a") (rev 2 (codes "d")) ∷ []))
+    calls_of (Busy (session_at (seq 3)) Listing) second_answers
+    ≡ Some (Changes (seq 3)) ∷ Some (RevsDiff (one_of (codes "a") (rev 2 (codes "d")) ∷ []))
     ∷ Some (OpenRevs (codes "a") (rev 2 (codes "d") ∷ [])) ∷ Some (Merge (second_edit ∷ [])) ∷ []
 
 -- the place is the last sequence
 abbrev pub SecondRoundEnds : Type 0
-SecondRoundEnds = after_answers (Busy (session_at 3) Listing) second_answers ≡ Ready (session_at 4)
+SecondRoundEnds =
+    after_answers (Busy (session_at (seq 3)) Listing) second_answers ≡ Ready (session_at (seq 4))
 
 -- what this session records at 4
 abbrev pub first_entry : HistoryEntry
 first_entry =
-    record { session_id = codes "s1"; start_last_seq = 0; end_last_seq = 4; recorded_seq = 4 }
+    record { session_id = codes "s1"; start_last_seq = beginning; end_last_seq = seq 4; recorded_seq = seq 4 }
 
 -- in this log
 abbrev pub first_log : ReplicationLog
-first_log = record { session_id = codes "s1"; source_last_seq = 4; history = first_entry ∷ [] }
+first_log = record { session_id = codes "s1"; source_last_seq = seq 4; history = first_entry ∷ [] }
 
 -- the log is stored at the source, then at the target
 abbrev pub CheckpointCalls : Type 0
 CheckpointCalls =
-    calls_of (Busy (session_at 4) SourceCheckpoint) (PutAnswer ∷ PutAnswer ∷ [])
+    calls_of (Busy (session_at (seq 4)) SourceCheckpoint) (PutAnswer ∷ PutAnswer ∷ [])
     ≡ Some (LocalPut Source first_log) ∷ Some (LocalPut Target first_log) ∷ []
 
 -- and the place stays
 abbrev pub CheckpointEnds : Type 0
 CheckpointEnds =
-    after_answers (Busy (session_at 4) SourceCheckpoint) (PutAnswer ∷ PutAnswer ∷ []) ≡ Ready (session_at 4)
+    after_answers (Busy (session_at (seq 4)) SourceCheckpoint) (PutAnswer ∷ PutAnswer ∷ [])
+    ≡ Ready (session_at (seq 4))
 
 -- a later session that finds both logs begins after 4, and keeps what they hold
 abbrev pub ResumesAtCheckpoint : Type 0
@@ -128,26 +143,26 @@ ResumesAtCheckpoint =
     after_answers (SourceStart (codes "s2")) (LogAnswer (Some first_log) ∷ LogAnswer (Some first_log) ∷ [])
     ≡ Ready (record {
       session_id = codes "s2";
-      start = 4;
-      place = 4;
+      start = seq 4;
+      place = seq 4;
       source_history = first_entry ∷ [];
       target_history = first_entry ∷ [];
     })
 
 -- the second round, where it fetches a
 abbrev pub at_retrieval : Follower
-at_retrieval = Busy (session_at 3) (Retrieval (one_of (codes "a") (rev 2 (codes "d"))) [] [] 4)
+at_retrieval = Busy (session_at (seq 3)) (Retrieval (one_of (codes "a") (rev 2 (codes "d"))) [] [] (seq 4))
 
 -- the source misses the revision: the round fails, and the place stays
 abbrev pub MissingLeavesPlace : Type 0
 MissingLeavesPlace =
     (answer_result at_retrieval (OpenRevsAnswer (None ∷ []))
     ≡ Err (MissingRevision (codes "a") (rev 2 (codes "d"))))
-    × (after_answer at_retrieval (OpenRevsAnswer (None ∷ [])) ≡ Ready (session_at 3))
+    × (after_answer at_retrieval (OpenRevsAnswer (None ∷ [])) ≡ Ready (session_at (seq 3)))
 
 -- the second round, where it stores a
 abbrev pub at_storage : Follower
-at_storage = Busy (session_at 3) (Storage (second_edit ∷ []) 4)
+at_storage = Busy (session_at (seq 3)) (Storage (second_edit ∷ []) (seq 4))
 
 -- what a target of three edits at most answers
 abbrev pub full_answer : Answer
@@ -157,4 +172,4 @@ full_answer = MergeAnswer (merges_all 3 three_edits (second_edit ∷ [])).outcom
 abbrev pub RefusalLeavesPlace : Type 0
 RefusalLeavesPlace =
     (answer_result at_storage full_answer ≡ Err (RefusedDocument second_edit SequenceFull))
-    × (after_answer at_storage full_answer ≡ Ready (session_at 3))
+    × (after_answer at_storage full_answer ≡ Ready (session_at (seq 3)))

@@ -1,10 +1,12 @@
 -- A worked run: one document is written at the source, copied by one round, and the copy recorded (own).
-use Rattle.std.specs.Prelude.{ℕ, List, [], ◌∷◌, false, Some, None}
+use Rattle.std.specs.Prelude.{List, [], ◌∷◌, false, Some, None}
 use Rattle.hub_model.specs.Journal.{Edit}
 use Rattle.hub_model.specs.Revision.{Revision}
 use Rattle.hub_model.specs.Row.{ChangeRow}
 use Rattle.hub_follow_model.specs.ChangesFeed.{items_of}
 use Rattle.hub_follow_model.specs.Follower.{Session, Ready, checkpoint_log}
+use Rattle.hub_follow_model.specs.Sequence.{beginning, seq_of}
+use Rattle.hub_follow_model.specs.declared.seq.Seq.{Seq}
 use Rattle.hub_follow_model.specs.World.{World, Event, Write, Start, Round, Checkpoint, Reply, ChangesReply}
 use Rattle.hub_follow_model.specs.World.{Run, empty_world}
 
@@ -29,21 +31,28 @@ one_round =
     ∷ Reply ∷ Reply ∷ Reply ∷ Checkpoint ∷ Reply ∷ Reply ∷ []
 
 -- the session c at this place
-abbrev pub one_session : ℕ → Session
+abbrev pub one_session : Seq → Session
 one_session place =
-    record { session_id = 99 ∷ []; start = 0; place = place; source_history = []; target_history = [] }
+    record {
+      session_id = 99 ∷ [];
+      start = beginning;
+      place = place;
+      source_history = [];
+      target_history = [];
+    }
 
 -- both databases have the document, and both logs record 1
 abbrev pub one_end : World
 one_end =
     record {
       limit = 10;
+      life = 1;
       source = one_edit ∷ [];
       target = one_edit ∷ [];
-      source_log = Some (checkpoint_log (one_session 1) []);
-      target_log = Some (checkpoint_log (one_session 1) []);
+      source_log = Some (checkpoint_log (one_session (seq_of 1 1)) []);
+      target_log = Some (checkpoint_log (one_session (seq_of 1 1)) []);
       sessions = (99 ∷ []) ∷ [];
-      follower = Ready (one_session 1);
+      follower = Ready (one_session (seq_of 1 1));
     }
 
 -- the events lead there

@@ -1,7 +1,7 @@
 -- Two databases, a replication log at each, and a follower: what may happen to them, and whole runs of that.
 -- Any call may fail (own, over the CouchDB Replication Protocol).
 use Rattle.std.specs.Prelude.{◌≡◌, ℕ, List, [], ◌∷◌, map, take, Contains, Bool, true, false, IsTrue, Option}
-use Rattle.std.specs.Prelude.{Some, None, MatchOption, ◌⊎◌}
+use Rattle.std.specs.Prelude.{Some, None, MatchOption, ◌⊎◌, option_map}
 use Rattle.hub_model.specs.Draft.{Draft, makes}
 use Rattle.hub_model.specs.Journal.{Edit}
 use Rattle.hub_model.specs.Missing.{diffs}
@@ -17,10 +17,13 @@ use Rattle.hub_follow_model.specs.Follower.{SourceCheckpoint, Follower, Down, So
 use Rattle.hub_follow_model.specs.Follower.{Busy}
 use Rattle.hub_follow_model.specs.Follower.{next_call, after_failure, after_answer}
 use Rattle.hub_follow_model.specs.ReplicationLog.{ReplicationLog, IsRecordedIn}
+use Rattle.hub_follow_model.specs.Sequence.{seq_in}
+use Rattle.hub_follow_model.specs.declared.seq.Seq.{Seq}
 
 -- the two databases' journals, the log at each, and the follower
 pub record World : Type 0 where
   pub limit : ℕ  -- how many edits each journal takes
+  pub life : ℕ  -- the number of the source's life: it has one, which no event changes
   pub source : List Edit
   pub target : List Edit
   pub source_log : Option ReplicationLog
@@ -33,6 +36,7 @@ abbrev pub empty_world : ℕ → World
 empty_world limit =
     record {
       limit = limit;
+      life = 1;
       source = [];
       target = [];
       source_log = None;
@@ -52,12 +56,13 @@ with_log Source log w = record w { source_log = Some log }
 with_log Target log w = record w { target_log = Some log }
 
 -- From w the call may be answered so, and leaves the world so: the log that stands there; changes rightly
--- handed by the source; what the target misses; what the source shows of each revision; what storing the
--- documents at the target comes to; the log stored. Nothing but the merge and the log changes the world.
+-- handed by the source, above the sequence as it counts in the source's life, and that life; what the target
+-- misses; what the source shows of each revision; what storing the documents at the target comes to; the log
+-- stored. Nothing but the merge and the log changes the world.
 abbrev pub IsAnswered : World → Call → Answer → World → Type 0
 IsAnswered w (LocalGet side) (LogAnswer log) new = (log ≡ log_at side w) × (new ≡ w)
-IsAnswered w (Changes since) (ChangesAnswer rows last) new =
-    HasChangesAnswer w.source since rows last × (new ≡ w)
+IsAnswered w (Changes since) (ChangesAnswer rows last life) new =
+    HasChangesAnswer w.source (seq_in w.life since) rows last × (life ≡ w.life) × (new ≡ w)
 IsAnswered w (RevsDiff asked) (RevsDiffAnswer answered) new = (answered ≡ diffs w.target asked) × (new ≡ w)
 IsAnswered w (OpenRevs id revs) (OpenRevsAnswer docs) new =
     (docs ≡ map (shown w.source id) revs) × (new ≡ w)
@@ -123,9 +128,10 @@ IsPartialMerge w call count new = new ≡ w
 -- change nothing, and nor does another call
 abbrev pub IsChangesReply : World → Option Call → List ChangeItem → World → Type 0
 IsChangesReply w (Some (Changes since)) items new =
-    ((rows : List ChangeRow) × (last : ℕ) × IsChangesAnswer w.source since items rows last
-    × (new ≡ record w { follower = after_answer w.follower (ChangesAnswer rows last) }))
-    ⊎ (((rows : List ChangeRow) (last : ℕ) → ¬ IsChangesAnswer w.source since items rows last) × (new ≡ w))
+    ((rows : List ChangeRow) × (last : ℕ) × IsChangesAnswer w.source (seq_in w.life since) items rows last
+    × (new ≡ record w { follower = after_answer w.follower (ChangesAnswer rows last w.life) }))
+    ⊎ (((rows : List ChangeRow) (last : ℕ) → ¬ IsChangesAnswer w.source (seq_in w.life since) items rows last)
+    × (new ≡ w))
 IsChangesReply w call items new = new ≡ w
 
 -- From w the event may lead to new. An event that has no place there changes nothing.
@@ -158,14 +164,16 @@ Run w [] new = new ≡ w
 Run w (event ∷ events) new = (mid : World) × Step w event mid × Run mid events new
 
 -- the place of a follower that has a session
-abbrev pub place_of : Follower → Option ℕ
+abbrev pub place_of : Follower → Option Seq
 place_of Down = None
 place_of (SourceStart session_id) = None
 place_of (TargetStart session_id source) = None
 place_of (Ready s) = Some s.place
 place_of (Busy s phase) = Some s.place
 
--- c is a sequence up to which all is said to be copied: by one of the two logs, or by the follower's place
+-- c is the number of a sequence up to which all is said to be copied: by one of the two logs, or by the
+-- follower's place
 abbrev pub IsCheckpointOf : World → ℕ → Type 0
 IsCheckpointOf w c =
-    IsRecordedIn w.source_log c ⊎ (IsRecordedIn w.target_log c ⊎ (place_of w.follower ≡ Some c))
+    IsRecordedIn w.source_log c
+    ⊎ (IsRecordedIn w.target_log c ⊎ (option_map (λ place. place.n) (place_of w.follower) ≡ Some c))

@@ -15,7 +15,7 @@ module _ (limit : ℕ) (sessions : List (List ℕ)) where
   serves_answers core (follow.LocalGet follow.Target) (follow.LogAnswer log) s t s' t' (q, p) = (p.0, both core s t s' t' q p.1)
   serves_answers core (follow.LocalGet follow.Source) answer s t s' t' (p, q) = absurd p
   serves_answers core (follow.LocalGet follow.Target) answer s t s' t' (q, p) = absurd p
-  serves_answers core (follow.Changes since) (follow.ChangesAnswer rows last) s t s' t' (p, q) = (p.0, both core s t s' t' p.1 q)
+  serves_answers core (follow.Changes since) (follow.ChangesAnswer rows last life) s t s' t' (p, q) = (p.0, p.1, both core s t s' t' p.2 q)
   serves_answers core (follow.Changes since) answer s t s' t' (p, q) = absurd p
   serves_answers core (follow.RevsDiff asked) (follow.RevsDiffAnswer missed) s t s' t' (q, p) = (p.0, both core s t s' t' q p.1)
   serves_answers core (follow.RevsDiff asked) answer s t s' t' (q, p) = absurd p

@@ -1,21 +1,19 @@
 -- What may happen to two databases and a follower, step by step.
-use Rattle.std.proofs.Common.{◌≡◌, ◌∙◌, ℕ, ◌≤◌, List, [], ◌∷◌, ◌++◌, length, map, refl, sym, ap, subst, inl, inr, ◌⊎◌, ⊎_elim, Contains, Bool, true, false, Option, Some, None, MatchOption, Result, Ok, Err}
+use Rattle.std.proofs.Common.{◌≡◌, ◌∙◌, ℕ, ◌≤◌, List, [], ◌∷◌, ◌++◌, refl, sym, ap, subst, inr, ⊎_elim, Contains, true, false, Option, Some, None, option_map}
 use Rattle.std.proofs.lemmas.Map.Views.{Contains-from_any}
 use Rattle.std.proofs.lemmas.Slice.Eq.{bytes_eq-Decides}
-use Rattle.std.specs.Prelude.{◌||◌}
 use Rattle.std.specs.List.{list_any}
 use Rattle.std.specs.Str.{bytes_eq}
 use Rattle.hub_model.proofs.Lists.{contains_none, contains_cases}
 use Rattle.hub_model.proofs.Tests.{or_left, or_right}
 use Rattle.hub_follow_model.specs.Follower as follow
 use Rattle.hub_follow_model.specs.World as world
+use Rattle.hub_follow_model.specs.declared.seq.Seq.{Seq}
 use Rattle.hub_follow_model.proofs.Fitting.{answers_fit}
 use Rattle.hub_follow_model.proofs.Theorem.{claimed_within}
-use Rattle.hub_follower.specs.Views.{answer_of, AnswerHasPaths, IsFaultOf}
-use Rattle.hub_follower.specs.Worlds.{IsWithin, IsWithinNext, HasPlace, HasAnswered}
+use Rattle.hub_follower.specs.Views.{answer_of, AnswerHasPaths}
+use Rattle.hub_follower.specs.Worlds.{IsWithinNext, HasPlace, HasAnswered}
 use Rattle.hub_follower.specs.declared.call.Answer.{Answer}
-use Rattle.hub_follower.specs.declared.fault.FollowFault.{FollowFault}
-use Rattle.hub_follower.specs.declared.fault.FollowFault.TheVariants.{NoMemory, BadLogId, Peer, Refused, Lost}
 
 -- one event more
 pub run_more : (events : List world.Event) (e : world.Event) (w mid new : world.World) → world.Run w events mid → world.Step mid e new → world.Run w (events ++ e ∷ []) new
@@ -24,10 +22,10 @@ run_more (x ∷ events) e w mid new (m, step, rest) s = (m, step, run_more event
 
 -- behind every run the place is a sequence that the source has
 pub place_within : (limit : ℕ) (events : List world.Event) (w : world.World) → world.Run (world.empty_world limit) events w → HasPlace w
-place_within limit events w r c e = claimed_within limit events w r c (inr (inr e))
+place_within limit events w r c e = claimed_within limit events w r c.n (inr (inr (ap (option_map (λ (place : Seq). place.n)) e)))
 
 -- so changes are asked for within
-pub within_next : (follower : follow.Follower) (len : ℕ) → ((c : ℕ) → world.place_of follower ≡ Some c → c ≤ len) → IsWithinNext len (follow.next_call follower)
+pub within_next : (follower : follow.Follower) (len : ℕ) → ((c : Seq) → world.place_of follower ≡ Some c → c.n ≤ len) → IsWithinNext len (follow.next_call follower)
 within_next follow.Down len h = tt
 within_next (follow.SourceStart session_id) len h = tt
 within_next (follow.TargetStart session_id source) len h = tt

@@ -10,3 +10,4 @@ pub mod Happening
 pub mod Rebuilding
 pub mod Deciding
 pub mod ChangesReplies
+pub mod TaggedText

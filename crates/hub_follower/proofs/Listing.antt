@@ -1,5 +1,5 @@
 -- The changes of a journal above a sequence, in one list, are an answer to a follower.
-use Rattle.std.proofs.Common.{◌≡◌, ◌∙◌, ℕ, zero, suc, ◌+◌, ◌<◌, ◌≤◌, List, [], ◌∷◌, ◌++◌, length, map, take, Contains, ◌⊎◌, inl, inr, ⊎_elim, Bool, true, false, refl, sym, ap, subst, arith, get_or}
+use Rattle.std.proofs.Common.{◌≡◌, ◌∙◌, ℕ, zero, suc, ◌<◌, ◌≤◌, List, [], ◌∷◌, length, map, take, Contains, ◌⊎◌, inl, inr, ⊎_elim, true, false, refl, sym, ap, subst, arith, get_or}
 use Rattle.std.proofs.lemmas.Bool.Decides.{nat_tests}
 use Rattle.std.proofs.lemmas.List.Elements.{All-nil, All-cons}
 use Rattle.std.proofs.lemmas.List.Kept.{AllPairs-cons, AllPairs-filter}
@@ -8,13 +8,13 @@ use Rattle.std.proofs.Math.Seq.{take-length}
 use Rattle.std.proofs.lemmas.List.{reverse-reverse, get_or-map, take-map}
 use Rattle.std.proofs.lemmas.List.Elements.{Contains-get_or}
 use Rattle.hub_index.proofs.ListLemmas.{map_reverse}
-use Rattle.std.specs.Prelude.{All, AllPairs, ◌&&◌, nat_lt, filter, reverse, min}
+use Rattle.std.specs.Prelude.{All, AllPairs, ◌&&◌, nat_lt, reverse, min}
 use Rattle.hub_model.specs.Descending.{descending, falling, falling_rows}
 use Rattle.hub_follower.specs.Listing.{rows_above, all_above, listing_params, AreFirst}
 use Rattle.hub_model.specs.Current.{Current, current}
 use Rattle.hub_model.specs.Filter.{passes, Everything}
 use Rattle.hub_model.specs.Journal.{Edit}
-use Rattle.hub_model.specs.RightlyHanded.{rows_of, IsAsked, IsRowOf, Follows, EndsAt, ChangeItem}
+use Rattle.hub_model.specs.RightlyHanded.{IsAsked, IsRowOf, Follows, EndsAt}
 use Rattle.hub_model.specs.Row.{ChangeRow, row_of}
 use Rattle.hub_model.specs.RowKind.{change_rows}
 use Rattle.hub_model.specs.declared.feeds.Item.TheVariants.{Row, End}
@@ -178,10 +178,10 @@ module _ (J : List Edit) (since : ℕ) (from : since ≤ length J) where
   whole_in c m up = in_filter (λ (c : Current). nat_lt since c.seq && passes Everything c.id) (current J) c m (above_test since c.seq up)
 
   -- what goes downwards is this list from its end
-  pub turned : reverse (descending J (listing_params since)).rows ≡ every
-  turned =
+  pub turned : (life : ℕ) → reverse (descending J life (listing_params since)).rows ≡ every
+  turned life =
       let same : min since (length J) ≡ since = omega (arith, from) in
-      ap (λ n. reverse (falling J (listing_params since) n (falling_rows J (listing_params since) n)).rows) same
+      ap (λ n. reverse (falling J life (listing_params since) n (falling_rows J (listing_params since) n)).rows) same
       ∙ (ap reverse (map_reverse (shown_row J) above) ∙ reverse-reverse every)
 
   whole_answer : length every ≤ 100 → HasChangesAnswer J since every (length J)

@@ -1,10 +1,12 @@
 -- How a follower goes from call to call.
-use Rattle.std.proofs.Common.{◌≡◌, ◌∙◌, ℕ, ◌+◌, ◌≤◌, ◌⊎◌, inl, inr, refl, sym, ap, subst, ⊎_elim, arith, List, [], ◌∷◌, ◌++◌, length, map, Bool, true, false, Option, Some, None, Result, Ok, Err}
+use Rattle.std.proofs.Common.{◌≡◌, ◌∙◌, ◌+◌, ◌≤◌, ◌⊎◌, inl, inr, refl, sym, ap, subst, ⊎_elim, arith, List, [], ◌∷◌, ◌++◌, length, map, Bool, true, false, Option, Some, None, Result, Ok, Err}
 use Rattle.std.specs.Prelude.{OnErr}
 use Rattle.hub_model.specs.Journal.{Edit}
 use Rattle.hub_model.specs.Missing.{Asked}
 use Rattle.hub_follow_model.specs.Follower as follow
+use Rattle.hub_follow_model.specs.Sequence.{seq_of}
 use Rattle.hub_follow_model.specs.World as world
+use Rattle.hub_follow_model.specs.declared.seq.Seq.{Seq}
 use Rattle.hub_follower.specs.Peers.{Gives, Fails, Steps, FailsSo, Walks, Reaches, HasCountedCalls, IsPastAsking, calls_left, Idles}
 
 -- a failed follower owes nothing, at the same place
@@ -29,28 +31,28 @@ Leads core core' = ((follow.next_call core' ≡ None) ⊎ (world.place_of core' 
 rests : (core core' : follow.Follower) (s : follow.Session) → core' ≡ follow.Ready s → (HasCountedCalls core → 1 ≤ calls_left core) → Leads core core'
 rests core core' s e n = subst (λ z. Leads core z) (sym e) (inl refl, tt, (λ p. tt), (λ p. let m = n p in omega (arith, m)))
 
-to_compare_leads : (s : follow.Session) (asked : List Asked) (last : ℕ) (core' : follow.Follower) → follow.comparison_or_ready s asked last ≡ core' → Leads (follow.Busy s follow.Listing) core'
+to_compare_leads : (s : follow.Session) (asked : List Asked) (last : Seq) (core' : follow.Follower) → follow.comparison_or_ready s asked last ≡ core' → Leads (follow.Busy s follow.Listing) core'
 to_compare_leads s [] last core' e = rests (follow.Busy s follow.Listing) core' (record s { place = last }) (sym e) (λ p. absurd p)
 to_compare_leads s (a ∷ asked) last core' e = subst (λ z. Leads (follow.Busy s follow.Listing) z) e (inr refl, tt, (λ p. absurd p), (λ p. absurd p))
 
-to_store_leads : (s : follow.Session) (work : follow.Phase) (got : List Edit) (last : ℕ) (core' : follow.Follower) → follow.storage_or_ready s got last ≡ core' → (HasCountedCalls (follow.Busy s work) → 2 ≤ calls_left (follow.Busy s work)) → Leads (follow.Busy s work) core'
+to_store_leads : (s : follow.Session) (work : follow.Phase) (got : List Edit) (last : Seq) (core' : follow.Follower) → follow.storage_or_ready s got last ≡ core' → (HasCountedCalls (follow.Busy s work) → 2 ≤ calls_left (follow.Busy s work)) → Leads (follow.Busy s work) core'
 to_store_leads s work [] last core' e n = rests (follow.Busy s work) core' (record s { place = last }) (sym e) (λ p. let m = n p in omega (arith, m))
 to_store_leads s work (d ∷ got) last core' e n = subst (λ z. Leads (follow.Busy s work) z) e (inr refl, tt, (λ p. tt), (λ p. let m = n p in omega (arith, m)))
 
-to_fetch_leads : (s : follow.Session) (work : follow.Phase) (later : List Asked) (got : List Edit) (last : ℕ) (core' : follow.Follower) → follow.retrieval_or_storage s later got last ≡ core' → (HasCountedCalls (follow.Busy s work) → length later + 2 ≤ calls_left (follow.Busy s work)) → Leads (follow.Busy s work) core'
+to_fetch_leads : (s : follow.Session) (work : follow.Phase) (later : List Asked) (got : List Edit) (last : Seq) (core' : follow.Follower) → follow.retrieval_or_storage s later got last ≡ core' → (HasCountedCalls (follow.Busy s work) → length later + 2 ≤ calls_left (follow.Busy s work)) → Leads (follow.Busy s work) core'
 to_fetch_leads s work [] got last core' e n = to_store_leads s work got last core' e n
 to_fetch_leads s work (a ∷ later) got last core' e n = subst (λ z. Leads (follow.Busy s work) z) e (inr refl, tt, (λ p. tt), (λ p. let m = n p in omega (arith, m)))
 
-fetched_leads : (s : follow.Session) (next : Asked) (later : List Asked) (got : List Edit) (last : ℕ) (o : Result (List Edit) follow.Fault) (core' : follow.Follower) → follow.after_retrieval s later got last o ≡ Ok core' → Leads (follow.Busy s (follow.Retrieval next later got last)) core'
+fetched_leads : (s : follow.Session) (next : Asked) (later : List Asked) (got : List Edit) (last : Seq) (o : Result (List Edit) follow.Fault) (core' : follow.Follower) → follow.after_retrieval s later got last o ≡ Ok core' → Leads (follow.Busy s (follow.Retrieval next later got last)) core'
 fetched_leads s next later got last (Ok docs) core' e = to_fetch_leads s (follow.Retrieval next later got last) later (got ++ docs) last core' (cc) (λ p. omega arith)
 fetched_leads s next later got last (Err fault) core' e = absurd (cc)
 
-stored_leads : (s : follow.Session) (got : List Edit) (last : ℕ) (o : Option follow.Fault) (core' : follow.Follower) → follow.after_storage s last o ≡ Ok core' → Leads (follow.Busy s (follow.Storage got last)) core'
+stored_leads : (s : follow.Session) (got : List Edit) (last : Seq) (o : Option follow.Fault) (core' : follow.Follower) → follow.after_storage s last o ≡ Ok core' → Leads (follow.Busy s (follow.Storage got last)) core'
 stored_leads s got last None core' e = rests (follow.Busy s (follow.Storage got last)) core' (record s { place = last }) (cc) (λ p. omega arith)
 stored_leads s got last (Some fault) core' e = absurd (cc)
 
 work_leads : (s : follow.Session) (work : follow.Phase) (answer : follow.Answer) (core' : follow.Follower) → follow.phase_result s work answer ≡ Ok core' → Leads (follow.Busy s work) core'
-work_leads s follow.Listing (follow.ChangesAnswer rows last) core' e = to_compare_leads s (map follow.revisions_of_row rows) last core' (cc)
+work_leads s follow.Listing (follow.ChangesAnswer rows last life) core' e = to_compare_leads s (map follow.revisions_of_row rows) (seq_of life last) core' (cc)
 work_leads s follow.Listing answer core' e = absurd (cc)
 work_leads s (follow.Comparison asked last) (follow.RevsDiffAnswer diffs) core' e = to_fetch_leads s (follow.Comparison asked last) (map follow.missing_revisions diffs) [] last core' (cc) (λ p. absurd p)
 work_leads s (follow.Comparison asked last) answer core' e = absurd (cc)

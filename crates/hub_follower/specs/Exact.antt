@@ -5,6 +5,7 @@ use Rattle.hub_model.specs.Missing.{diffs}
 use Rattle.hub_model.specs.Outcome.{merges_all}
 use Rattle.hub_model.specs.Walk.{shown}
 use Rattle.hub_follow_model.specs.Follower as follow
+use Rattle.hub_follow_model.specs.Sequence.{seq_in}
 use Rattle.hub_follow_model.specs.World.{World, Event, Run}
 use Rattle.hub_follow_model.specs.ChangesFeed.{HasChangesAnswer}
 use Rattle.hub_follow_model.specs.ReplicationLog.{ReplicationLog}
@@ -13,12 +14,14 @@ use Rattle.hub_follower.specs.Peers.{IsWalk}
 -- what a peer holds
 pub record Held : Type 0 where
   pub journal : List Edit
+  pub life : ℕ  -- the number of its life
   pub log : Option ReplicationLog
 
 -- what a database that nobody else writes answers, with a journal of at most so many edits
 abbrev pub IsExact : ℕ → Held → follow.Call → follow.Answer → Held → Type 0
 IsExact limit h (follow.LocalGet side) (follow.LogAnswer log) new = (log ≡ h.log) × (new ≡ h)
-IsExact limit h (follow.Changes since) (follow.ChangesAnswer rows last) new = HasChangesAnswer h.journal since rows last × (new ≡ h)
+IsExact limit h (follow.Changes since) (follow.ChangesAnswer rows last life) new =
+    HasChangesAnswer h.journal (seq_in h.life since) rows last × (life ≡ h.life) × (new ≡ h)
 IsExact limit h (follow.RevsDiff asked) (follow.RevsDiffAnswer missed) new = (missed ≡ diffs h.journal asked) × (new ≡ h)
 IsExact limit h (follow.OpenRevs id revs) (follow.OpenRevsAnswer docs) new = (docs ≡ map (shown h.journal id) revs) × (new ≡ h)
 IsExact limit h (follow.Merge docs) (follow.MergeAnswer outcomes) new = (outcomes ≡ (merges_all limit h.journal docs).outcomes) × (new ≡ record h { journal = (merges_all limit h.journal docs).journal })
@@ -27,7 +30,17 @@ IsExact limit h call answer new = ⊥
 
 -- the world of both and the follower
 abbrev pub world_at : ℕ → List (List ℕ) → Held → Held → follow.Follower → World
-world_at limit sessions s t follower = record { limit = limit; source = s.journal; target = t.journal; source_log = s.log; target_log = t.log; sessions = sessions; follower = follower }
+world_at limit sessions s t follower =
+    record {
+      limit = limit;
+      life = s.life;
+      source = s.journal;
+      target = t.journal;
+      source_log = s.log;
+      target_log = t.log;
+      sessions = sessions;
+      follower = follower;
+    }
 
 -- whatever the follower does over such peers is a run of that world
 abbrev pub ExactWalksRun : Type 0

@@ -1,14 +1,19 @@
 -- A log that is written is read again (own).
-use Rattle.std.specs.Prelude.{◌≡◌, ◌≤◌, ◌<◌, ◌^◌, List, [], ◌∷◌, ⊤, length, Some, IsUtf8}
+use Rattle.std.specs.Prelude.{◌≡◌, ◌≤◌, ◌<◌, ◌^◌, List, [], ◌∷◌, ⊤, length, Some, IsUtf8, IfSome}
+use Rattle.hub_follow_model.specs.declared.seq.Seq.{Seq}
 use Rattle.hub_follow_model.specs.ReplicationLog.{ReplicationLog, HistoryEntry}
 use Rattle.hub_follower.specs.LogText.{log_in, log_text}
+
+-- a sequence and its life are numbers of 64 bits
+abbrev pub IsWritableSeq : Seq → Type 0
+IsWritableSeq s = (s.n < 2 ^ 64) × IfSome s.life (λ life. life < 2 ^ 64)
 
 -- the session's id is UTF-8, and the numbers are of 64 bits
 pub record IsWritableEntry (entry : HistoryEntry) : Type 0 where
   pub utf8 : IsUtf8 entry.session_id
-  pub start : entry.start_last_seq < 2 ^ 64
-  pub end_seq : entry.end_last_seq < 2 ^ 64
-  pub recorded : entry.recorded_seq < 2 ^ 64
+  pub start : IsWritableSeq entry.start_last_seq
+  pub end_seq : IsWritableSeq entry.end_last_seq
+  pub recorded : IsWritableSeq entry.recorded_seq
 
 abbrev pub AreWritableEntries : List HistoryEntry → Type 0
 AreWritableEntries [] = ⊤
@@ -17,7 +22,7 @@ AreWritableEntries (entry ∷ history) = IsWritableEntry entry × AreWritableEnt
 -- so it is of a log, whose history has 50 entries at most
 pub record IsWritableLog (log : ReplicationLog) : Type 0 where
   pub utf8 : IsUtf8 log.session_id
-  pub last : log.source_last_seq < 2 ^ 64
+  pub last : IsWritableSeq log.source_last_seq
   pub entries : AreWritableEntries log.history
   pub short : length log.history ≤ 50
 

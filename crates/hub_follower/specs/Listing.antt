@@ -1,12 +1,12 @@
 -- The changes of a journal above a sequence, in one list (own).
-use Rattle.std.specs.Prelude.{◌≡◌, ◌≤◌, ◌<◌, ℕ, List, length, map, take, reverse, filter, get_or, nat_lt, ◌&&◌, false, None}
+use Rattle.std.specs.Prelude.{◌≡◌, ◌≤◌, ◌<◌, ℕ, List, length, map, take, filter, get_or, nat_lt, ◌&&◌, false, None}
 use Rattle.hub_model.specs.Current.{Current, current}
 use Rattle.hub_model.specs.Feed.{Params}
 use Rattle.hub_model.specs.Filter.{passes, Everything}
 use Rattle.hub_model.specs.Journal.{Edit}
 use Rattle.hub_model.specs.Row.{ChangeRow, row_of}
 use Rattle.hub_model.specs.declared.feeds.Mode.TheVariants.{Normal}
-use Rattle.hub_model.specs.declared.feeds.Since.TheVariants.{From}
+use Rattle.hub_model.specs.declared.feeds.Since.TheVariants.{Plain}
 use Rattle.hub_model.specs.declared.feeds.Style.TheVariants.{AllDocs}
 
 -- the current rows above a sequence
@@ -22,7 +22,7 @@ abbrev pub listing_params : ℕ → Params
 listing_params since =
     record {
       mode = Normal;
-      since = From since;
+      since = Plain since;
       limit = None;
       style = AllDocs;
       include_docs = false;

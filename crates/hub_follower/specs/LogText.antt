@@ -7,7 +7,11 @@ use Rattle.serde_json.specs.Data.{Data, Items, no_items, item}
 use Rattle.serde_json.specs.Find.{get, as_str, as_number, as_array, as_u64}
 use Rattle.hub_document.specs.Read.{json_of}
 use Rattle.hub_document.specs.Asking.{in_front}
+use Rattle.hub_document.specs.SequenceText.{sequence_text}
+use Rattle.hub_params.specs.FeedValues.{tagged_in}
 use Rattle.hub_follow_model.specs.ReplicationLog.{ReplicationLog, HistoryEntry}
+use Rattle.hub_follow_model.specs.Sequence.{seq_of}
+use Rattle.hub_follow_model.specs.declared.seq.Seq.{Seq}
 
 -- the text of a member
 abbrev pub text_at : List ℕ → Data → Option (List ℕ)
@@ -16,6 +20,19 @@ text_at k d = option_and_then as_str (get k d)
 -- the whole number of a member, 0 at least
 abbrev pub count_at : List ℕ → Data → Option ℕ
 count_at k d = option_and_then as_u64 (option_and_then as_number (get k d))
+
+-- the sequence of a text, as 12-3, where there is one; else of a number, whose life is not known
+abbrev pub seq_or_number : Option (List ℕ) → Option ℕ → Option Seq
+seq_or_number None number = option_map (λ n. record { n = n; life = None }) number
+seq_or_number (Some text) number = option_map (λ p. seq_of p.1 p.0) (tagged_in text)
+
+-- the sequence that a value is: "12-3", or 12 alone
+abbrev pub seq_value : Data → Option Seq
+seq_value d = seq_or_number (as_str d) (option_and_then as_u64 (as_number d))
+
+-- the sequence of a member
+abbrev pub seq_at : List ℕ → Data → Option Seq
+seq_at k d = option_and_then seq_value (get k d)
 
 -- the entry of a history that a value is
 abbrev pub entry_in : Data → Option HistoryEntry
@@ -27,8 +44,8 @@ entry_in d =
       end_last_seq = last;
       recorded_seq = recorded;
     })
-    (count_at (codes "recorded_seq") d)) (count_at (codes "end_last_seq") d))
-    (count_at (codes "start_last_seq") d)) (text_at (codes "session_id") d)
+    (seq_at (codes "recorded_seq") d)) (seq_at (codes "end_last_seq") d))
+    (seq_at (codes "start_last_seq") d)) (text_at (codes "session_id") d)
 
 -- the entries
 abbrev pub entries_in : Items → Option (List HistoryEntry)
@@ -49,7 +66,7 @@ log_of_version d version =
     if nat_eq version 3
     then option_and_then (λ session. option_and_then (λ last. option_map (λ history.
     record { session_id = session; source_last_seq = last; history = history })
-    (history_in d)) (count_at (codes "source_last_seq") d)) (text_at (codes "session_id") d)
+    (history_in d)) (seq_at (codes "source_last_seq") d)) (text_at (codes "session_id") d)
     else None
 
 -- the log that a value is
@@ -60,12 +77,21 @@ log_of d = option_and_then (log_of_version d) (count_at (codes "replication_id_v
 abbrev pub log_in : List ℕ → Option ReplicationLog
 log_in text = option_and_then log_of (json_of text)
 
+-- a number with such a life: as a JSON string, or alone where the life is not known
+abbrev pub seq_text_of : ℕ → Option ℕ → List ℕ
+seq_text_of n None = decimal n
+seq_text_of n (Some life) = sequence_text n life
+
+-- the text of a sequence
+abbrev pub seq_text : Seq → List ℕ
+seq_text s = seq_text_of s.n s.life
+
 -- the text of an entry, its keys in byte order
 abbrev pub entry_text : HistoryEntry → List ℕ
 entry_text entry =
-    codes "{\"end_last_seq\":" ++ (decimal entry.end_last_seq ++ (codes ",\"recorded_seq\":"
-    ++ (decimal entry.recorded_seq ++ (codes ",\"session_id\":" ++ (quoted entry.session_id
-    ++ (codes ",\"start_last_seq\":" ++ (decimal entry.start_last_seq ++ codes "}")))))))
+    codes "{\"end_last_seq\":" ++ (seq_text entry.end_last_seq ++ (codes ",\"recorded_seq\":"
+    ++ (seq_text entry.recorded_seq ++ (codes ",\"session_id\":" ++ (quoted entry.session_id
+    ++ (codes ",\"start_last_seq\":" ++ (seq_text entry.start_last_seq ++ codes "}")))))))
 
 -- of the entries behind one, each with a comma in front
 abbrev pub later_entries_text : List HistoryEntry → List ℕ
@@ -82,4 +108,4 @@ abbrev pub log_text : ReplicationLog → List ℕ
 log_text log =
     codes "{\"history\":[" ++ (entries_text log.history ++ (codes "],\"replication_id_version\":"
     ++ (decimal 3 ++ (codes ",\"session_id\":" ++ (quoted log.session_id
-    ++ (codes ",\"source_last_seq\":" ++ (decimal log.source_last_seq ++ codes "}")))))))
+    ++ (codes ",\"source_last_seq\":" ++ (seq_text log.source_last_seq ++ codes "}")))))))

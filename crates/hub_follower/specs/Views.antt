@@ -51,7 +51,7 @@ found_edit (Missing r) = None
 -- what a peer answers
 abbrev pub answer_of : Answer → follow.Answer
 answer_of (says.Log log) = follow.LogAnswer log
-answer_of (says.Changes rows last) = follow.ChangesAnswer rows.items last
+answer_of (says.Changes c) = follow.ChangesAnswer c.rows.items c.last_seq c.life
 answer_of (says.RevsDiff diffs) = follow.RevsDiffAnswer diffs.items
 answer_of (says.OpenRevs found) = follow.OpenRevsAnswer (map found_edit found.items)
 answer_of (says.Merge replies) = follow.MergeAnswer replies

@@ -6,6 +6,7 @@ use Rattle.hub_model.specs.Row.{ChangeRow}
 use Rattle.hub_database.specs.Edits.{edit_of}
 use Rattle.hub_follow_model.specs.ChangesFeed.{IsChangesAnswer}
 use Rattle.hub_follow_model.specs.Follower as follow
+use Rattle.hub_follow_model.specs.declared.seq.Seq.{Seq}
 use Rattle.hub_follow_model.specs.ReplicationLog.{ReplicationLog}
 use Rattle.hub_follow_model.specs.World as world
 use Rattle.hub_follower.specs.Views.{answer_of, AnswerHasPaths}
@@ -17,6 +18,7 @@ use Rattle.hub_follower.specs.declared.world.FollowEvent.TheVariants as event
 -- two databases' journals, and the replication log at each
 pub record Pair : Type 0 where
   pub limit : ℕ  -- how many edits each journal takes
+  pub life : ℕ  -- the number of the source's life
   pub source : List Edit
   pub target : List Edit
   pub source_log : Option ReplicationLog
@@ -27,6 +29,7 @@ abbrev pub world_of : Pair → List (List ℕ) → follow.Follower → world.Wor
 world_of p sessions follower =
     record {
       limit = p.limit;
+      life = p.life;
       source = p.source;
       target = p.target;
       source_log = p.source_log;
@@ -37,7 +40,7 @@ world_of p sessions follower =
 
 -- changes are asked for above a sequence that the source has
 abbrev pub IsWithin : ℕ → follow.Call → Type 0
-IsWithin len (follow.Changes since) = since ≤ len
+IsWithin len (follow.Changes since) = since.n ≤ len
 IsWithin len call = Unit {0}
 
 -- so it is of the next call
@@ -47,7 +50,7 @@ IsWithinNext len (Some call) = IsWithin len call
 
 -- the place is a sequence that the source has
 abbrev pub HasPlace : world.World → Type 0
-HasPlace w = (c : ℕ) → world.place_of w.follower ≡ Some c → c ≤ length w.source
+HasPlace w = (c : Seq) → world.place_of w.follower ≡ Some c → c.n ≤ length w.source
 
 -- the next call was answered so; without one nothing changed
 abbrev pub HasAnswered : world.World → Option follow.Call → Option Answer → world.World → Type 0
@@ -57,7 +60,7 @@ HasAnswered w (Some call) None new = ⊥
 HasAnswered w (Some call) (Some answer) new = world.IsAnswered w call (answer_of answer) new × AnswerHasPaths answer
 
 -- the sequence above which changes are asked for next, where they are
-abbrev pub changes_asked : Option follow.Call → Option ℕ
+abbrev pub changes_asked : Option follow.Call → Option Seq
 changes_asked None = None
 changes_asked (Some (follow.LocalGet side)) = None
 changes_asked (Some (follow.Changes since)) = Some since
@@ -66,11 +69,11 @@ changes_asked (Some (follow.OpenRevs id revs)) = None
 changes_asked (Some (follow.Merge docs)) = None
 changes_asked (Some (follow.LocalPut side log)) = None
 
--- these items are such an answer
-abbrev pub IsAnswerOf : List Edit → ℕ → List ChangeItem → Answer → Type 0
-IsAnswerOf J since items answer =
+-- these items are such an answer of a source of this life
+abbrev pub IsAnswerOf : List Edit → (life since : ℕ) → List ChangeItem → Answer → Type 0
+IsAnswerOf J life since items answer =
     (rows : List ChangeRow) × (last : ℕ) × IsChangesAnswer J since items rows last
-    × (answer_of answer ≡ follow.ChangesAnswer rows last)
+    × (answer_of answer ≡ follow.ChangesAnswer rows last life)
 
 -- an event
 abbrev pub event_of : FollowEvent → world.Event

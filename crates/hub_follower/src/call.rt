@@ -1,9 +1,11 @@
 //! What a follower asks of its peers, and what they answer.
 
 use crate::log::Log;
+use crate::peer::Changes;
 use crate::session::Session;
 use hub_database::{Diff, OpenRev, Replies};
-use hub_document::{Asked, ChangeRow, Doc};
+use hub_document::{Asked, Doc};
+use hub_follow_model::Seq;
 
 /// What a follower asks of a peer.
 pub enum Call<'a> {
@@ -11,8 +13,8 @@ pub enum Call<'a> {
     GetSource,
     /// The replication log of the target.
     GetTarget,
-    /// The changes of the source above this sequence.
-    Changes(u64),
+    /// The changes of the source above this sequence, which counts as 0 where it is of another life.
+    Changes(Seq),
     /// Which of these revisions the target misses.
     RevsDiff(&'a [Asked]),
     /// These revisions of a document of the source, with their histories.
@@ -30,8 +32,8 @@ pub enum Call<'a> {
 pub enum Answer {
     /// The replication log, if there is one.
     Log(Option<Log>),
-    /// Rows, and the sequence up to which they show all changes.
-    Changes(Vec<ChangeRow>, u64),
+    /// The changes.
+    Changes(Changes),
     /// What is missing.
     RevsDiff(Vec<Diff>),
     /// The revisions, in the order asked.

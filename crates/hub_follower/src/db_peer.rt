@@ -14,6 +14,7 @@ use hub_database::{Diff, OpenRev, Replies};
 use hub_document::{Asked, ChangeRow, Doc, DocFault, LocalDoc, OpenRevs};
 use hub_feed::OpenFault;
 use hub_filter::Filter;
+use hub_follow_model::Seq;
 use hub_model::{Item, Mode, Since, Style};
 use hub_params::FeedParams;
 use hub_threads::{Answer, Feed, Gate, Handle, Plain, Point, Question, Turn};
@@ -31,11 +32,19 @@ impl Gate for Open {
     fn pass(&self, _point: Point) {}
 }
 
+// Where a feed begins that shows the changes above a sequence.
+fn since_of(since: Seq) -> Since {
+    match since.life {
+        None => Since::Plain(since.n),
+        Some(life) => Since::Tagged(since.n, life),
+    }
+}
+
 // What a follower asks of a feed: every leaf of the documents above a sequence.
-fn params_after(since: u64) -> FeedParams {
+fn params_after(since: Seq) -> FeedParams {
     FeedParams {
         mode: Mode::Normal,
-        since: Since::From(since),
+        since: since_of(since),
         limit: Some(ROWS),
         descending: false,
         style: Style::AllDocs,
@@ -76,7 +85,14 @@ fn rows_by_turns<R: Wait>(
             return Err(CallFault::NoMemory);
         };
         match take_rows(rt, feed, &mut rows) {
-            Ok(Some(last_seq)) => return Ok(Changes { rows, last_seq }),
+            Ok(Some(last_seq)) => {
+                let life = feed.label().life();
+                return Ok(Changes {
+                    rows,
+                    last_seq,
+                    life,
+                });
+            }
             Ok(None) => {}
             Err(_) => return Err(CallFault::NoMemory),
         }
@@ -89,7 +105,7 @@ fn changes_after<R: Wait>(
     rt: &R,
     alloc: Global,
     handle: &mut Handle<Plain>,
-    since: u64,
+    since: Seq,
 ) -> Result<Changes, CallFault> {
     let mut feed = match handle.open_feed(rt, params_after(since)) {
         Ok(feed) => feed,
@@ -271,7 +287,7 @@ impl<'a, R: Wait> Peer for DbPeer<'a, R> {
 
     ghost fault_count = { λ s. s.faults };
 
-    fn changes(&mut self, since: u64) -> Result<Changes, CallFault> {
+    fn changes(&mut self, since: Seq) -> Result<Changes, CallFault> {
         let changes = changes_after(self.rt, self.alloc, &mut self.handle, since);
         self.counted(changes)
     }

@@ -93,7 +93,7 @@ fn made<S: Peer, T: Peer>(
             Err(fault) => Err(FollowFault::from(fault)),
         },
         Call::Changes(since) => match source.changes(since) {
-            Ok(changes) => Ok(Answer::Changes(changes.rows, changes.last_seq)),
+            Ok(changes) => Ok(Answer::Changes(changes)),
             Err(fault) => Err(FollowFault::from(fault)),
         },
         Call::RevsDiff(asked) => match target.revs_diff(asked) {

@@ -7,6 +7,7 @@ use crate::log::Log;
 use crate::peer::{CallFault, Changes, Peer};
 use hub_database::{Diff, OpenRev, Replies};
 use hub_document::{Asked, Doc};
+use hub_follow_model::Seq;
 
 /// What is lost of a call that fails.
 #[derive(Clone, Copy, Debug, PartialEq, Eq)]
@@ -124,7 +125,7 @@ impl<P: Peer> Peer for FaultPeer<P> {
 
     ghost fault_count = { λ s. min (s.faults + P.fault_count s.peer) (2 ^ 64 - 1) };
 
-    fn changes(&mut self, since: u64) -> Result<Changes, CallFault> {
+    fn changes(&mut self, since: Seq) -> Result<Changes, CallFault> {
         if !self.is_failing() {
             return self.peer.changes(since);
         }

@@ -1,8 +1,9 @@
 //! A follower over its two peers.
 
-ghost use Rattle.std.specs.Prelude.{◌≡◌, ◌⊎◌, ◌≤◌, true, IfOk, IfErr, OnOk, OnErr, string_bytes};
+ghost use Rattle.std.specs.Prelude.{◌≡◌, ◌⊎◌, ◌≤◌, true, false, IfOk, IfErr, OnOk, OnErr, string_bytes};
 ghost use Rattle.hub_document.specs.Local.{IsLocalId};
 ghost use Rattle.hub_follow_model.specs.Follower as follow;
+ghost use Rattle.hub_follow_model.specs.Sequence.{is_same_place};
 ghost use Rattle.hub_follow_model.specs.World as world;
 ghost use Rattle.hub_follower.specs.Peers.{IsWalk, IsCountedOfBoth};
 
@@ -11,6 +12,7 @@ use crate::fault::FollowFault;
 use crate::machine::FollowCore;
 use crate::peer::Peer;
 use hub_document::LocalId;
+use hub_follow_model::Seq;
 use std::alloc::Global;
 
 /// What a round did.
@@ -54,6 +56,21 @@ fn log_id_of(alloc: Global, text: &str) -> Result<LocalId, FollowFault>
         Ok(Some(id)) => Ok(id),
         Ok(None) => Err(FollowFault::BadLogId),
         Err(_) => Err(FollowFault::NoMemory),
+    }
+}
+
+// Whether a place is the one before it, as that one counts in its life.
+fn is_same_place(old: Option<Seq>, new: Option<Seq>) -> bool
+    ensures { result ≡ is_same_place old new }
+{
+    match (old, new) {
+        (Some(old), Some(new)) => match new.life {
+            Some(life) => old.counted_in(life) == new.n,
+            None => old.n == new.n,
+        },
+        (None, None) => true,
+        (Some(_old), None) => false,
+        (None, Some(_new)) => false,
     }
 }
 
@@ -137,24 +154,25 @@ impl<S: Peer + Drop, T: Peer + Drop> Follower<S, T> {
 
     /// The source's sequence up to which it has copied; None where a session did not begin. Constant
     /// time.
-    pub fn place(&self) -> Option<u64>
+    pub fn place(&self) -> Option<Seq>
         ensures { result ≡ world.place_of self.now.core }
     {
         self.core.place()
     }
 
     /// Copies the changes above the place, 100 documents at most: it asks the target which of the listed
-    /// leaves it misses, fetches these with their histories, and stores them. `Idle` where there were
-    /// none: the place is the sequence that they end at; else the place moves there, once each fetched
-    /// document was stored or known. After an error the place stays, and the target may have some of the
-    /// fetched revisions.
+    /// leaves it misses, fetches these with their histories, and stores them. A place of another life than
+    /// the source's counts as 0, and one of no known life as it is; the round gives it the source's life.
+    /// `Idle` where there were no changes: the place is the sequence that they end at; else it moves there,
+    /// once each fetched document was stored or known. After an error the place stays, and the target may
+    /// have some of the fetched revisions.
     pub fn round(&mut self) -> Result<Round, FollowFault>
         ensures walk { OnOk result (IsWalk S.gives T.gives (world.round_start self.old.core)
             self.old.source self.old.target self.new.core self.new.source self.new.target) }
         ensures idle { IfOk result (λ r. r ≡ Round.Idle
-            → world.place_of self.new.core ≡ world.place_of self.old.core) }
+            → is_same_place (world.place_of self.old.core) (world.place_of self.new.core) ≡ true) }
         ensures moved { IfOk result (λ r. r ≡ Round.Moved
-            → ¬ (world.place_of self.new.core ≡ world.place_of self.old.core)) }
+            → is_same_place (world.place_of self.old.core) (world.place_of self.new.core) ≡ false) }
         ensures err { OnErr result (world.place_of self.new.core ≡ world.place_of self.old.core) }
         ensures id { self.new.log_id ≡ self.old.log_id }
         ensures fault { IfErr result (λ e. IsCountedOfBoth e
@@ -170,7 +188,7 @@ impl<S: Peer + Drop, T: Peer + Drop> Follower<S, T> {
             &mut self.target,
             self.log_id.as_str(),
         )?;
-        if self.core.place() == place {
+        if is_same_place(place, self.core.place()) {
             Ok(Round::Idle)
         } else {
             Ok(Round::Moved)

@@ -10,6 +10,7 @@ ghost use Rattle.hub_follower.specs.Rebuilt.{IsRebuilt};
 ghost use Rattle.hub_follower.specs.Worlds.{IsAnswerOf};
 
 use crate::call::Answer;
+use crate::peer::Changes;
 use crate::rebuilt::{no_edits, rebuild, rows_above};
 use crate::same_row::has_row;
 use hub_database::DbState;
@@ -219,15 +220,21 @@ pub(crate) fn changes_in(
     since: u64,
     items: Vec<Item<ChangeRow>>,
 ) -> Result<Option<Answer>, AllocError>
-    ensures right { IfOk result (λ found. IfSome found (IsAnswerOf db.now.journal since items.items)) }
+    ensures right { IfOk result (λ found. IfSome found
+        (IsAnswerOf db.now.journal db.now.life since items.items)) }
     ensures wrong { IfOk result (λ found. found ≡ None → (rows : List Row) (last : ℕ)
         → ¬ IsChangesAnswer db.now.journal since items.items rows last) }
 {
-    let last = match answer_end(alloc, db, since, items.as_slice()) {
-        Ok(Some(last)) => last,
+    let last_seq = match answer_end(alloc, db, since, items.as_slice()) {
+        Ok(Some(last_seq)) => last_seq,
         Ok(None) => return Ok(None),
         Err(refused) => return Err(refused),
     };
     let rows = rows_of(alloc, items)?;
-    Ok(Some(Answer::Changes(rows, last)))
+    let life = db.life();
+    Ok(Some(Answer::Changes(Changes {
+        rows,
+        last_seq,
+        life,
+    })))
 }

@@ -28,6 +28,7 @@ pub use fault::FollowFault;
 pub use fault_peer::{FaultPeer, Loss};
 pub use follower::{FailedStart, Follower, Round};
 pub use handed::rightly_handed;
+pub use hub_follow_model::Seq;
 pub use laws::{exact_peers_run, logs_read_back};
 pub use log::{HistoryEntry, Log, common_sequence};
 pub use machine::FollowCore;

@@ -3,6 +3,7 @@
 ghost use Rattle.std.specs.Prelude.{◌≡◌, option_copied, string_bytes, IfOk};
 ghost use Rattle.hub_follow_model.specs.ReplicationLog as model;
 
+use hub_follow_model::Seq;
 use std::alloc::{AllocError, Global};
 use std::marker::Model;
 
@@ -12,11 +13,11 @@ pub struct HistoryEntry {
     /// The session.
     pub session_id: String,
     /// The source's sequence that the session began after.
-    pub start_last_seq: u64,
+    pub start_last_seq: Seq,
     /// The last one that it came to.
-    pub end_last_seq: u64,
+    pub end_last_seq: Seq,
     /// The one that it recorded.
-    pub recorded_seq: u64,
+    pub recorded_seq: Seq,
 }
 
 impl Model for HistoryEntry {
@@ -35,7 +36,7 @@ impl Model for HistoryEntry {
 
 impl HistoryEntry {
     /// The sequence that the session recorded. Constant time.
-    pub fn recorded_seq(&self) -> u64
+    pub fn recorded_seq(&self) -> Seq
         ensures { result ≡ self.now.recorded_seq }
     {
         self.recorded_seq
@@ -68,7 +69,7 @@ pub struct Log {
     /// The last session.
     pub session_id: String,
     /// The source's sequence that it recorded.
-    pub source_last_seq: u64,
+    pub source_last_seq: Seq,
     /// The sessions, newest first.
     pub history: Vec<HistoryEntry>,
 }
@@ -105,7 +106,7 @@ impl Log {
 }
 
 // What the first entry of a session records, if there is one.
-fn recorded_seq_of(session: &str, history: &[HistoryEntry]) -> Option<u64>
+fn recorded_seq_of(session: &str, history: &[HistoryEntry]) -> Option<Seq>
     ensures { result ≡ model.recorded_seq_of session.now history.now }
 {
     for entry in history {
@@ -118,31 +119,32 @@ fn recorded_seq_of(session: &str, history: &[HistoryEntry]) -> Option<u64>
 
 // Of the newest session of the target's history that the source's has too, the lesser of what the two
 // record; 0 where there is none.
-fn common_session_sequence(source: &[HistoryEntry], target: &[HistoryEntry]) -> u64
+fn common_session_sequence(source: &[HistoryEntry], target: &[HistoryEntry]) -> Seq
     ensures { result ≡ model.common_session_sequence source.now target.now }
 {
     for entry in target {
         if let Some(recorded) = recorded_seq_of(entry.session_id(), source) {
-            return recorded.min(entry.recorded_seq());
+            return recorded.lesser(entry.recorded_seq());
         }
     }
-    0
+    Seq::beginning()
 }
 
-/// The sequence up to which the logs of source and target agree: 0 where no session is in both, or one
-/// log is absent (CouchDB Replication Protocol, compare replication logs; that the lesser of two numbers
-/// is taken is own). It takes no memory, and compares each entry of one history with each of the other.
-pub fn common_sequence(source: Option<&Log>, target: Option<&Log>) -> u64
+/// The sequence up to which the logs of source and target agree: the beginning where no session is in
+/// both, one log is absent, or the two sequences are of two lives (CouchDB Replication Protocol, compare
+/// replication logs; that the lesser of two numbers is taken is own). It takes no memory, and compares
+/// each entry of one history with each of the other.
+pub fn common_sequence(source: Option<&Log>, target: Option<&Log>) -> Seq
     ensures { result ≡ model.common_sequence (option_copied source.entry) (option_copied target.entry) }
 {
     match (source, target) {
         (Some(source), Some(target)) => {
             if source.session_id.as_bytes() == target.session_id.as_bytes() {
-                source.source_last_seq.min(target.source_last_seq)
+                source.source_last_seq.lesser(target.source_last_seq)
             } else {
                 common_session_sequence(&source.history, &target.history)
             }
         }
-        _ => 0,
+        _ => Seq::beginning(),
     }
 }

@@ -2,11 +2,13 @@
 
 ghost use Rattle.std.specs.Prelude.{◌≡◌, ◌⊎◌, ◌++◌, ◌≤◌, length, Some, None, option_map, decimal, IfOk, OnOk};
 ghost use Rattle.serde_json.specs.View.{view, items_view};
-ghost use Rattle.hub_follower.specs.LogText.{entry_in, entries_in, history_in, log_of, log_in};
+ghost use Rattle.hub_follower.specs.LogText.{entry_in, entries_in, history_in, log_of, log_in, seq_at, seq_text, seq_value};
 ghost use Rattle.hub_follower.specs.LogText.{entry_text, later_entries_text, entries_text, log_text};
 
 use crate::log::{HistoryEntry, Log};
-use hub_document::{DocFault, put_quoted, read_value};
+use hub_document::{DocFault, put_quoted, put_sequence, read_value};
+use hub_follow_model::Seq;
+use hub_params::read_tagged;
 use itoa::Buffer;
 use serde_json::Value;
 use std::alloc::{AllocError, Global};
@@ -17,6 +19,32 @@ const VERSION: u64 = 3;
 // How many entries a log's history has at most.
 const ENTRIES: usize = 50;
 
+// The sequence that a value writes: as "12-3", or as a number alone, whose life is not known.
+fn seq_of(value: &Value) -> Option<Seq>
+    ensures { result ≡ seq_value (view value.now) }
+{
+    if let Some(text) = value.as_str() {
+        return match read_tagged(text) {
+            Some((n, life)) => Some(Seq::of_life(n, life)),
+            None => None,
+        };
+    }
+    match value.as_u64() {
+        Some(n) => Some(Seq { n, life: None }),
+        None => None,
+    }
+}
+
+// The sequence that a member of a value writes.
+fn seq_at(value: &Value, name: &str) -> Option<Seq>
+    ensures { result ≡ seq_at name.now (view value.now) }
+{
+    match value.get(name) {
+        Some(member) => seq_of(member),
+        None => None,
+    }
+}
+
 // The entry that a value writes.
 fn entry_of(alloc: Global, value: &Value) -> Result<Option<HistoryEntry>, AllocError>
     ensures { IfOk result (λ o. o ≡ entry_in (view value.now)) }
@@ -24,13 +52,13 @@ fn entry_of(alloc: Global, value: &Value) -> Result<Option<HistoryEntry>, AllocE
     let Some(session) = value.get("session_id").and_then(Value::as_str) else {
         return Ok(None);
     };
-    let Some(start_last_seq) = value.get("start_last_seq").and_then(Value::as_u64) else {
+    let Some(start_last_seq) = seq_at(value, "start_last_seq") else {
         return Ok(None);
     };
-    let Some(end_last_seq) = value.get("end_last_seq").and_then(Value::as_u64) else {
+    let Some(end_last_seq) = seq_at(value, "end_last_seq") else {
         return Ok(None);
     };
-    let Some(recorded_seq) = value.get("recorded_seq").and_then(Value::as_u64) else {
+    let Some(recorded_seq) = seq_at(value, "recorded_seq") else {
         return Ok(None);
     };
     let session_id = String::from_str(alloc, session)?;
@@ -86,7 +114,7 @@ fn log_of_value(alloc: Global, value: &Value) -> Result<Option<Log>, AllocError>
     let Some(session) = value.get("session_id").and_then(Value::as_str) else {
         return Ok(None);
     };
-    let Some(source_last_seq) = value.get("source_last_seq").and_then(Value::as_u64) else {
+    let Some(source_last_seq) = seq_at(value, "source_last_seq") else {
         return Ok(None);
     };
     let Some(history) = history_of(alloc, value)? else {
@@ -116,15 +144,33 @@ fn put_member(out: &mut Vec<u8>, key: &[u8], number: u64) -> Result<(), AllocErr
     put_number(out, number)
 }
 
+// Appends the text of a sequence: a JSON string, or a number alone where its life is not known.
+fn put_seq(out: &mut Vec<u8>, seq: Seq) -> Result<(), AllocError>
+    ensures { OnOk result (out.new.items ≡ out.old.items ++ seq_text seq) }
+{
+    match seq.life {
+        None => put_number(out, seq.n),
+        Some(life) => put_sequence(out, seq.n, life),
+    }
+}
+
+// Appends what stands in front of a member's sequence, and the sequence.
+fn put_seq_member(out: &mut Vec<u8>, key: &[u8], seq: Seq) -> Result<(), AllocError>
+    ensures { OnOk result (out.new.items ≡ out.old.items ++ (key.now ++ seq_text seq)) }
+{
+    out.extend_from_slice(key)?;
+    put_seq(out, seq)
+}
+
 // Appends the text of an entry.
 fn put_entry(out: &mut Vec<u8>, entry: &HistoryEntry) -> Result<(), AllocError>
     ensures { OnOk result (out.new.items ≡ out.old.items ++ entry_text entry.now) }
 {
-    put_member(out, b"{\"end_last_seq\":", entry.end_last_seq)?;
-    put_member(out, b",\"recorded_seq\":", entry.recorded_seq)?;
+    put_seq_member(out, b"{\"end_last_seq\":", entry.end_last_seq)?;
+    put_seq_member(out, b",\"recorded_seq\":", entry.recorded_seq)?;
     out.extend_from_slice(b",\"session_id\":")?;
     put_quoted(out, entry.session_id.as_str())?;
-    put_member(out, b",\"start_last_seq\":", entry.start_last_seq)?;
+    put_seq_member(out, b",\"start_last_seq\":", entry.start_last_seq)?;
     out.extend_from_slice(b"}")?;
     Ok(())
 }
@@ -161,14 +207,15 @@ fn put_log(out: &mut Vec<u8>, log: &Log) -> Result<(), AllocError>
     put_member(out, b"],\"replication_id_version\":", VERSION)?;
     out.extend_from_slice(b",\"session_id\":")?;
     put_quoted(out, log.session_id.as_str())?;
-    put_member(out, b",\"source_last_seq\":", log.source_last_seq)?;
+    put_seq_member(out, b",\"source_last_seq\":", log.source_last_seq)?;
     out.extend_from_slice(b"}")?;
     Ok(())
 }
 
 impl Log {
     /// The log that a local document's members are. None where a member is absent or of another kind, the
-    /// version is not 3, or the history has more than 50 entries. It costs the text's length.
+    /// version is not 3, or the history has more than 50 entries. A sequence is a JSON string, as `"12-3"`,
+    /// or a whole number, which has no life. It costs the text's length.
     pub fn read(alloc: Global, members: &[u8]) -> Result<Option<Log>, AllocError>
         ensures { IfOk result (λ o. o ≡ log_in members.now) }
     {
@@ -179,7 +226,8 @@ impl Log {
         }
     }
 
-    /// The members of its local document, in the byte order of the keys. It costs the text's length.
+    /// The members of its local document, in the byte order of the keys; a sequence without a life is a
+    /// whole number. It costs the text's length.
     pub fn text(&self, alloc: Global) -> Result<Vec<u8>, AllocError>
         ensures { IfOk result (λ text. text.items ≡ log_text self.now) }
     {

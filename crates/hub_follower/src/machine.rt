@@ -15,6 +15,7 @@ use crate::log::Log;
 use crate::phase::{self, Next, Phase};
 use crate::session::Session;
 use hub_document::{Asked, Doc};
+use hub_follow_model::Seq;
 use std::alloc::Global;
 use std::collections::VecDeque;
 use std::marker::Model;
@@ -62,7 +63,10 @@ fn changed(alloc: Global, session: &Session, answer: Answer) -> Result<Next, Fol
         IsFaultOf e (follow.phase_result session.now follow.Listing (answer_of answer))) }
 {
     match answer {
-        Answer::Changes(rows, last) => Ok(phase::comparison_or_ready(alloc, rows, last)?),
+        Answer::Changes(changes) => {
+            let last = Seq::of_life(changes.last_seq, changes.life);
+            Ok(phase::comparison_or_ready(alloc, changes.rows, last)?)
+        }
         Answer::Log(_log) => Err(FollowFault::Peer),
         Answer::RevsDiff(_diffs) => Err(FollowFault::Peer),
         Answer::OpenRevs(_found) => Err(FollowFault::Peer),
@@ -76,7 +80,7 @@ fn missing(
     alloc: Global,
     session: &Session,
     asked: Vec<Asked>,
-    last: u64,
+    last: Seq,
     answer: Answer,
 ) -> Result<Next, FollowFault>
     ensures ok { IfOk result (λ goes.
@@ -89,7 +93,7 @@ fn missing(
     match answer {
         Answer::RevsDiff(diffs) => Ok(phase::first_retrieval(alloc, diffs, last)?),
         Answer::Log(_log) => Err(FollowFault::Peer),
-        Answer::Changes(_rows, _last) => Err(FollowFault::Peer),
+        Answer::Changes(_changes) => Err(FollowFault::Peer),
         Answer::OpenRevs(_found) => Err(FollowFault::Peer),
         Answer::Merge(_replies) => Err(FollowFault::Peer),
         Answer::Put => Err(FollowFault::Peer),
@@ -102,7 +106,7 @@ fn opened(
     wanted: Asked,
     later: VecDeque<Asked>,
     got: Vec<Doc>,
-    last: u64,
+    last: Seq,
     answer: Answer,
 ) -> Result<Next, FollowFault>
     requires fits { follow.IsAnswerTo (follow.OpenRevs wanted.id wanted.revs) (answer_of answer) }
@@ -123,7 +127,7 @@ fn opened(
             Err(fault) => Err(fault),
         },
         Answer::Log(_log) => Err(FollowFault::Peer),
-        Answer::Changes(_rows, _last) => Err(FollowFault::Peer),
+        Answer::Changes(_changes) => Err(FollowFault::Peer),
         Answer::RevsDiff(_diffs) => Err(FollowFault::Peer),
         Answer::Merge(_replies) => Err(FollowFault::Peer),
         Answer::Put => Err(FollowFault::Peer),
@@ -131,7 +135,7 @@ fn opened(
 }
 
 // The answer to the merge.
-fn merged(session: &Session, got: Vec<Doc>, last: u64, answer: Answer) -> Result<Next, FollowFault>
+fn merged(session: &Session, got: Vec<Doc>, last: Seq, answer: Answer) -> Result<Next, FollowFault>
     requires fits { follow.IsAnswerTo (follow.Merge (map edit_of got.items)) (answer_of answer) }
     requires paths { All HasPath got.items }
     ensures ok { IfOk result (λ goes.
@@ -148,7 +152,7 @@ fn merged(session: &Session, got: Vec<Doc>, last: u64, answer: Answer) -> Result
             Some(fault) => Err(fault),
         },
         Answer::Log(_log) => Err(FollowFault::Peer),
-        Answer::Changes(_rows, _last) => Err(FollowFault::Peer),
+        Answer::Changes(_changes) => Err(FollowFault::Peer),
         Answer::RevsDiff(_diffs) => Err(FollowFault::Peer),
         Answer::OpenRevs(_found) => Err(FollowFault::Peer),
         Answer::Put => Err(FollowFault::Peer),
@@ -167,7 +171,7 @@ fn source_written(session: &Session, answer: Answer) -> Result<Next, FollowFault
     match answer {
         Answer::Put => Ok(Next::Busy(Phase::TargetCheckpoint)),
         Answer::Log(_log) => Err(FollowFault::Peer),
-        Answer::Changes(_rows, _last) => Err(FollowFault::Peer),
+        Answer::Changes(_changes) => Err(FollowFault::Peer),
         Answer::RevsDiff(_diffs) => Err(FollowFault::Peer),
         Answer::OpenRevs(_found) => Err(FollowFault::Peer),
         Answer::Merge(_replies) => Err(FollowFault::Peer),
@@ -186,7 +190,7 @@ fn target_written(session: &Session, answer: Answer) -> Result<Next, FollowFault
     match answer {
         Answer::Put => Ok(Next::Ready),
         Answer::Log(_log) => Err(FollowFault::Peer),
-        Answer::Changes(_rows, _last) => Err(FollowFault::Peer),
+        Answer::Changes(_changes) => Err(FollowFault::Peer),
         Answer::RevsDiff(_diffs) => Err(FollowFault::Peer),
         Answer::OpenRevs(_found) => Err(FollowFault::Peer),
         Answer::Merge(_replies) => Err(FollowFault::Peer),
@@ -262,7 +266,7 @@ fn after(alloc: Global, state: State, answer: Answer) -> (State, Result<(), Foll
     match state {
         State::SourceStart(session_id) => match answer {
             Answer::Log(log) => (State::TargetStart(session_id, log), Ok(())),
-            Answer::Changes(_rows, _last) => (State::Down, Err(FollowFault::Peer)),
+            Answer::Changes(_changes) => (State::Down, Err(FollowFault::Peer)),
             Answer::RevsDiff(_diffs) => (State::Down, Err(FollowFault::Peer)),
             Answer::OpenRevs(_found) => (State::Down, Err(FollowFault::Peer)),
             Answer::Merge(_replies) => (State::Down, Err(FollowFault::Peer)),
@@ -273,7 +277,7 @@ fn after(alloc: Global, state: State, answer: Answer) -> (State, Result<(), Foll
                 State::Ready(Session::begin(alloc, session_id, source, log)),
                 Ok(()),
             ),
-            Answer::Changes(_rows, _last) => (State::Down, Err(FollowFault::Peer)),
+            Answer::Changes(_changes) => (State::Down, Err(FollowFault::Peer)),
             Answer::RevsDiff(_diffs) => (State::Down, Err(FollowFault::Peer)),
             Answer::OpenRevs(_found) => (State::Down, Err(FollowFault::Peer)),
             Answer::Merge(_replies) => (State::Down, Err(FollowFault::Peer)),
@@ -307,7 +311,7 @@ impl FollowCore {
     }
 
     /// The source's sequence up to which it has copied, where it has a session. Constant time.
-    pub fn place(&self) -> Option<u64>
+    pub fn place(&self) -> Option<Seq>
         ensures { result ≡ world.place_of self.now }
     {
         match &self.state {

@@ -3,6 +3,7 @@
 ghost use Rattle.std.specs.Prelude.{◌≡◌, ℕ, [], List, map, length, None, IfOk, IfSome, OnOk};
 ghost use Rattle.hub_follow_model.specs.ChangesFeed.{IsChangesAnswer};
 ghost use Rattle.hub_follow_model.specs.Follower as follow;
+ghost use Rattle.hub_follow_model.specs.Sequence.{seq_in};
 ghost use Rattle.hub_follow_model.specs.World as world;
 ghost use Rattle.hub_model.specs.Outcome.{merges_all};
 ghost use Rattle.hub_model.specs.Row.{ChangeRow as Row};
@@ -17,6 +18,7 @@ use crate::serving;
 use crate::session::Session;
 use hub_database::DbState;
 use hub_document::{Asked, ChangeRow, Doc, Limits};
+use hub_follow_model::Seq;
 use hub_model::Item;
 use std::alloc::{AllocError, Global};
 use std::marker::Model;
@@ -39,6 +41,7 @@ impl Model for Pair {
 
     ghost view = { λ a. record {
       limit = a.source.limits.journal;
+      life = a.source.life;
       source = a.source.journal;
       target = a.target.journal;
       source_log = a.source_log;
@@ -60,10 +63,12 @@ fn copied(alloc: Global, log: &Option<Log>) -> Result<Option<Log>, AllocError>
 }
 
 impl Pair {
-    /// Two empty databases without logs, whose journals take as many edits as those of a hub.
+    /// Two empty databases without logs, each in its first life, whose journals take as many edits as those
+    /// of a hub.
     pub(crate) fn new(alloc: Global) -> Pair
         ensures { result ≡ record {
           limit = 4294967295;
+          life = 1;
           source = [];
           target = [];
           source_log = None;
@@ -72,8 +77,8 @@ impl Pair {
     {
         Pair {
             alloc,
-            source: DbState::new(alloc, Limits::full()),
-            target: DbState::new(alloc, Limits::full()),
+            source: DbState::new(alloc, Limits::full(), 1),
+            target: DbState::new(alloc, Limits::full(), 1),
             source_log: None,
             target_log: None,
         }
@@ -92,15 +97,16 @@ impl Pair {
     }
 
     // What the source says of changes.
-    fn changes(&self, since: u64) -> Result<Answer, AllocError>
+    fn changes(&self, since: Seq) -> Result<Answer, AllocError>
         requires { IsWithin (length self.now.source) (follow.Changes since) }
         ensures answered { IfOk result (λ answer. (sessions : List (List ℕ)) (follower : follow.Follower)
             → world.IsAnswered (world_of self.now sessions follower) (follow.Changes since) (answer_of answer)
             (world_of self.now sessions follower)) }
         ensures paths { IfOk result AnswerHasPaths }
     {
+        let since = since.counted_in(self.source.life());
         match serving::changes(&self.source, since) {
-            Ok(changes) => Ok(Answer::Changes(changes.rows, changes.last_seq)),
+            Ok(changes) => Ok(Answer::Changes(changes)),
             Err(_) => Err(AllocError),
         }
     }
@@ -193,16 +199,19 @@ impl Pair {
         Ok(Answer::Log(log))
     }
 
-    /// The answer that these items are, where the source may answer so for the changes above `since`.
+    /// The answer that these items are, where the source may answer so for the changes above `since`, as
+    /// that counts in its life.
     pub(crate) fn changes_in(
         &self,
-        since: u64,
+        since: Seq,
         items: Vec<Item<ChangeRow>>,
     ) -> Result<Option<Answer>, AllocError>
-        ensures right { IfOk result (λ found. IfSome found (IsAnswerOf self.now.source since items.items)) }
+        ensures right { IfOk result (λ found. IfSome found
+            (IsAnswerOf self.now.source self.now.life (seq_in self.now.life since) items.items)) }
         ensures wrong { IfOk result (λ found. found ≡ None → (rows : List Row) (last : ℕ)
-            → ¬ IsChangesAnswer self.now.source since items.items rows last) }
+            → ¬ IsChangesAnswer self.now.source (seq_in self.now.life since) items.items rows last) }
     {
+        let since = since.counted_in(self.source.life());
         changes_in(self.alloc, &self.source, since, items)
     }
 

@@ -10,6 +10,7 @@ use crate::fault::FollowFault;
 use crate::log::Log;
 use hub_database::{DbFault, Diff, OpenRev, Replies};
 use hub_document::{Asked, ChangeRow, Doc};
+use hub_follow_model::Seq;
 
 /// Why a call on a peer fails.
 #[derive(Clone, Copy, Debug, PartialEq, Eq)]
@@ -46,11 +47,14 @@ impl From<DbFault> for CallFault {
     }
 }
 
-/// Rows of changes, and the sequence up to which they show all.
+/// Rows of changes, with their end.
 #[derive(Debug, Drop)]
 pub struct Changes {
     pub rows: Vec<ChangeRow>,
+    /// The sequence up to which the rows show all.
     pub last_seq: u64,
+    /// The number of the life that the sequences are of.
+    pub life: u64,
 }
 
 /// A database as a follower sees it (CouchDB Replication Protocol). A peer says itself what its calls may
@@ -67,10 +71,11 @@ pub trait Peer {
     /// How many calls failed, 2^64 - 1 at most.
     ghost fault_count: { Self → ℕ };
 
-    /// The changes above this sequence, of every leaf: 100 rows at most, with their end.
-    fn changes(&mut self, since: u64) -> Result<Changes, CallFault>
-        ensures ok { IfOk result (λ c.
-            gives self.old (follow.Changes since) (follow.ChangesAnswer c.rows.items c.last_seq) self.new) }
+    /// The changes above this sequence, of every leaf: 100 rows at most, with their end. A sequence of
+    /// another life counts as 0.
+    fn changes(&mut self, since: Seq) -> Result<Changes, CallFault>
+        ensures ok { IfOk result (λ c. gives self.old (follow.Changes since)
+            (follow.ChangesAnswer c.rows.items c.last_seq c.life) self.new) }
         ensures lost { IfErr result (λ _. loses self.old (follow.Changes since) self.new) }
         ensures fault { IfErr result (λ e. IsCountedFault e (fault_count self.old) (fault_count self.new)) }
         ensures counts { fault_count self.old ≤ fault_count self.new };

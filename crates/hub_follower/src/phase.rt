@@ -9,6 +9,7 @@ ghost use Rattle.hub_follower.specs.Views.{follower_behind, found_edit, IsFaultO
 use crate::fault::FollowFault;
 use hub_database::{Diff, OpenRev};
 use hub_document::{Asked, ChangeRow, Doc, RevId};
+use hub_follow_model::Seq;
 use hub_model::{Fault, Outcome};
 use std::alloc::{AllocError, Global};
 use std::collections::VecDeque;
@@ -19,11 +20,11 @@ use std::collections::VecDeque;
 pub(crate) enum Phase {
     Listing,
     /// The documents that the target is asked about.
-    Comparison(Vec<Asked>, u64),
+    Comparison(Vec<Asked>, Seq),
     /// The document that is fetched, those that come later, and what was fetched.
-    Retrieval(Asked, VecDeque<Asked>, Vec<Doc>, u64),
+    Retrieval(Asked, VecDeque<Asked>, Vec<Doc>, Seq),
     /// What was fetched.
-    Storage(Vec<Doc>, u64),
+    Storage(Vec<Doc>, Seq),
     SourceCheckpoint,
     TargetCheckpoint,
 }
@@ -34,7 +35,7 @@ pub(crate) enum Next {
     /// Its checkpoint is done.
     Ready,
     /// Its round is done, and this is its place.
-    ReadyAt(u64),
+    ReadyAt(Seq),
     /// It goes on with this phase.
     Busy(Phase),
 }
@@ -58,7 +59,7 @@ fn revisions_of_rows(alloc: Global, rows: Vec<ChangeRow>) -> Result<Vec<Asked>, 
 pub(crate) fn comparison_or_ready(
     alloc: Global,
     rows: Vec<ChangeRow>,
-    last: u64,
+    last: Seq,
 ) -> Result<Next, AllocError>
     ensures paths { IfOk result NextHasPaths }
     ensures value { IfOk result (λ goes. (s : follow.Session)
@@ -86,7 +87,7 @@ fn missing_revisions(alloc: Global, diffs: Vec<Diff>) -> Result<VecDeque<Asked>,
 }
 
 // Behind the last document that was fetched: all are stored, or the round is over where there are none.
-fn storage_or_ready(got: Vec<Doc>, last: u64) -> Next
+fn storage_or_ready(got: Vec<Doc>, last: Seq) -> Next
     requires { All HasPath got.items }
     ensures paths { NextHasPaths result }
     ensures value { (s : follow.Session)
@@ -100,7 +101,7 @@ fn storage_or_ready(got: Vec<Doc>, last: u64) -> Next
 
 /// The next document that the target misses is fetched, or all are stored where there is none. It takes no
 /// memory.
-pub(crate) fn retrieval_or_storage(later: VecDeque<Asked>, got: Vec<Doc>, last: u64) -> Next
+pub(crate) fn retrieval_or_storage(later: VecDeque<Asked>, got: Vec<Doc>, last: Seq) -> Next
     requires { All HasPath got.items }
     ensures paths { NextHasPaths result }
     ensures value { (s : follow.Session)
@@ -117,7 +118,7 @@ pub(crate) fn retrieval_or_storage(later: VecDeque<Asked>, got: Vec<Doc>, last: 
 pub(crate) fn first_retrieval(
     alloc: Global,
     diffs: Vec<Diff>,
-    last: u64,
+    last: Seq,
 ) -> Result<Next, AllocError>
     ensures paths { IfOk result NextHasPaths }
     ensures value { IfOk result (λ goes. (s : follow.Session) → follower_behind s goes

@@ -47,7 +47,7 @@ pub(crate) fn no_edits(alloc: Global) -> DbState
     ensures copy { (J : List Edit) → IsLegal J → length J ≤ 4294967295 → IsRebuilt J result }
     ensures journal { result.journal ≡ [] }
 {
-    DbState::new(alloc, Limits::full())
+    DbState::new(alloc, Limits::full(), 1)
 }
 
 /// Makes of a copy the database as it was when it had so many edits. It costs the storing of the edits that

@@ -5,6 +5,7 @@ ghost use Rattle.hub_follow_model.specs.Follower as follow;
 ghost use Rattle.hub_follow_model.specs.ReplicationLog as logs;
 
 use crate::log::{HistoryEntry, Log, common_sequence};
+use hub_follow_model::Seq;
 use std::alloc::{AllocError, Global};
 use std::marker::Model;
 
@@ -13,9 +14,9 @@ use std::marker::Model;
 pub struct Session {
     session_id: String,
     /// The source's sequence that it began after.
-    start: u64,
+    start: Seq,
     /// The source's sequence up to which its rounds have copied.
-    place: u64,
+    place: Seq,
     /// What the source's log held when it began.
     source_history: Vec<HistoryEntry>,
     /// And the target's.
@@ -83,14 +84,14 @@ impl Session {
     }
 
     /// The source's sequence up to which its rounds have copied. Constant time.
-    pub fn place(&self) -> u64
+    pub fn place(&self) -> Seq
         ensures { result ≡ self.now.place }
     {
         self.place
     }
 
     /// The same session at another place.
-    pub(crate) fn at(self, place: u64) -> Session
+    pub(crate) fn at(self, place: Seq) -> Session
         ensures { result ≡ record self { place = place } }
     {
         Session {

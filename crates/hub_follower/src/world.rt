@@ -15,6 +15,7 @@ use crate::fault::FollowFault;
 use crate::machine::FollowCore;
 use crate::pair::Pair;
 use hub_document::{ChangeRow, Doc};
+use hub_follow_model::Seq;
 use hub_model::Item;
 use std::alloc::{AllocError, Global};
 use std::marker::Model;
@@ -76,7 +77,7 @@ fn is_used(sessions: &[String], session_id: &str) -> bool
 }
 
 // The sequence above which a call asks for changes, where it does.
-fn changes_asked(call: Option<Call<'_>>) -> Option<u64>
+fn changes_asked(call: Option<Call<'_>>) -> Option<Seq>
     ensures { result ≡ changes_asked (option_map call_of call.entry) }
 {
     match call {

@@ -1,0 +1,45 @@
+-- Sequences of a source as a follower keeps them: each with the number of its life, where that is known (own,
+-- over the CouchDB Replication Protocol, to which a sequence is an opaque text).
+use Rattle.std.specs.Prelude.{ℕ, min, nat_eq, Bool, true, false, if◌then◌else◌, Option, Some, None}
+use Rattle.hub_model.specs.Feed.{counted_in}
+use Rattle.hub_follow_model.specs.declared.seq.Seq.{Seq}
+
+-- nothing was copied
+abbrev pub beginning : Seq
+beginning = record { n = 0; life = None }
+
+-- the sequence n of this life
+abbrev pub seq_of : (life n : ℕ) → Seq
+seq_of life n = record { n = n; life = Some life }
+
+-- a number of such a life as it counts in this one
+abbrev pub counted : (life n : ℕ) → Option ℕ → ℕ
+counted life n None = n
+counted life n (Some of) = counted_in life n of
+
+-- a sequence as it counts in this life: as 0 where it is of another, and as it is where its life is not known
+abbrev pub seq_in : (life : ℕ) → Seq → ℕ
+seq_in life s = counted life s.n s.life
+
+-- a number with the life that is there; the beginning where two are there that differ
+abbrev pub with_lives : ℕ → Option ℕ → Option ℕ → Seq
+with_lives n None life = record { n = n; life = life }
+with_lives n (Some life) None = record { n = n; life = Some life }
+with_lives n (Some life) (Some other) =
+    if nat_eq life other then record { n = n; life = Some life } else beginning
+
+-- the lesser of two: of 9-1 and 7-1 it is 7-1, of 9-1 and 7 too, and of 9-2 and 7-1 it is the beginning
+abbrev pub lesser_seq : Seq → Seq → Seq
+lesser_seq s t = with_lives (min s.n t.n) s.life t.life
+
+-- a sequence as it counts in the life of another, where that has one
+abbrev pub counted_by : Seq → Option ℕ → ℕ
+counted_by s None = s.n
+counted_by s (Some life) = seq_in life s
+
+-- whether a place is the one before it, as that one counts in its life: 5-1 is so behind 5, and 0-2 behind 5-1
+abbrev pub is_same_place : (old new : Option Seq) → Bool
+is_same_place None None = true
+is_same_place None (Some new) = false
+is_same_place (Some old) None = false
+is_same_place (Some old) (Some new) = nat_eq (counted_by old new.life) new.n
