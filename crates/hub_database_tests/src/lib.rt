@@ -10,6 +10,8 @@ mod history_tests;
 #[cfg(test)]
 mod host_tests;
 #[cfg(test)]
+mod life_tests;
+#[cfg(test)]
 mod listed_tests;
 #[cfg(test)]
 mod local_tests;
@@ -17,6 +19,8 @@ mod local_tests;
 mod made_tests;
 #[cfg(test)]
 mod model;
+#[cfg(test)]
+mod random_edits;
 #[cfg(test)]
 mod random_tests;
 #[cfg(test)]

@@ -4,7 +4,7 @@ use crate::feed_tests::{are_revs, asked};
 use crate::read_tests::ReadStep::{All, Descending, Diff, Entry, Get, Listed, Winner};
 use crate::read_tests::Shown::{Absent, Deleted, Found, Unknown};
 use crate::tests::Step::{Batch, Read};
-use crate::tests::{Step, all_are, assert_steps};
+use crate::tests::{LIFE, Step, all_are, assert_steps};
 use hub_database::{DbFault, DbState, Descending as Falling, Diff as Difference, Lookup, OpenRev};
 use hub_document::{Asked, ChangeRow, Doc, OpenRevs, RevId, Revisions};
 use hub_model::Outcome::Stored;
@@ -251,11 +251,12 @@ fn is_at(row: &ChangeRow, seq: &u64) -> bool {
     row.seq == *seq
 }
 
-// Whether descending rows have these sequences, this last one and this count.
+// Whether descending rows have these sequences, of the life of the database, this last one and this count.
 fn is_falling(found: &Falling, (seqs, last_seq, pending): (&[u64], u64, u64)) -> bool {
     all_are(found.rows.as_slice(), seqs, is_at)
         && found.last_seq == last_seq
         && found.pending == pending
+        && found.life == LIFE
 }
 
 // Whether an answer to a descending feed is this.

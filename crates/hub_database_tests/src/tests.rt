@@ -34,6 +34,8 @@ pub(crate) enum Step {
     Seq(u64),
     /// How many edits there are for a host of feeds.
     Length(u64),
+    /// The number of its life, for itself and for a host of feeds.
+    Life(u64),
     /// The database is deleted.
     Delete(Result<(), DbFault>),
     /// Whether the database is deleted.
@@ -47,6 +49,9 @@ pub(crate) enum Step {
     /// What it shows of its documents.
     Read(ReadStep),
 }
+
+/// The number of the life of each database.
+pub(crate) const LIFE: u64 = 6;
 
 /// What each call tells whose database is deleted.
 pub(crate) const DELETED: DbFault = DbFault::Refused(Fault::Deleted);
@@ -168,6 +173,7 @@ fn has_counts(state: &DbState, answer: Result<(u64, u64, u64), DbFault>) -> bool
             doc_count,
             doc_del_count,
             update_seq,
+            life: LIFE,
         }),
         Err(fault) => Err(fault),
     };
@@ -185,6 +191,7 @@ fn holds(alloc: Global, state: &mut DbState, step: &Step) -> bool {
         Step::Counts(answer) => has_counts(state, *answer),
         Step::Seq(seq) => state.update_seq() == *seq,
         Step::Length(length) => FeedHost::length(state) == *length,
+        Step::Life(life) => state.life() == *life && FeedHost::life(state) == *life,
         Step::Delete(answer) => state.delete() == *answer,
         Step::IsDeleted(answer) => state.is_deleted() == *answer,
         Step::Feed(step) => feed_holds(alloc, state, step),
@@ -208,7 +215,7 @@ fn count_held(alloc: Global, state: &mut DbState, steps: &[Step]) -> usize {
 
 // That count in a new database within these limits.
 fn count_within(alloc: Global, limits: Limits, steps: &[Step]) -> usize {
-    let mut state = DbState::new(alloc, limits);
+    let mut state = DbState::new(alloc, limits, LIFE);
     count_held(alloc, &mut state, steps)
 }
 

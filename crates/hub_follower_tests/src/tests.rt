@@ -3,8 +3,10 @@
 mod handed;
 mod histories;
 mod library;
+mod lives;
 mod logs;
 mod losses;
+mod named_peer;
 mod rounds;
 mod stops;
 mod threads;
@@ -12,7 +14,7 @@ mod worlds;
 
 use hub_database::OpenRev;
 use hub_document::{Doc, Limits, OpenRevs};
-use hub_follower::{DbPeer, FollowFault, Follower, Peer, Round};
+use hub_follower::{DbPeer, FollowFault, Follower, Peer, Round, Seq};
 use hub_threads::{Answer, Db, Handle, Plain, Question};
 use std::alloc::Global;
 use std::sync::Wait;
@@ -21,10 +23,23 @@ use std::test::Fail;
 // The id of the replication logs.
 const LOG: &str = "_local/follower";
 
+// The number of the life of each database, where nothing else is said.
+const LIFE: u64 = 1;
+
+// A sequence of that life.
+fn at(n: u64) -> Option<Seq> {
+    Some(Seq::of_life(n, LIFE))
+}
+
+// A database without documents, of the life of this number.
+fn database_of_life(alloc: Global, life: u64) -> Result<Db<Plain>, Fail> {
+    let (db, _handle) = Db::new(alloc, Limits::full(), life, Plain)?;
+    Ok(db)
+}
+
 // A database without documents.
 fn database(alloc: Global) -> Result<Db<Plain>, Fail> {
-    let (db, _handle) = Db::new(alloc, Limits::full(), Plain)?;
-    Ok(db)
+    database_of_life(alloc, LIFE)
 }
 
 // Stores the documents that the texts are, with their histories.
@@ -92,7 +107,7 @@ fn agree<R: Wait>(
 }
 
 // The sequence that a database's replication log records.
-fn recorded<R: Wait>(rt: &R, alloc: Global, db: &Db<Plain>) -> Result<Option<u64>, Fail> {
+fn recorded<R: Wait>(rt: &R, alloc: Global, db: &Db<Plain>) -> Result<Option<Seq>, Fail> {
     match DbPeer::new(rt, alloc, db.handle()?).local_get(LOG) {
         Ok(log) => Ok(log.map(|log| log.source_last_seq)),
         Err(_) => Err(Fail::new("no log")),
@@ -128,7 +143,7 @@ fn round_into<R: Wait, S: Peer + Drop, T: Peer + Drop>(
     rt: &R,
     follower: &mut Follower<S, T>,
     target: &Db<Plain>,
-) -> Result<(Round, Option<u64>, u64), Fail> {
+) -> Result<(Round, Option<Seq>, u64), Fail> {
     let done = round(follower)?;
     let stored = edits(rt, target)?;
     Ok((done, follower.place(), stored))

@@ -2,3 +2,4 @@
 
 mod doc_params;
 mod feed_params;
+mod feed_starts;

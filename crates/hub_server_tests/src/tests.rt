@@ -5,6 +5,7 @@ mod closes;
 mod crowds;
 mod exchanges;
 mod gates;
+mod sequences;
 mod waits;
 
 use hub_document::Limits;

@@ -39,6 +39,9 @@ fn take<R: Wait>(rt: &R, taker: &mut Taker) -> Option<Told> {
     Some(seen(&item))
 }
 
+// The number of the life of each database.
+const LIFE: u64 = 6;
+
 // Whether a case holds of a new database with lanes of two, in which one feed may stand. The
 // database stands here, so that a case owns none: what owns one is dear to prove.
 fn holds<F: FnOnce(Global, &mut Database) -> Result<bool, Fail>>(
@@ -49,7 +52,7 @@ fn holds<F: FnOnce(Global, &mut Database) -> Result<bool, Fail>>(
 {
     let mut limits = Limits::full();
     limits.feeds = 1;
-    let mut database = Locked::new(alloc, DbState::new(alloc, limits), 2);
+    let mut database = Locked::new(alloc, DbState::new(alloc, limits, LIFE), 2);
     case(alloc, &mut database)
 }
 
@@ -316,6 +319,54 @@ fn local_documents_are_counted(alloc: Global, database: &mut Database) -> Result
 #[test]
 fn local_documents_go_under_a_lock(rt: HostRuntime) -> Result<(), Fail> {
     assert!(rt; holds(rt.alloc(), local_documents_are_counted)?);
+    Ok(())
+}
+
+// Where the feed of a query begins while there are three documents: a sequence of another life is none.
+const BEGINNINGS: [(&str, u64); 9] = [
+    ("", 0),
+    ("since=2", 2),
+    ("since=9", 3),
+    ("since=2-6", 2),
+    ("since=9-6", 3),
+    ("since=2-7", 0),
+    ("since=9-0", 0),
+    ("since=%222-5%22", 0),
+    ("since=now", 3),
+];
+
+// Whether the label of the feed that a query opens says this. The feed is finished behind it.
+fn is_labelled(
+    alloc: Global,
+    database: &mut Database,
+    query: &str,
+    since: u64,
+) -> Result<bool, Fail> {
+    let (feed, taker) = open(alloc, database, query)?;
+    let is_so = taker.label().since() == since && taker.label().life() == LIFE;
+    Ok(is_so && database.finish(feed).is_some())
+}
+
+// Whether labels say the life of their database, and where their feeds begin: before there are documents, and
+// behind three.
+fn feeds_begin_in_their_life(alloc: Global, database: &mut Database) -> Result<bool, Fail> {
+    for (query, _) in BEGINNINGS {
+        if !is_labelled(alloc, database, query, 0)? {
+            return Ok(false);
+        }
+    }
+    let _receipts = write(alloc, database, &THREE)?;
+    for (query, since) in BEGINNINGS {
+        if !is_labelled(alloc, database, query, since)? {
+            return Ok(false);
+        }
+    }
+    Ok(true)
+}
+
+#[test]
+fn labels_have_the_life_of_their_database(rt: HostRuntime) -> Result<(), Fail> {
+    assert!(rt; holds(rt.alloc(), feeds_begin_in_their_life)?);
     Ok(())
 }
 

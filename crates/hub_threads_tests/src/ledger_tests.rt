@@ -154,7 +154,7 @@ fn write_from_two<L: Ledger + Send + Sync + 'static, R: Threads + Wait + Sync>(
     requires two { L.parts ≡ 2 }
     ensures { IfOk result (λ report. report.update_seq ≡ report.receipts) }
 {
-    let (_db, mut mine) = Db::new(alloc, Limits::full(), Counted::<L>::new(blank))?;
+    let (_db, mut mine) = Db::new(alloc, Limits::full(), 1, Counted::<L>::new(blank))?;
     let theirs = mine.split(1)?;
     let (one, other) = write_both(rt, mine, theirs, first, second)?;
     compare(rt, alloc, one, other)
@@ -251,7 +251,7 @@ fn write_and_read<L: Ledger + Send + Sync + 'static, R: Threads + Wait + time::C
     requires two { L.parts ≡ 2 }
     ensures { IfOk result (λ both. both.0.update_seq ≡ both.0.receipts) }
 {
-    let (db, mut mine) = Db::new(alloc, Limits::full(), Counted::<L>::new(blank))?;
+    let (db, mut mine) = Db::new(alloc, Limits::full(), 1, Counted::<L>::new(blank))?;
     let theirs = mine.split(1)?;
     let Ok(feed) = mine.open_feed(rt, params) else {
         return Err(DbFault::NoMemory);

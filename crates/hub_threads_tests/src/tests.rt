@@ -7,6 +7,7 @@ mod audits;
 mod clocks;
 mod databases;
 mod holding;
+mod lives;
 mod readers;
 mod shared;
 mod stress;
@@ -112,6 +113,9 @@ fn next<R: Wait>(rt: &R, feed: &mut Feed<Plain>) -> Option<Told> {
     unreachable!()
 }
 
+// The number of the life of each database.
+const LIFE: u64 = 6;
+
 // A new database whose lanes hold so many items, and of which one holding hands so many.
 fn database(alloc: Global, lane: u64, hold: u64) -> Result<(Db<Plain>, Handle<Plain>), Fail>
     requires lane { 0 < lane × lane ≤ 64 }
@@ -120,7 +124,7 @@ fn database(alloc: Global, lane: u64, hold: u64) -> Result<(Db<Plain>, Handle<Pl
     let mut limits = Limits::full();
     limits.lane = lane;
     limits.hold = hold;
-    Ok(Db::new(alloc, limits, Plain)?)
+    Ok(Db::new(alloc, limits, LIFE, Plain)?)
 }
 
 // The documents that the texts are.

@@ -238,7 +238,7 @@ fn run<R: Threads + Wait + time::Clock + CpuClock + Sync>(
     feeds: u64,
     count: u64,
 ) -> Option<Vec<u64>> {
-    let (db, _handle) = Db::new(alloc, Limits::full(), Plain).ok()?;
+    let (db, _handle) = Db::new(alloc, Limits::full(), 1, Plain).ok()?;
     let scene = Scene {
         db,
         feeds,

@@ -127,6 +127,39 @@ fn a_full_log_refuses_what_it_would_note(rt: HostRuntime) -> Result<(), Fail> {
     Ok(())
 }
 
+const REFUSED: &[Call] = &[
+    Create("d", Err(HubFault::Exists)),
+    Create("D", Err(HubFault::BadName)),
+    Create("e", Err(HubFault::TooMany)),
+];
+
+const AGAIN: &[Call] = &[Remove("d", Ok(())), Create("d", Ok(()))];
+
+// The life of a database.
+fn life<R: Wait>(rt: &R, db: &HubDb) -> Result<u64, Fail> {
+    match db.handle()?.read(rt, Question::Info)? {
+        Answer::Info(info) => Ok(info.life),
+        _ => Err(Fail::new("another answer")),
+    }
+}
+
+// A life is the number of a creation among those that succeeded, from 1.
+#[test]
+fn lives_are_numbered_as_databases_are_made(rt: HostRuntime) -> Result<(), Fail> {
+    let mut limits = Limits::full();
+    limits.databases = 1;
+    let hub = Hub::new(rt.alloc(), limits)?;
+    let first = created(&rt, &hub, "d")?;
+    assert_eq!(rt; count(&rt, &hub, REFUSED), REFUSED.len());
+    assert_eq!(rt; life(&rt, &first)?, 1);
+    for made in 2..5 {
+        assert_eq!(rt; count(&rt, &hub, AGAIN), AGAIN.len());
+        assert_eq!(rt; count(&rt, &hub, REFUSED), REFUSED.len());
+        assert_eq!(rt; life(&rt, &found(&rt, &hub, "d")?)?, made);
+    }
+    Ok(())
+}
+
 const UNORDERED: &[Call] = &[
     Create("b", Ok(())),
     Create("a_", Ok(())),

@@ -1,8 +1,9 @@
-//! What feeds of the log of updates show, and what a feed of a database shows that is removed.
+//! What feeds of the log of updates show, and what a feed of a database shows that is removed, or made
+//! again.
 
 use crate::tests::rows::Told::{End, Row};
 use crate::tests::{FIRST, Open, created, found, hub, params, write};
-use hub_databases::Hub;
+use hub_databases::{Hub, HubDb};
 use hub_document::UpdateRow;
 use hub_model::Item;
 use hub_model::UpdateKind::{self, Created, Deleted, Updated};
@@ -126,6 +127,50 @@ fn a_feed_of_the_log_shows_every_database(rt: HostRuntime) -> Result<(), Fail> {
     }
     let limited = [Row(Updated, "d", 2), End(2, 1)];
     assert!(rt; shows(&rt, alloc, &hub, "since=1&limit=1", &limited)?);
+    Ok(())
+}
+
+// The log is of life 0, which no database has: a since of another one is the beginning.
+#[test]
+fn the_log_is_of_life_0(rt: HostRuntime) -> Result<(), Fail> {
+    let alloc = rt.alloc();
+    let hub = noted(&rt, alloc)?;
+    assert_eq!(rt; open(&rt, alloc, &hub, "")?.label().life(), 0);
+    let behind = [Row(Updated, "d", 2), End(2, 0)];
+    assert!(rt; shows(&rt, alloc, &hub, "since=1-0", &behind)?);
+    let all = [Row(Created, "d", 1), Row(Updated, "d", 2), End(2, 0)];
+    assert!(rt; shows(&rt, alloc, &hub, "since=1-1", &all)?);
+    Ok(())
+}
+
+// Of a normal feed of a database that the query opens: its life, where it begins, and the sequence of its
+// first row, 0 where it shows none.
+fn begun<R: Wait>(rt: &R, alloc: Global, db: &HubDb, query: &str) -> Result<(u64, u64, u64), Fail> {
+    let Ok(mut feed) = db.handle()?.open_feed(rt, params(alloc, query)?) else {
+        return Err(Fail::new("no feed"));
+    };
+    let (life, since) = (feed.label().life(), feed.label().since());
+    let _handed = hold(rt, db.db(), feed.id(), Turn::Hand, &Open)?;
+    let first = match feed.take(rt) {
+        Some(Item::Row(row)) => row.seq,
+        _ => 0,
+    };
+    Ok((life, since, first))
+}
+
+// A sequence of an earlier life of a name is the beginning in the database that has the name now.
+#[test]
+fn a_database_that_is_made_again_begins_anew(rt: HostRuntime) -> Result<(), Fail> {
+    let alloc = rt.alloc();
+    let hub = noted(&rt, alloc)?;
+    let first = found(&rt, &hub, "d")?;
+    assert_eq!(rt; begun(&rt, alloc, &first, "since=1-1")?, (1, 1, 0));
+    assert_eq!(rt; hub.remove(&rt, "d"), Ok(()));
+    let second = created(&rt, &hub, "d")?;
+    let _written = write(&rt, alloc, &hub, &second, FIRST)?;
+    assert_eq!(rt; begun(&rt, alloc, &second, "since=1-1")?, (2, 0, 1));
+    assert_eq!(rt; begun(&rt, alloc, &second, "since=1-2")?, (2, 1, 0));
+    assert_eq!(rt; begun(&rt, alloc, &second, "since=1")?, (2, 1, 0));
     Ok(())
 }
 

@@ -1,7 +1,7 @@
 //! Which items are an answer to a follower that asks for changes.
 
-use crate::tests::FIVE;
 use crate::tests::handed::Shown::{Beat, End, Row};
+use crate::tests::{FIVE, LIFE};
 use hub_database::DbState;
 use hub_document::{ChangeRow, Changes, Doc, DocId, Limits, RevId, Revisions};
 use hub_feed::{FeedId, Next};
@@ -74,7 +74,7 @@ fn write(alloc: Global, db: &mut DbState, texts: &[&str]) -> Result<(), Fail> {
 fn open_feed(db: &mut DbState, since: u64) -> Result<FeedId, Fail> {
     let params = FeedParams {
         mode: Mode::Normal,
-        since: Since::From(since),
+        since: Since::Plain(since),
         limit: Some(100),
         descending: false,
         style: Style::AllDocs,
@@ -131,7 +131,7 @@ const X3: &str = r#"{"_id":"x","_revisions":{"start":3,"ids":["d","a","q"]}}"#;
 
 // Whether what a feed hands above a sequence is right, and of how many items it is.
 fn handed(alloc: Global, since: u64, between: &[&str]) -> Result<(bool, usize), Fail> {
-    let mut db = DbState::new(alloc, Limits::full());
+    let mut db = DbState::new(alloc, Limits::full(), LIFE);
     write(alloc, &mut db, &FIVE)?;
     let items = hand_all(alloc, &mut db, since, between)?;
     let right = rightly_handed(alloc, &db, since, items.as_slice())?;
@@ -232,7 +232,7 @@ fn first_other(
 
 #[test]
 fn cases_are_decided(rt: HostRuntime) -> Result<(), Fail> {
-    let mut db = DbState::new(rt.alloc(), Limits::full());
+    let mut db = DbState::new(rt.alloc(), Limits::full(), LIFE);
     write(rt.alloc(), &mut db, &FIVE)?;
     assert_eq!(rt; first_other(rt.alloc(), &db, CASES)?, None);
     assert!(rt; db.delete().is_ok());
@@ -247,20 +247,28 @@ const LATE: [&str; 3] = [
     r#"{"_id":"x","_revisions":{"start":4,"ids":["d","c","b"]}}"#,
 ];
 
-const D4: Shown = Row(3, "x", &["4-d"], 3);
+const X_AT_LAST: Shown = Row(3, "x", &["4-d"], 3);
 
 // Items, and whether they are right behind LATE: before the last came, both of the others were leaves.
 const LATE_CASES: &[(u64, &[Shown], bool)] = &[
-    (0, &[D4, End(3)], true),
-    (1, &[Row(2, "x", &["3-c", "2-b"], 2), D4, End(3)], true),
-    (1, &[Row(2, "x", &["3-c"], 2), D4, End(3)], false),
-    (1, &[Row(2, "x", &["3-c", "2-b"], 3), D4, End(3)], false),
+    (0, &[X_AT_LAST, End(3)], true),
+    (
+        1,
+        &[Row(2, "x", &["3-c", "2-b"], 2), X_AT_LAST, End(3)],
+        true,
+    ),
+    (1, &[Row(2, "x", &["3-c"], 2), X_AT_LAST, End(3)], false),
+    (
+        1,
+        &[Row(2, "x", &["3-c", "2-b"], 3), X_AT_LAST, End(3)],
+        false,
+    ),
     (0, &[Row(3, "x", &["4-d", "2-b"], 3), End(3)], false),
 ];
 
 #[test]
 fn rows_before_a_parent_came_are_decided(rt: HostRuntime) -> Result<(), Fail> {
-    let mut db = DbState::new(rt.alloc(), Limits::full());
+    let mut db = DbState::new(rt.alloc(), Limits::full(), LIFE);
     write(rt.alloc(), &mut db, &LATE)?;
     assert_eq!(rt; first_other(rt.alloc(), &db, LATE_CASES)?, None);
     Ok(())
@@ -294,7 +302,7 @@ fn rows_of_many(alloc: Global, db: &mut DbState, count: u64) -> Result<Vec<Item<
 #[test]
 fn a_hundred_rows_at_most(rt: HostRuntime) -> Result<(), Fail> {
     for (count, right) in [(100, true), (101, false)] {
-        let mut db = DbState::new(rt.alloc(), Limits::full());
+        let mut db = DbState::new(rt.alloc(), Limits::full(), LIFE);
         let items = rows_of_many(rt.alloc(), &mut db, count)?;
         assert_eq!(rt;
             rightly_handed(rt.alloc(), &db, 0, items.as_slice())?,

@@ -1,7 +1,7 @@
 //! Documents with several leaves.
 
-use crate::tests::{copy_all, database, edits, leaves_text, round_into, start, write};
-use hub_follower::{Follower, Peer, Round};
+use crate::tests::{at, copy_all, database, edits, leaves_text, round_into, start, write};
+use hub_follower::{Follower, Peer, Round, Seq};
 use hub_threads::{Db, Plain};
 use std::alloc::Global;
 use std::sync::Wait;
@@ -82,7 +82,7 @@ fn round_behind<R: Wait, S: Peer + Drop, T: Peer + Drop>(
     follower: &mut Follower<S, T>,
     (source, target): (&Db<Plain>, &Db<Plain>),
     text: &str,
-) -> Result<(Round, Option<u64>, u64), Fail> {
+) -> Result<(Round, Option<Seq>, u64), Fail> {
     write(rt, alloc, source, &[text])?;
     round_into(rt, follower, target)
 }
@@ -101,10 +101,10 @@ fn a_parent_that_comes_later_is_copied(rt: HostRuntime) -> Result<(), Fail> {
     assert!(rt; copy_all(&mut follower).is_ok());
     let peers = (&source, &target);
     let idle = round_behind(&rt, rt.alloc(), &mut follower, peers, known)?;
-    assert_eq!(rt; idle, (Round::Idle, Some(2), 2));
+    assert_eq!(rt; idle, (Round::Idle, at(2), 2));
     assert!(rt; have_leaves(&rt, rt.alloc(), &source, &target, &[C, B])?);
     let moved = round_behind(&rt, rt.alloc(), &mut follower, peers, four)?;
-    assert_eq!(rt; moved, (Round::Moved, Some(3), 3));
+    assert_eq!(rt; moved, (Round::Moved, at(3), 3));
     assert!(rt; have_leaves(&rt, rt.alloc(), &source, &target, &[D])?);
     Ok(())
 }

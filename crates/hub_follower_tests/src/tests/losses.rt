@@ -1,7 +1,7 @@
 //! Calls and answers that are lost, at every call of a run.
 
 use crate::tests::{
-    FIVE, LOG, agree, checkpoint, copy_all, database, edits, recorded, start, write,
+    FIVE, LOG, agree, at, checkpoint, copy_all, database, edits, recorded, start, write,
 };
 use hub_follower::{DbPeer, FaultPeer, FollowFault, Follower, Loss};
 use hub_threads::{Db, Plain};
@@ -80,11 +80,11 @@ fn are_recorded<R: Wait>(
     source: &Db<Plain>,
     target: &Db<Plain>,
 ) -> Result<bool, Fail> {
-    let count = Some(edits(rt, source)?);
+    let count = edits(rt, source)?;
     Ok(
-        Some(edits(rt, target)?) == count
-            && recorded(rt, alloc, source)? == count
-            && recorded(rt, alloc, target)? == count,
+        edits(rt, target)? == count
+            && recorded(rt, alloc, source)? == at(count)
+            && recorded(rt, alloc, target)? == at(count),
     )
 }
 

@@ -1,8 +1,10 @@
 //! Rounds, and why they fail.
 
-use crate::tests::{LOG, TWO, database, edits, leaves_text, recorded, round_into, start, write};
+use crate::tests::{
+    LIFE, LOG, TWO, at, database, edits, leaves_text, recorded, round_into, start, write,
+};
 use hub_document::Limits;
-use hub_follower::{DbPeer, FollowFault, Follower, Peer, Round};
+use hub_follower::{DbPeer, FollowFault, Follower, Peer, Round, Seq};
 use hub_model::Fault;
 use hub_threads::{Db, Plain};
 use std::test::Fail;
@@ -12,15 +14,15 @@ fn a_round_copies_and_the_next_is_idle(rt: HostRuntime) -> Result<(), Fail> {
     let (source, target) = (database(rt.alloc())?, database(rt.alloc())?);
     write(&rt, rt.alloc(), &source, &TWO)?;
     let mut follower = start(&rt, rt.alloc(), &source, &target, "S1")?;
-    assert_eq!(rt; follower.place(), Some(0));
+    assert_eq!(rt; follower.place(), Some(Seq::beginning()));
     let moved = round_into(&rt, &mut follower, &target)?;
-    assert_eq!(rt; moved, (Round::Moved, Some(2), 2));
+    assert_eq!(rt; moved, (Round::Moved, at(2), 2));
     assert_eq!(rt;
         leaves_text(&rt, rt.alloc(), &target, "b")?.as_str(),
         r#"{"_id":"b","_rev":"1-b","_revisions":{"start":1,"ids":["b"]}}"#
     );
     let idle = round_into(&rt, &mut follower, &target)?;
-    assert_eq!(rt; idle, (Round::Idle, Some(2), 2));
+    assert_eq!(rt; idle, (Round::Idle, at(2), 2));
     assert_eq!(rt; recorded(&rt, rt.alloc(), &target)?, None);
     Ok(())
 }
@@ -35,9 +37,9 @@ fn rounds_go_on_behind_a_hundred_rows(rt: HostRuntime) -> Result<(), Fail> {
     }
     let mut follower = start(&rt, rt.alloc(), &source, &target, "S1")?;
     for expected in [
-        (Round::Moved, Some(100), 100),
-        (Round::Moved, Some(150), 150),
-        (Round::Idle, Some(150), 150),
+        (Round::Moved, at(100), 100),
+        (Round::Moved, at(150), 150),
+        (Round::Idle, at(150), 150),
     ] {
         assert_eq!(rt; round_into(&rt, &mut follower, &target)?, expected);
     }
@@ -50,7 +52,7 @@ fn a_full_target_refuses_and_the_place_stays(rt: HostRuntime) -> Result<(), Fail
     write(&rt, rt.alloc(), &source, &TWO)?;
     let mut limits = Limits::full();
     limits.journal = 1;
-    let (target, _handle) = Db::new(rt.alloc(), limits, Plain)?;
+    let (target, _handle) = Db::new(rt.alloc(), limits, LIFE, Plain)?;
     let mut follower = start(&rt, rt.alloc(), &source, &target, "S1")?;
     match follower.round() {
         Err(FollowFault::Refused { id, rev, fault }) => {
@@ -62,7 +64,7 @@ fn a_full_target_refuses_and_the_place_stays(rt: HostRuntime) -> Result<(), Fail
         }
         _ => return Err(Fail::new("not refused")),
     }
-    assert_eq!(rt; follower.place(), Some(0));
+    assert_eq!(rt; follower.place(), Some(Seq::beginning()));
     assert_eq!(rt; edits(&rt, &target)?, 1);
     Ok(())
 }
@@ -73,7 +75,7 @@ fn a_deleted_source_is_a_counted_fault(rt: HostRuntime) -> Result<(), Fail> {
     let mut follower = start(&rt, rt.alloc(), &source, &target, "S1")?;
     source.handle()?.delete(&rt)?;
     assert!(rt; matches!(follower.round(), Err(FollowFault::Peer)));
-    assert_eq!(rt; follower.place(), Some(0));
+    assert_eq!(rt; follower.place(), Some(Seq::beginning()));
     let (source, target) = follower.into_peers();
     assert_eq!(rt; (source.faults(), target.faults()), (1, 0));
     Ok(())

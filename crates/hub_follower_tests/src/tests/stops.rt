@@ -2,10 +2,10 @@
 
 use crate::tests::losses::{Losses, session};
 use crate::tests::{
-    TWO, checkpoint, copy_all, database, edits, recorded, round, round_into, start, write,
+    LIFE, TWO, at, checkpoint, copy_all, database, edits, recorded, round, round_into, start, write,
 };
 use hub_document::Asked;
-use hub_follower::{DbPeer, Loss, Peer, Round};
+use hub_follower::{DbPeer, Loss, Peer, Round, Seq};
 use hub_threads::{Db, Plain};
 use std::alloc::Global;
 use std::sync::Wait;
@@ -31,7 +31,7 @@ fn finish<R: Wait>(
     target: &Db<Plain>,
 ) -> Result<u64, Fail> {
     let mut follower = start(rt, alloc, source, target, "S3")?;
-    let place = follower.place().unwrap_or(0);
+    let place = follower.place().unwrap_or(Seq::beginning()).n;
     if copy_all(&mut follower).is_err() {
         return Err(Fail::new("no copy"));
     }
@@ -39,7 +39,7 @@ fn finish<R: Wait>(
     if edits(rt, target)? != 3 {
         return Err(Fail::new("other edits"));
     }
-    if recorded(rt, alloc, source)? != Some(3) || recorded(rt, alloc, target)? != Some(3) {
+    if recorded(rt, alloc, source)? != at(3) || recorded(rt, alloc, target)? != at(3) {
         return Err(Fail::new("other logs"));
     }
     Ok(place)
@@ -107,7 +107,8 @@ fn has_all<R: Wait>(
     target: &Db<Plain>,
     since: u64,
 ) -> Result<bool, Fail> {
-    let Ok(changes) = DbPeer::new(rt, alloc, source.handle()?).changes(since) else {
+    let Ok(changes) = DbPeer::new(rt, alloc, source.handle()?).changes(Seq::of_life(since, LIFE))
+    else {
         return Err(Fail::new("no changes"));
     };
     let mut asked = Vec::new(alloc);
@@ -130,11 +131,11 @@ fn a_follower_that_stopped_before_its_checkpoint(rt: HostRuntime) -> Result<(), 
     let (source, target) = databases(&rt, rt.alloc())?;
     assert!(rt; !has_all(&rt, rt.alloc(), &source, &target, 2)?);
     let mut follower = start(&rt, rt.alloc(), &source, &target, "S2")?;
-    let moved = (Round::Moved, Some(3), 3);
+    let moved = (Round::Moved, at(3), 3);
     assert_eq!(rt; round_into(&rt, &mut follower, &target)?, moved);
     assert!(rt; has_all(&rt, rt.alloc(), &source, &target, 2)?);
     let mut follower = start(&rt, rt.alloc(), &source, &target, "S3")?;
-    assert_eq!(rt; follower.place(), Some(2));
+    assert_eq!(rt; follower.place(), at(2));
     assert_eq!(rt; round_into(&rt, &mut follower, &target)?, moved);
     Ok(())
 }

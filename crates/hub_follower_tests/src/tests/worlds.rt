@@ -1,10 +1,10 @@
 //! Runs of a follower's world.
 
-use crate::tests::TWO;
 use crate::tests::handed::Shown::{End, Row};
 use crate::tests::handed::{Shown, items_of};
+use crate::tests::{TWO, at};
 use hub_document::Doc;
-use hub_follower::{FollowEvent, FollowWorld};
+use hub_follower::{FollowEvent, FollowWorld, Seq};
 use std::alloc::{AllocError, Global};
 use std::test::Fail;
 
@@ -51,7 +51,7 @@ fn event(alloc: Global, sign: u8) -> Option<FollowEvent> {
 }
 
 // The place where the events lead that the signs stand for; the first None where memory ran out.
-fn place(alloc: Global, signs: &str) -> Option<Option<u64>> {
+fn place(alloc: Global, signs: &str) -> Option<Option<Seq>> {
     let mut events = Vec::new(alloc);
     for sign in signs.as_bytes() {
         events.push(event(alloc, *sign)?).ok()?;
@@ -64,22 +64,28 @@ fn place(alloc: Global, signs: &str) -> Option<Option<u64>> {
 // begins where both logs agree.
 #[test]
 fn a_round_and_its_checkpoint(rt: HostRuntime) -> Result<(), Fail> {
-    assert_eq!(rt; place(rt.alloc(), "w1aaraaaaacaax2aa"), Some(Some(2)));
+    assert_eq!(rt; place(rt.alloc(), "w1aaraaaaacaax2aa"), Some(at(2)));
     Ok(())
 }
 
 // The merge's answer is lost: the next round finds that nothing is missing.
 #[test]
 fn a_merge_whose_answer_is_lost(rt: HostRuntime) -> Result<(), Fail> {
-    assert_eq!(rt; place(rt.alloc(), "w1aaraaaa>"), Some(Some(0)));
-    assert_eq!(rt; place(rt.alloc(), "w1aaraaaa>raa"), Some(Some(2)));
+    assert_eq!(rt;
+        place(rt.alloc(), "w1aaraaaa>"),
+        Some(Some(Seq::beginning()))
+    );
+    assert_eq!(rt; place(rt.alloc(), "w1aaraaaa>raa"), Some(at(2)));
     Ok(())
 }
 
 // The target's log is not written: the next session begins at 0. A session whose id was used does not.
 #[test]
 fn a_checkpoint_that_is_lost(rt: HostRuntime) -> Result<(), Fail> {
-    assert_eq!(rt; place(rt.alloc(), "w1aaraaaaaca<x2aa"), Some(Some(0)));
+    assert_eq!(rt;
+        place(rt.alloc(), "w1aaraaaaaca<x2aa"),
+        Some(Some(Seq::beginning()))
+    );
     assert_eq!(rt; place(rt.alloc(), "w1aax1aa"), Some(None));
     Ok(())
 }
@@ -88,8 +94,11 @@ fn a_checkpoint_that_is_lost(rt: HostRuntime) -> Result<(), Fail> {
 // out they are none, also where no changes are asked for: the answer that is due comes then.
 #[test]
 fn changes_that_are_handed(rt: HostRuntime) -> Result<(), Fail> {
-    assert_eq!(rt; place(rt.alloc(), "w1aaryaaaa"), Some(Some(2)));
-    assert_eq!(rt; place(rt.alloc(), "w1aarnaaaa"), Some(Some(0)));
-    assert_eq!(rt; place(rt.alloc(), "w1ayarnyyaaaa"), Some(Some(2)));
+    assert_eq!(rt; place(rt.alloc(), "w1aaryaaaa"), Some(at(2)));
+    assert_eq!(rt;
+        place(rt.alloc(), "w1aarnaaaa"),
+        Some(Some(Seq::beginning()))
+    );
+    assert_eq!(rt; place(rt.alloc(), "w1ayarnyyaaaa"), Some(at(2)));
     Ok(())
 }

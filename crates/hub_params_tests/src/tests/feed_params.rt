@@ -17,7 +17,7 @@ enum Shows {
 
 // The parameters that a query gives.
 #[derive(Clone, Copy)]
-struct Wanted {
+pub(crate) struct Wanted {
     mode: Mode,
     since: Since,
     limit: Option<u64>,
@@ -32,7 +32,7 @@ struct Wanted {
 // What a query gives that names no parameter.
 const PLAIN: Wanted = Wanted {
     mode: Mode::Normal,
-    since: Since::From(0),
+    since: Since::Plain(0),
     limit: None,
     descending: false,
     style: Style::MainOnly,
@@ -42,7 +42,13 @@ const PLAIN: Wanted = Wanted {
     timeout: 60_000,
 };
 
-const MOST: u64 = 18_446_744_073_709_551_615;
+// What a query gives that names no parameter but where the feed begins.
+pub(crate) fn beginning_at(since: Since) -> Wanted {
+    Wanted { since, ..PLAIN }
+}
+
+// The greatest number that is read.
+pub(crate) const MOST: u64 = 18_446_744_073_709_551_615;
 
 const PROBES: [&str; 9] = ["", "a", "b", "c", "A", "é", "a b", "_design/a", "_design"];
 
@@ -90,7 +96,7 @@ fn fails(alloc: Global, query: &str, body: &str, wanted: ParamFault) -> bool {
 }
 
 // Tries a query and a body that give these parameters.
-fn try_good<R: Abort + AllocGlobal>(
+pub(crate) fn try_good<R: Abort + AllocGlobal>(
     rt: &R,
     query: &str,
     body: &str,
@@ -104,14 +110,14 @@ fn try_good<R: Abort + AllocGlobal>(
 }
 
 // Tries a query and a body that have this fault.
-fn try_bad<R: Abort + AllocGlobal>(rt: &R, query: &str, body: &str, wanted: ParamFault) {
+pub(crate) fn try_bad<R: Abort + AllocGlobal>(rt: &R, query: &str, body: &str, wanted: ParamFault) {
     assert!(rt; fails(rt.alloc(), query, body, wanted), "at {query} {body}");
 }
 
 #[test]
 fn several_parameters(rt: HostRuntime) -> Result<(), Fail> {
     let wanted = Wanted {
-        since: Since::From(3),
+        since: Since::Plain(3),
         limit: Some(1),
         style: Style::AllDocs,
         ..PLAIN
@@ -143,69 +149,6 @@ const ALL_BACKWARDS: &str =
 fn all_parameters(rt: HostRuntime) -> Result<(), Fail> {
     try_good(&rt, ALL_PARAMETERS, "", WHOLE)?;
     try_good(&rt, ALL_BACKWARDS, "not read", WHOLE)
-}
-
-const STARTS: [(&'static str, Since); 18] = [
-    ("", Since::From(0)),
-    ("&&", Since::From(0)),
-    ("x=since", Since::From(0)),
-    ("Since=5", Since::From(0)),
-    ("since=0", Since::From(0)),
-    ("since=3", Since::From(3)),
-    ("since=0003", Since::From(3)),
-    (
-        "since=00000000000000000000000000000000000012",
-        Since::From(12),
-    ),
-    ("since=18446744073709551615", Since::From(MOST)),
-    ("since=000018446744073709551615", Since::From(MOST)),
-    ("since=now", Since::Now),
-    ("since=%31", Since::From(1)),
-    ("since=n%6fw", Since::Now),
-    ("%73ince=7", Since::From(7)),
-    ("since=1&since=2", Since::From(2)),
-    ("since=x&since=2", Since::From(2)),
-    ("since=2&x=3&since=now", Since::Now),
-    ("since=2&%73ince=9", Since::From(9)),
-];
-
-#[test]
-fn starts(rt: HostRuntime) -> Result<(), Fail> {
-    for (query, since) in STARTS {
-        try_good(&rt, query, "", Wanted { since, ..PLAIN })?;
-    }
-    Ok(())
-}
-
-const NO_STARTS: [&'static str; 21] = [
-    "since",
-    "since=",
-    "since=x",
-    "since=+1",
-    "since=%2B1",
-    "since=-1",
-    "since=1+",
-    "since=1%20",
-    "since=1.0",
-    "since=1e3",
-    "since=0x1",
-    "since=Now",
-    "since=now+",
-    "since==1",
-    "since=%FF",
-    "since=18446744073709551616",
-    "since=00018446744073709551616",
-    "since=99999999999999999999999999",
-    "since=1&since=",
-    "since=1&since",
-    "since=x&limit=x",
-];
-
-#[test]
-fn bad_starts(rt: HostRuntime) {
-    for query in NO_STARTS {
-        try_bad(&rt, query, "", ParamFault::BadSince);
-    }
 }
 
 const LIMITS: [(&'static str, Option<u64>); 8] = [

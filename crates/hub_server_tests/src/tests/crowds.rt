@@ -151,7 +151,7 @@ fn large_batch(alloc: Global, id: u64) -> Result<String, Fail> {
 
 /// Whether the next row of a continuous feed is of this sequence.
 fn is_row(client: &mut Client, alloc: Global, seq: u64) -> Result<bool, Fail> {
-    let begin = format!(in alloc; r#"{{"seq":{seq},"id":"{seq}","#)?;
+    let begin = format!(in alloc; r#"{{"seq":"{seq}-1","id":"{seq}","#)?;
     for _ in 0..u64::MAX {
         let chunk = client.chunk()?;
         if chunk.as_str() != "\n" {

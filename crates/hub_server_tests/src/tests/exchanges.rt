@@ -22,14 +22,14 @@ const STORED_ANSWERED: &str = concat!(
     "d\r\n",
     r#"{"results":["#,
     "\n\r\n",
-    "2c\r\n",
-    r#"{"seq":1,"id":"a","changes":[{"rev":"1-a"}]}"#,
+    "30\r\n",
+    r#"{"seq":"1-1","id":"a","changes":[{"rev":"1-a"}]}"#,
     "\r\n",
-    "2e\r\n,\n",
-    r#"{"seq":2,"id":"b","changes":[{"rev":"1-b"}]}"#,
+    "32\r\n,\n",
+    r#"{"seq":"2-1","id":"b","changes":[{"rev":"1-b"}]}"#,
     "\r\n",
-    "1e\r\n\n],\n",
-    r#""last_seq":2,"pending":0}"#,
+    "22\r\n\n],\n",
+    r#""last_seq":"2-1","pending":0}"#,
     "\n\r\n",
     "0\r\n\r\n"
 );
@@ -47,9 +47,9 @@ fn the_beginning_of_the_stored_run(rt: HostRuntime) -> Result<(), Fail> {
 
 const ROW: &str = concat!(
     "{\"results\":[\n",
-    r#"{"seq":1,"id":"a","changes":[{"rev":"1-91e3da135d1d0593e6703385cf55957a"}],"#,
+    r#"{"seq":"1-1","id":"a","changes":[{"rev":"1-91e3da135d1d0593e6703385cf55957a"}],"#,
     r#""doc":{"_id":"a","_rev":"1-91e3da135d1d0593e6703385cf55957a","v":7}}"#,
-    "\n],\n\"last_seq\":1,\"pending\":0}\n"
+    "\n],\n\"last_seq\":\"1-1\",\"pending\":0}\n"
 );
 
 /// A document that is put is shown by the feed, and found.

@@ -22,8 +22,8 @@ fn writer<R: Net<Listener = TcpListener, Stream = TcpStream>>(
 
 const ANSWERED: &str = concat!(
     "{\"results\":[\n",
-    r#"{"seq":1,"id":"a","changes":[{"rev":"1-dfddbf319adb018d1e5ac3465b83542c"}]}"#,
-    "\n],\n\"last_seq\":1,\"pending\":0}\n"
+    r#"{"seq":"1-1","id":"a","changes":[{"rev":"1-dfddbf319adb018d1e5ac3465b83542c"}]}"#,
+    "\n],\n\"last_seq\":\"1-1\",\"pending\":0}\n"
 );
 
 /// A longpoll is answered by the write of another connection, though its client has nothing more to send.
@@ -44,7 +44,7 @@ fn a_longpoll_that_another_answers(rt: HostRuntime) -> Result<(), Fail> {
 }
 
 const LINE: &str = concat!(
-    r#"{"seq":1,"id":"a","changes":[{"rev":"1-dfddbf319adb018d1e5ac3465b83542c"}]}"#,
+    r#"{"seq":"1-1","id":"a","changes":[{"rev":"1-dfddbf319adb018d1e5ac3465b83542c"}]}"#,
     "\n"
 );
 
@@ -86,7 +86,7 @@ fn a_continuous_feed_that_beats(rt: HostRuntime) -> Result<(), Fail> {
     assert!(rt; are_beats(&mut reader, 3)?);
     assert!(rt; writer.gets("DELETE /d", "", "200")?);
     let (_, end) = beats(&mut reader)?;
-    assert_eq!(rt; end.as_str(), "{\"last_seq\":1,\"pending\":0}\n");
+    assert_eq!(rt; end.as_str(), "{\"last_seq\":\"1-1\",\"pending\":0}\n");
     assert!(rt; reader.chunk()?.is_empty());
     drop(reader);
     drop(writer);
@@ -104,9 +104,9 @@ fn a_feed_of_updates(rt: HostRuntime) -> Result<(), Fail> {
     let writer = writer(&rt, alloc, server.address)?;
     assert_eq!(rt;
         reader.chunk()?.as_str(),
-        "{\"db_name\":\"d\",\"type\":\"created\",\"seq\":1}\n"
+        "{\"db_name\":\"d\",\"type\":\"created\",\"seq\":\"1-0\"}\n"
     );
-    assert_eq!(rt; reader.chunk()?.as_str(), "{\"last_seq\":1}\n");
+    assert_eq!(rt; reader.chunk()?.as_str(), "{\"last_seq\":\"1-0\"}\n");
     assert!(rt; reader.chunk()?.is_empty());
     drop(reader);
     drop(writer);

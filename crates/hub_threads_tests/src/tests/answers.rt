@@ -155,7 +155,8 @@ fn put_falling(alloc: Global, out: &mut Vec<u8>, falling: &Descending) -> Result
     }
     put(out, "last ")?;
     put_number(alloc, out, falling.last_seq)?;
-    put_number(alloc, out, falling.pending)
+    put_number(alloc, out, falling.pending)?;
+    put_number(alloc, out, falling.life)
 }
 
 // An answer as a text.
@@ -164,7 +165,8 @@ fn put_answer(alloc: Global, out: &mut Vec<u8>, answer: &Answer) -> Result<(), A
         Answer::Info(info) => {
             put_number(alloc, out, info.doc_count)?;
             put_number(alloc, out, info.doc_del_count)?;
-            put_number(alloc, out, info.update_seq)
+            put_number(alloc, out, info.update_seq)?;
+            put_number(alloc, out, info.life)
         }
         Answer::Get(lookup) => put_lookup(out, lookup),
         Answer::Winner(winner) => put_winner(out, winner),
@@ -211,7 +213,7 @@ fn conflicts<R: Wait>(rt: &R, alloc: Global) -> Result<(Db<Plain>, Handle<Plain>
 }
 
 const DOCUMENTS: [(Asking, &str); 9] = [
-    (Asking::Info, "1 1 5 "),
+    (Asking::Info, "1 1 5 6 "),
     (
         Asking::Get("a", false),
         r#"{"_id":"a","_rev":"2-d","v":[4,"x",null]}"#,
@@ -248,10 +250,13 @@ const REVISIONS: [(Asking, &str); 5] = [
     (Asking::Missing("b", &["1-b"]), ""),
 ];
 
-const FALLING: [(Asking, &str); 3] = [
-    (Asking::Falling(""), "5 b 1-b 4 a 2-d last 4 0 "),
-    (Asking::Falling("limit=1"), "5 b 1-b last 5 1 "),
-    (Asking::Falling("since=4"), "5 b 1-b last 5 0 "),
+const FALLING: [(Asking, &str); 6] = [
+    (Asking::Falling(""), "5 b 1-b 4 a 2-d last 4 0 6 "),
+    (Asking::Falling("limit=1"), "5 b 1-b last 5 1 6 "),
+    (Asking::Falling("since=4"), "5 b 1-b last 5 0 6 "),
+    (Asking::Falling("since=4-6"), "5 b 1-b last 5 0 6 "),
+    (Asking::Falling("since=4-7"), "5 b 1-b 4 a 2-d last 4 0 6 "),
+    (Asking::Falling("since=now"), "last 5 0 6 "),
 ];
 
 #[test]
@@ -297,7 +302,7 @@ fn local_documents_are_counted(rt: HostRuntime) -> Result<(), Fail> {
             text
         )?
     );
-    assert!(rt; answers(&rt, rt.alloc(), &mut handle, &Asking::Info, "0 0 0 ")?);
+    assert!(rt; answers(&rt, rt.alloc(), &mut handle, &Asking::Info, "0 0 0 6 ")?);
     Ok(())
 }
 

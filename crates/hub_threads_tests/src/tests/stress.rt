@@ -1,7 +1,7 @@
 //! Many writers, and feeds of each mode, at once: what each reader took is compared with the edits
 //! that the receipts tell.
 
-use crate::tests::{Counting, database, pumps};
+use crate::tests::{Counting, LIFE, database, pumps};
 use hub_document::{ChangeRow, Doc, RevId};
 use hub_model::Item;
 use hub_params::FeedParams;
@@ -204,7 +204,7 @@ const FEEDS: [Asked; 8] = [
     },
 ];
 
-// A feed that goes on behind a sequence.
+// A feed that goes on behind a sequence of the database's life.
 fn follow<R: Wait>(
     rt: &R,
     alloc: Global,
@@ -213,7 +213,7 @@ fn follow<R: Wait>(
     since: u64,
 ) -> Option<Feed<Plain>> {
     let query = asked.query;
-    let query = format!(in alloc; "{query}&since={since}").ok()?;
+    let query = format!(in alloc; "{query}&since={since}-{LIFE}").ok()?;
     let params = FeedParams::read(alloc, query.as_bytes(), asked.body.as_bytes()).ok()?;
     scene.db.handle().ok()?.open_feed(rt, params).ok()
 }

@@ -1,0 +1,292 @@
+//! Sources that are deleted and made again, and logs of an earlier life.
+
+use crate::tests::named_peer::NamedPeer;
+use crate::tests::{
+    LIFE, LOG, TWO, agree, at, checkpoint, copy_all, database_of_life, edits, recorded, round_into,
+    start, write,
+};
+use hub_databases::{Hub, HubDb};
+use hub_document::{Limits, LocalDoc};
+use hub_follower::{DbPeer, FollowFault, Follower, Peer, Round, Seq};
+use hub_threads::{Answer, Db, Plain, Question};
+use std::alloc::Global;
+use std::sync::Wait;
+use std::test::Fail;
+
+// The names of two databases of a hub, the source made first.
+const SOURCE: &str = "source";
+
+const TARGET: &str = "target";
+
+// What the source has when it was made again, a with another revision than it had.
+const AGAIN: [&str; 3] = [
+    r#"{"_id":"a","_rev":"1-z"}"#,
+    r#"{"_id":"c","_rev":"1-c"}"#,
+    r#"{"_id":"d","_rev":"1-d"}"#,
+];
+
+fn make<R: Wait>(rt: &R, hub: &Hub, name: &str) -> Result<(), Fail> {
+    match hub.create(rt, name) {
+        Ok(()) => Ok(()),
+        Err(_) => Err(Fail::new("not made")),
+    }
+}
+
+fn delete<R: Wait>(rt: &R, hub: &Hub, name: &str) -> Result<(), Fail> {
+    match hub.remove(rt, name) {
+        Ok(()) => Ok(()),
+        Err(_) => Err(Fail::new("not deleted")),
+    }
+}
+
+fn found<R: Wait>(rt: &R, hub: &Hub, name: &str) -> Result<HubDb, Fail> {
+    match hub.find(rt, name) {
+        Ok(db) => Ok(db),
+        Err(_) => Err(Fail::new("not found")),
+    }
+}
+
+// A hub with both databases, of the lives 1 and 2, and two documents at the source.
+fn hub<R: Wait>(rt: &R, alloc: Global) -> Result<Hub, Fail> {
+    let hub = Hub::new(alloc, Limits::full())?;
+    make(rt, &hub, SOURCE)?;
+    make(rt, &hub, TARGET)?;
+    write(rt, alloc, found(rt, &hub, SOURCE)?.db(), &TWO)?;
+    Ok(hub)
+}
+
+// Both databases again, of the lives 3 and 4 and without documents.
+fn make_again<R: Wait>(rt: &R, hub: &Hub) -> Result<(), Fail> {
+    for name in [SOURCE, TARGET] {
+        delete(rt, hub, name)?;
+    }
+    for name in [SOURCE, TARGET] {
+        make(rt, hub, name)?;
+    }
+    Ok(())
+}
+
+// A follower of what has the source's name into what has the target's, which tells lives or not.
+fn follow<'a, R: Wait>(
+    rt: &'a R,
+    alloc: Global,
+    hub: &'a Hub,
+    tells_lives: bool,
+) -> Result<Follower<NamedPeer<'a, R>, NamedPeer<'a, R>>, Fail> {
+    let source = NamedPeer::new(rt, alloc, hub, SOURCE, tells_lives);
+    let target = NamedPeer::new(rt, alloc, hub, TARGET, tells_lives);
+    match Follower::start(alloc, source, target, LOG, "S1") {
+        Ok(follower) => Ok(follower),
+        Err(_) => Err(Fail::new("no session")),
+    }
+}
+
+// A round copies two documents. Then both databases are made again, and three documents stored at the source:
+// what the next round does, the place behind it, how many edits the target then has, and whether its leaves
+// are the source's.
+fn round_again<R: Wait>(
+    rt: &R,
+    alloc: Global,
+    tells_lives: bool,
+) -> Result<((Round, Option<Seq>, u64), bool), Fail> {
+    let hub = hub(rt, alloc)?;
+    let mut follower = follow(rt, alloc, &hub, tells_lives)?;
+    let first = round_into(rt, &mut follower, found(rt, &hub, TARGET)?.db())?;
+    if first != (Round::Moved, at(2), 2) {
+        return Err(Fail::new("another first round"));
+    }
+    make_again(rt, &hub)?;
+    let (source, target) = (found(rt, &hub, SOURCE)?, found(rt, &hub, TARGET)?);
+    write(rt, alloc, source.db(), &AGAIN)?;
+    let second = round_into(rt, &mut follower, target.db())?;
+    let ids = ["a", "b", "c", "d"];
+    let agrees = agree(rt, alloc, source.db(), target.db(), &ids)?;
+    Ok((second, agrees))
+}
+
+// The second round begins at 0 of the new life. With numbers alone it would go on behind 2, and leave out the
+// first two documents of the new source for good.
+#[test]
+fn a_source_that_is_made_again_is_copied_anew(rt: HostRuntime) -> Result<(), Fail> {
+    let place = Some(Seq::of_life(3, 3));
+    assert_eq!(rt;
+        round_again(&rt, rt.alloc(), true)?,
+        ((Round::Moved, place, 3), true)
+    );
+    assert_eq!(rt;
+        round_again(&rt, rt.alloc(), false)?,
+        ((Round::Moved, place, 1), false)
+    );
+    Ok(())
+}
+
+// While there is no source a round fails, and the place stays. Behind that the place is 0 of the new life,
+// though nothing moved; and then it is the new source's, which both logs record.
+#[test]
+fn a_source_that_is_made_again_is_empty_at_first(rt: HostRuntime) -> Result<(), Fail> {
+    let hub = hub(&rt, rt.alloc())?;
+    let mut follower = follow(&rt, rt.alloc(), &hub, true)?;
+    let target = found(&rt, &hub, TARGET)?;
+    assert_eq!(rt;
+        round_into(&rt, &mut follower, target.db())?,
+        (Round::Moved, at(2), 2)
+    );
+    delete(&rt, &hub, SOURCE)?;
+    assert!(rt; matches!(follower.round(), Err(FollowFault::Peer)));
+    assert_eq!(rt; follower.place(), at(2));
+    make(&rt, &hub, SOURCE)?;
+    let source = found(&rt, &hub, SOURCE)?;
+    assert_eq!(rt;
+        round_into(&rt, &mut follower, target.db())?,
+        (Round::Idle, Some(Seq::of_life(0, 3)), 2)
+    );
+    write(&rt, rt.alloc(), source.db(), &AGAIN)?;
+    let place = Some(Seq::of_life(3, 3));
+    assert_eq!(rt;
+        round_into(&rt, &mut follower, target.db())?,
+        (Round::Moved, place, 5)
+    );
+    checkpoint(&mut follower)?;
+    assert_eq!(rt; recorded(&rt, rt.alloc(), source.db())?, place);
+    assert_eq!(rt; recorded(&rt, rt.alloc(), target.db())?, place);
+    Ok(())
+}
+
+// Sequences that a source of life 1 with two documents is asked for changes above, a number alone or with a
+// life, and how many rows it answers.
+const ASKED: [(u64, Option<u64>, usize); 8] = [
+    (0, None, 2),
+    (1, None, 1),
+    (9, None, 0),
+    (1, Some(1), 1),
+    (9, Some(1), 0),
+    (1, Some(2), 2),
+    (9, Some(0), 2),
+    (u64::MAX, Some(u64::MAX), 2),
+];
+
+#[test]
+fn changes_begin_in_the_life_of_the_source(rt: HostRuntime) -> Result<(), Fail> {
+    let source = database_of_life(rt.alloc(), LIFE)?;
+    write(&rt, rt.alloc(), &source, &TWO)?;
+    let mut peer = DbPeer::new(&rt, rt.alloc(), source.handle()?);
+    for (n, life, count) in ASKED {
+        let Ok(changes) = peer.changes(Seq { n, life }) else {
+            return Err(Fail::new("no changes"));
+        };
+        assert_eq!(rt;
+            (changes.rows.len(), changes.last_seq, changes.life),
+            (count, 2, LIFE),
+            "above {n}"
+        );
+    }
+    Ok(())
+}
+
+// Keeps the log of one session that recorded this sequence, as it is written.
+fn put_log<R: Wait>(rt: &R, alloc: Global, db: &Db<Plain>, seq: &str) -> Result<(), Fail> {
+    let entry = format!(in alloc;
+        r#"{{"end_last_seq":{seq},"recorded_seq":{seq},"session_id":"S0","start_last_seq":0}}"#
+    )?;
+    let text = format!(in alloc;
+        r#"{{"history":[{entry}],"replication_id_version":3,"session_id":"S0","source_last_seq":{seq}}}"#
+    )?;
+    let _count = db
+        .handle()?
+        .local_put(rt, LocalDoc::read(alloc, LOG, text.as_bytes())?)?;
+    Ok(())
+}
+
+// The text of the log that a database keeps.
+fn kept_log<R: Wait>(rt: &R, alloc: Global, db: &Db<Plain>) -> Result<String, Fail> {
+    let id = String::from_str(alloc, LOG)?;
+    let Answer::Local(Some(local)) = db.handle()?.read(rt, Question::Local { id })? else {
+        return Err(Fail::new("no log"));
+    };
+    match String::from_utf8(Vec::from_slice(alloc, local.body.as_bytes())?) {
+        Ok(text) => Ok(text),
+        Err(_) => Err(Fail::new("no text")),
+    }
+}
+
+// A source of life 2 with three documents, an empty target, and their logs of one session.
+fn resumed<R: Wait>(
+    rt: &R,
+    alloc: Global,
+    (source_log, target_log): (&str, &str),
+) -> Result<(Db<Plain>, Db<Plain>), Fail> {
+    let (source, target) = (database_of_life(alloc, 2)?, database_of_life(alloc, 3)?);
+    write(rt, alloc, &source, &AGAIN)?;
+    put_log(rt, alloc, &source, source_log)?;
+    put_log(rt, alloc, &target, target_log)?;
+    Ok((source, target))
+}
+
+// What the logs of source and target record; where a session begins, a number alone or with its life; and how
+// many of the three documents it copies. A sequence of the first life is none in the second.
+const RECORDED: [(&str, &str, (u64, Option<u64>), u64); 9] = [
+    ("2", "2", (2, None), 1),
+    ("2", "1", (1, None), 2),
+    (r#""2-2""#, r#""2-2""#, (2, Some(2)), 1),
+    ("2", r#""2-2""#, (2, Some(2)), 1),
+    (r#""2-2""#, "1", (1, Some(2)), 2),
+    (r#""2-1""#, r#""2-1""#, (2, Some(1)), 3),
+    (r#""9-1""#, "2", (2, Some(1)), 3),
+    ("2", r#""7-1""#, (2, Some(1)), 3),
+    (r#""2-2""#, r#""2-1""#, (0, None), 3),
+];
+
+// Where a session begins that goes on from such logs, and how many documents it copies. Behind it both logs
+// record the source's place.
+fn copied_from<R: Wait>(
+    rt: &R,
+    alloc: Global,
+    logs: (&str, &str),
+) -> Result<(Option<Seq>, u64), Fail> {
+    let (source, target) = resumed(rt, alloc, logs)?;
+    let mut follower = start(rt, alloc, &source, &target, "S1")?;
+    let place = follower.place();
+    if copy_all(&mut follower).is_err() {
+        return Err(Fail::new("no copy"));
+    }
+    checkpoint(&mut follower)?;
+    let whole = Some(Seq::of_life(3, 2));
+    if recorded(rt, alloc, &source)? != whole || recorded(rt, alloc, &target)? != whole {
+        return Err(Fail::new("other logs"));
+    }
+    Ok((place, edits(rt, &target)?))
+}
+
+#[test]
+fn a_session_goes_on_from_logs_of_its_life(rt: HostRuntime) -> Result<(), Fail> {
+    for (source_log, target_log, (n, life), count) in RECORDED {
+        assert_eq!(rt;
+            copied_from(&rt, rt.alloc(), (source_log, target_log))?,
+            (Some(Seq { n, life }), count),
+            "from {source_log} and {target_log}"
+        );
+    }
+    Ok(())
+}
+
+// The logs behind a session that went on from whole numbers: its own entry has texts, and the older one stays
+// as it was.
+#[test]
+fn logs_of_whole_numbers_go_on_with_texts(rt: HostRuntime) -> Result<(), Fail> {
+    let (source, target) = resumed(&rt, rt.alloc(), ("2", "2"))?;
+    let mut follower = start(&rt, rt.alloc(), &source, &target, "S1")?;
+    assert_eq!(rt;
+        round_into(&rt, &mut follower, &target)?,
+        (Round::Moved, Some(Seq::of_life(3, 2)), 1)
+    );
+    checkpoint(&mut follower)?;
+    let expected = concat!(
+        r#"{"history":[{"end_last_seq":"3-2","recorded_seq":"3-2","session_id":"S1","start_last_seq":2},"#,
+        r#"{"end_last_seq":2,"recorded_seq":2,"session_id":"S0","start_last_seq":0}],"#,
+        r#""replication_id_version":3,"session_id":"S1","source_last_seq":"3-2"}"#
+    );
+    for db in [&source, &target] {
+        assert_eq!(rt; kept_log(&rt, rt.alloc(), db)?.as_str(), expected);
+    }
+    Ok(())
+}
