@@ -101,9 +101,9 @@ abbrev pub IsWithin : List Stem → Place → Type 0
 IsWithin stems place = place.at < length (revisions_at stems place.stem)
 
 -- each stem has a revision at least, and their generations fall by one; its newest is none of an earlier one's, and
--- where it joins none, none of the others is; it stands on a place of an earlier one, whose revision is of a lower
--- generation than its newest, or on nothing; its path has its revisions, and the one that they stand on, and is a
--- front of its chain, whose length it knows
+-- where it joins none, none of the others is; it stands on a place of an earlier one, whose revision is of a
+-- lower generation than its newest, or on nothing; its path has its revisions, and the one that they stand on,
+-- and is a front of its chain, whose length it knows
 pub record AreStems (stems : List Stem) : Type 0 where
   pub falling : (k : ℕ) (stem : Stem) → slice_get stems k ≡ Some stem → IsPath stem.revisions
   pub newest :

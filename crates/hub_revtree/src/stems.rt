@@ -97,8 +97,8 @@ fn is_at(stems: &[Stem], place: Option<Place>, sought: &Sought) -> bool
     }
 }
 
-/// Whether the revision stands behind the newest of a stem. One look an edit: at its generation alone, where that is
-/// not above the revision's.
+/// Whether the revision stands behind the newest of a stem. One look an edit: at its generation alone, where
+/// that is not above the revision's.
 pub(crate) fn is_behind(stems: &[Stem], rev: &RevId) -> bool
     requires { AreStems stems.now }
     ensures { result ≡ list_any (is_behind_newest stems.now rev.now) stems.now }
