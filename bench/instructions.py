@@ -117,7 +117,7 @@ def run(program, data, folder):
     source = os.path.join(folder, "requests")
     with open(source, "wb") as out:
         out.write(data)
-    tool = ["valgrind", "--tool=callgrind", "--callgrind-out-file=/dev/null"]
+    tool = ["valgrind", "--tool=callgrind", "--callgrind-out-file=" + os.path.join(folder, "profile")]
     with open(source, "rb") as stdin:
         done = subprocess.run([*tool, program, "stdin"], stdin=stdin, capture_output=True)
     told = re.search(rb"Collected : (\d+)", done.stderr)

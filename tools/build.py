@@ -151,8 +151,9 @@ class Proof:
         self.done, self.functions, self.at = 0, 0, 0
         os.makedirs(f"{crate.folder}/out", exist_ok=True)
         self.log = f"{crate.folder}/out/build.log"
-        words = ["nice", "-n", str(niceness), "rt", "run" if crate.is_program else "lib", "--jobs", str(jobs)]
-        words += ["--", "stdin"] if crate.is_program else []
+        # With --statements a library keeps what is stated of it, so that the crates above it need not load its proofs.
+        words = ["nice", "-n", str(niceness), "rt", *(["run"] if crate.is_program else ["lib", "--statements"])]
+        words += ["--jobs", str(jobs), *(["--", "stdin"] if crate.is_program else [])]
         folder = crate.folder if crate.is_program else f"{lane}/crates/{crate.name}"
         with open(self.log, "wb") as out:
             how = {"stdin": subprocess.DEVNULL, "stdout": out, "stderr": subprocess.STDOUT}
