@@ -120,35 +120,53 @@ fn a_source_that_is_made_again_is_copied_anew(rt: HostRuntime) -> Result<(), Fai
     Ok(())
 }
 
-// While there is no source a round fails, and the place stays. Behind that the place is 0 of the new life,
-// though nothing moved; and then it is the new source's, which both logs record.
+// A follower of these.
+type Copier<'a, R> = Follower<NamedPeer<'a, R>, NamedPeer<'a, R>>;
+
+// While there is no source a round fails, and the place stays. Behind that the source is made again, and is empty:
+// what the next round does.
+fn round_of_nothing<'a, R: Wait>(
+    rt: &R,
+    hub: &Hub,
+    follower: &mut Copier<'a, R>,
+) -> Result<(Round, Option<Seq>, u64), Fail> {
+    delete(rt, hub, SOURCE)?;
+    if !matches!(follower.round(), Err(FollowFault::Peer)) || follower.place() != at(2) {
+        return Err(Fail::new("a round without a source"));
+    }
+    make(rt, hub, SOURCE)?;
+    round_into(rt, follower, found(rt, hub, TARGET)?.db())
+}
+
+// What the round does in which the new source has documents. Behind it both logs record the place.
+fn round_of_three<'a, R: Wait>(
+    rt: &R,
+    alloc: Global,
+    hub: &Hub,
+    follower: &mut Copier<'a, R>,
+) -> Result<(Round, Option<Seq>, u64), Fail> {
+    write(rt, alloc, found(rt, hub, SOURCE)?.db(), &AGAIN)?;
+    let done = round_into(rt, follower, found(rt, hub, TARGET)?.db())?;
+    checkpoint(follower)?;
+    for name in [SOURCE, TARGET] {
+        if recorded(rt, alloc, found(rt, hub, name)?.db())? != follower.place() {
+            return Err(Fail::new("another log"));
+        }
+    }
+    Ok(done)
+}
+
+// The place becomes 0 of the new life, though nothing moved, and then the new source's.
 #[test]
 fn a_source_that_is_made_again_is_empty_at_first(rt: HostRuntime) -> Result<(), Fail> {
     let hub = hub(&rt, rt.alloc())?;
     let mut follower = follow(&rt, rt.alloc(), &hub, true)?;
-    let target = found(&rt, &hub, TARGET)?;
-    assert_eq!(rt;
-        round_into(&rt, &mut follower, target.db())?,
-        (Round::Moved, at(2), 2)
-    );
-    delete(&rt, &hub, SOURCE)?;
-    assert!(rt; matches!(follower.round(), Err(FollowFault::Peer)));
-    assert_eq!(rt; follower.place(), at(2));
-    make(&rt, &hub, SOURCE)?;
-    let source = found(&rt, &hub, SOURCE)?;
-    assert_eq!(rt;
-        round_into(&rt, &mut follower, target.db())?,
-        (Round::Idle, Some(Seq::of_life(0, 3)), 2)
-    );
-    write(&rt, rt.alloc(), source.db(), &AGAIN)?;
-    let place = Some(Seq::of_life(3, 3));
-    assert_eq!(rt;
-        round_into(&rt, &mut follower, target.db())?,
-        (Round::Moved, place, 5)
-    );
-    checkpoint(&mut follower)?;
-    assert_eq!(rt; recorded(&rt, rt.alloc(), source.db())?, place);
-    assert_eq!(rt; recorded(&rt, rt.alloc(), target.db())?, place);
+    let first = round_into(&rt, &mut follower, found(&rt, &hub, TARGET)?.db())?;
+    assert_eq!(rt; first, (Round::Moved, at(2), 2));
+    let second = round_of_nothing(&rt, &hub, &mut follower)?;
+    assert_eq!(rt; second, (Round::Idle, Some(Seq::of_life(0, 3)), 2));
+    let third = round_of_three(&rt, rt.alloc(), &hub, &mut follower)?;
+    assert_eq!(rt; third, (Round::Moved, Some(Seq::of_life(3, 3)), 5));
     Ok(())
 }
 
