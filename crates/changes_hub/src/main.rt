@@ -8,7 +8,7 @@ use hub_http::{Output, Requests, Tally};
 use hub_server::{Uptime, run_server};
 use hub_service::answer_stream;
 use hub_session::Closing;
-use hub_threads::{Gate, Point};
+use hub_shared::{Gate, Point};
 use std::alloc::Global;
 use std::io::{BufWriter, Read, Write};
 use std::net::{Net, TcpListener, TcpStream};

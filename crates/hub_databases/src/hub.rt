@@ -6,7 +6,7 @@ ghost use Rattle.hub_databases.specs.Asked.{updates_asked};
 ghost use Rattle.hub_databases.specs.Kept.{AreNames, most_databases, with_made, with_name};
 ghost use Rattle.hub_databases.specs.Names.{is_name as is_database_name};
 ghost use Rattle.hub_params.specs.FeedShown.{params_asked};
-ghost use Rattle.hub_threads.specs.Handles.{IsBeginningFor, IsWrittenBy};
+ghost use Rattle.hub_shared.specs.Handles.{IsBeginningFor, IsWrittenBy};
 
 use crate::fault::HubFault;
 use crate::hub_db::{HubDb, Named};
@@ -19,8 +19,9 @@ use hub_filter::Filter;
 use hub_lane::Asks;
 use hub_model::{Item, Style, UpdateKind};
 use hub_params::FeedParams;
-use hub_shared::{Accepted, FeedLabel, Handed};
-use hub_threads::{Clock, Db, Gate, Handle, Plain, Turn, Updates, UpdatesFeed, hold, pump};
+use hub_shared::{
+    Accepted, Clock, Db, FeedLabel, Gate, Handed, Handle, Plain, Turn, Updates, UpdatesFeed, hold, pump,
+};
 use hub_updates::{NoteFault, Notice, UpdatesState};
 use std::alloc::{AllocError, Global};
 use std::sync::{Arc, RwLock, Wait};

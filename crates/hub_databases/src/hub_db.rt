@@ -4,7 +4,7 @@ ghost use Rattle.std.specs.Prelude.{◌≡◌, ℕ, List, string_bytes, IfOk};
 ghost use Rattle.std.specs.Arc.{arc_value};
 
 use crate::names::HasName;
-use hub_threads::{Db, Handle, Plain};
+use hub_shared::{Db, Handle, Plain};
 use std::alloc::{AllocError, Global};
 use std::marker::Model;
 use std::sync::Arc;

@@ -8,7 +8,7 @@ use hub_database::DbFault;
 use hub_databases::{Hub, HubDb, Written};
 use hub_document::{Doc, Limits};
 use hub_params::FeedParams;
-use hub_threads::{Gate, Point};
+use hub_shared::{Gate, Point};
 use std::alloc::Global;
 use std::sync::Wait;
 use std::test::Fail;

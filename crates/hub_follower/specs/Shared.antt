@@ -9,8 +9,8 @@ use Rattle.hub_model.specs.declared.outcomes.Fault.TheVariants.{Deleted}
 use Rattle.hub_model.specs.declared.outcomes.Outcome.{Outcome}
 use Rattle.hub_model.specs.declared.outcomes.Outcome.TheVariants.{Refused}
 use Rattle.hub_document.specs.declared.open_revs.OpenRevs.TheVariants.{Listed}
-use Rattle.hub_threads.specs.declared.question.Question.{Question}
-use Rattle.hub_threads.specs.declared.question.Question.TheVariants as asks
+use Rattle.hub_shared.specs.declared.question.Question.{Question}
+use Rattle.hub_shared.specs.declared.question.Question.TheVariants as asks
 use Rattle.hub_follow_model.specs.Follower as follow
 
 -- what became of documents that a deleted database was to store

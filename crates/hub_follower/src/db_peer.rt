@@ -17,7 +17,7 @@ use hub_filter::Filter;
 use hub_follow_model::Seq;
 use hub_model::{Item, Mode, Since, Style};
 use hub_params::FeedParams;
-use hub_threads::{Answer, Feed, Gate, Handle, Plain, Point, Question, Turn};
+use hub_shared::{Answer, Feed, Gate, Handle, Plain, Point, Question, Turn};
 use std::alloc::{AllocError, Global};
 use std::sync::Wait;
 

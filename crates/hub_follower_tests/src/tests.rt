@@ -15,7 +15,7 @@ mod worlds;
 use hub_database::OpenRev;
 use hub_document::{Doc, Limits, OpenRevs};
 use hub_follower::{DbPeer, FollowFault, Follower, Peer, Round, Seq};
-use hub_threads::{Answer, Db, Handle, Plain, Question};
+use hub_shared::{Answer, Db, Handle, Plain, Question};
 use std::alloc::Global;
 use std::sync::Wait;
 use std::test::Fail;

@@ -18,7 +18,7 @@ impl<R: time::Clock + Drop> Uptime<R> {
     }
 }
 
-impl<R: time::Clock> hub_threads::Clock for Uptime<R> {
+impl<R: time::Clock> hub_shared::Clock for Uptime<R> {
     /// 0 where the system tells no time.
     fn now_ms(&self) -> u64 {
         match self.start.elapsed(&self.rt) {

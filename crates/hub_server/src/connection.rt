@@ -9,7 +9,7 @@ use hub_http::{Requests, Tally};
 use hub_routes::Routes;
 use hub_service::serve_connection;
 use hub_session::Closing;
-use hub_threads::{Clock, Gate};
+use hub_shared::{Clock, Gate};
 use std::alloc::Global;
 use std::io::{self, BufWriter, Read};
 use std::net::{Shutdown, TcpStream};

@@ -1,7 +1,7 @@
 //! Pumps that wait for a thread.
 
 use hub_database::DbState;
-use hub_threads::{Gate, Guarded, HostPump, Plain, Served};
+use hub_shared::{Gate, Guarded, HostPump, Plain, Served};
 use hub_updates::UpdatesState;
 use std::alloc::{AllocError, Global};
 use std::collections::VecDeque;

@@ -4,7 +4,7 @@ use crate::orders::{Orders, Pump};
 use hub_feed::FeedHost;
 use hub_model::Item;
 use hub_service::Pumping;
-use hub_threads::{Clock, Feed, Gate, HostFeed, Plain, Point, Pumped, UpdatesFeed};
+use hub_shared::{Clock, Feed, Gate, HostFeed, Plain, Point, Pumped, UpdatesFeed};
 use std::alloc::{AllocError, Global};
 use std::sync::{Arc, Wait};
 

@@ -12,7 +12,7 @@ use crate::starter::Starter;
 use hub_databases::Hub;
 use hub_document::Limits;
 use hub_routes::Routes;
-use hub_threads::{Clock, Gate};
+use hub_shared::{Clock, Gate};
 use std::alloc::{AllocError, Global};
 use std::io::{self, ErrorKind};
 use std::net::{TcpListener, TcpStream};

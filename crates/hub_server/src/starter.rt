@@ -3,7 +3,7 @@
 
 use crate::alive::Alive;
 use crate::orders::{Order, Orders, Pump, Stage};
-use hub_threads::Gate;
+use hub_shared::Gate;
 use std::alloc::{AllocError, Global};
 use std::sync::{Arc, Wait};
 use std::thread::{self, Threads};

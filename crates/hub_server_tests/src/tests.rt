@@ -10,7 +10,7 @@ mod waits;
 
 use hub_document::Limits;
 use hub_server::{Uptime, run_server};
-use hub_threads::{Gate, Point};
+use hub_shared::{Gate, Point};
 use std::alloc::Global;
 use std::net::{Net, SocketAddr, TcpListener, TcpStream};
 use std::sync::Wait;

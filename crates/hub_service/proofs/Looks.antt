@@ -22,11 +22,11 @@ use Rattle.hub_http.specs.declared.refusal.Refusal.{Refusal}
 use Rattle.hub_http.specs.declared.refusal.Refusal.TheVariants.{NoMemory, Deleted, SequenceFull}
 use Rattle.hub_shared.specs.Receipts.{receipts_from}
 use Rattle.hub_shared.specs.declared.write.Accepted.{Accepted}
-use Rattle.hub_threads.specs.Answers.{IsAnswer, TakesMemory}
-use Rattle.hub_threads.specs.Locals.{IsLocalFault}
-use Rattle.hub_threads.specs.Handles.{HandleState, IsFoundBy, IsReadBy, IsWrittenBy}
-use Rattle.hub_threads.specs.declared.question.Answer.{Answer}
-use Rattle.hub_threads.specs.declared.question.Question.{Question}
+use Rattle.hub_shared.specs.Answers.{IsAnswer, TakesMemory}
+use Rattle.hub_shared.specs.Locals.{IsLocalFault}
+use Rattle.hub_shared.specs.Handles.{HandleState, IsFoundBy, IsReadBy, IsWrittenBy}
+use Rattle.hub_shared.specs.declared.question.Answer.{Answer}
+use Rattle.hub_shared.specs.declared.question.Question.{Question}
 use Rattle.hub_http.specs.Refusals.{of_doc_fault}
 use Rattle.hub_document.specs.declared.doc.DocFault.{DocFault}
 use Rattle.hub_document.specs.declared.doc.DocFault.TheVariants as doc_fault

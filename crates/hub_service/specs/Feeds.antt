@@ -24,7 +24,7 @@ use Rattle.hub_http.specs.declared.refusal.Refusal.TheVariants as refusal
 use Rattle.hub_session.specs.declared.item.StreamItem.{StreamItem}
 use Rattle.hub_session.specs.declared.item.StreamItem.TheVariants.{Change, Update}
 use Rattle.hub_shared.specs.Label.{Label}
-use Rattle.hub_threads.specs.Handles.{IsBeginningFor}
+use Rattle.hub_shared.specs.Handles.{IsBeginningFor}
 use Rattle.hub_service.specs.Moments.{HasDatabase}
 use Rattle.hub_service.specs.Refusals.{of_open_fault, of_param_fault}
 use Rattle.hub_service.specs.declared.response.Response.{Response}

@@ -9,7 +9,7 @@ use Rattle.hub_database.specs.Locals.{written}
 use Rattle.hub_databases.specs.declared.hub.Written.{Written}
 use Rattle.hub_http.specs.declared.refusal.Refusal.{Refusal}
 use Rattle.hub_http.specs.declared.refusal.Refusal.TheVariants.{NoMemory, Deleted, SequenceFull}
-use Rattle.hub_threads.specs.Handles.{IsWrittenBy}
+use Rattle.hub_shared.specs.Handles.{IsWrittenBy}
 use Rattle.hub_service.specs.Said.{Said, Body, Refusing, Says, IsWant}
 use Rattle.hub_service.specs.declared.response.Response.{Response}
 

@@ -3,7 +3,7 @@
 ghost use Rattle.std.specs.Prelude.{◌≡◌, option_map, string_bytes};
 ghost use Rattle.hub_database.specs.Locals.{local_of, written};
 ghost use Rattle.hub_document.specs.Local.{local_in};
-ghost use Rattle.hub_threads.specs.Answers.{local_named};
+ghost use Rattle.hub_shared.specs.Answers.{local_named};
 ghost use Rattle.hub_service.specs.Calls.{keeps, puts_local, says_local};
 ghost use Rattle.hub_service.specs.Moments.{IsRead};
 ghost use Rattle.hub_service.specs.Said.{IsSaid};

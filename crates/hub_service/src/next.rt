@@ -6,7 +6,7 @@ ghost use Rattle.hub_service.specs.Feeds.{Gives};
 use crate::pumping::Pumping;
 use crate::sent::Sent;
 use hub_session::StreamItem;
-use hub_threads::{Feed, Plain, UpdatesFeed};
+use hub_shared::{Feed, Plain, UpdatesFeed};
 use std::sync::Wait;
 
 // The next item of a feed of changes, and what is sent behind it.

@@ -6,7 +6,7 @@ ghost use Rattle.hub_params.specs.FeedModel.{params_in};
 
 use hub_feed::FeedHost;
 use hub_model::Item;
-use hub_threads::{Feed, Gate, HostFeed, Plain, Point, Pumped, Turn, UpdatesFeed};
+use hub_shared::{Feed, Gate, HostFeed, Plain, Point, Pumped, Turn, UpdatesFeed};
 use std::alloc::AllocError;
 use std::sync::Wait;
 

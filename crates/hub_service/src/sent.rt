@@ -6,7 +6,7 @@ ghost use Rattle.hub_service.specs.Feeds.{life_of, next_listed};
 use hub_database::Descending;
 use hub_document::ChangeRow;
 use hub_model::Item;
-use hub_threads::{Feed, Plain, UpdatesFeed};
+use hub_shared::{Feed, Plain, UpdatesFeed};
 use std::marker::Model;
 use std::sync::Wait;
 use std::vec::IntoIter;

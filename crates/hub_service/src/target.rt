@@ -10,7 +10,7 @@ ghost use Rattle.hub_database.specs.Reads.{info_of, lookup, open_revs};
 ghost use Rattle.hub_feed.specs.Host.{opening_fault};
 ghost use Rattle.hub_params.specs.FeedModel.{params_of};
 ghost use Rattle.hub_params.specs.FeedShown.{params_asked};
-ghost use Rattle.hub_threads.specs.Answers.{IsAnswer, local_named};
+ghost use Rattle.hub_shared.specs.Answers.{IsAnswer, local_named};
 ghost use Rattle.hub_service.specs.Calls.{winner_in};
 ghost use Rattle.hub_service.specs.Feeds.{IsNew};
 ghost use Rattle.hub_service.specs.Moments.{IsFound, IsKept, IsStored};
@@ -23,7 +23,7 @@ use hub_feed::OpenFault;
 use hub_http::Refusal;
 use hub_params::FeedParams;
 use hub_revtree::Winner;
-use hub_threads::{Answer, Feed, Plain, Question};
+use hub_shared::{Answer, Feed, Plain, Question};
 use std::alloc::Global;
 use std::sync::Wait;
 

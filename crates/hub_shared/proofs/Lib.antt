@@ -2,3 +2,5 @@ pub mod Serving
 pub mod Sending
 pub mod Storing
 pub mod Auditing
+pub mod Finding
+pub mod Outcomes

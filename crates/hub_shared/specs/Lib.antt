@@ -3,3 +3,7 @@ pub mod Locked
 pub mod Opening
 pub mod Receipts
 pub mod Senders
+pub mod Times
+pub mod Answers
+pub mod Handles
+pub mod Locals

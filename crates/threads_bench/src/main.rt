@@ -7,7 +7,7 @@
 use hub_document::{Doc, Limits};
 use hub_model::Item;
 use hub_params::FeedParams;
-use hub_threads::{Clock, Db, Feed, Gate, Handle, Plain, Point, pump};
+use hub_shared::{Clock, Db, Feed, Gate, Handle, Plain, Point, pump};
 use std::alloc::Global;
 use std::sync::Wait;
 use std::sync::atomic::{AtomicBool, AtomicU64, Ordering};

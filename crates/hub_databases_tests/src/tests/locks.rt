@@ -3,7 +3,7 @@
 use crate::tests::{FIRST, created, docs, hub, params};
 use hub_databases::Hub;
 use hub_document::Doc;
-use hub_threads::{Clock, Gate, Point, pump};
+use hub_shared::{Clock, Gate, Point, pump};
 use std::sync::Wait;
 use std::sync::atomic::{AtomicBool, Ordering};
 use std::test::Fail;

@@ -5,7 +5,7 @@ use crate::tests::{FIRST, created, found, hub, write};
 use hub_databases::{Hub, HubDb, HubFault};
 use hub_document::Limits;
 use hub_model::{Fault, Outcome};
-use hub_threads::{Answer, Question};
+use hub_shared::{Answer, Question};
 use hub_updates::NoteFault;
 use std::sync::Wait;
 use std::test::Fail;

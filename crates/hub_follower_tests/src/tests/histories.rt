@@ -2,7 +2,7 @@
 
 use crate::tests::{at, copy_all, database, edits, leaves_text, round_into, start, write};
 use hub_follower::{Follower, Peer, Round, Seq};
-use hub_threads::{Db, Plain};
+use hub_shared::{Db, Plain};
 use std::alloc::Global;
 use std::sync::Wait;
 use std::test::Fail;

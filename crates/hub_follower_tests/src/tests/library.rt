@@ -1,7 +1,7 @@
 //! How a user of the libraries copies one database into another.
 
 use hub_follower::{DbPeer, FollowFault, Follower, Round};
-use hub_threads::{Db, Plain};
+use hub_shared::{Db, Plain};
 use std::alloc::Global;
 use std::sync::Wait;
 use std::test::Fail;

@@ -8,7 +8,7 @@ use crate::tests::{
 use hub_databases::{Hub, HubDb};
 use hub_document::{Limits, LocalDoc};
 use hub_follower::{DbPeer, FollowFault, Follower, Peer, Round, Seq};
-use hub_threads::{Answer, Db, Plain, Question};
+use hub_shared::{Answer, Db, Plain, Question};
 use std::alloc::Global;
 use std::sync::Wait;
 use std::test::Fail;

@@ -4,7 +4,7 @@ use crate::tests::{
     FIVE, LOG, agree, at, checkpoint, copy_all, database, edits, recorded, start, write,
 };
 use hub_follower::{DbPeer, FaultPeer, FollowFault, Follower, Loss};
-use hub_threads::{Db, Plain};
+use hub_shared::{Db, Plain};
 use std::alloc::Global;
 use std::sync::Wait;
 use std::test::Fail;

@@ -6,7 +6,7 @@ use crate::tests::{
 use hub_document::Limits;
 use hub_follower::{DbPeer, FollowFault, Follower, Peer, Round, Seq};
 use hub_model::Fault;
-use hub_threads::{Db, Plain};
+use hub_shared::{Db, Plain};
 use std::test::Fail;
 
 #[test]

@@ -6,7 +6,7 @@ use crate::tests::{
 };
 use hub_document::Asked;
 use hub_follower::{DbPeer, Loss, Peer, Round, Seq};
-use hub_threads::{Db, Plain};
+use hub_shared::{Db, Plain};
 use std::alloc::Global;
 use std::sync::Wait;
 use std::test::Fail;

@@ -3,7 +3,7 @@
 use crate::tests::{LOG, agree, database, edits};
 use hub_document::Doc;
 use hub_follower::{DbPeer, FaultPeer, FollowFault, Follower, Loss, Round};
-use hub_threads::{Db, Plain};
+use hub_shared::{Db, Plain};
 use std::alloc::{AllocError, Global};
 use std::sync::Wait;
 use std::sync::atomic::{AtomicU64, Ordering};

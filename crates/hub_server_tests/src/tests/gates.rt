@@ -3,7 +3,7 @@
 use crate::tests::Running;
 use crate::tests::client::Client;
 use hub_document::Limits;
-use hub_threads::{Gate, Point};
+use hub_shared::{Gate, Point};
 use std::alloc::Global;
 use std::sync::Arc;
 use std::sync::atomic::{AtomicBool, Ordering};

@@ -2,7 +2,7 @@ use Rattle.std.proofs.Common.{◌≡◌, ℕ, List, Option, Ok, Err, option_map,
 use Rattle.hub_database.specs.Database.{Database}
 use Rattle.hub_database.specs.Locals.{local_of}
 use Rattle.hub_database.specs.declared.local.Local as kept
-use Rattle.hub_threads.specs.Answers.{local_named}
+use Rattle.hub_shared.specs.Answers.{local_named}
 use Rattle.hub_service.specs.Calls.{says_local}
 use Rattle.hub_service.specs.Moments.{IsFound, IsRead}
 use Rattle.hub_service.specs.Said.{IsSaid}

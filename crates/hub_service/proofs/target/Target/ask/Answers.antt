@@ -1,5 +1,5 @@
 use Rattle.std.proofs.Common.{sym, subst, Err}
-use Rattle.hub_threads.specs.Answers.{IsAnswer}
+use Rattle.hub_shared.specs.Answers.{IsAnswer}
 use Rattle.hub_service.specs.Moments.{IsFound}
 use Rattle.hub_service.proofs.Looks.{found_answer, unfound_answer}
 use Rattle.hub_service.proofs.target.Target.ask.Goals as goal

@@ -1,6 +1,6 @@
 use Rattle.std.proofs.Common.{◌≡◌, false, subst}
-use Rattle.hub_threads.specs.Answers.{IsAnswer}
-use Rattle.hub_threads.specs.declared.question.Question.TheVariants as asks
+use Rattle.hub_shared.specs.Answers.{IsAnswer}
+use Rattle.hub_shared.specs.declared.question.Question.TheVariants as asks
 use Rattle.hub_service.specs.Moments.{HasDatabase}
 use Rattle.hub_service.proofs.target.Target.missing.Goals as goal
 

@@ -1,0 +1,62 @@
+-- What a handle on a database knows of it (own).
+use Rattle.std.specs.Prelude.{◌≡◌, ℕ, ◌≤◌, ◌<◌, List, length, take, min, Bool, true, false, IsTrue}
+use Rattle.hub_model.specs.Feed.{counted_in}
+use Rattle.hub_model.specs.Journal.{IsLegal}
+use Rattle.hub_model.specs.declared.feeds.Since.{Since}
+use Rattle.hub_model.specs.declared.feeds.Since.TheVariants.{Now, Plain, Tagged}
+use Rattle.hub_document.specs.declared.doc.Doc.{Doc}
+use Rattle.hub_database.specs.Database.{Database}
+use Rattle.hub_database.specs.Edits.{writes}
+use Rattle.hub_shared.specs.Label.{Label}
+use Rattle.hub_shared.specs.Receipts.{ids_of, receipts_from}
+use Rattle.hub_shared.specs.declared.write.Accepted.{Accepted}
+use Rattle.hub_shared.specs.Answers.{IsAnswer}
+use Rattle.hub_shared.specs.declared.question.Answer.{Answer}
+use Rattle.hub_shared.specs.declared.question.Question.{Question}
+
+-- what is seen of a handle
+pub record HandleState : Type 0 where
+  pub parts : ℕ  -- of the right to know how many edits were accepted through all handles
+  pub count : ℕ  -- how many were accepted through this one, and those joined to it
+
+-- a database as a call through the handle finds it: its journal is legal, and has at least the edits that the
+-- handle counted; just these, where the handle has every part
+-- a handle that counted 3 finds 5 edits where another counted 2; joined to that one it counts 5, and finds 5
+pub record IsFoundBy (counts : Bool) (all_parts : ℕ) (h : HandleState) (db : Database) : Type 0 where
+  pub legal : IsLegal db.journal
+  pub counted : h.count ≤ length db.journal
+  pub whole : counts ≡ true → h.parts ≡ all_parts → length db.journal ≡ h.count
+
+module _ (counts : Bool) (all_parts : ℕ) (h : HandleState) where
+  -- the answer to a question of some database that the handle may find
+  pub record IsReadBy (question : Question) (answer : Answer) : Type 0 where
+    pub db : Database
+    pub found : IsFoundBy counts all_parts h db
+    pub stands : db.deleted ≡ false
+    pub answered : IsAnswer db question answer
+
+  -- what became of a write to some database that the handle may find: of each document, unless memory ran
+  -- out, and the receipts of those that were stored
+  pub record IsWrittenBy (new_edits : Bool) (docs : List Doc) (a : Accepted) : Type 0 where
+    pub db : Database
+    pub found : IsFoundBy counts all_parts h db
+    pub replies : a.replies
+        ≡ (writes new_edits db.deleted db.limits.journal db.journal (take (length a.replies) docs)).outcomes
+    pub receipts : a.receipts.items ≡ receipts_from (length db.journal) (ids_of docs) a.replies
+    pub whole : a.stopped ≡ false → length a.replies ≡ length docs
+    pub stopped : IsTrue a.stopped → length a.replies < length docs
+
+-- where a feed begins that was asked to begin at this sequence, by a handle that has counted so many edits:
+-- not above it, and not below it unless the journal is shorter
+-- at 7 by a handle that counted 5 it begins at 5, 6 or 7
+abbrev pub IsBeginningAt : (seq count since : ℕ) → Type 0
+IsBeginningAt seq count since = (since ≤ seq) × (min seq count ≤ since)
+
+-- the label of a feed that was asked for with this since, by a handle that has counted so many edits: with now
+-- it begins behind all of these, and a sequence of another life counts as 0
+-- since=7-2 by a handle that counted 5 begins at 5, 6 or 7 in the second life, and in any other at 0
+abbrev pub IsBeginningFor : Since → (count : ℕ) → Label → Type 0
+IsBeginningFor Now count label = count ≤ label.since
+IsBeginningFor (Plain seq) count label = IsBeginningAt seq count label.since
+IsBeginningFor (Tagged seq of) count label =
+    IsBeginningAt (counted_in label.life seq of) count label.since

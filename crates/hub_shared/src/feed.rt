@@ -1,0 +1,161 @@
+//! Feeds of what threads share.
+
+ghost use Rattle.std.specs.Prelude.{◌≡◌, IfSome, IfNone};
+ghost use Rattle.hub_lane.specs.Ends.{IsAllowedBeginning, behind_take};
+ghost use Rattle.hub_params.specs.FeedModel.{params_in};
+
+use crate::gate::Gate;
+use crate::guarded::Guarded;
+use crate::host::{Host, Pumped};
+use crate::host_pump::HostPump;
+use crate::label::FeedLabel;
+use crate::locked::Handed;
+use crate::pumping::{Turn, hold};
+use crate::signals::Signals;
+use hub_database::DbState;
+use hub_document::ChangeRow;
+use hub_feed::{FeedHost, FeedId};
+use hub_lane::{Asks, Receiver};
+use hub_model::Item;
+use std::alloc::{AllocError, Global};
+use std::marker::{Model, PhantomData};
+use std::sync::{Arc, Wait};
+
+/// The label of a feed of changes.
+pub type ChangeLabel = FeedLabel<DbState>;
+
+/// What a feed of changes hands.
+pub type ChangeItem = Item<ChangeRow>;
+
+/// A feed of a database.
+pub type Feed<C> = HostFeed<DbState, Guarded<C>>;
+
+/// A feed of what threads share, as the connection has it that shows it. It is finished by `finish`: one
+/// that is let go otherwise stays among the feeds of its host.
+#[derive(Drop)]
+pub struct HostFeed<S: FeedHost, G: Pumped<S>> {
+    pub(crate) host: Host<G>,
+    pub(crate) id: FeedId,
+    receiver: Receiver<FeedLabel<S>, Item<S::Row>>,
+    pub(crate) signals: Arc<Signals, Global>,
+    /// How many items were taken, but for heartbeats.
+    taken: u64,
+    of: PhantomData<S>,
+}
+
+impl<S: FeedHost, G: Pumped<S>> Model for HostFeed<S, G> {
+    ghost use Rattle.hub_model.specs.declared.feeds.Item.{Item as Given};
+    ghost use Rattle.hub_lane.specs.Ends.{ReceiverState};
+    ghost use Rattle.hub_shared.specs.Label.{Label};
+
+    ghost Value = { ReceiverState Label (Given S.Row) };
+
+    ghost view = { λ a. a.receiver };
+}
+
+impl<S: FeedHost, G: Pumped<S>> HostFeed<S, G> {
+    pub(crate) fn new(
+        host: Host<G>,
+        id: FeedId,
+        receiver: Receiver<FeedLabel<S>, Item<S::Row>>,
+        signals: Arc<Signals, Global>,
+    ) -> HostFeed<S, G>
+        ensures { result ≡ receiver }
+    {
+        HostFeed {
+            host,
+            id,
+            receiver,
+            signals,
+            taken: 0,
+            of: PhantomData,
+        }
+    }
+
+    /// The feed's number. Constant time, and no memory.
+    pub fn id(&self) -> FeedId {
+        self.id
+    }
+
+    /// What the feed was asked for, and where it began. Constant time, and no memory.
+    pub fn label(&self) -> &FeedLabel<S>
+        ensures { result.now ≡ self.now.label }
+    {
+        self.receiver.label()
+    }
+
+    /// Takes the first item that was handed and not taken yet: what was taken is the beginning of a
+    /// list that is rightly handed, with the parameters and the since of the label. There is none where the
+    /// lane was empty at a moment of the call: then a pump that waits for room is woken. It waits for
+    /// nobody, and takes no memory.
+    pub fn take<R: Asks<FeedLabel<S>, Item<S::Row>>>(&mut self, rt: &R) -> Option<Item<S::Row>>
+        ensures taken { IfSome result (λ item. self.new ≡ behind_take self.old item) }
+        ensures same { IfNone result (self.new ≡ self.old) }
+        ensures none { IfNone result (R.lacks rt.now self.old) }
+        ensures allowed { IsAllowedBeginning
+            (λ l items. S.right (params_in l.asked) l.since items) self.new }
+    {
+        let item = self.receiver.take(rt);
+        match &item {
+            None => self.signals.ring_room(),
+            Some(Item::Beat) => {}
+            Some(_) => self.taken = self.taken.wrapping_add(1),
+        }
+        item
+    }
+
+    // Whether it was told of items that were not taken yet. Where it was not, items may lie there all the
+    // same.
+    pub(crate) fn has_told(&self) -> bool {
+        self.taken < self.signals.handed()
+    }
+
+    /// A pump of all feeds that wait, where this feed waits and there is none yet: it is to be run by another
+    /// thread, for `next` to be told of what is written. It takes no memory, and costs the wait for the
+    /// lock; an error says that too many share the host.
+    pub fn missing_pump<R: Wait>(&self, rt: &R) -> Result<Option<HostPump<S, G>>, AllocError> {
+        if !self.signals.waits || self.host.has_pump(rt) {
+            return Ok(None);
+        }
+        Ok(Some(HostPump::new(self.host.again()?)))
+    }
+
+    /// Sleeps until the feed's pump handed items or ended, for a connection that found nothing to
+    /// take. It may come back for no reason.
+    pub fn wait<R: Wait>(&self, rt: &R) {
+        self.signals.wait_for_items(rt);
+    }
+
+    /// Whether the feed's pump has ended: what can be taken then is all that will come. Constant time.
+    pub fn is_over(&self) -> bool {
+        self.signals.is_over()
+    }
+
+    /// Takes the lock once for this feed, as the free function `hold`.
+    pub fn hold<R, Gt>(&self, rt: &R, turn: Turn, gate: &Gt) -> Result<Handed, AllocError>
+    where
+        R: Asks<FeedLabel<S>, Item<S::Row>>,
+        Gt: Gate,
+    {
+        hold(rt, &self.host, self.id, turn, gate)
+    }
+
+    /// Takes the feed out of the lock, drops its sender, and hands the receiver back, from which what
+    /// is left can be taken until None. A pump of the feed ends. It takes no memory.
+    pub fn finish<R: Wait>(self, rt: &R) -> Receiver<FeedLabel<S>, Item<S::Row>>
+        ensures { result ≡ self }
+    {
+        let HostFeed {
+            host,
+            id,
+            receiver,
+            signals,
+            taken: _,
+            of: _,
+        } = self;
+        host.guarded().lock(rt).finish(id);
+        host.tell();
+        signals.ring_room();
+        receiver
+    }
+}

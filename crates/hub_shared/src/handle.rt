@@ -1,0 +1,207 @@
+//! Handles on a database.
+
+ghost use Rattle.std.specs.Prelude.{◌≡◌, ◌⊎◌, ℕ, [], ◌+◌, ◌≤◌, ◌<◌, true, false, length, IfOk, IfErr, OnErr, vec_len};
+ghost use Rattle.hub_model.specs.declared.outcomes.Fault.TheVariants.{Deleted};
+ghost use Rattle.hub_params.specs.FeedShown.{params_asked};
+ghost use Rattle.hub_database.specs.Database.{Database, GivesUp};
+ghost use Rattle.hub_database.specs.Hosting.{hosted_of};
+ghost use Rattle.hub_database.specs.Locals.{written};
+ghost use Rattle.hub_feed.specs.Host.{opening_fault};
+ghost use Rattle.hub_shared.specs.Receipts.{IsAudit};
+ghost use Rattle.hub_shared.specs.Answers.{TakesMemory};
+ghost use Rattle.hub_shared.specs.Handles.{IsBeginningFor, IsFoundBy, IsReadBy, IsWrittenBy};
+ghost use Rattle.hub_shared.specs.Locals.{IsLocalFault};
+
+use crate::count::Count;
+use crate::db::Db;
+use crate::feed::{Feed, HostFeed};
+use crate::question::{Answer, Question};
+use crate::receipt::{Receipt, ReceiptRoom, WrongReceipt};
+use crate::served::OpenedFeed;
+use crate::write::Accepted;
+use hub_database::DbFault;
+use hub_document::{Doc, LocalDoc};
+use hub_feed::OpenFault;
+use hub_params::FeedParams;
+use std::alloc::AllocError;
+use std::marker::Model;
+use std::sync::Wait;
+
+/// A handle on a database: each thread has its own. It counts the edits that were accepted through it
+/// and through those joined to it, and each of its calls finds a legal journal of at least so many.
+#[derive(Drop)]
+pub struct Handle<C: Count> {
+    db: Db<C>,
+    share: C::Share,
+    count: u64,
+}
+
+impl<C: Count> Model for Handle<C> {
+    ghost use Rattle.std.specs.Prelude.{◌≡◌, ◌<◌, true};
+    ghost use Rattle.hub_shared.specs.Answers.{TakesMemory};
+    ghost use Rattle.hub_shared.specs.Handles.{HandleState};
+
+    ghost Value = { HandleState };
+
+    ghost view = { λ a. record { parts = C.parts a.share; count = a.count } };
+
+    ghost invariant = { λ a. (C.counts ≡ true → 0 < C.parts a.share) × (C.amount a.share ≡ a.count) };
+}
+
+impl<C: Count> Handle<C> {
+    /// A handle that has counted nothing.
+    pub(crate) fn new(db: Db<C>, share: C::Share) -> Handle<C>
+        requires parts { C.counts ≡ true → 0 < C.parts share }
+        requires amount { C.amount share ≡ 0 }
+        ensures { result ≡ record { parts = C.parts share; count = 0 } }
+    {
+        Handle {
+            db,
+            share,
+            count: 0,
+        }
+    }
+
+    /// The database. Constant time.
+    pub fn db(&self) -> &Db<C> {
+        &self.db
+    }
+
+    /// How many edits were accepted through this handle, and through those joined to it. Of a `Plain`
+    /// database it is 0. Constant time.
+    pub fn count(&self) -> u64
+        ensures { result ≡ self.now.count }
+    {
+        self.count
+    }
+
+    /// Stores documents, as `Locked::write`. The documents' ids are copied, and the memory for the
+    /// receipts is taken, before the lock is. It costs these copies, the wait for the lock, and what
+    /// `DbState::write_edits` does.
+    pub fn write<R: Wait>(
+        &mut self,
+        rt: &R,
+        docs: Vec<Doc>,
+        new_edits: bool,
+    ) -> Result<Accepted, DbFault>
+        ensures written { IfOk result (λ a.
+            IsWrittenBy C.counts C.all_parts self.old new_edits docs.items a) }
+        ensures counted { IfOk result (λ a. C.counts ≡ true
+            → self.new.count ≡ self.old.count + vec_len a.receipts) }
+        ensures parts { self.new.parts ≡ self.old.parts }
+        ensures err { IfErr result (λ e. (e ≡ DbFault.NoMemory) × (self.new ≡ self.old)) }
+        ensures memory { OnErr result (0 < length docs.items) }
+    {
+        let room = ReceiptRoom::of(self.db.alloc, docs.as_slice())?;
+        let (accepted, rise) = self
+            .db
+            .guarded()
+            .lock(rt)
+            .write(&mut self.share, room, docs, new_edits)?;
+        self.db.tell();
+        self.count += rise;
+        Ok(accepted)
+    }
+
+    /// Answers a question. It costs the wait for the lock, and what `answer_of` does.
+    pub fn read<R: Wait>(&mut self, rt: &R, question: Question) -> Result<Answer, DbFault>
+        ensures ok { IfOk result (λ answer.
+            IsReadBy C.counts C.all_parts self.old question answer) }
+        ensures err { IfErr result (λ e. (db : Database) × IsFoundBy C.counts C.all_parts self.old db
+            × GivesUp db (TakesMemory db question) e) }
+        ensures same { self.new ≡ self.old }
+    {
+        self.db.guarded().lock(rt).read(&mut self.share, question)
+    }
+
+    /// Stores a local document in place of the one of its id, and says how often it was written. It
+    /// costs the wait for the lock, and what `DbState::local_put` does.
+    pub fn local_put<R: Wait>(&mut self, rt: &R, doc: LocalDoc) -> Result<u64, DbFault>
+        ensures ok { IfOk result (λ count. (db : Database) × (db.deleted ≡ false)
+            × (count ≡ (written db.locals doc).count)) }
+        ensures err { IfErr result (λ e. (db : Database) × IsLocalFault db doc e) }
+        ensures same { self.new ≡ self.old }
+    {
+        self.db.guarded().lock(rt).local_put(doc)
+    }
+
+    /// Opens a feed, which stays until it is finished: its connection is to call `HostFeed::next`, or
+    /// something `pump` for it, and `Feed::take`. `descending` is not looked at. It costs the wait for the lock, and what
+    /// `Locked::begin` does.
+    pub fn open_feed<R: Wait>(&mut self, rt: &R, params: FeedParams) -> Result<Feed<C>, OpenFault>
+        ensures asks { IfOk result (λ feed. feed.label.asked ≡ params_asked params) }
+        ensures begins { IfOk result (λ feed.
+            IsBeginningFor params.since self.old.count feed.label) }
+        ensures none { IfOk result (λ feed. feed.taken ≡ []) }
+        ensures err { IfErr result (λ e. (e ≡ OpenFault.NoMemory)
+            ⊎ ((db : Database) × (e ≡ opening_fault (hosted_of db)))) }
+        ensures same { self.new ≡ self.old }
+    {
+        let Ok(db) = self.db.again() else {
+            return Err(OpenFault::NoMemory);
+        };
+        let OpenedFeed {
+            id,
+            receiver,
+            signals,
+        } = self
+            .db
+            .guarded()
+            .lock(rt)
+            .open_feed(&mut self.share, params)?;
+        Ok(HostFeed::new(db, id, receiver, signals))
+    }
+
+    /// Deletes the database. Its feeds come to their ends. It takes no memory, and costs the wait for
+    /// the lock, and a step for each feed.
+    pub fn delete<R: Wait>(&mut self, rt: &R) -> Result<(), DbFault>
+        ensures err { IfErr result (λ e. e ≡ DbFault.Refused Deleted) }
+        ensures same { self.new ≡ self.old }
+    {
+        let done = self.db.guarded().lock(rt).delete();
+        self.db.tell();
+        done
+    }
+
+    /// Compares receipts with the journal, by `audit_of`. It takes no memory, and costs the wait for
+    /// the lock, and a look in the journal for each receipt.
+    pub fn audit<R: Wait>(&mut self, rt: &R, receipts: &[Receipt]) -> Result<(), WrongReceipt>
+        ensures audit { (db : Database) × IsFoundBy C.counts C.all_parts self.old db
+            × IsAudit db.journal receipts.now result }
+        ensures same { self.new ≡ self.old }
+    {
+        self.db.guarded().lock(rt).audit(&mut self.share, receipts)
+    }
+
+    /// Cuts a handle off, with so many of the parts of this one. It has counted nothing yet. It takes
+    /// no memory but the count of the database's users.
+    pub fn split(&mut self, parts: u64) -> Result<Handle<C>, AllocError>
+        requires { C.counts ≡ true → (0 < parts) × (parts < self.old.parts) }
+        ensures given { IfOk result (λ handle. (C.counts ≡ true → handle.parts ≡ parts)
+            × (handle.count ≡ 0) × (self.new.parts + handle.parts ≡ self.old.parts)) }
+        ensures count { self.new.count ≡ self.old.count }
+        ensures err { OnErr result (self.new ≡ self.old) }
+    {
+        let db = self.db.again()?;
+        let share = C::split(&mut self.share, parts);
+        Ok(Handle::new(db, share))
+    }
+
+    /// Joins another handle on this database to this one, with its parts and its count. It takes no
+    /// memory, and waits for the lock: that bounds the sum of the counts.
+    pub fn join<R: Wait>(&mut self, rt: &R, other: Handle<C>)
+        ensures { self.new ≡ record {
+          parts = self.old.parts + other.parts;
+          count = self.old.count + other.count;
+        } }
+    {
+        let Handle {
+            db: _,
+            share,
+            count,
+        } = other;
+        C::merge(&mut self.share, share);
+        self.db.guarded().lock(rt).bound(&mut self.share);
+        self.count += count;
+    }
+}

@@ -1,0 +1,231 @@
+//! The pumps of feeds.
+
+use crate::gate::{Clock, Gate, Point};
+use crate::host::{Host, Pumped};
+use crate::label::FeedLabel;
+use crate::locked::Handed;
+use crate::signals::Signals;
+use crate::times::Due;
+use hub_feed::{FeedHost, FeedId};
+use hub_lane::Asks;
+use hub_model::Item;
+use std::alloc::{AllocError, Global};
+use std::marker::PhantomData;
+use std::sync::{Arc, Wait};
+use std::time;
+
+/// What one holding of the lock does for a feed.
+#[derive(Clone, Copy, Debug, PartialEq, Eq)]
+pub enum Turn {
+    /// It hands what is due.
+    Hand,
+    /// It sends a heartbeat that is due.
+    Beat,
+    /// It ends the feed's time.
+    Expire,
+}
+
+/// What one holding did.
+#[derive(Clone, Copy)]
+pub(crate) struct Holding {
+    /// What the last step answered.
+    pub(crate) last: Handed,
+    /// How many items were handed.
+    pub(crate) sent: u64,
+    /// The number of the news as the lock was let go.
+    news: u64,
+}
+
+/// Hands until an answer is not a row, or so many items were sent: the last answer, and how many items
+/// were sent.
+pub(crate) fn hand_on<S, H, R>(
+    guarded: &mut H,
+    rt: &R,
+    feed: FeedId,
+    most: u64,
+) -> Result<(Handed, u64), AllocError>
+where
+    S: FeedHost,
+    H: Pumped<S>,
+    R: Asks<FeedLabel<S>, Item<S::Row>>,
+{
+    for sent in 0..most {
+        match guarded.hand(rt, feed)? {
+            Handed::Row => {}
+            Handed::End => return Ok((Handed::End, sent + 1)),
+            last => return Ok((last, sent)),
+        }
+    }
+    Ok((Handed::Row, most))
+}
+
+impl<H: Drop> Host<H> {
+    /// One holding of the lock.
+    pub(crate) fn hold_once<S, R, G>(
+        &self,
+        rt: &R,
+        feed: FeedId,
+        turn: Turn,
+        gate: &G,
+    ) -> Result<Holding, AllocError>
+    where
+        S: FeedHost,
+        H: Pumped<S>,
+        R: Asks<FeedLabel<S>, Item<S::Row>>,
+        G: Gate,
+    {
+        let mut guarded = self.guarded().lock(rt);
+        gate.pass(Point::PumpHolding);
+        let most = guarded.most();
+        let (last, sent) = match turn {
+            Turn::Hand => hand_on(&mut *guarded, rt, feed, most)?,
+            Turn::Beat => (guarded.beat(rt, feed), 0),
+            Turn::Expire => {
+                guarded.expire(feed);
+                (Handed::Nothing, 0)
+            }
+        };
+        Ok(Holding {
+            last,
+            sent,
+            news: guarded.news(),
+        })
+    }
+
+    // The signals of a feed, unless it is finished.
+    fn signals<S, R>(
+        &self,
+        rt: &R,
+        feed: FeedId,
+    ) -> Result<Option<Arc<Signals, Global>>, AllocError>
+    where
+        S: FeedHost,
+        H: Pumped<S>,
+        R: Wait,
+    {
+        self.guarded().lock(rt).signals(feed)
+    }
+}
+
+/// Takes the lock once. `Turn::Hand` hands until an answer is not `Row`, or as many items were handed
+/// as one holding may, and answers the last; without memory for a row what was handed before it
+/// stays handed. The other turns make one step: both answer `Nothing`, also where there is nothing to
+/// do, and `Turn::Beat` answers `Full` where the lane was full.
+pub fn hold<S, H, R, G>(
+    rt: &R,
+    host: &Host<H>,
+    feed: FeedId,
+    turn: Turn,
+    gate: &G,
+) -> Result<Handed, AllocError>
+where
+    S: FeedHost,
+    H: Pumped<S>,
+    R: Asks<FeedLabel<S>, Item<S::Row>>,
+    G: Gate,
+{
+    let holding = host.hold_once(rt, feed, turn, gate)?;
+    Ok(holding.last)
+}
+
+// What a pump knows between two holdings.
+#[derive(Drop)]
+struct PumpState<'a, S: FeedHost, H: Pumped<S>, K: Clock> {
+    host: &'a Host<H>,
+    feed: FeedId,
+    signals: &'a Signals,
+    clock: &'a K,
+    /// The clock's reading at the last item, or at the beginning.
+    last_item: u64,
+    of: PhantomData<S>,
+}
+
+impl<'a, S: FeedHost, H: Pumped<S>, K: Clock> PumpState<'a, S, H, K> {
+    // What comes after a turn that found nothing to do: behind a heartbeat or the end of its time the
+    // feed is asked again; a feed that had nothing to hand gets one of these, or waits for news.
+    fn after_nothing<R: Wait + time::Clock>(&mut self, rt: &R, turn: Turn, news: u64) -> Turn {
+        let now = self.clock.now_ms();
+        if turn == Turn::Beat {
+            self.last_item = now;
+            self.signals.ring_items();
+        }
+        if turn != Turn::Hand {
+            return Turn::Hand;
+        }
+        match self
+            .signals
+            .times
+            .due_after(now.saturating_sub(self.last_item))
+        {
+            Due::Beat => Turn::Beat,
+            Due::Expire => Turn::Expire,
+            Due::Wait(most) => {
+                self.host.wait_for_news(rt, news, most);
+                Turn::Hand
+            }
+        }
+    }
+
+    // Hands until the feed is gone.
+    fn run<R, G>(&mut self, rt: &R, gate: &G) -> Result<(), AllocError>
+    where
+        R: Asks<FeedLabel<S>, Item<S::Row>> + time::Clock,
+        G: Gate,
+    {
+        let mut turn = Turn::Hand;
+        for _ in rt.forever() {
+            gate.pass(Point::PumpFree);
+            let holding = self.host.hold_once(rt, self.feed, turn, gate)?;
+            if holding.sent > 0 {
+                self.last_item = self.clock.now_ms();
+                self.signals.count_handed(holding.sent);
+                self.signals.ring_items();
+            }
+            turn = match holding.last {
+                Handed::Gone => return Ok(()),
+                Handed::Row | Handed::End => Turn::Hand,
+                Handed::Full => {
+                    self.signals.wait_for_room(rt);
+                    Turn::Hand
+                }
+                Handed::Nothing => self.after_nothing(rt, turn, holding.news),
+            };
+        }
+        unreachable!()
+    }
+}
+
+/// Hands a feed's items into its lane as they come, until the feed is finished or has handed its end:
+/// then it ends with Ok. Without memory for a row it ends with that error, and the feed stays as it
+/// is. It takes the lock for at most as many items as one holding may hand. Where the lane is full it
+/// sleeps until `Feed::take` finds it empty; where there is nothing to hand it sleeps until a write, a
+/// deletion or the end of a feed, and at most until a heartbeat is due, or the feed's time is over.
+pub fn pump<S, H, R, G, K>(
+    rt: &R,
+    host: &Host<H>,
+    feed: FeedId,
+    gate: &G,
+    clock: &K,
+) -> Result<(), AllocError>
+where
+    S: FeedHost,
+    H: Pumped<S>,
+    R: Asks<FeedLabel<S>, Item<S::Row>> + time::Clock,
+    G: Gate,
+    K: Clock,
+{
+    let Some(signals) = host.signals(rt, feed)? else {
+        return Ok(());
+    };
+    let mut state = PumpState {
+        host,
+        feed,
+        signals: &signals,
+        clock,
+        last_item: clock.now_ms(),
+        of: PhantomData,
+    };
+    let done = state.run(rt, gate);
+    signals.end();
+    done
+}

@@ -1,0 +1,73 @@
+//! The log of updates that threads share.
+
+ghost use Rattle.std.specs.Prelude.{◌≡◌, ◌⊎◌, [], IfOk, IfErr, OnOk};
+ghost use Rattle.hub_params.specs.FeedShown.{params_asked};
+ghost use Rattle.hub_shared.specs.Handles.{IsBeginningFor};
+
+use crate::feed::HostFeed;
+use crate::host::Host;
+use crate::served::{OpenedFeed, Served};
+use hub_document::Limits;
+use hub_feed::OpenFault;
+use hub_params::FeedParams;
+use hub_updates::{NoteFault, Notice, UpdatesState};
+use std::alloc::{AllocError, Global};
+use std::sync::Wait;
+
+/// The log of updates, which threads share. Each `Updates` keeps it; it goes with the last of them.
+pub type Updates = Host<Served<UpdatesState>>;
+
+/// A feed of the log of updates.
+pub type UpdatesFeed = HostFeed<UpdatesState, Served<UpdatesState>>;
+
+impl Served<UpdatesState> {
+    // Adds a notice at the end of the log, or hands it back, as `Locked::note`.
+    fn note(&mut self, notice: Notice) -> Result<(), (Notice, NoteFault)>
+        ensures err { IfErr result (λ e. e.0 ≡ notice) }
+    {
+        self.tell();
+        self.locked.note(notice)
+    }
+}
+
+impl Host<Served<UpdatesState>> {
+    /// A log of nothing. Its life is 0, which no database has.
+    pub fn of_updates(alloc: Global, limits: Limits) -> Result<Updates, AllocError> {
+        let served = Served::new(
+            alloc,
+            UpdatesState::new(alloc, limits, 0),
+            limits.lane as usize,
+            limits.hold,
+        );
+        Host::of(alloc, served)
+    }
+
+    /// Adds a notice at the end of the log, or hands it back, as `UpdatesState::note`, and tells the
+    /// feeds that wait. It costs the wait for the lock, and what `UpdatesState::note` does.
+    pub fn note<R: Wait>(&self, rt: &R, notice: Notice) -> Result<(), (Notice, NoteFault)>
+        ensures err { IfErr result (λ e. e.0 ≡ notice) }
+    {
+        let noted = self.guarded().lock(rt).note(notice);
+        self.tell();
+        noted
+    }
+
+    /// Opens a feed, which stays until it is finished: its connection is to call `HostFeed::next`, or
+    /// something `pump` for it, and `HostFeed::take`. It costs the wait for the lock, and what `Locked::begin` does.
+    pub fn open_feed<R: Wait>(&self, rt: &R, params: FeedParams) -> Result<UpdatesFeed, OpenFault>
+        ensures asks { IfOk result (λ feed. feed.label.asked ≡ params_asked params) }
+        ensures begins { IfOk result (λ feed. IsBeginningFor params.since 0 feed.label) }
+        ensures none { IfOk result (λ feed. feed.taken ≡ []) }
+        ensures err { IfErr result (λ e. (e ≡ OpenFault.NoMemory) ⊎ (e ≡ OpenFault.TooManyFeeds)) }
+    {
+        let Ok(host) = self.again() else {
+            return Err(OpenFault::NoMemory);
+        };
+        let OpenedFeed {
+            id,
+            receiver,
+            signals,
+        } = self.guarded().lock(rt).begin(params)?;
+        Ok(HostFeed::new(host, id, receiver, signals))
+    }
+}

@@ -1,4 +1,0 @@
-pub mod Times
-pub mod Answers
-pub mod Handles
-pub mod Locals
