@@ -1,4 +1,5 @@
-use hub_document::{Body, ChangeRow, Changes, Doc, RevId, Revisions};
+use hub_document::{Body, ChangeRow, Changes, Doc, RevId, Revisions, UpdateRow};
+use hub_model::UpdateKind;
 use std::alloc::Global;
 use std::test::Fail;
 
@@ -44,6 +45,30 @@ fn a_copy_of_a_row(rt: HostRuntime) -> Result<(), Fail> {
     assert!(rt; copy.changes.len() == 0);
     let body = copy.doc.as_ref().map(Body::as_bytes);
     assert_eq!(rt; body, Some(br#"{"v":7}"#.as_slice()));
+    Ok(())
+}
+
+#[test]
+fn copies_of_rows_of_updates(rt: HostRuntime) -> Result<(), Fail> {
+    let alloc = rt.alloc();
+    for (name, kind, seq, seen) in [
+        ("", UpdateKind::Created, 1u64, 1u64),
+        ("d", UpdateKind::Updated, 3, 4),
+        ("team/mail-1", UpdateKind::Deleted, u64::MAX, u64::MAX),
+    ] {
+        let db_name = String::from_str(alloc, name)?;
+        let row = UpdateRow {
+            db_name,
+            kind,
+            seq,
+            seen,
+        };
+        let copy = row.copy(alloc)?;
+        assert_eq!(rt;
+            (copy.db_name.as_str(), copy.kind, copy.seq, copy.seen),
+            (name, kind, seq, seen)
+        );
+    }
     Ok(())
 }
 
