@@ -37,7 +37,8 @@ abbrev pub counted_by : Seq → Option ℕ → ℕ
 counted_by s None = s.n
 counted_by s (Some life) = seq_in life s
 
--- whether a place is the one before it, as that one counts in its life: 5-1 is so behind 5, and 0-2 behind 5-1
+-- whether a place is the one before it, as that one counts in its life: 5-1 is so behind 5, and 0-2
+-- behind 5-1
 abbrev pub is_same_place : (old new : Option Seq) → Bool
 is_same_place None None = true
 is_same_place None (Some new) = false

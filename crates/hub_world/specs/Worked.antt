@@ -144,8 +144,8 @@ LaneFills =
     ∷ Hand 0 ∷ [])
     ≡ Opened 0 ∷ Pushed (third 1) ∷ Pushed (third 2) ∷ Full ∷ Took (Some (third 1)) ∷ Pushed (third 3) ∷ []
 
--- a feed that begins after 2 of the database's life begins with the third row, and after 2 of another life with
--- the first
+-- a feed that begins after 2 of the database's life begins with the third row, and after 2 of another life
+-- with the first
 abbrev pub LivesCount : Type 0
 LivesCount =
     (replies_to three (Begin (asks Normal (Tagged 2 1) None Everything) ∷ Hand 0 ∷ Hand 0 ∷ [])
