@@ -1,8 +1,9 @@
--- An index of stems: from the key of a digest to the number of the stem that has a revision with that key (own).
--- An example: stem 0 has the revisions 2-d' and 1-e', and stem 1 has 3-f', where d' is the hexadecimal text of the
--- digest d, in lower-case digits, and so on. The key of d is the number of its first eight bytes. Where the three keys
--- differ, the entries are 0 at the keys of d and e, and 1 at the key of f. Where f begins with the eight bytes of d, the
--- entry at their key is `many`, since both stems have a revision with it. A revision such as 4-x has no key.
+-- An index of stems: from the key of a digest to the number of the stem that has a revision with that key
+-- (own). An example: stem 0 has the revisions 2-d' and 1-e', and stem 1 has 3-f', where d' is the hexadecimal
+-- text of the digest d, in lower-case digits, and so on. The key of d is the number of its first eight bytes.
+-- Where the three keys differ, the entries are 0 at the keys of d and e, and 1 at the key of f. Where f
+-- begins with the eight bytes of d, the entry at their key is `many`, since both stems have a revision with
+-- it. A revision such as 4-x has no key.
 use Rattle.std.specs.Prelude.{◌≡◌, ℕ, ◌-◌, ◌⊎◌, List, length, map, slice_get, Option, Some, None, nat_eq, true}
 use Rattle.std.specs.HashMap.{get}
 use Rattle.hex.specs.Hex.{encode_lower}
@@ -38,11 +39,15 @@ AreIn entry number revisions =
 abbrev pub IsIndexOf : (ℕ → Option ℕ) → List Stem → Type 0
 IsIndexOf entry stems = (number : ℕ) (stem : Stem) → slice_get stems number ≡ Some stem → AreIn entry number stem.revisions
 
--- the newest revision of the newest stem, if there is one
+-- the newest revision of the stem that came last, if there is one
 abbrev pub newest_rev : List Stem → Option Revision
 newest_rev stems = slice_get (revisions_at stems (length stems - 1)) 0
 
--- the digests, if there are some, are those whose texts are the hashes of that revision and of all that stands behind it
+-- The digests, if there are some, are those whose texts are the hashes of that revision and of all that
+-- stands behind it. An example: edits with the paths 2-b' 1-a', then 3-c' 2-b' 1-a', then 2-e' 1-a' came in
+-- this order, where a' is the text of the digest a as above. The newest stem is the third, although 3-c' is
+-- of a higher generation. Its newest revision is 2-e', so the digests are e and a, in this order; c, b, a
+-- would be the line of the second edit.
 abbrev pub IsNewestLine : Option (List (List ℕ)) → List Stem → Type 0
 IsNewestLine None stems = Unit {0}
 IsNewestLine (Some digests) stems =
