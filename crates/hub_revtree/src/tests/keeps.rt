@@ -104,6 +104,29 @@ fn line_of_edits_is_kept_once(rt: HostRuntime) -> Result<(), Fail> {
     Ok(())
 }
 
+// Whether these are revisions with this hash, from this generation down to the first.
+fn is_line_of(revs: &[RevId], newest: u16, hash: &[u8]) -> bool {
+    let mut generation = newest;
+    for rev in revs {
+        if rev.generation() != generation || rev.hash() != hash {
+            return false;
+        }
+        generation = generation.saturating_sub(1);
+    }
+    revs.len() == usize::from(newest)
+}
+
+// Whether the winner's path is the longest that there is, each of whose revisions has the hash `a`.
+fn is_longest(alloc: Global, tree: &RevTree) -> Result<bool, AllocError> {
+    let Some(winner) = tree.winner() else {
+        return Ok(false);
+    };
+    match tree.path(alloc, &winner)? {
+        Some(path) => Ok(is_line_of(path.revisions(), 65535, b"a")),
+        None => Ok(false),
+    }
+}
+
 #[test]
 fn longest_path_is_kept_whole(rt: HostRuntime) -> Result<(), Fail> {
     let alloc = rt.alloc();
@@ -115,7 +138,7 @@ fn longest_path_is_kept_whole(rt: HostRuntime) -> Result<(), Fail> {
     );
     assert_eq!(rt; tree.winner(), RevId::read("65535-a"));
     assert_eq!(rt; tree.nodes(), 65535);
-    let len = winner_line(alloc, &tree)?;
-    assert_eq!(rt; len, 65535);
+    let whole = is_longest(alloc, &tree)?;
+    assert!(rt; whole);
     Ok(())
 }

@@ -1,7 +1,7 @@
 //! Trees with their winners, known heads and contradictions.
 
 use crate::MergeFault;
-use crate::tests::Step::{Deleted, Knows, Len, Merge, Winner};
+use crate::tests::Step::{Deleted, Knows, Leaves, Len, Merge, Nodes, Path, Winner};
 use crate::tests::{ADDED, KNOWN, Step, assert_steps};
 use std::test::Fail;
 
@@ -46,6 +46,35 @@ const HEADS: &[Step] = &[
 #[test]
 fn known_heads_change_nothing(rt: HostRuntime) -> Result<(), Fail> {
     assert_steps(&rt, rt.alloc(), HEADS)
+}
+
+// Two edits on the same two revisions, of which the newer comes a third time, as a history of its own.
+const BRANCHES: &[Step] = &[
+    Merge(
+        r#"{"_id":"d","_revisions":{"start":3,"ids":["c","b","a"]}}"#,
+        ADDED,
+    ),
+    Nodes(3),
+    Merge(
+        r#"{"_id":"d","_revisions":{"start":3,"ids":["d","b","a"]}}"#,
+        ADDED,
+    ),
+    Nodes(4),
+    Leaves("3-d 3-c "),
+    Path("3-d", Some("3-d 2-b 1-a ")),
+    Path("3-c", Some("3-c 2-b 1-a ")),
+    Merge(
+        r#"{"_id":"d","_revisions":{"start":2,"ids":["b","a"]}}"#,
+        KNOWN,
+    ),
+    Nodes(4),
+    Leaves("3-d 3-c "),
+    Len(2),
+];
+
+#[test]
+fn branches_are_merged_on_what_is_known(rt: HostRuntime) -> Result<(), Fail> {
+    assert_steps(&rt, rt.alloc(), BRANCHES)
 }
 
 const CONTRADICTIONS: &[Step] = &[
