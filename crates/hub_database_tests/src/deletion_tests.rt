@@ -1,8 +1,8 @@
 //! A database that is deleted: its feeds come to their ends, and it takes and shows nothing.
 
 use crate::feed_tests::FeedStep::{Finish, Hands, Open};
-use crate::feed_tests::Handed::{End, Gone, Row};
-use crate::feed_tests::{FIFTH, FIRST, FOURTH, SECOND, THIRD};
+use crate::feed_tests::Handed::{End, Gone, Nothing, Row, Whole};
+use crate::feed_tests::{FIFTH, FIRST, FOURTH, Handed, SECOND, ShownRow, THIRD};
 use crate::local_tests::LocalStep::{Get as GetLocal, Put};
 use crate::read_tests::ReadStep::{All, Descending, Diff, Get};
 use crate::tests::Step::{Batch, Counts, Delete, Edits, Feed, IsDeleted, Local, Make, Read, Seq};
@@ -57,6 +57,29 @@ const PLACES: &[Step] = &[
 #[test]
 fn deletion_ends_feeds_at_their_places(rt: HostRuntime) {
     assert_steps(&rt, rt.alloc(), PLACES);
+}
+
+const ROW_OF_A: Handed = Whole(ShownRow {
+    seq: 1,
+    id: "a",
+    revs: &["1-a"],
+    deleted: false,
+    members: Some(r#"{"v":1}"#),
+});
+
+// A feed that began at 0 and has handed the one row that there is.
+const HANDED: &[Step] = &[
+    Batch(&[A], &[Stored("1-a")]),
+    Feed(Open("feed=continuous&since=0&include_docs=true", Ok(FIRST))),
+    Feed(Hands(FIRST, &[ROW_OF_A, Nothing])),
+    Delete(Ok(())),
+    Feed(Hands(FIRST, &[End(1, 0), Gone])),
+    Feed(Hands(FIRST, &[Gone])),
+];
+
+#[test]
+fn a_feed_ends_behind_the_row_that_it_handed(rt: HostRuntime) {
+    assert_steps(&rt, rt.alloc(), HANDED);
 }
 
 const REFUSED: Outcome<&str> = Refused(Fault::Deleted);
