@@ -12,9 +12,9 @@ latest_of d = (d.id, d.latest)
 abbrev pub latest_at : List Filed → ℕ → Option (List ℕ × ℕ)
 latest_at documents k = option_map latest_of (slice_get documents k)
 
--- The rows are the current ones of the journal: a document's row lies at its latest edit, and each row is of a
--- document. Where a was edited, then b, then a again, and a is document 0 and b document 1, they are (2, 1) and
--- (3, 0).
+-- The rows are the current ones of the journal: a document's row lies at its latest edit, and each row is of
+-- a document. Where a was edited, then b, then a again, and a is document 0 and b document 1, they are (2, 1)
+-- and (3, 0).
 abbrev pub IsIndexed : List Filed → List Entry → List (ℕ × ℕ) → Type 0
 IsIndexed documents entries index =
     indexed.IsIndexed (latest_at documents) (journal_of documents entries) index

@@ -1,6 +1,6 @@
 -- The revision and the history that a document names by `_rev` and `_revisions` (CouchDB API reference,
--- documents; replication protocol, upload of changed documents). A history may end above the first generation; its
--- limits are own.
+-- documents; replication protocol, upload of changed documents). A history may end above the first
+-- generation; its limits are own.
 use Rattle.std.specs.Prelude.{ℕ, ◌-◌, ◌^◌, List, [], ◌∷◌, codes, Bool, true, ◌&&◌, ◌||◌, ◌==◌, nat_lt}
 use Rattle.std.specs.Prelude.{is_some, if◌then◌else◌, Option, Some, None, option_map, option_and_then}
 use Rattle.hub_model.specs.Revision.{Revision}

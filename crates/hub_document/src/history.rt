@@ -72,8 +72,8 @@ fn falling_from(
     Ok(Some(revisions))
 }
 
-// The generation that a history of these hashes starts from, where it is within the limits and there is one hash at
-// least. None is a fault.
+// The generation that a history of these hashes starts from, where it is within the limits and there is one
+// hash at least. None is a fault.
 fn start_of(start: u64, ids: &Vec<Value>) -> Option<u16>
     ensures some { IfSome result (λ n. falling n (items_view ids.now.items) ≡ starting start (items_view ids.now.items)) }
     ensures none { IfNone result (starting start (items_view ids.now.items) ≡ None) }

@@ -31,8 +31,8 @@ AreBehind length feeds = All (λ (p : ℕ × Feed). IsBehind length p.1) feeds
 abbrev pub ended : ℕ × Feed → ℕ × Feed
 ended p = (p.0, end p.1)
 
--- The feeds, kept over so many edits with these current rows, which are shown so: a step of a feed looks at no
--- more than that.
+-- The feeds, kept over so many edits with these current rows, which are shown so: a step of a feed looks at
+-- no more than that.
 abbrev pub over : {R : Type 0} → ℕ → List Current → (Style → Bool → Current → R) → FeedList → Hosted R
 over length current shown list = record {
   length = length;

@@ -14,8 +14,8 @@ module _ {R : Type 0} (kind : RowKind R) (allowed : List Edit → Type 0) where
     pub legal : allowed J
     pub fits : Fits kind J f items
 
-  -- the list is rightly handed, by these parameters and above this sequence, for some edits that there may be,
-  -- some place and some bound
+  -- the list is rightly handed, by these parameters and above this sequence, for some edits that there may
+  -- be, some place and some bound
   pub record IsRightFor (params : Params) (since : ℕ) (items : List (Item R)) : Type 0 where
     pub edits : List Edit
     pub legal : allowed edits

@@ -6,7 +6,8 @@ use Rattle.hub_model.specs.declared.feeds.Item.TheVariants.{Row, End}
 use Rattle.hub_feed.specs.declared.next.Next.{Next}
 use Rattle.hub_feed.specs.declared.next.Next.TheVariants.{Give, Nothing, Gone}
 
--- what a feed answers to which this is due, of these current rows; `show` makes of a current row what is handed
+-- what a feed answers to which this is due, of these current rows; `show` makes of a current row what is
+-- handed
 abbrev pub next_of : {R : Type 0} → (Current → R) → List Current → Due → Next R
 next_of show rows (DueRow c) = Give (Row (show c))
 next_of show rows (DueEnd last_seq) = Give (End last_seq (pending rows last_seq))

@@ -102,7 +102,8 @@ common_some (x ∷ p) (y ∷ q) n e = elim (cases_Bool (is_same x y)) [
         subst (λ k. (k ≡ min (suc (length p)) (suc (length q))) × (take k (x ∷ p) ≡ take k (y ∷ q))) z
         (omega (arith, i.0), ap₂ (λ (v : Revision) (vs : List Revision). v ∷ vs) (same_is x y t) i.1)
 
--- how far a list and another are one, which is told where the first k are, and the other is q from there on and then r
+-- how far a list and another are one, which is told where the first k are, and the other is q from there on
+-- and then r
 module _ (p q r : List Revision) (k : ℕ) (o : Option ℕ) (so_far : o ≡ option_map (λ n. n + k) (common (drop k p) (q ++ r))) where
   pub so_far_none : common (drop k p) q ≡ None → o ≡ None
   so_far_none e = so_far ∙ ap (option_map (λ n. n + k)) (common_none (drop k p) q r e)

@@ -174,7 +174,8 @@ module _ (xs : List Stem) (a : AreStems xs) where
     found_behind z None found none = sym (none_told_at z none)
     found_behind z (Some p) found none = let r = within_rev xs p found.0 in r.1 ∙ sym (told_at z r.0 (found.1 r.0 r.1))
 
-    -- the chain from a place on, and the line from what stands behind its last, are all that stands behind the place's
+    -- the chain from a place on, and the line from what stands behind its last, are all that stands behind
+    -- the place's
     pub place_line : (p : Place) (r : Revision) → rev_at xs (Some p) ≡ Some r → (o : Option Place) → ((x : Revision) → last_in (chain_from (chains_of xs) (Some p)) ≡ Some x → rev_at xs o ≡ behind_in x (edits_in bs))
         → line_to (edits_in bs) (Some r) ≡ chain_from (chains_of xs) (Some p) ++ line_to (edits_in bs) (rev_at xs o)
     place_line p r placed o behind =

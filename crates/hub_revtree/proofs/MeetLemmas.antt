@@ -95,7 +95,8 @@ some_chain xs a p w =
 
 -- ---- the look at a path, up to a place
 
--- the path's steps so far agree with the stored ones, and of the last revision so far is told what is behind it
+-- the path's steps so far agree with the stored ones, and of the last revision so far is told what is behind
+-- it
 pub record Agrees (xs : List Stem) (path : List Revision) (at : ℕ) (next : Option Place) : Type 0 where
   pub steps : (s r other : Revision) → IsNext (take at path) s r → IsBehind (edits_in (branches_of xs)) [] other s → r ≡ other
   pub behind : (x : Revision) → last_in (take at path) ≡ Some x → rev_at xs next ≡ behind_in x (edits_in (branches_of xs))
@@ -103,7 +104,8 @@ pub record Agrees (xs : List Stem) (path : List Revision) (at : ℕ) (next : Opt
   pub within : IfSome next (IsWithin xs)
   pub short : at ≤ length path
 
--- the path's next revision stands at the place, or the place is the one told of what is behind the last so far
+-- the path's next revision stands at the place, or the place is the one told of what is behind the last so
+-- far
 pub record Goes (xs : List Stem) (path : List Revision) (at : ℕ) (next : Option Place) (p : Place) : Type 0 where
   pub so_far : Agrees xs path at next
   pub first : Revision

@@ -1,5 +1,5 @@
--- How far two lists of revisions are one (own). An example: 5-e 4-d and 5-e 4-d 3-c are one for 2, and 5-e 4-d and 5-e 4-q
--- are not, since both have a second one.
+-- How far two lists of revisions are one (own). An example: 5-e 4-d and 5-e 4-d 3-c are one for 2, while
+-- 5-e 4-d and 5-e 4-q are not, since both have a second one.
 use Rattle.std.specs.Prelude.{ℕ, suc, List, [], ◌∷◌, Option, Some, None, option_map, if◌then◌else◌}
 use Rattle.hub_model.specs.Revision.{Revision, is_same}
 

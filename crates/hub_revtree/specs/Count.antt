@@ -1,11 +1,11 @@
--- How many revisions a tree keeps (own). An example: of the edits with the paths 2-b 1-a, then 3-c 2-b 1-a, then
--- 3-d 2-e 1-a, the first brings 2-b and 1-a, the second 3-c, the third 3-d and 2-e, so the count is 5.
+-- How many revisions a tree keeps (own). An example: of the edits with the paths 2-b 1-a, then 3-c 2-b 1-a,
+-- then 3-d 2-e 1-a, the first brings 2-b and 1-a, the second 3-c, the third 3-d and 2-e, so the count is 5.
 use Rattle.std.specs.Prelude.{ℕ, ◌+◌, List, [], ◌∷◌, ◌++◌, length}
 use Rattle.hub_model.specs.Journal.{Edit}
 use Rattle.hub_model.specs.Missing.{missing}
 
--- how many revisions these edits of the document whose id is left out name that none of the earlier ones names,
--- each counted once
+-- how many revisions these edits of the document whose id is left out name that none of the earlier ones
+-- names, each counted once
 abbrev pub count_after : List Edit → List Edit → ℕ
 count_after earlier [] = 0
 count_after earlier (e ∷ later) = length (missing earlier [] e.path) + count_after (earlier ++ e ∷ []) later

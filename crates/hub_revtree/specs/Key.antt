@@ -1,6 +1,6 @@
--- Keys of revisions whose hashes are digests (own). An example: the hash 0100000000000000ffffffffffffffff is the text
--- of the digest whose first byte is 1, whose next seven are 0 and whose last eight are 255, and its key is 1. The hash
--- x has no key.
+-- Keys of revisions whose hashes are digests (own). An example: the hash 0100000000000000ffffffffffffffff is
+-- the text of the digest whose first byte is 1, whose next seven are 0 and whose last eight are 255, and its
+-- key is 1. The hash x has no key.
 use Rattle.std.specs.Prelude.{◌≡◌, ℕ, ◌%◌, ◌^◌, List, length, Option, Some, None}
 use Rattle.std.specs.Int.{w128, from_le_bytes}
 use Rattle.hex.specs.Hex.{IsBytes, encode_lower}

@@ -1,6 +1,6 @@
--- The revisions that a run keeps (own). An example: of the newest generation 3 and the digests d, e and f it has
--- the revisions 3-d', 2-e' and 1-f', where d' is the hexadecimal text of d, in lower-case digits; so it has where e and
--- f are shared, and only 3-d' and 2-e' where they are and 2 are kept at most.
+-- The revisions that a run keeps (own). An example: of the newest generation 3 and the digests d, e and f it
+-- has the revisions 3-d', 2-e' and 1-f', where d' is the hexadecimal text of d, in lower-case digits; so it
+-- has where e and f are shared, and only 3-d' and 2-e' where they are and 2 are kept at most.
 use Rattle.std.specs.Prelude.{ℕ, ◌-◌, List, [], ◌∷◌, take}
 use Rattle.hex.specs.Hex.{encode_lower}
 use Rattle.hub_model.specs.Revision.{Revision}

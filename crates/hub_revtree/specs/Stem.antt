@@ -1,14 +1,15 @@
--- What the edits of a tree brought, and the paths that they have by it (own). An example: an edit with the path
--- 2-b 1-a came first, then one with 3-c 2-b 1-a, then one with 3-d 2-e 1-a. The first stem has the revisions
--- 2-b 1-a and stands on nothing, the second 3-c and stands on place 0 of stem 0, which is 2-b, the third 3-d 2-e
--- and stands on place 1 of stem 0, which is 1-a. So the chains of these three stems are 2-b 1-a, then 3-c and the
--- first chain from place 0 on, 3-c 2-b 1-a, then 3-d 2-e and the first chain from place 1 on, 3-d 2-e 1-a; and since
--- the counts are 2, 3 and 3, these are the paths.
--- Another one: 3-c came alone, then 2-b alone, then 4-d 3-c 2-b. No chain has 3-c and 2-b behind it, so that the third
--- stem has 4-d and 3-c, and stands on place 0 of stem 1. A chain is never changed: that 2-b stands behind 3-c is found
--- in the third one.
--- A chain may go on behind the edit's path: where 5-e 4-d came first and then 6-f 5-e, the second stem has 6-f and
--- stands on place 0 of stem 0, its chain is 6-f 5-e 4-d, and its count 2, so that its path is 6-f 5-e.
+-- What the edits of a tree brought, and the paths that they have by it (own). An example: an edit with the
+-- path 2-b 1-a came first, then one with 3-c 2-b 1-a, then one with 3-d 2-e 1-a. The first stem has the
+-- revisions 2-b 1-a and stands on nothing, the second 3-c and stands on place 0 of stem 0, which is 2-b, the
+-- third 3-d 2-e and stands on place 1 of stem 0, which is 1-a. So the chains of these three stems are 2-b
+-- 1-a, then 3-c and the first chain from place 0 on, 3-c 2-b 1-a, then 3-d 2-e and the first chain from place
+-- 1 on, 3-d 2-e 1-a; and since the counts are 2, 3 and 3, these are the paths.
+-- Another one: 3-c came alone, then 2-b alone, then 4-d 3-c 2-b. No chain has 3-c and 2-b behind it, so that
+-- the third stem has 4-d and 3-c, and stands on place 0 of stem 1. A chain is never changed: that 2-b stands
+-- behind 3-c is found in the third one.
+-- A chain may go on behind the edit's path: where 5-e 4-d came first and then 6-f 5-e, the second stem has
+-- 6-f and stands on place 0 of stem 0, its chain is 6-f 5-e 4-d, and its count 2, so that its path is 6-f
+-- 5-e.
 use Rattle.std.specs.Prelude.{◌≡◌, ℕ, ◌<◌, ◌≤◌, List, [], ◌∷◌, ◌++◌, length, drop, take, map, slice_get, Option, Some, None}
 use Rattle.std.specs.Prelude.{Bool, true, false, ◌||◌}
 use Rattle.std.specs.List.{list_any}
@@ -17,8 +18,9 @@ use Rattle.hub_model.specs.Path.{IsNext, IsPath, names, is_first}
 use Rattle.hub_revtree.specs.declared.stem.Place.{Place}
 use Rattle.hub_revtree.specs.Branch.{Branch}
 
--- what an edit brought: the first of its path's revisions, where the one behind them stands, how many revisions its
--- path has, how many its chain has, whether one of its revisions was known before, and the rest of the edit
+-- what an edit brought: the first of its path's revisions, where the one behind them stands, how many
+-- revisions its path has, how many its chain has, whether one of its revisions was known before, and the rest
+-- of the edit
 pub record Stem : Type 0 where
   pub revisions : List Revision
   pub parent : Option Place
@@ -100,10 +102,10 @@ has_revision stems r = list_any (λ s. names s.revisions r) stems
 abbrev pub IsWithin : List Stem → Place → Type 0
 IsWithin stems place = place.at < length (revisions_at stems place.stem)
 
--- each stem has a revision at least, and their generations fall by one; its newest is none of an earlier one's, and
--- where it joins none, none of the others is; it stands on a place of an earlier one, whose revision is of a
--- lower generation than its newest, or on nothing; its path has its revisions, and the one that they stand on,
--- and is a front of its chain, whose length it knows
+-- each stem has a revision at least, and their generations fall by one; its newest is none of an earlier
+-- one's, and where it joins none, none of the others is; it stands on a place of an earlier one, whose
+-- revision is of a lower generation than its newest, or on nothing; its path has its revisions, and the one
+-- that they stand on, and is a front of its chain, whose length it knows
 pub record AreStems (stems : List Stem) : Type 0 where
   pub falling : (k : ℕ) (stem : Stem) → slice_get stems k ≡ Some stem → IsPath stem.revisions
   pub newest :
@@ -150,8 +152,9 @@ is_at stems r (Some place) = is_first r (drop place.at (revisions_at stems place
 abbrev pub is_behind_newest : List Stem → Revision → Stem → Bool
 is_behind_newest stems r stem = names (drop 1 stem.revisions) r || is_at stems r stem.parent
 
--- no revision of the stems is of a higher generation than this one, and each that stands behind a newest one is of
--- a lower generation. An example: the three stems above are up to generation 3, and so up to 4, but not up to 2
+-- no revision of the stems is of a higher generation than this one, and each that stands behind a newest one
+-- is of a lower generation. An example: the three stems above are up to generation 3, and so up to 4, but not
+-- up to 2
 pub record AreUpTo (stems : List Stem) (highest : ℕ) : Type 0 where
   pub known : (r : Revision) → has_revision stems r ≡ true → r.generation ≤ highest
   pub behind : (r : Revision) → list_any (is_behind_newest stems r) stems ≡ true → r.generation < highest

@@ -113,8 +113,8 @@ fn without_line(index: Option<Box<Index>>) -> Option<Box<Index>>
     }
 }
 
-// Whether nothing stands behind the path's last revision. Constant time where that is of the first generation,
-// or the index tells the only stem that may have it; else one look a stem.
+// Whether nothing stands behind the path's last revision. Constant time where that is of the first
+// generation, or the index tells the only stem that may have it; else one look a stem.
 fn ends(stems: &[Stem], index: Option<&Index>, path: &Run) -> bool
     requires stems { AreStems stems.now }
     requires index { IsIndexed (option_map (λ i. i.now) index) stems.now }
@@ -170,8 +170,8 @@ impl Branches {
         self.stems.len()
     }
 
-    /// How many different revisions are kept. One step an edit, but for one that joins others: for it a look an
-    /// edit for each revision that it keeps.
+    /// How many different revisions are kept. One step an edit, but for one that joins others: for it a look
+    /// an edit for each revision that it keeps.
     pub(crate) fn revision_count(&self) -> usize
         ensures { result ≡ min (count_of (edits_in self.now.list)) (2 ^ 64 - 1) }
     {
@@ -276,8 +276,8 @@ impl Branches {
         is_behind_last(self.stems.as_slice(), rev)
     }
 
-    /// How many revisions this one and all that stand behind it are; 0 where no path names it. It costs a find;
-    /// and for each chain that ends above the first generation a step a stem of it, and a find.
+    /// How many revisions this one and all that stand behind it are; 0 where no path names it. It costs a
+    /// find; and for each chain that ends above the first generation a step a stem of it, and a find.
     pub(crate) fn line_length(&self, rev: &RevId) -> u16
         requires { IsLegal (edits_in self.now.list) }
         ensures { result ≡ length (line_to (edits_in self.now.list) (Some rev.now)) }
@@ -342,9 +342,9 @@ impl Branches {
         Some(line)
     }
 
-    /// Of a path that agrees with all stored ones, how many of its revisions its edit is to keep: all up to the
-    /// last that is new, or behind which no edit has the next one. None where it does not agree. It costs what
-    /// `agreeing` does.
+    /// Of a path that agrees with all stored ones, how many of its revisions its edit is to keep: all up to
+    /// the last that is new, or behind which no edit has the next one. None where it does not agree. It costs
+    /// what `agreeing` does.
     pub(crate) fn new_count(&self, path: &Path) -> Option<usize>
         requires legal { IsLegal (edits_in self.now.list) }
         requires history { IsHistory path.now }
@@ -371,10 +371,11 @@ impl Branches {
         }
     }
 
-    /// Takes an edit, in the place that was made for it: it takes no new memory but for the index and for the path
-    /// that it shares, and goes on without these where there is none. The run is the front of its path; where it
-    /// is of just those that are new, it is kept, and the path is shared with the next edit or its memory given
-    /// back, else that memory is cut to what they need. It costs what `new_count` does, and what `renewed` does.
+    /// Takes an edit, in the place that was made for it: it takes no new memory but for the index and for the
+    /// path that it shares, and goes on without these where there is none. The run is the front of its path;
+    /// where it is of just those that are new, it is kept, and the path is shared with the next edit or its
+    /// memory given back, else that memory is cut to what they need. It costs what `new_count` does, and what
+    /// `renewed` does.
     pub(crate) fn push(&mut self, path: Run, run: Run, deleted: bool, body: Body)
         requires legal { IsLegal (edits_in self.old.list) }
         requires acceptable { IsAcceptable (edits_in self.old.list) (nameless path deleted body) }

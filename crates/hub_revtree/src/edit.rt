@@ -139,8 +139,8 @@ impl RevTree {
     }
 
     // The digests of the revision and of all that stands behind it, as a tree of many edits shares them; None
-    // in a tree of fewer, and where one of the revisions is kept otherwise. Constant time where the revision is
-    // that of the newest edit, and the tree keeps its path.
+    // in a tree of fewer, and where one of the revisions is kept otherwise. Constant time where the revision
+    // is that of the newest edit, and the tree keeps its path.
     fn shared_line(&self, alloc: Global, rev: &RevId) -> Result<Option<Line>, AllocError>
         ensures { IfOk result (λ found. IfSome found (λ line. map encode_lower line ≡ map (λ r. r.hash) (line_to self.now.edits (Some rev.now)))) }
     {
@@ -160,8 +160,8 @@ impl RevTree {
         Ok(Some(line))
     }
 
-    // The path with the revision in front of the one that it extends, which shares what stands behind it; None
-    // where `shared_line` is.
+    // The path with the revision in front of the one that it extends, which shares what stands behind it;
+    // None where `shared_line` is.
     fn shared_on(
         &self,
         alloc: Global,

@@ -9,8 +9,8 @@ ghost use Rattle.hub_revtree.specs.Tree.{tip, tip_of};
 use crate::tree::RevTree;
 use hub_document::{Body, RevId};
 
-/// An edit that a tree has. `RevTree::path` gives what stands behind it by now: its path is the first of these, so
-/// many as `count` says.
+/// An edit that a tree has. `RevTree::path` gives what stands behind it by now: its path is the first of
+/// these, so many as `count` says.
 #[derive(Clone, Copy, Debug)]
 pub struct StoredEdit<'a> {
     /// Its revision.

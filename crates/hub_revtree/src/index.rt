@@ -13,18 +13,18 @@ use std::collections::HashMap;
 // What stands for more than one stem.
 const MANY: u32 = u32::MAX;
 
-// From so many stems on there is an index. A look at each of so many takes twice as long as one in the map, and
-// many documents with fewer edits shall have no more memory.
+// From so many stems on there is an index. A look at each of so many takes twice as long as one in the map,
+// and many documents with fewer edits shall have no more memory.
 const TURN: usize = 256;
 
 /// What a tree of many edits has so that looks need not pass over all of them.
 #[derive(Debug, Drop)]
 pub(crate) struct Index {
-    /// From the key of a digest to the number of the stem that has a revision with that key, or to `MANY`. Only
-    /// revisions whose hash is a digest's text are in it. It takes some 30 to 60 bytes for each of them.
+    /// From the key of a digest to the number of the stem that has a revision with that key, or to `MANY`.
+    /// Only revisions whose hash is a digest's text are in it. It takes some 30 to 60 bytes for each of them.
     stems: HashMap<u64, u32>,
-    /// The newest stem's newest revision and all that stands behind it, for the next one that stands on it; None
-    /// where it was not made so, and where the memory for it was not to be had.
+    /// The newest stem's newest revision and all that stands behind it, for the next one that stands on it;
+    /// None where it was not made so, and where the memory for it was not to be had.
     line: Option<Line>,
 }
 
@@ -97,8 +97,8 @@ impl Index {
     }
 }
 
-/// Which of the stems may have the revision. It says no more than that each may where there is no index, where
-/// the revision's hash is no digest's text, and where more than one stem has its key. Constant time.
+/// Which of the stems may have the revision. It says no more than that each may where there is no index,
+/// where the revision's hash is no digest's text, and where more than one stem has its key. Constant time.
 pub(crate) fn lead_to(stems: &[Stem], index: Option<&Index>, rev: &RevId) -> Lead
     requires { IsIndexed (option_map (λ i. i.now) index) stems.now }
     ensures { IsLead result stems.now rev.now }
@@ -161,8 +161,8 @@ fn begun(alloc: Global, stems: &[Stem], line: Option<Line>) -> Option<Box<Index>
 
 /// The index of the stems, of one of all but the newest, with the newest one's path where it is given. Where
 /// there was none it is built, if the stems are so many, and at most once for each doubling of their number.
-/// Where the memory for it is not to be had there is none, until their number is a power of two again, and looks
-/// take longer. It costs the number of the newest stem's revisions, or that of all where it is built.
+/// Where the memory for it is not to be had there is none, until their number is a power of two again, and
+/// looks take longer. It costs the number of the newest stem's revisions, or that of all where it is built.
 pub(crate) fn renewed(
     alloc: Global,
     index: Option<Box<Index>>,

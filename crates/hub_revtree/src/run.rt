@@ -31,9 +31,9 @@ enum Kept {
     Texts(Vec<RevId>),
 }
 
-/// Revisions, newest first, of which each is the parent of the one before it. One whose hash is 32
-/// lower-case hexadecimal digits takes 16 bytes, and where it stands alone no memory of its own; where a
-/// hash is another, each takes 68 bytes. A path may share the digests behind its newest one with others. The value
+/// Revisions, newest first, of which each is the parent of the one before it. One whose hash is 32 lower-case
+/// hexadecimal digits takes 16 bytes, and where it stands alone no memory of its own; where a hash is
+/// another, each takes 68 bytes. A path may share the digests behind its newest one with others. The value
 /// itself takes 32 bytes.
 #[derive(Debug, Drop)]
 pub(crate) struct Run {
@@ -111,8 +111,8 @@ fn digest_at<'a>(newest: &'a [u8; 16], line: &'a Line, place: usize) -> &'a [u8;
     }
 }
 
-// The newest digest and those behind it as one line, where so many at most are all of them. It takes memory as
-// `Line::with_newer` does.
+// The newest digest and those behind it as one line, where so many at most are all of them. It takes memory
+// as `Line::with_newer` does.
 fn all_of(most: u16, newest: [u8; 16], line: Line) -> Option<Line>
     ensures { IfSome result (λ all. (all ≡ newest ∷ line) × (length all ≤ most)) }
 {

@@ -24,9 +24,9 @@ pub(crate) struct Place {
 }
 
 /// What an edit brought: the first of its path's revisions, newest first, up to the last that was unknown, or
-/// behind which no other edit had the next one; where the revision behind them stands, whose chain has the rest of
-/// the edit's path; how many revisions the path has; whether it deletes the document; and the members. It takes 72
-/// bytes, and what the revisions and the members take.
+/// behind which no other edit had the next one; where the revision behind them stands, whose chain has the
+/// rest of the edit's path; how many revisions the path has; whether it deletes the document; and the
+/// members. It takes 72 bytes, and what the revisions and the members take.
 #[derive(Debug, Drop)]
 pub(crate) struct Stem {
     run: Run,

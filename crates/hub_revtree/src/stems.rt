@@ -50,8 +50,8 @@ fn place_in(stems: &[Stem], number: usize, rev: &RevId) -> Option<Place>
     }
 }
 
-/// Where the revision stands; None where no edit brought it. Constant time where the index tells the edit that
-/// may have brought it; else one look an edit, from the newest on up to the one that brought it.
+/// Where the revision stands; None where no edit brought it. Constant time where the index tells the edit
+/// that may have brought it; else one look an edit, from the newest on up to the one that brought it.
 pub(crate) fn place_of(stems: &[Stem], index: Option<&Index>, rev: &RevId) -> Option<Place>
     requires stems { AreStems stems.now }
     requires index { IsIndexed (option_map (λ i. i.now) index) stems.now }
@@ -303,8 +303,8 @@ fn behind_among(stems: &[Stem], rev: &RevId) -> Option<Place>
     None
 }
 
-/// The place directly behind the revision in what a stem brought. Constant time where the index tells the only
-/// stem that may have the revision; else one look a stem.
+/// The place directly behind the revision in what a stem brought. Constant time where the index tells the
+/// only stem that may have the revision; else one look a stem.
 pub(crate) fn place_behind(stems: &[Stem], index: Option<&Index>, rev: &RevId) -> Option<Place>
     requires stems { AreStems stems.now }
     requires index { IsIndexed (option_map (λ i. i.now) index) stems.now }
@@ -383,8 +383,8 @@ pub(crate) fn append_from(
     Ok(())
 }
 
-/// Puts the digests of the same revisions behind what the vector holds; false, and nothing or some of
-/// them, where one is kept otherwise. It costs a copy of 16 bytes for each, and for each chain but the last what
+/// Puts the digests of the same revisions behind what the vector holds; false, and nothing or some of them,
+/// where one is kept otherwise. It costs a copy of 16 bytes for each, and for each chain but the last what
 /// `beyond` does.
 pub(crate) fn append_digests(
     stems: &[Stem],
@@ -431,10 +431,10 @@ fn place_or_told(
     }
 }
 
-/// Of a path that agrees with all stored ones, how many of its revisions its edit's stem is to keep; None where
-/// it does not agree. It costs what `place_of` does for each revision that no path names, but constant time for
-/// each of a generation above the highest; and the path's length; and what `beyond` does for each chain behind
-/// which it goes on.
+/// Of a path that agrees with all stored ones, how many of its revisions its edit's stem is to keep; None
+/// where it does not agree. It costs what `place_of` does for each revision that no path names, but constant
+/// time for each of a generation above the highest; and the path's length; and what `beyond` does for each
+/// chain behind which it goes on.
 pub(crate) fn agreeing(
     stems: &[Stem],
     index: Option<&Index>,
@@ -483,9 +483,9 @@ pub(crate) struct Meeting {
     pub(crate) joins: bool,
 }
 
-/// How a path that may be stored meets the stored ones: what is left of it behind those that its stem keeps is
-/// the front of one chain. It costs what `place_of` does for each revision that no path names, but constant time
-/// for each of a generation above the highest.
+/// How a path that may be stored meets the stored ones: what is left of it behind those that its stem keeps
+/// is the front of one chain. It costs what `place_of` does for each revision that no path names, but
+/// constant time for each of a generation above the highest.
 pub(crate) fn met_by(stems: &[Stem], index: Option<&Index>, highest: u16, path: &Run) -> Meeting
     requires stems { AreStems stems.now }
     requires index { IsIndexed (option_map (λ i. i.now) index) stems.now }

@@ -24,8 +24,8 @@ use std::marker::Model;
 ///
 /// A find of a revision costs one look an edit, from the newest on up to the one that brought it. From 256
 /// edits on a tree has an index of its revisions, if it finds memory for it; then a find takes constant time,
-/// but where the hash is no digest's text, and where two edits brought digests that begin with the eight bytes
-/// that its own begins with.
+/// but where the hash is no digest's text, and where two edits brought digests that begin with the eight
+/// bytes that its own begins with.
 /// Then edits on one another share their path, too, so that one on the newest of a line takes constant time.
 #[derive(Debug, Drop)]
 pub struct RevTree {
@@ -271,14 +271,15 @@ impl RevTree {
         Ok(Some(ready))
     }
 
-    /// Takes an edit that `look_merge` or `look_extend` made ready. It takes memory for the index and for a path
-    /// that is shared, and where there is none to be had the tree goes on without these, which changes no answer.
-    /// It gives back the path's: the tree keeps the revisions that are new as the look made them. Where the look
-    /// found more or fewer, as it may in a tree that is not this one, the path's memory is cut to them instead. It
-    /// costs what `look_merge` does. The winner takes constant time where it is the edit's revision, or the old one
-    /// which the edit does not stand on; else it is found anew: each head is looked for in each edit where it would
-    /// be the best so far. So an edit that `look_extend` made on the newest one of a line takes constant time, but
-    /// that its path's memory is given back, and that the index and the shared path grow, or are made.
+    /// Takes an edit that `look_merge` or `look_extend` made ready. It takes memory for the index and for a
+    /// path that is shared, and where there is none to be had the tree goes on without these, which changes
+    /// no answer. It gives back the path's: the tree keeps the revisions that are new as the look made them.
+    /// Where the look found more or fewer, as it may in a tree that is not this one, the path's memory is cut
+    /// to them instead. It costs what `look_merge` does. The winner takes constant time where it is the
+    /// edit's revision, or the old one which the edit does not stand on; else it is found anew: each head is
+    /// looked for in each edit where it would be the best so far. So an edit that `look_extend` made on the
+    /// newest one of a line takes constant time, but that its path's memory is given back, and that the index
+    /// and the shared path grow, or are made.
     pub fn adopt(&mut self, ready: Ready)
         requires acceptable { IsAcceptable self.old.edits ready }
         requires room { length ready.path ≤ self.old.room }

@@ -1,4 +1,5 @@
--- A fact about a subscription, what it handed and what was taken from it, that each thing that may happen to one keeps, holds after every run.
+-- A fact about a subscription, what it handed and what was taken from it, that each thing that may happen to
+-- one keeps, holds after every run.
 use Rattle.std.proofs.Common.{◌≡◌, ℕ, zero, suc, List, [], ◌∷◌, ◌++◌, length, map, drop, true, ◌⊎◌, inl, inr, sym, ◌∙◌, ap, subst, refl, append_assoc, ◌≢◌}
 use Rattle.std.specs.Prelude.{Option, Some, None, slice_get, slice_set, option_map, ◌==◌, if◌then◌else◌}
 use Rattle.std.proofs.lemmas.Bool.{cases_eq, eq-eqb, ne_eqb}

@@ -117,8 +117,8 @@ fn several_roots_are_joined_by_one_path(rt: HostRuntime) -> Result<(), Fail> {
     )
 }
 
-// For how many revisions there is room in the path of one of the highest generation that came alone, if it has
-// a path.
+// For how many revisions there is room in the path of one of the highest generation that came alone, if it
+// has a path.
 fn room_alone(alloc: Global) -> Result<Option<usize>, AllocError> {
     let mut tree = RevTree::new(alloc);
     let merged = merge(alloc, &mut tree, r#"{"_id":"a","_rev":"65535-a"}"#);

@@ -17,8 +17,8 @@ fn is_path(alloc: Global, tree: &RevTree, line: &[RevId]) -> Result<bool, AllocE
     Ok(path.revisions().iter().eq(line.iter().rev()))
 }
 
-// Makes so many edits, each on the last of the line, behind which it comes; false where one is not made, or its
-// path is another.
+// Makes so many edits, each on the last of the line, behind which it comes; false where one is not made, or
+// its path is another.
 fn grow(
     alloc: Global,
     tree: &mut RevTree,
