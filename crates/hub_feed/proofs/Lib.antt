@@ -1,6 +1,5 @@
 pub mod CurrentLemmas
 pub mod DueLemmas
-pub mod EditsLemmas
 pub mod FeedsLemmas
 pub mod Handing
 pub mod ListedLemmas

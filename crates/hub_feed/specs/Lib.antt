@@ -1,5 +1,3 @@
-pub mod Edits
-pub mod EditsLaws
 pub mod Feeds
 pub mod Handing
 pub mod Host

@@ -8,8 +8,6 @@ mod host;
 mod mark;
 mod next;
 mod source;
-#[cfg(test)]
-mod tests;
 
 pub use feed::FeedState;
 pub use feeds::Feeds;

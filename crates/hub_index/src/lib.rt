@@ -2,20 +2,12 @@
 //! next (CouchDB API reference, `_changes`); and the numbers of documents in the order of their ids.
 #![tactic(auto)]
 
-#[cfg(test)]
-mod hint_tests;
 mod id_hints;
 mod id_order;
 mod id_pages;
-#[cfg(test)]
-mod id_tests;
 mod page;
 mod page_index;
-#[cfg(test)]
-mod page_tests;
 mod seq_index;
-#[cfg(test)]
-mod tests;
 mod tree_index;
 
 pub use id_hints::IdHints;

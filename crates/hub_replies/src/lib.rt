@@ -8,8 +8,6 @@ mod edits;
 mod fixed;
 mod info;
 mod names;
-#[cfg(test)]
-mod tests;
 mod texts;
 
 pub use batch::{BatchReply, batch_body};

@@ -15,8 +15,6 @@ mod run;
 mod sought;
 mod stem;
 mod stems;
-#[cfg(test)]
-mod tests;
 mod tree;
 
 pub use fault::{EditFault, MergeFault, Merged};

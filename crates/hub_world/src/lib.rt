@@ -4,12 +4,8 @@
 mod event;
 mod lane;
 mod laws;
-#[cfg(test)]
-mod random_tests;
 mod reply;
 mod shared_item;
-#[cfg(test)]
-mod tests;
 mod world;
 
 pub use event::Event;

@@ -1,0 +1,11 @@
+-- What is found among all the edits is found among those that are left.
+use Rattle.std.proofs.Common.{◌≡◌, ◌+◌, drop}
+use Rattle.hub_feed_tests.specs.Edits.{rows_of}
+use Rattle.hub_feed.specs.Reach.{first_within}
+use Rattle.hub_feed_tests.proofs.tests.edits.EditsSource.next_after.Given as goal
+
+abbrev pub invariant-loop-edit : goal.invariant-loop-edit
+invariant-loop-edit l = record {
+  numbered : l.seq ≡ l.edit-index;
+  kept : first_within l.place l.bound (rows_of 1 l.self.ids.now) ≡ first_within l.place l.bound (rows_of (l.edit-index + 1) (drop l.edit-index l.self.ids.now));
+}

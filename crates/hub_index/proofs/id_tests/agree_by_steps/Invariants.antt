@@ -1,6 +1,0 @@
-use Rattle.std.proofs.Common.{map, string_bytes}
-use Rattle.hub_index.specs.Order.{IsOrder}
-use Rattle.hub_index.proofs.id_tests.agree_by_steps.Given as goal
-
-abbrev pub invariant-loop-number : goal.invariant-loop-number
-invariant-loop-number l = IsOrder (map string_bytes l.ids.list.items) l.order

@@ -1,0 +1,182 @@
+//! Rows that move, and what is read of them.
+
+ghost use Rattle.std.specs.Prelude.{◌≡◌, ◌<◌, ◌≤◌, [], OnOk};
+ghost use Rattle.std.specs.List.{All};
+ghost use Rattle.hub_index.specs.Rows.{seq_of, moved};
+
+use hub_index::{SeqIndex, TreeIndex};
+use std::alloc::AllocError;
+use std::test::Fail;
+
+// The first row of any index, and the last.
+fn first_row<I: SeqIndex>(index: &I) -> Option<(u64, u32)> {
+    index.next_after(0, None)
+}
+
+fn last_row<I: SeqIndex>(index: &I) -> Option<(u64, u32)> {
+    index.last_before(u64::MAX)
+}
+
+// Documents 7, 8 and 9 at the sequences 1, 2 and 3, of which the first is then moved to 4.
+pub(crate) fn four_moves<I: SeqIndex>(index: &mut I) -> Result<(), AllocError>
+    requires { I.rows index.old ≡ [] }
+{
+    index.move_to(7, None, 1)?;
+    index.move_to(8, None, 2)?;
+    index.move_to(9, None, 3)?;
+    index.move_to(7, Some(1), 4)?;
+    Ok(())
+}
+
+#[test]
+fn rows_come_in_order(rt: HostRuntime) -> Result<(), Fail> {
+    let mut index = TreeIndex::new(rt.alloc());
+    four_moves(&mut index)?;
+    assert_eq!(rt; first_row(&index), Some((2, 8)));
+    for (place, wanted) in [
+        (0u64, Some((2u64, 8u32))),
+        (1, Some((2, 8))),
+        (2, Some((3, 9))),
+        (3, Some((4, 7))),
+        (4, None),
+        (u64::MAX, None),
+    ] {
+        assert_eq!(rt; index.next_after(place, None), wanted, "after {place}");
+    }
+    Ok(())
+}
+
+#[test]
+fn bounds_end_the_rows(rt: HostRuntime) -> Result<(), Fail> {
+    let mut index = TreeIndex::new(rt.alloc());
+    four_moves(&mut index)?;
+    for (place, bound, wanted) in [
+        (2u64, 3u64, Some((3u64, 9u32))),
+        (2, 2, None),
+        (2, 1, None),
+        (2, 0, None),
+        (2, 4, Some((3, 9))),
+        (3, 4, Some((4, 7))),
+        (3, 3, None),
+        (3, u64::MAX, Some((4, 7))),
+        (4, u64::MAX, None),
+        (0, 1, None),
+        (0, 2, Some((2, 8))),
+    ] {
+        assert_eq!(rt;
+            index.next_after(place, Some(bound)),
+            wanted,
+            "after {place}, up to {bound}"
+        );
+    }
+    Ok(())
+}
+
+#[test]
+fn rows_come_from_the_end(rt: HostRuntime) -> Result<(), Fail> {
+    let mut index = TreeIndex::new(rt.alloc());
+    four_moves(&mut index)?;
+    assert_eq!(rt; last_row(&index), Some((4, 7)));
+    for (place, wanted) in [
+        (0u64, None),
+        (1, None),
+        (2, None),
+        (3, Some((2u64, 8u32))),
+        (4, Some((3, 9))),
+        (5, Some((4, 7))),
+        (u64::MAX, Some((4, 7))),
+    ] {
+        assert_eq!(rt; index.last_before(place), wanted, "before {place}");
+    }
+    Ok(())
+}
+
+#[test]
+fn rows_above_are_counted(rt: HostRuntime) -> Result<(), Fail> {
+    let mut index = TreeIndex::new(rt.alloc());
+    four_moves(&mut index)?;
+    for (place, wanted) in [(0u64, 3u64), (1, 3), (2, 2), (3, 1), (4, 0), (u64::MAX, 0)] {
+        assert_eq!(rt; index.count_after(place), wanted, "after {place}");
+    }
+    Ok(())
+}
+
+#[test]
+fn an_empty_index_has_no_row(rt: HostRuntime) -> Result<(), Fail> {
+    let index = TreeIndex::new(rt.alloc());
+    assert_eq!(rt; first_row(&index), None);
+    assert_eq!(rt; index.next_after(0, Some(9)), None);
+    assert_eq!(rt; index.last_before(9), None);
+    assert_eq!(rt; index.count_after(0), 0);
+    Ok(())
+}
+
+// The sequence of a document in a plain list of rows.
+pub(crate) fn seq_in(plain: &[(u64, u32)], document: u32) -> Option<u64>
+    ensures { result ≡ seq_of document plain.now }
+{
+    plain.iter().find(|row| row.1 == document).map(|row| row.0)
+}
+
+// Moves a document in a plain list of rows.
+fn move_in(plain: &mut Vec<(u64, u32)>, document: u32, new: u64) -> Result<(), AllocError>
+    ensures { OnOk result (plain.new.items ≡ moved plain.old.items document new) }
+{
+    plain.retain(|row| row.1 != document);
+    plain.push((new, document))?;
+    Ok(())
+}
+
+// Moves a document in an index, and in a plain list of the same rows.
+pub(crate) fn move_both<I: SeqIndex>(
+    index: &mut I,
+    plain: &mut Vec<(u64, u32)>,
+    document: u32,
+    new: u64,
+) -> Result<(), AllocError>
+    requires same { I.rows index.old ≡ plain.old.items }
+    requires positive { 0 < new }
+    requires above { All (λ r. r.0 < new) plain.old.items }
+    ensures same { OnOk result (I.rows index.new ≡ plain.new.items) }
+    ensures moved { OnOk result (plain.new.items ≡ moved plain.old.items document new) }
+    ensures upto { OnOk result (All (λ r. r.0 ≤ new) plain.new.items) }
+{
+    let old = seq_in(plain.as_slice(), document);
+    index.move_to(document, old, new)?;
+    move_in(plain, document, new)?;
+    Ok(())
+}
+
+// Whether an index answers at the place as a plain list, which rises, does.
+fn answers_as<I: SeqIndex>(index: &I, plain: &[(u64, u32)], place: u64, bound: u64) -> bool {
+    let first = plain.iter().find(|row| row.0 > place).copied();
+    let within = first.filter(|row| row.0 <= bound);
+    let above = plain.iter().filter(|row| row.0 > place).count() as u64;
+    index.count_after(place) == above
+        && index.next_after(place, None) == first
+        && index.next_after(place, Some(bound)) == within
+}
+
+#[test]
+fn random_moves_agree_with_a_list(rt: HostRuntime) -> Result<(), Fail> {
+    let alloc = rt.alloc();
+    let mut index = TreeIndex::new(alloc);
+    let mut plain = Vec::new(alloc);
+    let mut random = 20_260_101u64;
+    for new in 1u64..2001 {
+        random = random
+            .wrapping_mul(6_364_136_223_846_793_005)
+            .wrapping_add(1_442_695_040_888_963_407);
+        let document = (random / 65_536 % 97) as u32;
+        move_both(&mut index, &mut plain, document, new)?;
+        for place in [0, random / 65_536 % (new + 1), new - 1, new] {
+            let bound = random / 1_048_576 % (new + 2);
+            assert!(rt;
+                answers_as(&index, plain.as_slice(), place, bound),
+                "after {place}, up to {bound}"
+            );
+        }
+    }
+    assert_eq!(rt; index.count_after(0), 97);
+    Ok(())
+}

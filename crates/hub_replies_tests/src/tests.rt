@@ -1,0 +1,255 @@
+//! Each body, byte for byte.
+
+use hub_database::{Diff, Info, Local, OpenRev};
+use hub_document::{Doc, RevId, Revisions};
+use hub_http::Refusal;
+use hub_replies::{
+    BatchReply, batch_body, commit_body, diffs_body, doc_body, edit_body, info_body,
+    local_doc_body, local_edit_body, names_body, ok_body, open_revs_body, welcome_body,
+};
+use serde_json::Value;
+use std::alloc::{AllocError, Global};
+use std::process::Abort;
+use std::test::Fail;
+
+// An id of a quote, a backslash, a line feed, the byte 1, a letter of two bytes and one of four.
+const ODD: &str = "\"\\\n\u{1}é😀";
+
+// Its JSON string.
+const ODD_TEXT: &str = r#""\"\\\n\u0001é😀""#;
+
+// A body is this text and a line feed.
+fn is_line(rt: &impl Abort, body: &[u8], text: &str) {
+    assert_eq!(rt; body.strip_suffix(b"\n"), Some(text.as_bytes()));
+}
+
+// The revisions whose texts these are.
+fn revisions(alloc: Global, texts: &[&str]) -> Result<Revisions, AllocError> {
+    let mut list = Vec::new(alloc);
+    for text in texts {
+        if let Some(rev) = RevId::read(*text) {
+            list.push(rev)?;
+        }
+    }
+    Ok(Revisions::new(list))
+}
+
+// The difference of one document.
+fn diff(alloc: Global, id: &str, missing: &[&str], ancestors: &[&str]) -> Result<Diff, AllocError> {
+    Ok(Diff {
+        id: String::from_str(alloc, id)?,
+        missing: revisions(alloc, missing)?,
+        possible_ancestors: revisions(alloc, ancestors)?,
+    })
+}
+
+#[test]
+fn fixed_bodies(rt: HostRuntime) -> Result<(), Fail> {
+    is_line(
+        &rt,
+        welcome_body(),
+        r#"{"couchdb":"Welcome","version":"3.0.0"}"#,
+    );
+    is_line(&rt, ok_body(), r#"{"ok":true}"#);
+    is_line(
+        &rt,
+        commit_body(),
+        r#"{"instance_start_time":"0","ok":true}"#,
+    );
+    Ok(())
+}
+
+#[test]
+fn names_are_listed(rt: HostRuntime) -> Result<(), Fail> {
+    let alloc = rt.alloc();
+    let mut names = Vec::new(alloc);
+    let body = names_body(alloc, names.as_slice())?;
+    is_line(&rt, body.as_slice(), "[]");
+    names.push(String::from_str(alloc, "b/c")?)?;
+    let body = names_body(alloc, names.as_slice())?;
+    is_line(&rt, body.as_slice(), r#"["b/c"]"#);
+    names.push(String::from_str(alloc, "a")?)?;
+    let body = names_body(alloc, names.as_slice())?;
+    is_line(&rt, body.as_slice(), r#"["b/c","a"]"#);
+    names.push(String::from_str(alloc, ODD)?)?;
+    let body = names_body(alloc, names.as_slice())?;
+    let expected = format!(in alloc; r#"["b/c","a",{ODD_TEXT}]"#)?;
+    is_line(&rt, body.as_slice(), expected.as_str());
+    Ok(())
+}
+
+#[test]
+fn databases_say_of_themselves(rt: HostRuntime) -> Result<(), Fail> {
+    let alloc = rt.alloc();
+    let info = Info {
+        doc_count: 2,
+        doc_del_count: 0,
+        update_seq: 3,
+        life: 1,
+    };
+    let body = info_body(alloc, "d", &info)?;
+    let expected =
+        r#"{"db_name":"d","doc_count":2,"doc_del_count":0,"update_seq":"3-1","instance_start_time":"0"}"#;
+    is_line(&rt, body.as_slice(), expected);
+    let info = Info {
+        doc_count: 10,
+        doc_del_count: 4294967295,
+        update_seq: 18446744073709551615,
+        life: 18446744073709551615,
+    };
+    let body = info_body(alloc, ODD, &info)?;
+    let counts = concat!(
+        r#""doc_count":10,"doc_del_count":4294967295,"#,
+        r#""update_seq":"18446744073709551615-18446744073709551615""#
+    );
+    let expected = format!(in alloc;
+        r#"{{"db_name":{ODD_TEXT},{counts},"instance_start_time":"0"}}"#
+    )?;
+    is_line(&rt, body.as_slice(), expected.as_str());
+    Ok(())
+}
+
+#[test]
+fn edits_are_answered(rt: HostRuntime) -> Result<(), Fail> {
+    let alloc = rt.alloc();
+    let rev = RevId::read("1-a").expect(&rt, "a revision");
+    let body = edit_body(alloc, "a", &rev)?;
+    is_line(&rt, body.as_slice(), r#"{"ok":true,"id":"a","rev":"1-a"}"#);
+    let rev = RevId::read("65535-0Zz9").expect(&rt, "a revision");
+    let body = edit_body(alloc, ODD, &rev)?;
+    let expected = format!(in alloc; r#"{{"ok":true,"id":{ODD_TEXT},"rev":"65535-0Zz9"}}"#)?;
+    is_line(&rt, body.as_slice(), expected.as_str());
+    Ok(())
+}
+
+#[test]
+fn local_edits_are_answered(rt: HostRuntime) -> Result<(), Fail> {
+    let alloc = rt.alloc();
+    let body = local_edit_body(alloc, "_local/k", 2)?;
+    is_line(
+        &rt,
+        body.as_slice(),
+        r#"{"ok":true,"id":"_local/k","rev":"0-2"}"#,
+    );
+    let body = local_edit_body(alloc, ODD, 18446744073709551615)?;
+    let expected = format!(in alloc;
+        r#"{{"ok":true,"id":{ODD_TEXT},"rev":"0-18446744073709551615"}}"#
+    )?;
+    is_line(&rt, body.as_slice(), expected.as_str());
+    Ok(())
+}
+
+#[test]
+fn documents_are_shown(rt: HostRuntime) -> Result<(), Fail> {
+    let alloc = rt.alloc();
+    let text = r#"{"_id":"d","_rev":"2-b","_revisions":{"start":2,"ids":["b","a"]},"k":"\u0001é"}"#;
+    let doc = Doc::read(alloc, text.as_bytes(), false)?;
+    let body = doc_body(alloc, &doc)?;
+    is_line(&rt, body.as_slice(), text);
+    Ok(())
+}
+
+#[test]
+fn local_documents_are_shown(rt: HostRuntime) -> Result<(), Fail> {
+    let alloc = rt.alloc();
+    let text = r#"{"_id":"d","_rev":"1-a","k":[1,null]}"#;
+    let doc = Doc::read(alloc, text.as_bytes(), false)?;
+    let local = Local {
+        count: 12,
+        body: doc.body,
+    };
+    let body = local_doc_body(alloc, "_local/k", &local)?;
+    is_line(
+        &rt,
+        body.as_slice(),
+        r#"{"_id":"_local/k","_rev":"0-12","k":[1,null]}"#,
+    );
+    let body = local_doc_body(alloc, ODD, &local)?;
+    let expected = format!(in alloc; r#"{{"_id":{ODD_TEXT},"_rev":"0-12","k":[1,null]}}"#)?;
+    is_line(&rt, body.as_slice(), expected.as_str());
+    Ok(())
+}
+
+#[test]
+fn revisions_that_were_asked_for(rt: HostRuntime) -> Result<(), Fail> {
+    let alloc = rt.alloc();
+    let body = open_revs_body(alloc, &[])?;
+    is_line(&rt, body.as_slice(), "[]");
+    let text = r#"{"_id":"d","_rev":"1-a","_deleted":true,"k":1}"#;
+    let shown =
+        r#"{"_id":"d","_rev":"1-a","_deleted":true,"_revisions":{"start":1,"ids":["a"]},"k":1}"#;
+    let doc = Doc::read(alloc, text.as_bytes(), false)?;
+    let missing = RevId::read("9-z").expect(&rt, "a revision");
+    let mut revs = Vec::new(alloc);
+    revs.push(OpenRev::Missing(missing))?;
+    let body = open_revs_body(alloc, revs.as_slice())?;
+    is_line(&rt, body.as_slice(), r#"[{"missing":"9-z"}]"#);
+    revs.push(OpenRev::Found(doc))?;
+    revs.push(OpenRev::Missing(missing))?;
+    let body = open_revs_body(alloc, revs.as_slice())?;
+    let expected = format!(in alloc;
+        r#"[{{"missing":"9-z"}},{{"ok":{shown}}},{{"missing":"9-z"}}]"#
+    )?;
+    is_line(&rt, body.as_slice(), expected.as_str());
+    Ok(())
+}
+
+#[test]
+fn revisions_that_are_missing(rt: HostRuntime) -> Result<(), Fail> {
+    let alloc = rt.alloc();
+    let body = diffs_body(alloc, &[])?;
+    is_line(&rt, body.as_slice(), "{}");
+    let mut diffs = Vec::new(alloc);
+    diffs.push(diff(alloc, "a", &["2-d", "3-e"], &["2-c"])?)?;
+    let body = diffs_body(alloc, diffs.as_slice())?;
+    let of_a = r#"{"missing":["2-d","3-e"],"possible_ancestors":["2-c"]}"#;
+    let expected = format!(in alloc; r#"{{"a":{of_a}}}"#)?;
+    is_line(&rt, body.as_slice(), expected.as_str());
+    diffs.push(diff(alloc, "z", &["1-q"], &[])?)?;
+    diffs.push(diff(alloc, ODD, &["4-w"], &["3-y", "3-x"])?)?;
+    let body = diffs_body(alloc, diffs.as_slice())?;
+    let of_z = r#"{"missing":["1-q"]}"#;
+    let of_odd = r#"{"missing":["4-w"],"possible_ancestors":["3-y","3-x"]}"#;
+    let expected = format!(in alloc; r#"{{"a":{of_a},"z":{of_z},{ODD_TEXT}:{of_odd}}}"#)?;
+    is_line(&rt, body.as_slice(), expected.as_str());
+    Ok(())
+}
+
+// A batch of known documents, of others, and of elements that are none; two have no reply of their own.
+const BATCH: &str = concat!(
+    r#"[{"_id":"known"},{"_id":"a"},7,{"_id":"known"},{"_id":"\"\\\n\u0001é😀"},"#,
+    r#"{"_id":5},{"_id":"c"},{"_id":"behind"}]"#
+);
+
+const BATCH_REPLIES: &str = concat!(
+    r#"[{"ok":true,"id":"a","rev":"1-a"},"#,
+    r#"{"id":null,"error":"bad_request","reason":"not an object"},"#,
+    r#"{"ok":true,"id":"\"\\\n\u0001é😀","rev":"2-b"},"#,
+    r#"{"id":null,"error":"bad_request","reason":"bad id"},"#,
+    r#"{"id":"c","error":"conflict","reason":"Document update conflict."}]"#
+);
+
+#[test]
+fn batches_are_answered(rt: HostRuntime) -> Result<(), Fail> {
+    let alloc = rt.alloc();
+    let list = Value::from_str(alloc, BATCH)?;
+    let elements = list.as_array().expect(&rt, "a list");
+    let one = RevId::read("1-a").expect(&rt, "a revision");
+    let two = RevId::read("2-b").expect(&rt, "a revision");
+    let replies = [
+        None,
+        Some(BatchReply::Stored(one)),
+        Some(BatchReply::Refused(Refusal::NotObject)),
+        None,
+        Some(BatchReply::Stored(two)),
+        Some(BatchReply::Refused(Refusal::BadId)),
+        Some(BatchReply::Refused(Refusal::Conflict)),
+    ];
+    let body = batch_body(alloc, elements.as_slice(), &replies)?;
+    is_line(&rt, body.as_slice(), BATCH_REPLIES);
+    let body = batch_body(alloc, elements.as_slice(), &[None, None])?;
+    is_line(&rt, body.as_slice(), "[]");
+    let body = batch_body(alloc, &[], &replies)?;
+    is_line(&rt, body.as_slice(), "[]");
+    Ok(())
+}

@@ -1,0 +1,92 @@
+//! A tree with so many edits that it has an index.
+
+use crate::tests::Step::{Body, Deleted, Knows, Len, Merge, Missing, Nodes, Path};
+use crate::tests::{ADDED, KNOWN, Step, first_wrong, merge};
+use hub_document::RevId;
+use hub_revtree::{MergeFault, RevTree};
+use std::alloc::{AllocError, Global};
+use std::test::Fail;
+
+// The digest of this number. Two numbers that differ by 600 have the same first eight bytes.
+fn digest_of(alloc: Global, number: usize) -> Result<String, AllocError> {
+    format!(in alloc; "{:016x}{number:016x}", number % 600)
+}
+
+// A tree of so many edits of the second generation, with the digests of the numbers from 0 on. All stand on
+// the revision 1-0.. with the digest of the number 0.
+fn tree_of(alloc: Global, count: usize) -> Result<RevTree, AllocError> {
+    let mut tree = RevTree::new(alloc);
+    let first = digest_of(alloc, 0)?;
+    for number in 0..count {
+        let own = digest_of(alloc, number)?;
+        let text = format!(in alloc;
+            r#"{{"_id":"a","_revisions":{{"start":2,"ids":["{own}","{first}"]}}}}"#
+        )?;
+        let _ = merge(alloc, &mut tree, &text);
+    }
+    Ok(tree)
+}
+
+// How many of so many numbers from 0 on are those of a revision of the second generation that is known.
+fn known(alloc: Global, tree: &RevTree, count: usize) -> Result<usize, AllocError> {
+    let mut known = 0usize;
+    for number in 0..count {
+        let digest = digest_of(alloc, number)?;
+        let text = format!(in alloc; "2-{digest}")?;
+        if RevId::read(&text).is_some_and(|rev| tree.knows(&rev)) {
+            known = known.saturating_add(1);
+        }
+    }
+    Ok(known)
+}
+
+// The numbers 0, 1, 50, 300, 600 and 650 are those of edits, 900 and 1250 of none.
+const AMONG_MANY: &[Step] = &[
+    Len(700),
+    Nodes(701),
+    Knows("1-00000000000000000000000000000000", true),
+    Knows("1-00000000000000010000000000000001", false),
+    Knows("2-000000000000012c0000000000000384", false),
+    Knows("2-000000000000003200000000000004e2", false),
+    Knows("2-ffffffffffffffffffffffffffffffff", false),
+    Knows("2-a", false),
+    Deleted("2-0000000000000032000000000000028a", Some(false)),
+    Deleted("2-000000000000012c000000000000012c", Some(false)),
+    Deleted("2-000000000000012c0000000000000384", None),
+    Deleted("1-00000000000000000000000000000000", None),
+    Body("2-ffffffffffffffffffffffffffffffff", None),
+    Path(
+        "2-00000000000000000000000000000258",
+        Some("2-00000000000000000000000000000258 1-00000000000000000000000000000000 "),
+    ),
+    Merge(
+        r#"{"_id":"a","_revisions":{"start":2,"ids":["000000000000012c000000000000012c","00000000000000000000000000000000"]}}"#,
+        KNOWN,
+    ),
+    Merge(
+        r#"{"_id":"a","_revisions":{"start":3,"ids":["00000000000000010000000000000001","000000000000012c000000000000012c","b"]}}"#,
+        Err(MergeFault::Contradicts),
+    ),
+    Merge(
+        r#"{"_id":"a","_deleted":true,"_revisions":{"start":3,"ids":["00000000000000010000000000000001","000000000000012c000000000000012c","00000000000000000000000000000000"]}}"#,
+        ADDED,
+    ),
+    Deleted("3-00000000000000010000000000000001", Some(true)),
+    Deleted("2-00000000000000010000000000000001", Some(false)),
+    Missing(
+        &[
+            "2-00000000000000010000000000000001",
+            "3-00000000000000010000000000000001",
+            "4-00000000000000010000000000000001",
+        ],
+        "4-00000000000000010000000000000001 ",
+    ),
+];
+
+#[test]
+fn revisions_among_many(rt: HostRuntime) -> Result<(), Fail> {
+    let mut tree = tree_of(rt.alloc(), 700)?;
+    assert_eq!(rt; known(rt.alloc(), &tree, 1400)?, 700);
+    assert_eq!(rt; first_wrong(rt.alloc(), &mut tree, AMONG_MANY)?, None);
+    Ok(())
+}

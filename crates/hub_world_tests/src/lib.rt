@@ -1,0 +1,7 @@
+//! Tests of hub_world, as its users see it.
+#![tactic(auto)]
+
+#[cfg(test)]
+mod random_tests;
+#[cfg(test)]
+mod tests;
