@@ -1,20 +1,24 @@
 //! Chunks to a writer.
 
-ghost use Rattle.std.specs.Prelude.{◌≡◌, ◌-◌, ◌<◌, ◌≤◌, ◌∷◌, ◌++◌, drop, false, length, IfOk, IsErrOf, OnOk, OnErr};
+ghost use Rattle.std.specs.Prelude.{◌≡◌, ◌-◌, ◌<◌, ◌≤◌, [], ◌∷◌, ◌++◌, drop, false, length, IfOk, IsErrOf, OnOk};
 ghost use Rattle.std.specs.Fmt.{digit_glyph, digits};
-ghost use Rattle.hub_http.specs.Counts.{Rose};
+ghost use Rattle.hub_http.specs.Counts.{Rose, GaveUp};
 ghost use Rattle.hub_http.specs.Chunks.{Writes, head_room, text_chunks};
 ghost use Rattle.hub_http.specs.Texts.{chunk_text};
 
 use crate::output::{Output, write_all};
+use crate::text::Text;
 use std::alloc::{AllocError, Global};
+use thiserror::Error;
 
 /// Why a chunk was not written whole.
-#[derive(Clone, Copy, Debug, PartialEq, Eq)]
+#[derive(Clone, Copy, Debug, PartialEq, Eq, Error)]
 pub enum ChunkFault {
-    /// No memory was found, and nothing was written.
+    /// Out of memory: the writer was not called.
+    #[error("out of memory")]
     NoMemory,
-    /// The writer failed, after a front of the chunk.
+    /// The writer failed behind a front of the chunk, or 1,000,000 calls in a row were interrupted.
+    #[error("the other side can't be written to")]
     IoFault,
 }
 
@@ -77,8 +81,8 @@ fn close_chunk(buffer: &mut Vec<u8>) -> Result<usize, AllocError>
 /// all of it. A text is made where its chunk is written from, and is not copied.
 #[derive(Debug, Drop)]
 pub struct ChunkWriter {
-    /// Room for the head of a chunk, once one was begun, and behind it the text.
-    pub buffer: Vec<u8>,
+    /// Room for the head of a chunk, and behind it the text and the end of the chunk.
+    buffer: Vec<u8>,
 }
 
 impl ChunkWriter {
@@ -89,23 +93,35 @@ impl ChunkWriter {
         }
     }
 
-    /// Begins a chunk: the buffer is ready for a text to be appended. It costs the same whatever
-    /// was held, and takes memory once, for the first chunk.
-    pub fn begin(&mut self) -> Result<(), AllocError>
-        ensures { OnOk result (length self.new.buffer.items ≡ head_room) }
+    /// Makes a text behind the room for the head of its chunk.
+    fn put<T: Text>(&mut self, text: &T) -> Result<(), AllocError>
+        ensures { OnOk result ((head_room ≤ length self.new.buffer.items)
+            × (drop head_room self.new.buffer.items ≡ T.bytes text.now)) }
     {
-        self.buffer.resize(ROOM, b'0')
+        self.buffer.resize(ROOM, b'0')?;
+        text.append(&mut self.buffer)?;
+        Ok(())
     }
 
-    /// Writes the text behind the room as one chunk, and an empty one not at all, which needs no
-    /// memory and no writer. Nothing is flushed. It costs the text's length, and memory only where
-    /// the chunk is longer than each one before. Begin the next chunk before another is written.
-    pub fn write<W: Output>(&mut self, writer: &mut W) -> Result<(), ChunkFault>
-        ensures bytes { Writes (text_chunks (drop head_room self.old.buffer.items)) result (W.written writer.old) (W.written writer.new) }
-        ensures empty { OnErr result (head_room < length self.old.buffer.items) }
+    /// Writes a text as one chunk, and an empty one not at all: then the writer is not called. Nothing
+    /// is flushed. It costs the text's length, and memory for the first chunk and where one is longer
+    /// than each before. Where no memory is found the writer is not called either.
+    pub fn write<T: Text, W: Output>(&mut self, writer: &mut W, text: &T) -> Result<(), ChunkFault>
+        ensures bytes { Writes (text_chunks (T.bytes text.now)) result (W.written writer.old) (W.written writer.new) }
+        ensures memory { IsErrOf result ChunkFault.NoMemory → writer.new ≡ writer.old }
+        ensures empty { T.bytes text.now ≡ []
+            → (writer.new ≡ writer.old) × ¬ (IsErrOf result ChunkFault.IoFault) }
         ensures monotone { W.fault_count writer.old ≤ W.fault_count writer.new }
-        ensures fault { IsErrOf result ChunkFault.IoFault → Rose (W.fault_count writer.old) (W.fault_count writer.new) }
+        ensures failures_monotone { W.failure_count writer.old ≤ W.failure_count writer.new }
+        ensures fault { IsErrOf result ChunkFault.IoFault
+            → Rose (W.fault_count writer.old) (W.fault_count writer.new) }
+        ensures tried { IsErrOf result ChunkFault.IoFault
+            → GaveUp (W.failure_count writer.old) (W.failure_count writer.new)
+            (W.fault_count writer.old) (W.fault_count writer.new) }
     {
+        if self.put(text).is_err() {
+            return Err(ChunkFault::NoMemory);
+        }
         if self.buffer.len() <= ROOM {
             return Ok(());
         }
@@ -114,9 +130,16 @@ impl ChunkWriter {
 
     fn write_chunk<W: Output>(&mut self, writer: &mut W) -> Result<(), ChunkFault>
         requires { head_room < length self.old.buffer.items }
-        ensures bytes { Writes (text_chunks (drop head_room self.old.buffer.items)) result (W.written writer.old) (W.written writer.new) }
+        ensures bytes { Writes (text_chunks (drop head_room self.old.buffer.items)) result
+            (W.written writer.old) (W.written writer.new) }
+        ensures memory { IsErrOf result ChunkFault.NoMemory → writer.new ≡ writer.old }
         ensures monotone { W.fault_count writer.old ≤ W.fault_count writer.new }
-        ensures fault { IsErrOf result ChunkFault.IoFault → Rose (W.fault_count writer.old) (W.fault_count writer.new) }
+        ensures failures_monotone { W.failure_count writer.old ≤ W.failure_count writer.new }
+        ensures fault { IsErrOf result ChunkFault.IoFault
+            → Rose (W.fault_count writer.old) (W.fault_count writer.new) }
+        ensures tried { IsErrOf result ChunkFault.IoFault
+            → GaveUp (W.failure_count writer.old) (W.failure_count writer.new)
+            (W.fault_count writer.old) (W.fault_count writer.new) }
     {
         let Ok(start) = close_chunk(&mut self.buffer) else {
             return Err(ChunkFault::NoMemory);

@@ -25,6 +25,7 @@ mod row_text;
 mod tally;
 #[cfg(test)]
 mod tally_tests;
+mod text;
 #[cfg(test)]
 mod text_tests;
 #[cfg(test)]
@@ -43,3 +44,4 @@ pub use request::Request;
 pub use requests::{Requests, one_reading, one_verdict};
 pub use row_text::RowText;
 pub use tally::Tally;
+pub use text::Text;

@@ -408,9 +408,7 @@ fn chunked(alloc: Global, texts: &[&[u8]]) -> Result<Vec<u8>, Fail> {
     let mut chunks = ChunkWriter::new(alloc);
     let mut writer = Tally::new(Vec::new(alloc));
     for text in texts {
-        chunks.begin()?;
-        chunks.buffer.extend_from_slice(text)?;
-        chunks.write(&mut writer)?;
+        chunks.write(&mut writer, text)?;
     }
     Ok(writer.into_inner())
 }
