@@ -1,6 +1,7 @@
 pub mod BlockLemmas
 pub mod ChangeLemmas
 pub mod ChunkLemmas
+pub mod CountLemmas
 pub mod ExclusionLemmas
 pub mod FrontLemmas
 pub mod HeadLemmas

@@ -24,6 +24,10 @@ reader_of q = q.reader
 abbrev pub faults_of : {R : Type 0} → (R → ℕ) → Requests R → ℕ
 faults_of count q = count q.reader
 
+-- how many reads failed, other than by an interruption
+abbrev pub failures_of : {R : Type 0} → (R → ℕ) → Requests R → ℕ
+failures_of count q = count q.reader
+
 -- the reader or writer whose calls are counted
 abbrev pub inner_of : {T : Type 0} → Tally T → T
 inner_of t = t.inner

@@ -62,6 +62,7 @@ impl Block {
         ensures end { IfOk result (λ _. self.new ≡ [] → IsAtEnd (R.left reader.new)) }
         ensures err { IfErr result (λ e. (e ≡ HttpFault.IoFault) × (self.new ≡ [])) }
         ensures monotone { R.fault_count reader.old ≤ R.fault_count reader.new }
+        ensures failures_monotone { R.failure_count reader.old ≤ R.failure_count reader.new }
         ensures fault { OnErr result (Rose (R.fault_count reader.old) (R.fault_count reader.new)) }
         ensures tried { OnErr result (GaveUp (R.failure_count reader.old) (R.failure_count reader.new)
             (R.fault_count reader.old) (R.fault_count reader.new)) }
@@ -90,6 +91,7 @@ impl Block {
         ensures end { IfOk result (λ _. self.new ≡ [] → IsAtEnd (R.left reader.new)) }
         ensures err { IfErr result (λ e. e ≡ HttpFault.IoFault) }
         ensures monotone { R.fault_count reader.old ≤ R.fault_count reader.new }
+        ensures failures_monotone { R.failure_count reader.old ≤ R.failure_count reader.new }
         ensures fault { OnErr result (Rose (R.fault_count reader.old) (R.fault_count reader.new)) }
         ensures tried { OnErr result (GaveUp (R.failure_count reader.old) (R.failure_count reader.new)
             (R.fault_count reader.old) (R.fault_count reader.new)) }

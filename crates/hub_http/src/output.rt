@@ -7,6 +7,7 @@ ghost use Rattle.hub_http.specs.Counts.{bumped_if, write_faulted, write_failed, 
 
 use std::io;
 use std::io::ErrorKind;
+use thiserror::Error;
 
 /// Where replies go: a writer that counts its faults.
 pub trait Output {
@@ -38,7 +39,8 @@ pub trait Output {
 }
 
 /// The other side can't be written to, or 1,000,000 calls in a row were interrupted.
-#[derive(Clone, Copy, Debug, PartialEq, Eq)]
+#[derive(Clone, Copy, Debug, PartialEq, Eq, Error)]
+#[error("the other side can't be written to")]
 pub struct IoFault;
 
 /// How often a write or a flush is made, where each is interrupted.
@@ -61,6 +63,7 @@ fn write_some<W: Output>(writer: &mut W, bytes: &[u8]) -> Result<usize, IoFault>
     ensures ok { IfOk result (λ n. Appends (W.written writer.old) (W.written writer.new) (take n bytes.now)) }
     ensures err { OnErr result (Keeps (W.written writer.old) (W.written writer.new)) }
     ensures monotone { W.fault_count writer.old ≤ W.fault_count writer.new }
+    ensures failures_monotone { W.failure_count writer.old ≤ W.failure_count writer.new }
     ensures fault { OnErr result (Rose (W.fault_count writer.old) (W.fault_count writer.new)) }
     ensures tried { OnErr result (GaveUp (W.failure_count writer.old) (W.failure_count writer.new)
         (W.fault_count writer.old) (W.fault_count writer.new)) }
@@ -83,6 +86,7 @@ fn write_some<W: Output>(writer: &mut W, bytes: &[u8]) -> Result<usize, IoFault>
 fn flush<W: Output>(writer: &mut W) -> Result<(), IoFault>
     ensures bytes { Keeps (W.written writer.old) (W.written writer.new) }
     ensures monotone { W.fault_count writer.old ≤ W.fault_count writer.new }
+    ensures failures_monotone { W.failure_count writer.old ≤ W.failure_count writer.new }
     ensures fault { OnErr result (Rose (W.fault_count writer.old) (W.fault_count writer.new)) }
     ensures tried { OnErr result (GaveUp (W.failure_count writer.old) (W.failure_count writer.new)
         (W.fault_count writer.old) (W.fault_count writer.new)) }
@@ -106,7 +110,10 @@ pub fn write_all<W: Output>(writer: &mut W, bytes: &[u8]) -> Result<(), IoFault>
     ensures ok { OnOk result (Appends (W.written writer.old) (W.written writer.new) bytes.now) }
     ensures front { AppendsFront (W.written writer.old) (W.written writer.new) bytes.now }
     ensures monotone { W.fault_count writer.old ≤ W.fault_count writer.new }
+    ensures failures_monotone { W.failure_count writer.old ≤ W.failure_count writer.new }
     ensures fault { OnErr result (Rose (W.fault_count writer.old) (W.fault_count writer.new)) }
+    ensures tried { OnErr result (GaveUp (W.failure_count writer.old) (W.failure_count writer.new)
+        (W.fault_count writer.old) (W.fault_count writer.new)) }
 {
     let mut rest = bytes;
     while !rest.is_empty() {
@@ -121,7 +128,10 @@ pub fn write_all<W: Output>(writer: &mut W, bytes: &[u8]) -> Result<(), IoFault>
 pub fn send<W: Output>(writer: &mut W, bytes: &[u8]) -> Result<(), IoFault>
     ensures sent { Sends (is_err result) (W.written writer.old) (W.written writer.new) bytes.now }
     ensures monotone { W.fault_count writer.old ≤ W.fault_count writer.new }
+    ensures failures_monotone { W.failure_count writer.old ≤ W.failure_count writer.new }
     ensures fault { OnErr result (Rose (W.fault_count writer.old) (W.fault_count writer.new)) }
+    ensures tried { OnErr result (GaveUp (W.failure_count writer.old) (W.failure_count writer.new)
+        (W.fault_count writer.old) (W.fault_count writer.new)) }
 {
     write_all(writer, bytes)?;
     flush(writer)

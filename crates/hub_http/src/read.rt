@@ -29,6 +29,7 @@ pub(crate) fn read_more<R: Input>(
     ensures err { IfErr result (λ e. (e ≡ HttpFault.NoMemory) ⊎ (e ≡ HttpFault.IoFault)) }
     ensures memory { result ≡ Err HttpFault.NoMemory → 0 < length block.new }
     ensures monotone { R.fault_count reader.old ≤ R.fault_count reader.new }
+    ensures failures_monotone { R.failure_count reader.old ≤ R.failure_count reader.new }
     ensures fault { IfErr result (λ e. e ≡ HttpFault.IoFault → Rose (R.fault_count reader.old) (R.fault_count reader.new)) }
     ensures tried { IfErr result (λ e. e ≡ HttpFault.IoFault → GaveUp (R.failure_count reader.old) (R.failure_count reader.new)
         (R.fault_count reader.old) (R.fault_count reader.new)) }

@@ -1,7 +1,7 @@
 //! The requests that a reader's bytes spell.
 ghost use Rattle.std.specs.Prelude.{◌≡◌, ◌<◌, ◌≤◌, ◌+◌, ◌⊎◌, ℕ, List, ◌++◌, length, min, max, take, drop, IfOk, IfErr, IfSome, OnOk, IsTrue, IsFalse};
 ghost use Rattle.std.specs.Io.KnownBytes.{Keeps, IsAtEnd, prepend_known};
-ghost use Rattle.hub_http.specs.Counts.{Rose};
+ghost use Rattle.hub_http.specs.Counts.{Rose, GaveUp};
 ghost use Rattle.hub_http.specs.Stream.{Asked, Leaves, Spells, known, to_read};
 ghost use Rattle.hub_http.specs.Exclusions.{SpelledHasNoFault, NothingSpellsNothing, NothingHasNoFault, HeadHasOneFault, HeadFaultIsNamed, WholeHeadHasOneFault, OtherFaultsAreOpen};
 ghost use Rattle.hub_http.specs.Looking.{Finds};
@@ -26,7 +26,11 @@ fn find_head<R: Input>(
         (prepend_known held.new.items (to_read block.new (R.left reader.new))) }
     ensures found { Finds held.new.items (to_read block.new (R.left reader.new)) result }
     ensures monotone { R.fault_count reader.old ≤ R.fault_count reader.new }
+    ensures failures_monotone { R.failure_count reader.old ≤ R.failure_count reader.new }
     ensures fault { IfErr result (λ e. e ≡ HttpFault.IoFault → Rose (R.fault_count reader.old) (R.fault_count reader.new)) }
+    ensures tried { IfErr result (λ e. e ≡ HttpFault.IoFault → GaveUp
+        (R.failure_count reader.old) (R.failure_count reader.new)
+        (R.fault_count reader.old) (R.fault_count reader.new)) }
 {
     loop {
         match look(alloc, held) {
@@ -75,7 +79,11 @@ fn fill_room<R: Input>(
     ensures cut { IfOk result (λ full. IsFalse full → (length held.new.items < wanted) × IsAtEnd (to_read block.new (R.left reader.new))) }
     ensures err { IfErr result (λ e. (e ≡ HttpFault.NoMemory) ⊎ (e ≡ HttpFault.IoFault)) }
     ensures monotone { R.fault_count reader.old ≤ R.fault_count reader.new }
+    ensures failures_monotone { R.failure_count reader.old ≤ R.failure_count reader.new }
     ensures fault { IfErr result (λ e. e ≡ HttpFault.IoFault → Rose (R.fault_count reader.old) (R.fault_count reader.new)) }
+    ensures tried { IfErr result (λ e. e ≡ HttpFault.IoFault → GaveUp
+        (R.failure_count reader.old) (R.failure_count reader.new)
+        (R.fault_count reader.old) (R.fault_count reader.new)) }
 {
     if held
         .reserve_exact(wanted.saturating_sub(held.len()))
@@ -108,7 +116,11 @@ pub(crate) fn fill<R: Input>(
     ensures cut { IfOk result (λ full. IsFalse full → (length held.new.items < wanted) × IsAtEnd (to_read block.new (R.left reader.new))) }
     ensures err { IfErr result (λ e. (e ≡ HttpFault.NoMemory) ⊎ (e ≡ HttpFault.IoFault)) }
     ensures monotone { R.fault_count reader.old ≤ R.fault_count reader.new }
+    ensures failures_monotone { R.failure_count reader.old ≤ R.failure_count reader.new }
     ensures fault { IfErr result (λ e. e ≡ HttpFault.IoFault → Rose (R.fault_count reader.old) (R.fault_count reader.new)) }
+    ensures tried { IfErr result (λ e. e ≡ HttpFault.IoFault → GaveUp
+        (R.failure_count reader.old) (R.failure_count reader.new)
+        (R.fault_count reader.old) (R.fault_count reader.new)) }
 {
     while held.len() < wanted {
         let goal = room(held.len(), wanted);
@@ -121,8 +133,22 @@ pub(crate) fn fill<R: Input>(
     Ok(true)
 }
 
+/// A copy of the bytes. It takes memory where there are some.
+fn copy_of(alloc: Global, bytes: &[u8]) -> Result<Vec<u8>, HttpFault>
+    ensures ok { IfOk result (λ copy. copy.items ≡ bytes.now) }
+    ensures err { IfErr result (λ e. (e ≡ HttpFault.NoMemory) × (0 < length bytes.now)) }
+{
+    if bytes.is_empty() {
+        return Ok(Vec::new(alloc));
+    }
+    match Vec::from_slice(alloc, bytes) {
+        Ok(copy) => Ok(copy),
+        Err(_) => Err(HttpFault::NoMemory),
+    }
+}
+
 /// Makes the held bytes the body, and holds on to those behind it. An error changes nothing.
-/// It moves the body once and copies what stands behind it.
+/// It moves the body once and copies the bytes behind it.
 fn split_body(
     alloc: Global,
     held: &mut Vec<u8>,
@@ -130,12 +156,15 @@ fn split_body(
     body: usize,
 ) -> Result<Vec<u8>, HttpFault>
     requires { len + body ≤ length held.old.items }
-    ensures ok { IfOk result (λ v. (v.items ≡ take body (drop len held.old.items)) × (held.new.items ≡ drop (len + body) held.old.items)) }
-    ensures err { IfErr result (λ e. (e ≡ HttpFault.NoMemory) × (held.new.items ≡ held.old.items)) }
+    ensures ok { IfOk result (λ v. (v.items ≡ take body (drop len held.old.items))
+        × (held.new.items ≡ drop (len + body) held.old.items)) }
+    ensures err { IfErr result (λ e. (e ≡ HttpFault.NoMemory) × (held.new.items ≡ held.old.items)
+        × (len + body < length held.old.items)) }
 {
     let end = len + body;
-    let Ok(rest) = Vec::from_slice(alloc, &held[end..]) else {
-        return Err(HttpFault::NoMemory);
+    let rest = match copy_of(alloc, &held[end..]) {
+        Ok(rest) => rest,
+        Err(e) => return Err(e),
     };
     let mut bytes = mem::replace(held, rest);
     bytes.copy_within(len..end, 0);
@@ -143,27 +172,28 @@ fn split_body(
     Ok(bytes)
 }
 
-/// Takes so many bytes away from the front of what is held. An error changes nothing. It copies what
-/// stands behind them.
-fn drop_front(alloc: Global, held: &mut Vec<u8>, count: usize) -> Result<(), HttpFault>
+/// Takes so many bytes away from the front of those that are held. It copies the bytes behind them
+/// at once into memory of their own, and where it finds none it moves them in their place, one by one.
+fn drop_front(alloc: Global, held: &mut Vec<u8>, count: usize)
     requires { count ≤ length held.old.items }
-    ensures ok { OnOk result (held.new.items ≡ drop count held.old.items) }
-    ensures err { IfErr result (λ e. (e ≡ HttpFault.NoMemory) × (held.new.items ≡ held.old.items)) }
+    ensures { held.new.items ≡ drop count held.old.items }
 {
     if count == held.len() {
         held.clear();
-        return Ok(());
+        return;
     }
-    let Ok(rest) = Vec::from_slice(alloc, &held[count..]) else {
-        return Err(HttpFault::NoMemory);
-    };
-    *held = rest;
-    Ok(())
+    match Vec::from_slice(alloc, &held[count..]) {
+        Ok(rest) => *held = rest,
+        Err(_) => {
+            held.copy_within(count.., 0);
+            held.truncate(held.len() - count);
+        }
+    }
 }
 
-/// Takes the body from behind a head, and both away from what is held. An error changes nothing.
-/// A short body is copied, and a long one keeps the memory that it was read into, so that no more
-/// than a block's stays behind.
+/// Takes the body from behind a head, and both away from the bytes that are held. An error changes
+/// nothing, and comes only where there is a body. A short body is copied, and a long one keeps the
+/// memory that it was read into, so that no more than a block's stays behind.
 fn take_body(
     alloc: Global,
     held: &mut Vec<u8>,
@@ -171,20 +201,20 @@ fn take_body(
     body: usize,
 ) -> Result<Vec<u8>, HttpFault>
     requires { len + body ≤ length held.old.items }
-    ensures ok { IfOk result (λ v. (v.items ≡ take body (drop len held.old.items)) × (held.new.items ≡ drop (len + body) held.old.items)) }
-    ensures err { IfErr result (λ e. (e ≡ HttpFault.NoMemory) × (held.new.items ≡ held.old.items)) }
+    ensures ok { IfOk result (λ v. (v.items ≡ take body (drop len held.old.items))
+        × (held.new.items ≡ drop (len + body) held.old.items)) }
+    ensures err { IfErr result (λ e. (e ≡ HttpFault.NoMemory) × (held.new.items ≡ held.old.items) × (0 < body)) }
 {
     if body > BLOCK {
         return split_body(alloc, held, len, body);
     }
     let end = len + body;
-    let Ok(bytes) = Vec::from_slice(alloc, &held[len..end]) else {
-        return Err(HttpFault::NoMemory);
+    let bytes = match copy_of(alloc, &held[len..end]) {
+        Ok(bytes) => bytes,
+        Err(e) => return Err(e),
     };
-    match drop_front(alloc, held, end) {
-        Ok(()) => Ok(bytes),
-        Err(e) => Err(e),
-    }
+    drop_front(alloc, held, end);
+    Ok(bytes)
 }
 
 /// Reads the next request, `None` at the end of the input.
@@ -197,7 +227,11 @@ fn read_request<R: Input>(
     ensures told { IfSome (known held.old.items (to_read block.old (R.left reader.old)))
         (λ bytes. Leaves bytes result (known held.new.items (to_read block.new (R.left reader.new)))) }
     ensures monotone { R.fault_count reader.old ≤ R.fault_count reader.new }
+    ensures failures_monotone { R.failure_count reader.old ≤ R.failure_count reader.new }
     ensures fault { IfErr result (λ e. e ≡ HttpFault.IoFault → Rose (R.fault_count reader.old) (R.fault_count reader.new)) }
+    ensures tried { IfErr result (λ e. e ≡ HttpFault.IoFault → GaveUp
+        (R.failure_count reader.old) (R.failure_count reader.new)
+        (R.fault_count reader.old) (R.fault_count reader.new)) }
 {
     let head = match find_head(alloc, reader, block, held) {
         Ok(Some(head)) => head,
@@ -244,13 +278,14 @@ pub struct Requests<R> {
 }
 
 impl<R: Input> Requests<R> {
-    ghost use Rattle.hub_http.specs.Words.{to_come, IsOpen, HasEnded, faults_of, reader_of};
+    ghost use Rattle.hub_http.specs.Words.{to_come, IsOpen, HasEnded, faults_of, failures_of, reader_of};
 
     /// Nothing is read yet.
     pub fn new(alloc: Global, reader: R) -> Requests<R>
         ensures bytes { to_come R.left result ≡ R.left reader }
         ensures open { IsOpen result }
         ensures faults { faults_of R.fault_count result ≡ R.fault_count reader }
+        ensures failures { failures_of R.failure_count result ≡ R.failure_count reader }
     {
         Requests {
             reader,
@@ -283,7 +318,8 @@ impl<R: Input> Requests<R> {
     /// bytes come, whatever `Content-Length` says: for 65,536 bytes at first, then for as many
     /// again as are held, and never for more than the request has. So a body of fewer costs one
     /// reservation, and a longer one is copied where its room grows, in all less than twice its
-    /// length. What is read behind a request, less than a block, is copied once a request.
+    /// length. The bytes that were read behind a request, less than a block, are copied once a request,
+    /// and moved in their place where there is no memory for a copy.
     pub fn next(&mut self) -> Result<Option<Request>, HttpFault>
         ensures told { IsOpen self.old → IfSome (to_come R.left self.old)
             (λ bytes. Leaves bytes result (to_come R.left self.new)) }
@@ -294,8 +330,12 @@ impl<R: Input> Requests<R> {
         ensures ended { HasEnded self.old → (result ≡ Err HttpFault.Ended) × (self.new ≡ self.old) }
 
         ensures monotone { faults_of R.fault_count self.old ≤ faults_of R.fault_count self.new }
+        ensures failures_monotone { failures_of R.failure_count self.old ≤ failures_of R.failure_count self.new }
         ensures fault { IfErr result (λ e. e ≡ HttpFault.IoFault
             → Rose (faults_of R.fault_count self.old) (faults_of R.fault_count self.new)) }
+        ensures tried { IfErr result (λ e. e ≡ HttpFault.IoFault → GaveUp
+            (failures_of R.failure_count self.old) (failures_of R.failure_count self.new)
+            (faults_of R.fault_count self.old) (faults_of R.fault_count self.new)) }
     {
         if self.ended {
             return Err(HttpFault::Ended);

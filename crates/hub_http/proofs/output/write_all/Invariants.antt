@@ -6,8 +6,10 @@ abbrev pub invariant-loop-rest : goal.invariant-loop-rest
 invariant-loop-rest g l =
     let written = g.W.Output.written in
     let faults = g.W.Output.fault_count in
+    let failures = g.W.Output.failure_count in
     ((done : List ℕ) × (l.bytes ≡ done ++ l.rest) × Appends (written l.fn.writer) (written l.writer) done)
     × (faults l.fn.writer ≤ faults l.writer)
+    × (failures l.fn.writer ≤ failures l.writer)
 
 abbrev pub decreases-loop-rest : goal.decreases-loop-rest
 decreases-loop-rest g l = length l.rest
