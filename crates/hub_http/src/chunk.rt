@@ -93,12 +93,19 @@ impl ChunkWriter {
         }
     }
 
+    /// Leaves the room for the head of a chunk in the buffer, and nothing behind it.
+    fn begin(&mut self) -> Result<(), AllocError>
+        ensures { OnOk result (length self.new.buffer.items ≡ head_room) }
+    {
+        self.buffer.resize(ROOM, b'0')
+    }
+
     /// Makes a text behind the room for the head of its chunk.
     fn put<T: Text>(&mut self, text: &T) -> Result<(), AllocError>
-        ensures { OnOk result ((head_room ≤ length self.new.buffer.items)
-            × (drop head_room self.new.buffer.items ≡ T.bytes text.now)) }
+        ensures room { OnOk result (head_room ≤ length self.new.buffer.items) }
+        ensures made { OnOk result (drop head_room self.new.buffer.items ≡ T.bytes text.now) }
     {
-        self.buffer.resize(ROOM, b'0')?;
+        self.begin()?;
         text.append(&mut self.buffer)?;
         Ok(())
     }

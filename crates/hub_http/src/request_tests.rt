@@ -300,6 +300,23 @@ fn limits_of_heads(rt: HostRuntime) -> Result<(), Fail> {
     Ok(())
 }
 
+/// How many bytes come of a head that is longer, and why no request does.
+const PARTS: &[(usize, HttpFault)] = &[
+    (16_383, HttpFault::Ended),
+    (16_384, HttpFault::HeadTooLong),
+    (20_000, HttpFault::HeadTooLong),
+];
+
+#[test]
+fn parts_of_a_long_head(rt: HostRuntime) -> Result<(), Fail> {
+    for (len, fault) in PARTS {
+        let mut text = head_of(rt.alloc(), 1, 20_000)?;
+        text.truncate(*len);
+        has_outcome(&rt, rt.alloc(), text.as_slice(), 0, Some(*fault));
+    }
+    Ok(())
+}
+
 const OPTIONS: &[(&[u8], bool)] = &[
     (b"GET / HTTP/1.1\r\n\r\n", false),
     (
