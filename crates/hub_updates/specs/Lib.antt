@@ -1,3 +1,4 @@
+pub mod Asked
 pub mod Fits
 pub mod Kept
 pub mod Laid

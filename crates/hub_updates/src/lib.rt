@@ -2,6 +2,7 @@
 //! reference, `_db_updates`).
 #![tactic(auto)]
 
+mod asked;
 mod host;
 mod log;
 mod notice;
