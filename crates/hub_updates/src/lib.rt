@@ -8,8 +8,6 @@ mod log;
 mod notice;
 mod rows;
 mod state;
-#[cfg(test)]
-mod tests;
 
 pub use notice::Notice;
 pub use state::{NoteFault, UpdatesState};

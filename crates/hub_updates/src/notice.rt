@@ -33,14 +33,14 @@ impl Notice {
     }
 
     /// What happened.
-    pub(crate) fn kind(&self) -> UpdateKind
+    pub fn kind(&self) -> UpdateKind
         ensures { result ≡ self.now.kind }
     {
         self.kind
     }
 
     /// To the database of this name.
-    pub(crate) fn name(&self) -> &str
+    pub fn name(&self) -> &str
         ensures { result.now ≡ self.now.name }
     {
         self.name.as_str()

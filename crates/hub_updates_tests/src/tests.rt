@@ -2,12 +2,12 @@
 
 use crate::tests::Handed::{Beat, End, Gone, Nothing, Row};
 use crate::tests::Step::{Beats, Expire, Finish, Hands, Length, Note, Open};
-use crate::{NoteFault, Notice, UpdatesState};
 use hub_document::{Limits, UpdateRow};
 use hub_feed::{FeedHost, FeedId, Next, OpenFault};
 use hub_model::Item;
 use hub_model::UpdateKind::{self, Created, Deleted, Updated};
 use hub_params::FeedParams;
+use hub_updates::{NoteFault, Notice, UpdatesState};
 use std::alloc::Global;
 use std::process::Abort;
 
