@@ -1,33 +1,50 @@
 -- The two ends of a lane, as their callers see them (own).
-use Rattle.std.specs.Prelude.{◌≡◌, ℕ, List, [], ◌∷◌, ◌++◌, length}
+use Rattle.std.specs.Prelude.{◌≡◌, ℕ, List, [], ◌∷◌, ◌++◌, Option, length}
+use Rattle.atomic_table.specs.Seated.{TableId}
+use Rattle.crossbeam_queue.specs.declared.array_queue.Doing.{Doing}
+use Rattle.crossbeam_queue.specs.declared.array_queue.Slotted.{Slotted}
 use Rattle.hub_lane.specs.declared.rule.View.{View}
 use Rattle.hub_lane.specs.declared.rule.View.TheVariants.{OfSender, OfReceiver}
 
+-- which lane it is: no other lane has the same
+abbrev pub LaneId : Type 0
+LaneId = TableId
+
+-- the lane that a queue is of
+abbrev pub lane_of : {T V Q A : Type 0} → Slotted (Option T) (Doing T V) Q A → LaneId
+lane_of queue = queue.table.shared.table_id
+
 -- what is seen of the end that sends
 pub record SenderState (L I : Type 0) : Type 0 where
+  pub lane_id : LaneId  -- the lane that it is an end of
   pub label : L  -- the lane's, which says what may be sent
   pub sent : List I  -- every item that was sent, the first one first
   pub capacity : ℕ  -- how many items the lane holds at most
 
 -- what is seen of the end that takes
 pub record ReceiverState (L I : Type 0) : Type 0 where
+  pub lane_id : LaneId  -- the lane that it is an end of
   pub label : L  -- the lane's, which says what may be sent
   pub taken : List I  -- every item that was taken, the first one first
 
--- the lane held as many items as it may, behind those that were taken by then
--- with a, b and c sent and a capacity of 2 it held b and c, and a was taken; with a alone it was not full
+-- The lane held as many items as it may, behind those that were taken by then. With a, b and c sent and a
+-- capacity of 2 it held b and c, and a was taken; with a alone it was not full. No clause can name what the
+-- receiver had taken at that moment, so this says no more than that so many items were ever sent. The promise
+-- rests on the word `refuses` of the trait `Asks`, which is abstract: code with that bound tells a full lane
+-- only where it asked the lane.
 abbrev pub HasBeenFull : {I : Type 0} → ℕ → List I → Type 0
 HasBeenFull {I} capacity sent =
     (taken : List I) × (held : List I) × (length held ≡ capacity) × (sent ≡ taken ++ held)
 
 module _ {L I : Type 0} where
-  -- the sender of a new lane under this label, and of this capacity
-  abbrev pub new_sender : L → ℕ → SenderState L I
-  new_sender label capacity = record { label = label; sent = []; capacity = capacity }
+  -- the sender of this lane, which is new, under this label, and of this capacity
+  abbrev pub new_sender : LaneId → L → ℕ → SenderState L I
+  new_sender lane label capacity =
+      record { lane_id = lane; label = label; sent = []; capacity = capacity }
 
-  -- the receiver of a new lane under this label
-  abbrev pub new_receiver : L → ReceiverState L I
-  new_receiver label = record { label = label; taken = [] }
+  -- the receiver of this lane, which is new, under this label
+  abbrev pub new_receiver : LaneId → L → ReceiverState L I
+  new_receiver lane label = record { lane_id = lane; label = label; taken = [] }
 
   -- the sender behind a push
   abbrev pub behind_push : SenderState L I → I → SenderState L I
@@ -42,14 +59,14 @@ module _ {L I : Type 0} where
   abbrev pub IsAllowedBeginning : (L → List I → Type 0) → ReceiverState L I → Type 0
   IsAllowedBeginning allows r = (rest : List I) × allows r.label (r.taken ++ rest)
 
-  -- what `refuses` says, of this item and the sender whose pass knows this, in a lane of this capacity
-  abbrev pub IsRefusal : (SenderState L I → I → Type 0) → ℕ → View L I → I → Type 0
-  IsRefusal refuses capacity view item =
+  -- what `refuses` says, of this item and the sender of this lane, of this capacity, whose pass knows this
+  abbrev pub IsRefusal : (SenderState L I → I → Type 0) → LaneId → ℕ → View L I → I → Type 0
+  IsRefusal refuses lane capacity view item =
       (label : L) (sent : List I) → view ≡ OfSender label sent
-      → refuses (record { label = label; sent = sent; capacity = capacity }) item
+      → refuses (record { lane_id = lane; label = label; sent = sent; capacity = capacity }) item
 
-  -- what `lacks` says, of the receiver whose pass knows this
-  abbrev pub IsLack : (ReceiverState L I → Type 0) → View L I → Type 0
-  IsLack lacks view =
+  -- what `lacks` says, of the receiver of this lane whose pass knows this
+  abbrev pub IsLack : (ReceiverState L I → Type 0) → LaneId → View L I → Type 0
+  IsLack lacks lane view =
       (label : L) (taken : List I) → view ≡ OfReceiver label taken
-      → lacks (record { label = label; taken = taken })
+      → lacks (record { lane_id = lane; label = label; taken = taken })

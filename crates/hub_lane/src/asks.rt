@@ -2,7 +2,7 @@
 
 ghost use Rattle.std.specs.Prelude.{◌≡◌, IfErr, IfNone, IfSome, OnErr, OnOk};
 ghost use Rattle.crossbeam_queue.specs.Passes.{view, IsPassOf, IsSamePass, ruled_capacity};
-ghost use Rattle.hub_lane.specs.Ends.{IsRefusal, IsLack};
+ghost use Rattle.hub_lane.specs.Ends.{IsRefusal, IsLack, lane_of};
 ghost use Rattle.hub_lane.specs.Rule.{with_item, HasAllowedRest, IsReceiver, IsSenderFor};
 
 use crate::rule::{Kept, LaneRule, Push, Take, View};
@@ -31,8 +31,8 @@ pub trait Asks<L: Kept<I>, I>: Wait {
         ensures queue { IsSamePass pass.old pass.new }
         ensures sent { OnOk result (view pass.new ≡ with_item (view pass.old) item) }
         ensures same { IfErr result (λ back. (back ≡ item) × (view pass.new ≡ view pass.old)) }
-        ensures full { OnErr result
-            (IsRefusal (refuses self.now) (ruled_capacity queue.now) (view pass.old) item) };
+        ensures full { OnErr result (IsRefusal (refuses self.now)
+            (lane_of queue.now) (ruled_capacity queue.now) (view pass.old) item) };
 
     /// Takes the front item where there is one, for `Receiver::take`. It takes no memory.
     fn poll(&self, queue: &Queue<L, I>, pass: &mut Pass<I, View<L, I>>) -> Option<I>
@@ -42,7 +42,7 @@ pub trait Asks<L: Kept<I>, I>: Wait {
         ensures taken { IfSome result (λ item. view pass.new ≡ with_item (view pass.old) item) }
         ensures allowed { IfSome result (λ _. HasAllowedRest L.allows (view pass.new)) }
         ensures same { IfNone result (view pass.new ≡ view pass.old) }
-        ensures none { IfNone result (IsLack (lacks self.now) (view pass.old)) };
+        ensures none { IfNone result (IsLack (lacks self.now) (lane_of queue.now) (view pass.old)) };
 }
 
 /// By asking the queue itself.

@@ -3,7 +3,8 @@
 ghost use Rattle.std.specs.Prelude.{◌≡◌, ◌<◌, [], ◌∷◌, ◌++◌, Some, IfOk, IfErr, IfSome, IfNone, OnErr, OnOk};
 ghost use Rattle.crossbeam_queue.specs.Passes.{view, IsPassOf, ruled_capacity};
 ghost use Rattle.hub_lane.specs.declared.rule.View.TheVariants.{NoLabel};
-ghost use Rattle.hub_lane.specs.Ends.{IsAllowedBeginning, behind_push, behind_take, new_receiver, new_sender};
+ghost use Rattle.hub_lane.specs.Ends.{IsAllowedBeginning, behind_push, behind_take, lane_of};
+ghost use Rattle.hub_lane.specs.Ends.{new_receiver, new_sender};
 
 use crate::asks::{Asks, Queue};
 use crate::rule::{Kept, NewLabel, TwoEnds, View};
@@ -29,8 +30,8 @@ pub struct Full<I>(
     pub I,
 );
 
-/// The end that sends. There is one of a lane. Contracts see its label, all that was sent, and how
-/// many items the lane holds at most.
+/// The end that sends. There is one of a lane. Contracts see which lane it is of, its label, all that
+/// was sent, and how many items the lane holds at most.
 #[derive(Drop)]
 pub struct Sender<L: Kept<I>, I> {
     // The receiver has the other handle on it.
@@ -42,12 +43,13 @@ pub struct Sender<L: Kept<I>, I> {
 impl<L: Kept<I>, I> Model for Sender<L, I> {
     ghost use Rattle.std.specs.Arc.{arc_value};
     ghost use Rattle.crossbeam_queue.specs.Passes.{view as known, IsPassOf, ruled_capacity};
-    ghost use Rattle.hub_lane.specs.Ends.{SenderState};
+    ghost use Rattle.hub_lane.specs.Ends.{SenderState, lane_of};
     ghost use Rattle.hub_lane.specs.Rule.{items_of, IsOfSender};
 
     ghost Value = { SenderState L I };
 
     ghost view = { λ s. record {
+      lane_id = lane_of (arc_value s.lane).queue;
       label = (arc_value s.lane).label;
       sent = items_of (known s.pass);
       capacity = ruled_capacity (arc_value s.lane).queue;
@@ -58,7 +60,8 @@ impl<L: Kept<I>, I> Model for Sender<L, I> {
         × IsOfSender L.allows (arc_value s.lane).label (known s.pass) };
 }
 
-/// The end that takes. There is one of a lane. Contracts see its label, and all that was taken.
+/// The end that takes. There is one of a lane. Contracts see which lane it is of, its label, and all
+/// that was taken.
 #[derive(Drop)]
 pub struct Receiver<L: Kept<I>, I> {
     // The sender has the other handle on it.
@@ -70,12 +73,13 @@ pub struct Receiver<L: Kept<I>, I> {
 impl<L: Kept<I>, I> Model for Receiver<L, I> {
     ghost use Rattle.std.specs.Arc.{arc_value};
     ghost use Rattle.crossbeam_queue.specs.Passes.{view as known, IsPassOf};
-    ghost use Rattle.hub_lane.specs.Ends.{ReceiverState};
+    ghost use Rattle.hub_lane.specs.Ends.{ReceiverState, lane_of};
     ghost use Rattle.hub_lane.specs.Rule.{items_of, IsOfReceiver};
 
     ghost Value = { ReceiverState L I };
 
     ghost view = { λ s. record {
+      lane_id = lane_of (arc_value s.lane).queue;
       label = (arc_value s.lane).label;
       taken = items_of (known s.pass);
     } };
@@ -96,8 +100,8 @@ impl<L: Kept<I> + Drop, I: Drop> Lane<L, I> {
     ) -> Result<(Sender<L, I>, Receiver<L, I>), AllocError>
         requires room { 0 < capacity }
         requires allowed { L.allows label [] }
-        ensures sender { IfOk result (λ ends. ends.0 ≡ new_sender label capacity) }
-        ensures receiver { IfOk result (λ ends. ends.1 ≡ new_receiver label) }
+        ensures sender { IfOk result (λ ends. ends.0 ≡ new_sender ends.1.lane_id label capacity) }
+        ensures receiver { IfOk result (λ ends. ends.1 ≡ new_receiver ends.0.lane_id label) }
     {
         let (queue, pass) = Queue::<L, I>::ruled(alloc, capacity)?;
         Lane::two_ends::<Brand>(alloc, queue, pass, label)
@@ -113,8 +117,9 @@ impl<L: Kept<I> + Drop, I: Drop> Lane<L, I> {
         requires name { N.label ≡ Some label }
         requires pass { IsPassOf queue pass × (view pass ≡ NoLabel) }
         requires allowed { L.allows label [] }
-        ensures sender { IfOk result (λ ends. ends.0 ≡ new_sender label (ruled_capacity queue)) }
-        ensures receiver { IfOk result (λ ends. ends.1 ≡ new_receiver label) }
+        ensures sender { IfOk result (λ ends. ends.0
+            ≡ new_sender (lane_of queue) label (ruled_capacity queue)) }
+        ensures receiver { IfOk result (λ ends. ends.1 ≡ new_receiver (lane_of queue) label) }
     {
         let receiver_pass = queue.another::<TwoEnds<N>>(&mut pass);
         let lane = Arc::new(alloc, Lane { queue, label })?;
