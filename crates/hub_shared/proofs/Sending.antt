@@ -15,7 +15,8 @@ use Rattle.hub_params.specs.declared.feed_params.FeedParams.{FeedParams}
 use Rattle.hub_feed.specs.Host.{Hosted, with_feeds, answer_of, answered, item_for, item_due, behind_due, behind_answer, handed, expired, finished, opened, is_beat_due}
 use Rattle.hub_feed.specs.Next.{next_of}
 use Rattle.hub_feed.specs.declared.next.Next.TheVariants.{Nothing}
-use Rattle.hub_lane.specs.Ends.{behind_push, new_sender}
+use Rattle.hub_lane.specs.Ends.{LaneId, behind_push, new_sender}
+use Rattle.hub_params.specs.FeedShown.{params_asked}
 use Rattle.hub_shared.specs.Label.{Label, label_of}
 use Rattle.hub_shared.specs.Locked.{FeedSender, IsSenderOf, IsServed, AreSendersOf}
 use Rattle.hub_shared.specs.Senders.{sends, MaySend}
@@ -175,16 +176,16 @@ module _ {S R : Type 0} (hosted : S → Hosted R) (with_hosted : S → Hosted R 
         seen s feeds h.next_feed (without id senders) (sender_goes (fits s) (fits (moved s feeds h.next_feed)) (stays s (with_feeds h feeds h.next_feed)) id h (with_feeds h feeds h.next_feed) (λ q n. other_without id q n h.feeds) senders refl d (own_without id h.feeds))
 
   -- the label of a feed that begins now allows that nothing was sent
-  pub nothing_allowed : (s : S) (params : FeedParams) → ((p : Params) → fits s (begin p (hosted s).length (hosted s).life) []) → Allows (label_of params (hosted s)) []
+  pub nothing_allowed : (s : S) (params : FeedParams) → ((p : Params) → fits s (begin p (hosted s).length (hosted s).life) []) → Allows (label_of (params_asked params) (hosted s)) []
   nothing_allowed s params begins = rightly s (begin (params_of params) (hosted s).length (hosted s).life) [] (begins (params_of params))
 
   -- it comes, with its sender at the end
-  pub comes : (s : S) (params : FeedParams) (lane : ℕ) (senders : List (ℕ × FeedSender R)) → ((p : Params) → fits s (begin p (hosted s).length (hosted s).life) []) → entry_in (hosted s).next_feed (hosted s).feeds ≡ None → Serves s senders
-      → Serves (with_hosted s (opened (hosted s) (params_of params))) (senders ++ ((hosted s).next_feed, new_sender (label_of params (hosted s)) lane) ∷ [])
-  comes s params lane senders begins fresh d =
+  pub comes : (s : S) (params : FeedParams) (id : LaneId) (lane : ℕ) (senders : List (ℕ × FeedSender R)) → ((p : Params) → fits s (begin p (hosted s).length (hosted s).life) []) → entry_in (hosted s).next_feed (hosted s).feeds ≡ None → Serves s senders
+      → Serves (with_hosted s (opened (hosted s) (params_of params))) (senders ++ ((hosted s).next_feed, new_sender id (label_of (params_asked params) (hosted s)) lane) ∷ [])
+  comes s params id lane senders begins fresh d =
       let h = hosted s in
       let f = begin (params_of params) h.length h.life in
-      let x : FeedSender R = new_sender (label_of params h) lane in
+      let x : FeedSender R = new_sender id (label_of (params_asked params) h) lane in
       let feeds = h.feeds ++ (h.next_feed, f) ∷ [] in
       let new = moved s feeds (h.next_feed + 1) in
       let mine : IsSenderOf (fits new) f x = record {

@@ -6,7 +6,7 @@ use Rattle.hub_model.specs.declared.feeds.Since.{Since}
 use Rattle.hub_model.specs.declared.feeds.Since.TheVariants.{Now, Plain, Tagged}
 use Rattle.hub_document.specs.declared.doc.Doc.{Doc}
 use Rattle.hub_database.specs.Database.{Database}
-use Rattle.hub_database.specs.Edits.{writes}
+use Rattle.hub_database.specs.Edits.{StopsAt, writes}
 use Rattle.hub_shared.specs.Label.{Label}
 use Rattle.hub_shared.specs.Receipts.{ids_of, receipts_from}
 use Rattle.hub_shared.specs.declared.write.Accepted.{Accepted}
@@ -35,8 +35,8 @@ module _ (counts : Bool) (all_parts : ℕ) (h : HandleState) where
     pub stands : db.deleted ≡ false
     pub answered : IsAnswer db question answer
 
-  -- what became of a write to some database that the handle may find: of each document, unless memory ran
-  -- out, and the receipts of those that were stored
+  -- What became of a write to some database that the handle may find: of each document, unless memory ran
+  -- out, and the receipts of those that were stored. A write stops only at a document that needed room.
   pub record IsWrittenBy (new_edits : Bool) (docs : List Doc) (a : Accepted) : Type 0 where
     pub db : Database
     pub found : IsFoundBy counts all_parts h db
@@ -45,6 +45,9 @@ module _ (counts : Bool) (all_parts : ℕ) (h : HandleState) where
     pub receipts : a.receipts.items ≡ receipts_from (length db.journal) (ids_of docs) a.replies
     pub whole : a.stopped ≡ false → length a.replies ≡ length docs
     pub stopped : IsTrue a.stopped → length a.replies < length docs
+    pub stops : IsTrue a.stopped → StopsAt new_edits db.deleted
+        (writes new_edits db.deleted db.limits.journal db.journal (take (length a.replies) docs)).journal
+        (length a.replies) docs
 
 -- where a feed begins that was asked to begin at this sequence, by a handle that has counted so many edits:
 -- not above it, and not below it unless the journal is shorter
@@ -52,8 +55,8 @@ module _ (counts : Bool) (all_parts : ℕ) (h : HandleState) where
 abbrev pub IsBeginningAt : (seq count since : ℕ) → Type 0
 IsBeginningAt seq count since = (since ≤ seq) × (min seq count ≤ since)
 
--- the label of a feed that was asked for with this since, by a handle that has counted so many edits: with now
--- it begins behind all of these, and a sequence of another life counts as 0
+-- the label of a feed that was asked for with this since, by a handle that has counted so many edits: with
+-- now it begins behind all of these, and a sequence of another life counts as 0
 -- since=7-2 by a handle that counted 5 begins at 5, 6 or 7 in the second life, and in any other at 0
 abbrev pub IsBeginningFor : Since → (count : ℕ) → Label → Type 0
 IsBeginningFor Now count label = count ≤ label.since

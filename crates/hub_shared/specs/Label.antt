@@ -3,8 +3,6 @@ use Rattle.std.specs.Prelude.{ℕ}
 use Rattle.hub_model.specs.Feed.{since_of}
 use Rattle.hub_feed.specs.Host.{Hosted}
 use Rattle.hub_params.specs.FeedParams.{FeedAsked}
-use Rattle.hub_params.specs.FeedShown.{params_asked}
-use Rattle.hub_params.specs.declared.feed_params.FeedParams.{FeedParams}
 
 -- what was asked for, where the feed began, and in which life
 pub record Label : Type 0 where
@@ -12,7 +10,7 @@ pub record Label : Type 0 where
   pub since : ℕ  -- it shows what lies above
   pub life : ℕ  -- the number of the life that its sequences are of
 
--- the label of a feed that is opened with these parameters while what it follows is so
-abbrev pub label_of : {R : Type 0} → FeedParams → Hosted R → Label
-label_of params h =
-    record { asked = params_asked params; since = since_of params.since h.length h.life; life = h.life }
+-- the label of a feed of which this is asked, and which is opened while what it follows is so
+abbrev pub label_of : {R : Type 0} → FeedAsked → Hosted R → Label
+label_of asked h =
+    record { asked = asked; since = since_of asked.since h.length h.life; life = h.life }

@@ -1,6 +1,6 @@
 -- Receipts of accepted edits (own).
-use Rattle.std.specs.Prelude.{◌≡◌, ℕ, ◌+◌, ◌<◌, ◌&&◌, List, [], ◌∷◌, ◌++◌, All, length, map, take, slice_get, Bool, false}
-use Rattle.std.specs.Prelude.{Option, Some, None, Result, Ok, Err, IfSome, ⊤}
+use Rattle.std.specs.Prelude.{◌≡◌, ℕ, ◌+◌, ◌<◌, ◌&&◌, List, [], ◌∷◌, ◌++◌, All, length, map, take, slice_get}
+use Rattle.std.specs.Prelude.{Bool, false, Option, Some, None, Result, Ok, Err, IfSome, ⊤}
 use Rattle.std.specs.Str.{bytes_eq}
 use Rattle.hub_model.specs.Journal.{Edit, head_of}
 use Rattle.hub_model.specs.Revision.{Revision, is_same}
@@ -9,7 +9,8 @@ use Rattle.hub_model.specs.declared.outcomes.Outcome.TheVariants.{Stored, Known,
 use Rattle.hub_document.specs.declared.doc.Doc.{Doc}
 use Rattle.hub_database.specs.Reads.{entry_of}
 use Rattle.hub_shared.specs.declared.receipt.Receipt.{Receipt}
-use Rattle.hub_shared.specs.declared.receipt.WrongReceipt.{WrongReceipt}
+use Rattle.hub_shared.specs.declared.receipt.AuditFault.{AuditFault}
+use Rattle.hub_shared.specs.declared.receipt.AuditFault.TheVariants.{WrongReceipt}
 
 -- the ids of documents
 abbrev pub ids_of : List Doc → List (List ℕ)
@@ -67,8 +68,8 @@ HasEdit J r = entry_of J r.seq ≡ Some (r.id, r.rev)
 
 -- What an audit says: the journal has the edit of each receipt; or of the one here it has not, and of those
 -- before it has. Of three receipts whose second has another revision than the journal, 1 is told.
-abbrev pub IsAudit : List Edit → List Receipt → Result (Unit {0}) WrongReceipt → Type 0
+abbrev pub IsAudit : List Edit → List Receipt → Result (Unit {0}) AuditFault → Type 0
 IsAudit J receipts (Ok all) = All (λ r. HasEdit J r) receipts
-IsAudit J receipts (Err wrong) =
-    All (λ r. HasEdit J r) (take wrong.at receipts)
-    × IfSome (slice_get receipts wrong.at) (λ r. ¬ HasEdit J r) × (wrong.at < length receipts)
+IsAudit J receipts (Err (WrongReceipt at)) =
+    All (λ r. HasEdit J r) (take at receipts)
+    × IfSome (slice_get receipts at) (λ r. ¬ HasEdit J r) × (at < length receipts)

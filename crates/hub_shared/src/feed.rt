@@ -1,8 +1,9 @@
 //! Feeds of what threads share.
 
 ghost use Rattle.std.specs.Prelude.{◌≡◌, IfSome, IfNone};
-ghost use Rattle.hub_lane.specs.Ends.{IsAllowedBeginning, behind_take};
+ghost use Rattle.hub_lane.specs.Ends.{IsAllowedBeginning};
 ghost use Rattle.hub_params.specs.FeedModel.{params_in};
+ghost use Rattle.hub_shared.specs.Feeds.{behind_item, feed_of, receiver_of};
 
 use crate::gate::Gate;
 use crate::guarded::Guarded;
@@ -31,7 +32,8 @@ pub type ChangeItem = Item<ChangeRow>;
 pub type Feed<C> = HostFeed<DbState, Guarded<C>>;
 
 /// A feed of what threads share, as the connection has it that shows it. It is finished by `finish`: one
-/// that is let go otherwise stays among the feeds of its host.
+/// that is let go otherwise stays among the feeds of its host. Contracts see its number, its lane, its
+/// label, and all that was taken.
 #[derive(Drop)]
 pub struct HostFeed<S: FeedHost, G: Pumped<S>> {
     pub(crate) host: Host<G>,
@@ -44,13 +46,11 @@ pub struct HostFeed<S: FeedHost, G: Pumped<S>> {
 }
 
 impl<S: FeedHost, G: Pumped<S>> Model for HostFeed<S, G> {
-    ghost use Rattle.hub_model.specs.declared.feeds.Item.{Item as Given};
-    ghost use Rattle.hub_lane.specs.Ends.{ReceiverState};
-    ghost use Rattle.hub_shared.specs.Label.{Label};
+    ghost use Rattle.hub_shared.specs.Feeds.{FeedState, feed_of};
 
-    ghost Value = { ReceiverState Label (Given S.Row) };
+    ghost Value = { FeedState S.Row };
 
-    ghost view = { λ a. a.receiver };
+    ghost view = { λ a. feed_of a.id.number a.receiver };
 }
 
 impl<S: FeedHost, G: Pumped<S>> HostFeed<S, G> {
@@ -60,7 +60,7 @@ impl<S: FeedHost, G: Pumped<S>> HostFeed<S, G> {
         receiver: Receiver<FeedLabel<S>, Item<S::Row>>,
         signals: Arc<Signals, Global>,
     ) -> HostFeed<S, G>
-        ensures { result ≡ receiver }
+        ensures { result ≡ feed_of id.number receiver }
     {
         HostFeed {
             host,
@@ -72,8 +72,10 @@ impl<S: FeedHost, G: Pumped<S>> HostFeed<S, G> {
         }
     }
 
-    /// The feed's number. Constant time, and no memory.
-    pub fn id(&self) -> FeedId {
+    /// The feed's number, under which its host keeps it. Constant time, and no memory.
+    pub fn id(&self) -> FeedId
+        ensures { result.number ≡ self.now.number }
+    {
         self.id
     }
 
@@ -89,11 +91,11 @@ impl<S: FeedHost, G: Pumped<S>> HostFeed<S, G> {
     /// lane was empty at a moment of the call: then a pump that waits for room is woken. It waits for
     /// nobody, and takes no memory.
     pub fn take<R: Asks<FeedLabel<S>, Item<S::Row>>>(&mut self, rt: &R) -> Option<Item<S::Row>>
-        ensures taken { IfSome result (λ item. self.new ≡ behind_take self.old item) }
+        ensures taken { IfSome result (λ item. self.new ≡ behind_item self.old item) }
         ensures same { IfNone result (self.new ≡ self.old) }
-        ensures none { IfNone result (R.lacks rt.now self.old) }
+        ensures none { IfNone result (R.lacks rt.now (receiver_of self.old)) }
         ensures allowed { IsAllowedBeginning
-            (λ l items. S.right (params_in l.asked) l.since items) self.new }
+            (λ l items. S.right (params_in l.asked) l.since items) (receiver_of self.new) }
     {
         let item = self.receiver.take(rt);
         match &item {
@@ -143,7 +145,7 @@ impl<S: FeedHost, G: Pumped<S>> HostFeed<S, G> {
     /// Takes the feed out of the lock, drops its sender, and hands the receiver back, from which what
     /// is left can be taken until None. A pump of the feed ends. It takes no memory.
     pub fn finish<R: Wait>(self, rt: &R) -> Receiver<FeedLabel<S>, Item<S::Row>>
-        ensures { result ≡ self }
+        ensures { result ≡ receiver_of self }
     {
         let HostFeed {
             host,

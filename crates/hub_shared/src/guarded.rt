@@ -1,6 +1,7 @@
 //! What lies under the lock of a database.
 
-ghost use Rattle.std.specs.Prelude.{◌≡◌, ◌+◌, ◌≤◌, ◌<◌, ◌^◌, [], true, false, length, IfOk, IfErr, OnErr, OnOk};
+ghost use Rattle.std.specs.Prelude.{◌≡◌, ◌+◌, ◌≤◌, ◌<◌, ◌^◌, [], true, false, length};
+ghost use Rattle.std.specs.Prelude.{IfOk, IfErr, OnErr, OnOk};
 ghost use Rattle.hub_database.specs.Database.{GivesUp};
 ghost use Rattle.hub_database.specs.Feeds.{deleted};
 ghost use Rattle.hub_database.specs.Locals.{written};
@@ -11,6 +12,7 @@ ghost use Rattle.hub_database.specs.Hosting.{hosted_of, with_hosted};
 ghost use Rattle.hub_feed.specs.Host.{answered, due_to, expired, finished, is_beat_due, opening_fault};
 ghost use Rattle.hub_feed.specs.Next.{IsRowDue};
 ghost use Rattle.hub_params.specs.FeedShown.{params_asked};
+ghost use Rattle.hub_shared.specs.Feeds.{IsOpened, feed_of};
 ghost use Rattle.hub_shared.specs.Locked.{Beats, Hands, stepped};
 ghost use Rattle.hub_shared.specs.Answers.{TakesMemory};
 ghost use Rattle.hub_shared.specs.Handles.{IsBeginningFor, IsFoundBy, IsReadBy, IsWrittenBy};
@@ -21,13 +23,13 @@ use crate::feed::{ChangeItem, ChangeLabel};
 use crate::host::Pumped;
 use crate::locked::Handed;
 use crate::question::{Answer, Question, answer_of};
-use crate::receipt::{Receipt, ReceiptRoom, WrongReceipt, audit_of};
+use crate::receipt::{AuditFault, Receipt, ReceiptRoom, audit_of};
 use crate::served::{OpenedFeed, Served};
 use crate::signals::Signals;
 use crate::write::Accepted;
 use hub_database::{DbFault, DbState};
 use hub_document::{Doc, Limits, LocalDoc};
-use hub_feed::{FeedId, OpenFault};
+use hub_feed::{FeedHost, FeedId, OpenFault};
 use hub_lane::Asks;
 use hub_params::FeedParams;
 use std::alloc::{AllocError, Global};
@@ -140,11 +142,30 @@ impl<C: Count> Guarded<C> {
         ensures begins { IfOk result (λ opened.
             IsBeginningFor params.since (C.amount share.old) opened.receiver.label) }
         ensures none { IfOk result (λ opened. opened.receiver.taken ≡ []) }
+        ensures opened { IfOk result (λ opened. IsOpened
+            (hosted_of self.old.state) (params_asked params) (feed_of opened.id.number opened.receiver)) }
         ensures err { IfErr result (λ e. e ≡ opening_fault (hosted_of self.old.state)) }
+        ensures found { IsFoundBy C.counts C.all_parts
+            (record { parts = C.parts share.old; count = C.amount share.old }) self.old.state }
         ensures same { (C.amount share.new ≡ C.amount share.old) × (C.parts share.new ≡ C.parts share.old) }
     {
         C::audit(&mut self.book, share);
+        let _legal = self.served.locked.state().update_seq();
         self.served.begin(params)
+    }
+
+    /// Why no feed is opened for which there is no memory: a refusal of the database is told first.
+    pub(crate) fn opening_fault(&mut self, share: &mut C::Share) -> OpenFault
+        ensures fault { result ≡ opening_fault (hosted_of self.old.state) }
+        ensures found { IsFoundBy C.counts C.all_parts
+            (record { parts = C.parts share.old; count = C.amount share.old }) self.old.state }
+        ensures same { (self.new ≡ self.old) × (C.amount share.new ≡ C.amount share.old)
+            × (C.parts share.new ≡ C.parts share.old) }
+    {
+        C::audit(&mut self.book, share);
+        let _legal = self.served.locked.state().update_seq();
+        let refusal = self.served.locked.state().refusal();
+        refusal.unwrap_or(OpenFault::NoMemory)
     }
 
     /// Compares receipts with the journal, by `audit_of`.
@@ -152,7 +173,7 @@ impl<C: Count> Guarded<C> {
         &mut self,
         share: &mut C::Share,
         receipts: &[Receipt],
-    ) -> Result<(), WrongReceipt>
+    ) -> Result<(), AuditFault>
         ensures audit { IsAudit self.old.state.journal receipts.now result }
         ensures found { IsFoundBy C.counts C.all_parts
             (record { parts = C.parts share.old; count = C.amount share.old }) self.old.state }

@@ -1,12 +1,14 @@
 //! Handles on a database.
 
-ghost use Rattle.std.specs.Prelude.{◌≡◌, ◌⊎◌, ℕ, [], ◌+◌, ◌≤◌, ◌<◌, true, false, length, IfOk, IfErr, OnErr, vec_len};
-ghost use Rattle.hub_model.specs.declared.outcomes.Fault.TheVariants.{Deleted};
+ghost use Rattle.std.specs.Prelude.{◌≡◌, ◌⊎◌, ℕ, [], ◌+◌, ◌≤◌, ◌<◌, true, false, length};
+ghost use Rattle.std.specs.Prelude.{IfOk, IfErr, OnErr, vec_len};
+ghost use Rattle.hub_model.specs.declared.outcomes.Fault.TheVariants.{Deleted, SequenceFull};
 ghost use Rattle.hub_params.specs.FeedShown.{params_asked};
 ghost use Rattle.hub_database.specs.Database.{Database, GivesUp};
 ghost use Rattle.hub_database.specs.Hosting.{hosted_of};
 ghost use Rattle.hub_database.specs.Locals.{written};
 ghost use Rattle.hub_feed.specs.Host.{opening_fault};
+ghost use Rattle.hub_shared.specs.Feeds.{IsOpened};
 ghost use Rattle.hub_shared.specs.Receipts.{IsAudit};
 ghost use Rattle.hub_shared.specs.Answers.{TakesMemory};
 ghost use Rattle.hub_shared.specs.Handles.{IsBeginningFor, IsFoundBy, IsReadBy, IsWrittenBy};
@@ -16,7 +18,7 @@ use crate::count::Count;
 use crate::db::Db;
 use crate::feed::{Feed, HostFeed};
 use crate::question::{Answer, Question};
-use crate::receipt::{Receipt, ReceiptRoom, WrongReceipt};
+use crate::receipt::{AuditFault, Receipt, ReceiptRoom};
 use crate::served::OpenedFeed;
 use crate::write::Accepted;
 use hub_database::DbFault;
@@ -114,31 +116,39 @@ impl<C: Count> Handle<C> {
         self.db.guarded().lock(rt).read(&mut self.share, question)
     }
 
-    /// Stores a local document in place of the one of its id, and says how often it was written. It
-    /// costs the wait for the lock, and what `DbState::local_put` does.
+    /// Stores a local document in place of the one of its id, and says how often it was written: once
+    /// at least. A deleted database is told before anything else, and a full sequence at the last
+    /// count, 2^64 - 1. It costs the wait for the lock, and what `DbState::local_put` does.
     pub fn local_put<R: Wait>(&mut self, rt: &R, doc: LocalDoc) -> Result<u64, DbFault>
         ensures ok { IfOk result (λ count. (db : Database) × (db.deleted ≡ false)
             × (count ≡ (written db.locals doc).count)) }
+        ensures once { IfOk result (λ count. 0 < count) }
         ensures err { IfErr result (λ e. (db : Database) × IsLocalFault db doc e) }
+        ensures faults { IfErr result (λ e. (e ≡ DbFault.NoMemory) ⊎ ((e ≡ DbFault.Refused Deleted)
+            ⊎ (e ≡ DbFault.Refused SequenceFull))) }
         ensures same { self.new ≡ self.old }
     {
         self.db.guarded().lock(rt).local_put(doc)
     }
 
     /// Opens a feed, which stays until it is finished: its connection is to call `HostFeed::next`, or
-    /// something `pump` for it, and `Feed::take`. `descending` is not looked at. It costs the wait for the lock, and what
-    /// `Locked::begin` does.
+    /// something `pump` for it, and `Feed::take`. `descending` is not looked at. A deleted database is
+    /// told first, then too many feeds, and out of memory only where the database refuses nothing. It
+    /// costs the wait for the lock, and what `Locked::begin` does.
     pub fn open_feed<R: Wait>(&mut self, rt: &R, params: FeedParams) -> Result<Feed<C>, OpenFault>
         ensures asks { IfOk result (λ feed. feed.label.asked ≡ params_asked params) }
         ensures begins { IfOk result (λ feed.
             IsBeginningFor params.since self.old.count feed.label) }
         ensures none { IfOk result (λ feed. feed.taken ≡ []) }
-        ensures err { IfErr result (λ e. (e ≡ OpenFault.NoMemory)
-            ⊎ ((db : Database) × (e ≡ opening_fault (hosted_of db)))) }
+        ensures opened { IfOk result (λ feed. (db : Database)
+            × IsFoundBy C.counts C.all_parts self.old db
+            × IsOpened (hosted_of db) (params_asked params) feed) }
+        ensures err { IfErr result (λ e. (db : Database)
+            × IsFoundBy C.counts C.all_parts self.old db × (e ≡ opening_fault (hosted_of db))) }
         ensures same { self.new ≡ self.old }
     {
         let Ok(db) = self.db.again() else {
-            return Err(OpenFault::NoMemory);
+            return Err(self.db.guarded().lock(rt).opening_fault(&mut self.share));
         };
         let OpenedFeed {
             id,
@@ -165,7 +175,7 @@ impl<C: Count> Handle<C> {
 
     /// Compares receipts with the journal, by `audit_of`. It takes no memory, and costs the wait for
     /// the lock, and a look in the journal for each receipt.
-    pub fn audit<R: Wait>(&mut self, rt: &R, receipts: &[Receipt]) -> Result<(), WrongReceipt>
+    pub fn audit<R: Wait>(&mut self, rt: &R, receipts: &[Receipt]) -> Result<(), AuditFault>
         ensures audit { (db : Database) × IsFoundBy C.counts C.all_parts self.old db
             × IsAudit db.journal receipts.now result }
         ensures same { self.new ≡ self.old }

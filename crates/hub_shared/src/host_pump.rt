@@ -64,8 +64,8 @@ where
     }
 }
 
-// Hands the feeds that wait from this number on, as many as one holding looks at, and no more items than it may
-// hand. The number to go on from; None behind the last.
+// Hands the feeds that wait from this number on, as many as one holding looks at, and no more items than
+// it may hand. The number to go on from; None behind the last.
 fn hand_each<S, H, R>(guarded: &mut H, rt: &R, from: u64, told: &mut Vec<Told>) -> Option<u64>
 where
     S: FeedHost,

@@ -1,6 +1,7 @@
-//! What threads share: a host of feeds with the senders of its feeds, where each step of a feed is one step of
-//! the host and of the feed's sender together; a database and the log of updates, each such a host behind its
-//! lock; handles that count what was accepted through them; feeds, and what fills their lanes.
+//! What threads share: a host of feeds with the senders of its feeds, where each step of a feed is one
+//! step of the host and of the feed's sender together; a database and the log of updates, each such a
+//! host behind its lock; handles that count what was accepted through them; feeds, and what fills their
+//! lanes.
 #![tactic(auto)]
 
 mod count;
@@ -37,7 +38,7 @@ pub use label::FeedLabel;
 pub use locked::{Handed, Locked};
 pub use pumping::{Turn, hold, pump};
 pub use question::{Answer, Question, answer_of};
-pub use receipt::{Receipt, ReceiptRoom, WrongReceipt, audit_of};
+pub use receipt::{AuditFault, Receipt, ReceiptRoom, audit_of};
 pub use served::Served;
 pub use updates::{Updates, UpdatesFeed};
 pub use write::Accepted;

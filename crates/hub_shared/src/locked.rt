@@ -3,10 +3,12 @@
 ghost use Rattle.std.specs.Prelude.{◌≡◌, ◌<◌, [], true, Some, IfErr, IfOk, IfSome, OnErr};
 ghost use Rattle.hub_model.specs.Entries.{entry_in, without};
 ghost use Rattle.hub_model.specs.Feed.{Feed, Params, begin};
-ghost use Rattle.hub_feed.specs.Host.{answered, due_to, expired, finished, is_beat_due, item_due, opening_fault};
+ghost use Rattle.hub_feed.specs.Host.{answered, due_to, expired, finished, is_beat_due, item_due};
+ghost use Rattle.hub_feed.specs.Host.{opening_fault};
 ghost use Rattle.hub_feed.specs.Next.{IsRowDue};
 ghost use Rattle.hub_feed.specs.declared.next.Next.TheVariants.{Give};
 ghost use Rattle.hub_lane.specs.Ends.{new_receiver, new_sender};
+ghost use Rattle.hub_params.specs.FeedShown.{params_asked};
 ghost use Rattle.hub_shared.specs.Label.{label_of};
 ghost use Rattle.hub_shared.specs.Locked.{AreSendersOf, Beats, Hands, IsSenderOf, handed_as, stepped};
 ghost use Rattle.hub_shared.specs.Opening.{Begins};
@@ -101,12 +103,12 @@ impl<S: FeedHost> Locked<S> {
 
     // The ends of a lane for a feed of these parameters that begins now.
     fn ends_for(&self, params: &FeedParams) -> Result<Ends<S>, AllocError>
-        ensures sender { IfOk result (λ ends. ends.0
-            ≡ new_sender (label_of params.now (S.hosted self.now.state)) self.now.lane) }
-        ensures receiver { IfOk result (λ ends. ends.1
-            ≡ new_receiver (label_of params.now (S.hosted self.now.state))) }
-        ensures begins { (p : Params)
-            → S.fits self.now.state (begin p (S.hosted self.now.state).length (S.hosted self.now.state).life) [] }
+        ensures sender { IfOk result (λ ends. ends.0 ≡ new_sender ends.1.lane_id
+            (label_of (params_asked params.now) (S.hosted self.now.state)) self.now.lane) }
+        ensures receiver { IfOk result (λ ends. ends.1 ≡ new_receiver ends.0.lane_id
+            (label_of (params_asked params.now) (S.hosted self.now.state))) }
+        ensures begins { (p : Params) → S.fits self.now.state
+            (begin p (S.hosted self.now.state).length (S.hosted self.now.state).life) [] }
     {
         let life = self.state.life();
         let since = params.since.within(self.state.length(), life);
@@ -115,9 +117,9 @@ impl<S: FeedHost> Locked<S> {
     }
 
     /// Opens a feed at the host, under a number that no feed had before, and gives the receiver of
-    /// its lane. `descending` is not looked at. Want of memory is told only where the host refuses
-    /// nothing, and any error leaves all as it was. It costs a copy of the parameters, a lane, and
-    /// what `open_feed` does.
+    /// the lane whose sender it keeps. `descending` is not looked at. Out of memory is told only where
+    /// the host refuses nothing, and any error leaves all as it was. It costs a copy of the
+    /// parameters, a lane, and what `open_feed` does.
     pub fn begin(
         &mut self,
         params: FeedParams,

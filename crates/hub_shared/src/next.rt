@@ -1,8 +1,9 @@
 //! How the connection that shows a feed gets its next item.
 
 ghost use Rattle.std.specs.Prelude.{◌≡◌, IfSome, IfNone};
-ghost use Rattle.hub_lane.specs.Ends.{IsAllowedBeginning, behind_take};
+ghost use Rattle.hub_lane.specs.Ends.{IsAllowedBeginning};
 ghost use Rattle.hub_params.specs.FeedModel.{params_in};
+ghost use Rattle.hub_shared.specs.Feeds.{behind_item, receiver_of};
 
 use crate::feed::HostFeed;
 use crate::gate::{Clock, Gate};
@@ -37,9 +38,9 @@ impl<S: FeedHost, H: Pumped<S>> HostFeed<S, H> {
         holding.last != Handed::Gone
     }
 
-    /// Whether there is something to take, as far as was told: a feed that is behind is handed on first. Where
-    /// it was not told of, items may lie there all the same. It costs a holding of the lock where the feed
-    /// is behind, else constant time.
+    /// Whether there is something to take, as far as was told: a feed that is behind is handed on first.
+    /// Where it was not told of, items may lie there all the same. It costs a holding of the lock where
+    /// the feed is behind, else constant time.
     pub fn is_ready<R, G>(&self, rt: &R, gate: &G) -> bool
     where
         R: Asks<FeedLabel<S>, Item<S::Row>>,
@@ -52,8 +53,8 @@ impl<S: FeedHost, H: Pumped<S>> HostFeed<S, H> {
     }
 
     // Does what is due where nothing was there to take: hands on where the feed is behind, sends a
-    // heartbeat, ends its time, or sleeps. Whether the feed may go on. It keeps the clock's reading as nothing
-    // was due for the first time.
+    // heartbeat, ends its time, or sleeps. Whether the feed may go on. It keeps the clock's reading as
+    // nothing was due for the first time.
     fn go_on<R, G, K>(&self, rt: &R, gate: &G, clock: &K, idle_since: &mut Option<u64>) -> bool
     where
         R: Asks<FeedLabel<S>, Item<S::Row>>,
@@ -84,19 +85,19 @@ impl<S: FeedHost, H: Pumped<S>> HostFeed<S, H> {
     }
 
     /// Takes the next item as `take` does, for the connection that shows the feed. Where there is none
-    /// it hands on itself what is due to a feed that is behind, as each is at first and one whose lane was full,
-    /// as many items at once as one holding of the lock may. Else it sleeps until the pump of its host
-    /// handed something, a heartbeat is due, or the feed's time is over. There is none where it finds
-    /// no memory for a row, or behind the feed's end.
+    /// it hands on itself what is due to a feed that is behind, as each is at first and one whose lane was
+    /// full, as many items at once as one holding of the lock may. Else it sleeps until the pump of its
+    /// host handed something, a heartbeat is due, or the feed's time is over. There is none where it
+    /// finds no memory for a row, or behind the feed's end.
     pub fn next<R, G, K>(&mut self, rt: &R, gate: &G, clock: &K) -> Option<Item<S::Row>>
     where
         R: Asks<FeedLabel<S>, Item<S::Row>>,
         G: Gate,
         K: Clock,
-        ensures taken { IfSome result (λ item. self.new ≡ behind_take self.old item) }
+        ensures taken { IfSome result (λ item. self.new ≡ behind_item self.old item) }
         ensures same { IfNone result (self.new ≡ self.old) }
         ensures allowed { IsAllowedBeginning
-            (λ l items. S.right (params_in l.asked) l.since items) self.new }
+            (λ l items. S.right (params_in l.asked) l.since items) (receiver_of self.new) }
     {
         let mut idle_since = None;
         for _ in rt.forever() {

@@ -1,13 +1,16 @@
 //! Receipts of accepted edits.
 
-ghost use Rattle.std.specs.Prelude.{◌≡◌, ◌<◌, ◌≤◌, ◌+◌, ◌++◌, ◌^◌, [], length, vec_capacity, vec_len, IfOk, OnErr};
-ghost use Rattle.hub_shared.specs.Receipts.{IsAudit, behind_reply, has_edit, ids_of, receipt_if, receipts_from};
+ghost use Rattle.std.specs.Prelude.{◌≡◌, ◌<◌, ◌≤◌, ◌+◌, ◌++◌, ◌^◌, [], length, vec_capacity, vec_len};
+ghost use Rattle.std.specs.Prelude.{IfOk, OnErr};
+ghost use Rattle.hub_shared.specs.Receipts.{IsAudit, behind_reply, has_edit, ids_of, receipt_if};
+ghost use Rattle.hub_shared.specs.Receipts.{receipts_from};
 
 use hub_database::DbState;
 use hub_document::{Doc, DocId, RevId};
 use hub_model::Outcome;
 use std::alloc::{AllocError, Global};
 use std::marker::Model;
+use thiserror::Error;
 
 /// What tells of an accepted edit: its sequence, its document, and its revision.
 #[derive(Debug, Drop)]
@@ -117,11 +120,15 @@ fn receipts_of(
     receipts
 }
 
-/// The first receipt whose edit is not in the journal at its number.
-#[derive(Clone, Copy, Debug, PartialEq, Eq)]
-pub struct WrongReceipt {
-    /// Its place among the receipts, from 0 on.
-    pub at: usize,
+/// Why receipts are not all of a journal.
+#[derive(Clone, Copy, Debug, PartialEq, Eq, Error)]
+pub enum AuditFault {
+    /// The first receipt whose edit is not in the journal at its number.
+    #[error("the journal has no such edit as receipt {at} tells of")]
+    WrongReceipt {
+        /// Its place among the receipts, from 0 on.
+        at: usize,
+    },
 }
 
 // Whether the journal has the receipt's edit at its number.
@@ -137,12 +144,12 @@ fn has_edit(state: &DbState, receipt: &Receipt) -> bool
 /// Compares receipts with the journal of a database: the edit of each is there at its number, with its
 /// document and its revision; or the first of which it is not is told. It takes no memory, and costs a
 /// look in the journal for each.
-pub fn audit_of(state: &DbState, receipts: &[Receipt]) -> Result<(), WrongReceipt>
+pub fn audit_of(state: &DbState, receipts: &[Receipt]) -> Result<(), AuditFault>
     ensures { IsAudit state.now.journal receipts.now result }
 {
     for at in 0..receipts.len() {
         if !has_edit(state, &receipts[at]) {
-            return Err(WrongReceipt { at });
+            return Err(AuditFault::WrongReceipt { at });
         }
     }
     Ok(())

@@ -1,8 +1,12 @@
 //! The log of updates that threads share.
 
 ghost use Rattle.std.specs.Prelude.{◌≡◌, ◌⊎◌, [], IfOk, IfErr, OnOk};
+ghost use Rattle.hub_feed.specs.Host.{Hosted};
+ghost use Rattle.hub_model.specs.Updates.{UpdateRow};
 ghost use Rattle.hub_params.specs.FeedShown.{params_asked};
+ghost use Rattle.hub_shared.specs.Feeds.{IsOpened};
 ghost use Rattle.hub_shared.specs.Handles.{IsBeginningFor};
+ghost use Rattle.hub_updates.specs.Asked.{updates_asked};
 
 use crate::feed::HostFeed;
 use crate::host::Host;
@@ -53,11 +57,14 @@ impl Host<Served<UpdatesState>> {
     }
 
     /// Opens a feed, which stays until it is finished: its connection is to call `HostFeed::next`, or
-    /// something `pump` for it, and `HostFeed::take`. It costs the wait for the lock, and what `Locked::begin` does.
+    /// something `pump` for it, and `HostFeed::take`. It shows every row of the log, upwards
+    /// (`UpdatesState::effective`). It costs the wait for the lock, and what `Locked::begin` does.
     pub fn open_feed<R: Wait>(&self, rt: &R, params: FeedParams) -> Result<UpdatesFeed, OpenFault>
-        ensures asks { IfOk result (λ feed. feed.label.asked ≡ params_asked params) }
+        ensures asks { IfOk result (λ feed. feed.label.asked ≡ updates_asked (params_asked params)) }
         ensures begins { IfOk result (λ feed. IsBeginningFor params.since 0 feed.label) }
         ensures none { IfOk result (λ feed. feed.taken ≡ []) }
+        ensures opened { IfOk result (λ feed. (h : Hosted UpdateRow)
+            × IsOpened h (updates_asked (params_asked params)) feed) }
         ensures err { IfErr result (λ e. (e ≡ OpenFault.NoMemory) ⊎ (e ≡ OpenFault.TooManyFeeds)) }
     {
         let Ok(host) = self.again() else {
@@ -67,7 +74,7 @@ impl Host<Served<UpdatesState>> {
             id,
             receiver,
             signals,
-        } = self.guarded().lock(rt).begin(params)?;
+        } = self.guarded().lock(rt).begin(UpdatesState::effective(params))?;
         Ok(HostFeed::new(host, id, receiver, signals))
     }
 }

@@ -1,6 +1,7 @@
 //! Writes to a database that lies under a lock.
 
-ghost use Rattle.std.specs.Prelude.{All, ◌≡◌, ◌⊎◌, ◌+◌, ◌<◌, ◌≤◌, ◌^◌, Err, length, take, true, false, ℕ, Some, IsTrue, IfOk, IfErr, OnErr, OnOk};
+ghost use Rattle.std.specs.Prelude.{All, ◌≡◌, ◌⊎◌, ◌+◌, ◌<◌, ◌≤◌, ◌^◌, Err, length, take, true, false, ℕ};
+ghost use Rattle.std.specs.Prelude.{Some, IsTrue, IfOk, IfErr, OnErr, OnOk};
 ghost use Rattle.hub_model.specs.Entries.{entry_in};
 ghost use Rattle.hub_model.specs.Feed.{Feed};
 ghost use Rattle.hub_model.specs.Journal.{IsLegal};

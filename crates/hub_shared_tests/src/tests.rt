@@ -6,7 +6,7 @@ use hub_feed::{FeedId, OpenFault};
 use hub_lane::Receiver;
 use hub_model::{Fault, Item};
 use hub_params::FeedParams;
-use hub_shared::{FeedLabel, Handed, Locked, Receipt, ReceiptRoom, WrongReceipt, audit_of};
+use hub_shared::{AuditFault, FeedLabel, Handed, Locked, Receipt, ReceiptRoom, audit_of};
 use std::alloc::Global;
 use std::sync::Wait;
 use std::test::Fail;
@@ -282,7 +282,7 @@ fn wrong_receipts_are_told(alloc: Global, database: &mut Database) -> Result<boo
     let _receipts = write(alloc, database, &THREE)?;
     for (seq, id, rev) in WRONG {
         let list = receipts(alloc, receipt(alloc, seq, id, rev)?)?;
-        if audit_of(database.state(), list.as_slice()) != Err(WrongReceipt { at: 1 }) {
+        if audit_of(database.state(), list.as_slice()) != Err(AuditFault::WrongReceipt { at: 1 }) {
             return Ok(false);
         }
     }

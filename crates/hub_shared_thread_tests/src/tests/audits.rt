@@ -1,7 +1,7 @@
 //! What an audit of receipts tells.
 
 use crate::tests::{FIVE, database, write};
-use hub_shared::WrongReceipt;
+use hub_shared::AuditFault;
 use std::test::Fail;
 
 #[test]
@@ -24,7 +24,7 @@ fn a_receipt_of_another_sequence_is_told(rt: HostRuntime) -> Result<(), Fail> {
         receipt.seq = 2;
     }
     let audit = handle.audit(&rt, accepted.receipts.as_slice());
-    assert_eq!(rt; audit, Err(WrongReceipt { at: 2 }));
+    assert_eq!(rt; audit, Err(AuditFault::WrongReceipt { at: 2 }));
     Ok(())
 }
 
@@ -38,7 +38,7 @@ fn a_receipt_of_no_sequence_is_told(rt: HostRuntime) -> Result<(), Fail> {
             receipt.seq = seq;
         }
         let audit = handle.audit(&rt, accepted.receipts.as_slice());
-        assert_eq!(rt; audit, Err(WrongReceipt { at }), "at {at}");
+        assert_eq!(rt; audit, Err(AuditFault::WrongReceipt { at }), "at {at}");
     }
     Ok(())
 }

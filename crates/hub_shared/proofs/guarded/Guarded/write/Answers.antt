@@ -1,4 +1,5 @@
 use Rattle.std.proofs.Common.{◌≡◌, ◌≤◌, true, length, sym, ap, subst}
+use Rattle.hub_database.specs.Edits.{StopsAt}
 use Rattle.hub_model.specs.Journal.{IsLegal}
 use Rattle.hub_model.specs.Outcome.{StoresAll}
 use Rattle.hub_database.specs.Database.{Database}
@@ -19,4 +20,5 @@ returns-clause-written g c =
       receipts = done.receipts;
       whole = done.whole;
       stopped = done.stopped;
+      stops = λ t. subst (λ (s : StoresAll). StopsAt c.args.new_edits db.deleted s.journal (length c.in_ok-accepted.accepted.replies) c.args.docs.items) (sym done.ok) (done.stops t);
     }

@@ -1,6 +1,7 @@
 use Rattle.std.proofs.Common.{◌≡◌, ◌∙◌, ap₂, sym, subst, []}
 use Rattle.hub_model.specs.Feed.{since_of}
 use Rattle.hub_params.specs.FeedModel.{params_in}
+use Rattle.hub_params.specs.FeedShown.{params_asked}
 use Rattle.hub_shared.specs.Label.{Label, label_of}
 use Rattle.hub_shared.proofs.Sending.{nothing_allowed}
 use Rattle.hub_shared.proofs.locked.Locked.ends_for.Goals as goal
@@ -10,6 +11,6 @@ new-requires-clause-allowed g c =
     let h = g.S.FeedHost in
     let laws = g.met.S.FeedHost in
     let s = c.self.inside.state in
-    let label : c.new-label.result ≡ label_of c.args.params.now (h.hosted s) =
+    let label : c.new-label.result ≡ label_of (params_asked c.args.params.now) (h.hosted s) =
     c.new-label.ensures ∙ (λ k. record { asked = c.in_ok-copy.ensures.ok k; since = (c.within-since.ensures ∙ ap₂ (since_of c.args.params.now.since) c.length.ensures.length c.life-life.ensures) k; life = c.life-life.ensures k }) in
     subst (λ (l : Label). h.right (params_in l.asked) l.since []) (sym label) (nothing_allowed h.hosted h.with_hosted h.fits h.right laws.hosts laws.rightly laws.stays s c.args.params.now c.length.ensures.begins)

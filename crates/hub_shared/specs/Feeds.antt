@@ -1,0 +1,38 @@
+-- A feed, as the connection that shows it has it (own; CouchDB API reference, _changes).
+use Rattle.std.specs.Prelude.{◌≡◌, ℕ, List, [], ◌∷◌, ◌++◌, None}
+use Rattle.hub_model.specs.Entries.{entry_in}
+use Rattle.hub_model.specs.declared.feeds.Item.{Item}
+use Rattle.hub_feed.specs.Host.{Hosted, refuses}
+use Rattle.hub_lane.specs.Ends.{LaneId, ReceiverState}
+use Rattle.hub_params.specs.FeedParams.{FeedAsked}
+use Rattle.hub_shared.specs.Label.{Label, label_of}
+
+-- what is seen of a feed of such rows
+pub record FeedState (R : Type 0) : Type 0 where
+  pub number : ℕ  -- the number that its host gave it
+  pub lane_id : LaneId  -- the lane that it takes from
+  pub label : Label  -- what was asked, and where it began
+  pub taken : List (Item R)  -- every item that was taken, the first one first
+
+module _ {R : Type 0} where
+  -- the feed of this number that takes from this end
+  abbrev pub feed_of : ℕ → ReceiverState Label (Item R) → FeedState R
+  feed_of number r =
+      record { number = number; lane_id = r.lane_id; label = r.label; taken = r.taken }
+
+  -- the end that a feed takes from
+  abbrev pub receiver_of : FeedState R → ReceiverState Label (Item R)
+  receiver_of feed = record { lane_id = feed.lane_id; label = feed.label; taken = feed.taken }
+
+  -- a feed behind an item that was taken
+  abbrev pub behind_item : FeedState R → Item R → FeedState R
+  behind_item feed item = record feed { taken = feed.taken ++ item ∷ [] }
+
+  -- The host opened the feed, of which this was asked. The host refused none, no feed of it had the number,
+  -- the label tells where a feed begins that is opened then, and nothing was taken yet.
+  pub record IsOpened (h : Hosted R) (asked : FeedAsked) (feed : FeedState R) : Type 0 where
+    pub free : refuses h ≡ None
+    pub fresh : entry_in feed.number h.feeds ≡ None
+    pub next : feed.number ≡ h.next_feed
+    pub label : feed.label ≡ label_of asked h
+    pub none : feed.taken ≡ []
