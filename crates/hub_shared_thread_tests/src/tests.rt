@@ -4,12 +4,15 @@ ghost use Rattle.std.specs.Prelude.{◌<◌, ◌≤◌};
 
 mod answers;
 mod audits;
+mod beats;
 mod clocks;
 mod databases;
 mod holding;
+mod limits;
 mod lives;
 mod readers;
 mod shared;
+mod stopped;
 mod stress;
 
 use hub_document::{ChangeRow, Doc, Limits};
