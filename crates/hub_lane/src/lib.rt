@@ -6,8 +6,6 @@ mod asks;
 mod ends;
 mod laws;
 mod rule;
-#[cfg(test)]
-mod tests;
 
 pub use asks::Asks;
 pub use ends::{Full, Lane, Receiver, Sender};

@@ -2,7 +2,7 @@
 
 ghost use Rattle.std.specs.Prelude.{◌≡◌, ◌<◌, ◌≤◌};
 
-use crate::{Asks, Full, Kept, Lane, Receiver, Sender};
+use hub_lane::{Asks, Full, Kept, Lane, Receiver, Sender};
 use std::sync::Wait;
 use std::test::Fail;
 use std::thread;
