@@ -74,7 +74,10 @@ impl Host<Served<UpdatesState>> {
             id,
             receiver,
             signals,
-        } = self.guarded().lock(rt).begin(UpdatesState::effective(params))?;
+        } = self
+            .guarded()
+            .lock(rt)
+            .begin(UpdatesState::effective(params))?;
         Ok(HostFeed::new(host, id, receiver, signals))
     }
 }
