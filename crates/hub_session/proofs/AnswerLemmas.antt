@@ -28,6 +28,15 @@ breaks-after_stream close stream.NoMemory = refl
 breaks-after_stream close stream.Broken = refl
 breaks-after_stream close stream.Exhausted = refl
 
+-- a session breaks behind a stream that did
+pub broken_stream : (close : Bool) (end : StreamEnd) → after_stream close end ≡ Some Broken → end ≡ stream.Broken
+broken_stream false stream.Complete e = cc
+broken_stream true stream.Complete e = cc
+broken_stream close stream.Stopped e = cc
+broken_stream close stream.NoMemory e = cc
+broken_stream close stream.Broken e = refl
+broken_stream close stream.Exhausted e = cc
+
 abbrev pub stream_head : Asked → List ℕ
 stream_head asked = head_text 200 chunked_line asked.close
 

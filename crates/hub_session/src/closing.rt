@@ -1,35 +1,47 @@
 //! Why streams and sessions end.
 
 use hub_http::HttpFault;
+use thiserror::Error;
 
-/// How a stream ended.
-#[derive(Clone, Copy, Debug, PartialEq, Eq)]
+/// How a stream ended. As an error it tells why a client has no more of it.
+#[derive(Clone, Copy, Debug, PartialEq, Eq, Error)]
 pub enum StreamEnd {
     /// With its End and the last chunk.
+    #[error("the stream was sent to its end")]
     Complete,
     /// The service had no further item, and no End came.
+    #[error("the stream stopped before its end")]
     Stopped,
     /// An item's text found no memory, and nothing of it was written.
+    #[error("out of memory")]
     NoMemory,
     /// The other side can't be written to.
+    #[error("the other side can't be written to")]
     Broken,
     /// After 2^64 - 1 items.
+    #[error("the stream has too many items")]
     Exhausted,
 }
 
-/// Why a session closed.
-#[derive(Clone, Copy, Debug, PartialEq, Eq)]
+/// Why a session closed. As an error it tells why a client has no further answer.
+#[derive(Clone, Copy, Debug, PartialEq, Eq, Error)]
 pub enum Closing {
     /// The input ended between two requests.
+    #[error("the input ended behind a request")]
     Finished,
     /// The last request asked for it.
+    #[error("the last request asked to close")]
     Requested,
     /// No request could be read. The fault was answered where it has a reply.
+    #[error("{0}")]
     Fault(HttpFault),
     /// A stream stopped without its End, or for want of memory.
+    #[error("a stream was cut before its end")]
     Cut,
     /// The other side can't be written to.
+    #[error("the other side can't be written to")]
     Broken,
     /// After 2^64 - 1 requests, or items of a stream.
+    #[error("the session is too long")]
     Exhausted,
 }

@@ -1,19 +1,19 @@
 //! Streams to a writer.
-ghost use Rattle.std.specs.Prelude.{◌≡◌, ◌<◌, ◌≤◌, ◌+◌, ◌^◌, drop, is_err, OnOk, OnErr, IsErrOf};
+ghost use Rattle.std.specs.Prelude.{◌≡◌, ◌<◌, ◌≤◌, ◌+◌, ◌^◌, is_err, OnErr, IsErrOf};
 ghost use Rattle.std.specs.Io.KnownBytes.{Keeps};
-ghost use Rattle.hub_http.specs.Counts.{Rose, Sends};
+ghost use Rattle.hub_http.specs.Counts.{GaveUp, Rose, Sends};
 ghost use Rattle.hub_http.specs.Items.{feed_head};
-ghost use Rattle.hub_http.specs.Chunks.{Writes, head_room, text_chunks};
-ghost use Rattle.hub_session.specs.Items.{rows_after, stream_item_text};
+ghost use Rattle.hub_http.specs.Chunks.{Writes, text_chunks};
+ghost use Rattle.hub_session.specs.Items.{rows_after};
 ghost use Rattle.hub_session.specs.Feeds.{feed_text, items_text, sent_text, behind_item, GivesBack, IsFed, last_chunk};
 ghost use Rattle.hub_session.specs.Rules.{moment};
 
 use crate::closing::StreamEnd;
-use crate::item::StreamItem;
+use crate::item::{ItemText, StreamItem};
 use crate::service::Service;
 use hub_http::{ChunkFault, ChunkWriter, IoFault, Output, send, write_all};
 use hub_model::Mode;
-use std::alloc::{AllocError, Global};
+use std::alloc::Global;
 
 /// The chunk at the head of a stream. It needs no memory.
 fn head_chunk(mode: Mode) -> &'static str
@@ -49,7 +49,10 @@ fn send_ahead<W: Output, S: Service>(
 ) -> Result<(), IoFault>
     ensures sent { Sends (is_err result) (W.written writer.old) (W.written writer.new) bytes.now }
     ensures monotone { W.fault_count writer.old ≤ W.fault_count writer.new }
+    ensures failures_monotone { W.failure_count writer.old ≤ W.failure_count writer.new }
     ensures fault { OnErr result (Rose (W.fault_count writer.old) (W.fault_count writer.new)) }
+    ensures tried { OnErr result (GaveUp (W.failure_count writer.old) (W.failure_count writer.new)
+        (W.fault_count writer.old) (W.fault_count writer.new)) }
 {
     if service.is_ready() {
         write_all(writer, bytes)
@@ -67,7 +70,10 @@ fn finish_item<W: Output, S: Service>(
 ) -> Result<(), IoFault>
     ensures sent { Sends (is_err result) (W.written writer.old) (W.written writer.new) (behind_item item.now) }
     ensures monotone { W.fault_count writer.old ≤ W.fault_count writer.new }
+    ensures failures_monotone { W.failure_count writer.old ≤ W.failure_count writer.new }
     ensures fault { OnErr result (Rose (W.fault_count writer.old) (W.fault_count writer.new)) }
+    ensures tried { OnErr result (GaveUp (W.failure_count writer.old) (W.failure_count writer.new)
+        (W.fault_count writer.old) (W.fault_count writer.new)) }
 {
     if item.is_end() {
         send(writer, last_chunk().as_bytes())
@@ -76,72 +82,28 @@ fn finish_item<W: Output, S: Service>(
     }
 }
 
-/// What a stream writes items with: its buffer is used again for each item.
-#[derive(Drop)]
-struct ItemWriter {
-    chunks: ChunkWriter,
-}
-
-impl ItemWriter {
-    fn new(alloc: Global) -> ItemWriter {
-        ItemWriter {
-            chunks: ChunkWriter::new(alloc),
-        }
+/// Sends an item of the service's stream, and behind an End the last chunk.
+fn send_item<W: Output, S: Service>(
+    chunks: &mut ChunkWriter,
+    writer: &mut W,
+    service: &S,
+    text: &ItemText<'_>,
+) -> Result<(), ChunkFault>
+    ensures bytes { Writes (sent_text text.now.mode text.now.life text.now.rows text.now.item.now) result
+        (W.written writer.old) (W.written writer.new) }
+    ensures monotone { W.fault_count writer.old ≤ W.fault_count writer.new }
+    ensures failures_monotone { W.failure_count writer.old ≤ W.failure_count writer.new }
+    ensures fault { IsErrOf result ChunkFault.IoFault → Rose (W.fault_count writer.old) (W.fault_count writer.new) }
+    ensures tried { IsErrOf result ChunkFault.IoFault → GaveUp (W.failure_count writer.old)
+        (W.failure_count writer.new) (W.fault_count writer.old) (W.fault_count writer.new) }
+{
+    match chunks.write(writer, text) {
+        Ok(()) => {}
+        Err(e) => return Err(e),
     }
-
-    /// Puts the text of an item where its chunk is written from.
-    fn put(&mut self, mode: Mode, life: u64, rows: u64, item: &StreamItem) -> Result<(), AllocError>
-        ensures { OnOk result (drop head_room self.new.chunks.buffer.items
-            ≡ stream_item_text mode life rows item.now) }
-    {
-        self.chunks.begin()?;
-        item.put_text(&mut self.chunks.buffer, mode, life, rows)?;
-        Ok(())
-    }
-
-    /// Writes the chunk of an item.
-    fn write<W: Output>(
-        &mut self,
-        writer: &mut W,
-        mode: Mode,
-        life: u64,
-        rows: u64,
-        item: &StreamItem,
-    ) -> Result<(), ChunkFault>
-        ensures bytes { Writes (text_chunks (stream_item_text mode life rows item.now)) result
-            (W.written writer.old) (W.written writer.new) }
-        ensures monotone { W.fault_count writer.old ≤ W.fault_count writer.new }
-        ensures fault { IsErrOf result ChunkFault.IoFault → Rose (W.fault_count writer.old) (W.fault_count writer.new) }
-    {
-        if self.put(mode, life, rows, item).is_err() {
-            return Err(ChunkFault::NoMemory);
-        }
-        self.chunks.write(writer)
-    }
-
-    /// Sends an item of the service's stream, and behind an End the last chunk.
-    fn send<W: Output, S: Service>(
-        &mut self,
-        writer: &mut W,
-        service: &S,
-        mode: Mode,
-        life: u64,
-        rows: u64,
-        item: &StreamItem,
-    ) -> Result<(), ChunkFault>
-        ensures bytes { Writes (sent_text mode life rows item.now) result
-            (W.written writer.old) (W.written writer.new) }
-        ensures monotone { W.fault_count writer.old ≤ W.fault_count writer.new }
-        ensures fault { IsErrOf result ChunkFault.IoFault → Rose (W.fault_count writer.old) (W.fault_count writer.new) }
-    {
-        match self.write(writer, mode, life, rows, item) {
-            Ok(()) => {}
-            Err(e) => return Err(e),
-        }
-        match finish_item(writer, service, item) {
-            Ok(()) => Ok(()),
-            Err(_) => Err(ChunkFault::IoFault),
-        }
+    match finish_item(writer, service, text.item) {
+        Ok(()) => Ok(()),
+        Err(_) => Err(ChunkFault::IoFault),
     }
 }
 
@@ -150,6 +112,7 @@ impl ItemWriter {
 fn flush_cut<W: Output>(writer: &mut W)
     ensures kept { Keeps (W.written writer.old) (W.written writer.new) }
     ensures monotone { W.fault_count writer.old ≤ W.fault_count writer.new }
+    ensures failures_monotone { W.failure_count writer.old ≤ W.failure_count writer.new }
 {
     let _ = send(writer, b"");
 }
@@ -174,9 +137,12 @@ fn send_items<W: Output, S: Service>(
     ensures fed { IsFed S.rules (items_text mode life 0) result
         (moment service.old (W.written writer.old)) (moment service.new (W.written writer.new)) }
     ensures monotone { W.fault_count writer.old ≤ W.fault_count writer.new }
+    ensures failures_monotone { W.failure_count writer.old ≤ W.failure_count writer.new }
     ensures fault { result ≡ StreamEnd.Broken → Rose (W.fault_count writer.old) (W.fault_count writer.new) }
+    ensures tried { result ≡ StreamEnd.Broken → GaveUp (W.failure_count writer.old)
+        (W.failure_count writer.new) (W.fault_count writer.old) (W.fault_count writer.new) }
 {
-    let mut items = ItemWriter::new(alloc);
+    let mut chunks = ChunkWriter::new(alloc);
     let mut rows = 0;
     for _ in 0..u64::MAX {
         let Some(item) = service.item() else {
@@ -184,7 +150,13 @@ fn send_items<W: Output, S: Service>(
             service.drop_stream();
             return StreamEnd::Stopped;
         };
-        match items.send(writer, service, mode, life, rows, &item) {
+        let text = ItemText {
+            item: &item,
+            mode,
+            life,
+            rows,
+        };
+        match send_item(&mut chunks, writer, service, &text) {
             Ok(()) => {}
             Err(ChunkFault::NoMemory) => {
                 flush_cut(writer);
@@ -223,7 +195,10 @@ pub fn stream_feed<W: Output, S: Service>(
     ensures fed { IsFed S.rules (feed_text mode life) result
         (moment service.old (W.written writer.old)) (moment service.new (W.written writer.new)) }
     ensures monotone { W.fault_count writer.old ≤ W.fault_count writer.new }
+    ensures failures_monotone { W.failure_count writer.old ≤ W.failure_count writer.new }
     ensures fault { result ≡ StreamEnd.Broken → Rose (W.fault_count writer.old) (W.fault_count writer.new) }
+    ensures tried { result ≡ StreamEnd.Broken → GaveUp (W.failure_count writer.old)
+        (W.failure_count writer.new) (W.fault_count writer.old) (W.fault_count writer.new) }
 {
     match send_ahead(writer, service, head_chunk(mode).as_bytes()) {
         Ok(()) => send_items(alloc, writer, service, mode, life),

@@ -1,9 +1,9 @@
 //! The items of streams.
-ghost use Rattle.std.specs.Prelude.{◌≡◌, ◌++◌, OnOk};
+ghost use Rattle.std.specs.Prelude.{◌≡◌};
 ghost use Rattle.hub_session.specs.Items.{is_end, is_row, stream_item_text};
 
 use hub_document::{ChangeRow, UpdateRow};
-use hub_http::item_text;
+use hub_http::{Text, item_text};
 use hub_model::{Item, Mode};
 use std::alloc::AllocError;
 
@@ -37,21 +37,25 @@ impl StreamItem {
             StreamItem::Update(item) => matches!(item, Item::Row(_)),
         }
     }
+}
 
-    /// Appends its text in a stream of the life of this number, before which the stream wrote so many
-    /// rows. After an error a part of the text may stand behind what was held.
-    pub(crate) fn put_text(
-        &self,
-        out: &mut Vec<u8>,
-        mode: Mode,
-        life: u64,
-        rows: u64,
-    ) -> Result<(), AllocError>
-        ensures { OnOk result (out.new.items ≡ out.old.items ++ stream_item_text mode life rows self.now) }
-    {
-        match self {
-            StreamItem::Change(item) => item_text(out, mode, rows, life, item),
-            StreamItem::Update(item) => item_text(out, mode, rows, life, item),
+/// An item as a stream of this mode sends it, of the life of this number, before which the stream
+/// wrote so many rows.
+#[derive(Clone, Copy, Debug)]
+pub(crate) struct ItemText<'a> {
+    pub(crate) item: &'a StreamItem,
+    pub(crate) mode: Mode,
+    pub(crate) life: u64,
+    pub(crate) rows: u64,
+}
+
+impl Text for ItemText<'_> {
+    ghost bytes = { λ t. stream_item_text t.mode t.life t.rows t.item.now };
+
+    fn append(&self, buffer: &mut Vec<u8>) -> Result<(), AllocError> {
+        match self.item {
+            StreamItem::Change(item) => item_text(buffer, self.mode, self.rows, self.life, item),
+            StreamItem::Update(item) => item_text(buffer, self.mode, self.rows, self.life, item),
         }
     }
 }

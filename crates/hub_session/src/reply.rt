@@ -1,6 +1,6 @@
 //! Whole answers to a writer.
 ghost use Rattle.std.specs.Prelude.{◌≡◌, ◌≤◌, Bool, is_err, OnErr};
-ghost use Rattle.hub_http.specs.Counts.{Rose, Sends};
+ghost use Rattle.hub_http.specs.Counts.{GaveUp, Rose, Sends};
 ghost use Rattle.hub_session.specs.Replies.{fault_text, whole_text};
 
 use hub_http::{HttpFault, IoFault, Output, Reply, no_memory_text, reply_bytes, send};
@@ -42,7 +42,10 @@ pub(crate) fn send_reply<W: Output>(
 ) -> Result<(), IoFault>
     ensures sent { (found : Bool) × Sends (is_err result) (W.written writer.old) (W.written writer.new) (whole_text reply.now found head_only close) }
     ensures monotone { W.fault_count writer.old ≤ W.fault_count writer.new }
+    ensures failures_monotone { W.failure_count writer.old ≤ W.failure_count writer.new }
     ensures fault { OnErr result (Rose (W.fault_count writer.old) (W.fault_count writer.new)) }
+    ensures tried { OnErr result (GaveUp (W.failure_count writer.old) (W.failure_count writer.new)
+        (W.fault_count writer.old) (W.fault_count writer.new)) }
 {
     match reply_bytes(alloc, reply, head_only, close) {
         Ok(bytes) => send(writer, bytes.as_slice()),

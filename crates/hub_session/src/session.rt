@@ -1,9 +1,9 @@
 //! Sessions over a reader and a writer.
 ghost use Rattle.std.specs.Prelude.{◌≡◌, ◌≤◌, IfSome, Some};
-ghost use Rattle.hub_http.specs.Counts.{Rose};
+ghost use Rattle.hub_http.specs.Counts.{GaveUp, Rose};
 ghost use Rattle.hub_http.specs.declared.fault.HttpFault.{HttpFault};
 ghost use Rattle.hub_http.specs.Stream.{asked_by};
-ghost use Rattle.hub_http.specs.Words.{to_come, IsOpen, HasEnded, faults_of};
+ghost use Rattle.hub_http.specs.Words.{to_come, IsOpen, HasEnded, failures_of, faults_of};
 ghost use Rattle.hub_session.specs.Rules.{moment};
 ghost use Rattle.hub_session.specs.Sessions.{HasAnswer, IsServed, IsSession, after_answer, after_stream, is_head};
 
@@ -52,7 +52,10 @@ fn answer_one<W: Output, S: Service>(
     ensures told { HasAnswer S.rules (asked_by request.now) result
         (moment service.old (W.written writer.old)) (moment service.new (W.written writer.new)) }
     ensures monotone { W.fault_count writer.old ≤ W.fault_count writer.new }
+    ensures failures_monotone { W.failure_count writer.old ≤ W.failure_count writer.new }
     ensures fault { result ≡ Some Closing.Broken → Rose (W.fault_count writer.old) (W.fault_count writer.new) }
+    ensures tried { result ≡ Some Closing.Broken → GaveUp (W.failure_count writer.old)
+        (W.failure_count writer.new) (W.fault_count writer.old) (W.fault_count writer.new) }
 {
     let head_only = is_head(request);
     let close = request.close;
@@ -96,10 +99,17 @@ pub fn serve_one<R: Input, W: Output, S: Service>(
     ensures ended { HasEnded requests.old → (result ≡ Some (Closing.Fault HttpFault.Ended))
         × (requests.new ≡ requests.old) × (service.new ≡ service.old) × (writer.new ≡ writer.old) }
     ensures monotone { W.fault_count writer.old ≤ W.fault_count writer.new }
+    ensures failures_monotone { W.failure_count writer.old ≤ W.failure_count writer.new }
     ensures reads { faults_of R.fault_count requests.old ≤ faults_of R.fault_count requests.new }
+    ensures failed_reads { failures_of R.failure_count requests.old ≤ failures_of R.failure_count requests.new }
     ensures broken { result ≡ Some Closing.Broken → Rose (W.fault_count writer.old) (W.fault_count writer.new) }
+    ensures tried { result ≡ Some Closing.Broken → GaveUp (W.failure_count writer.old)
+        (W.failure_count writer.new) (W.fault_count writer.old) (W.fault_count writer.new) }
     ensures fault { result ≡ Some (Closing.Fault HttpFault.IoFault)
         → Rose (faults_of R.fault_count requests.old) (faults_of R.fault_count requests.new) }
+    ensures tried_reads { result ≡ Some (Closing.Fault HttpFault.IoFault)
+        → GaveUp (failures_of R.failure_count requests.old) (failures_of R.failure_count requests.new)
+        (faults_of R.fault_count requests.old) (faults_of R.fault_count requests.new) }
 {
     match requests.next() {
         Ok(Some(request)) => answer_one(alloc, writer, service, &request),
@@ -126,10 +136,17 @@ pub fn serve<R: Input, W: Output, S: Service>(
     ensures ended { HasEnded requests.old → (result ≡ Closing.Fault HttpFault.Ended)
         × (requests.new ≡ requests.old) × (service.new ≡ service.old) × (writer.new ≡ writer.old) }
     ensures monotone { W.fault_count writer.old ≤ W.fault_count writer.new }
+    ensures failures_monotone { W.failure_count writer.old ≤ W.failure_count writer.new }
     ensures reads { faults_of R.fault_count requests.old ≤ faults_of R.fault_count requests.new }
+    ensures failed_reads { failures_of R.failure_count requests.old ≤ failures_of R.failure_count requests.new }
     ensures broken { result ≡ Closing.Broken → Rose (W.fault_count writer.old) (W.fault_count writer.new) }
+    ensures tried { result ≡ Closing.Broken → GaveUp (W.failure_count writer.old)
+        (W.failure_count writer.new) (W.fault_count writer.old) (W.fault_count writer.new) }
     ensures fault { result ≡ Closing.Fault HttpFault.IoFault
         → Rose (faults_of R.fault_count requests.old) (faults_of R.fault_count requests.new) }
+    ensures tried_reads { result ≡ Closing.Fault HttpFault.IoFault
+        → GaveUp (failures_of R.failure_count requests.old) (failures_of R.failure_count requests.new)
+        (faults_of R.fault_count requests.old) (faults_of R.fault_count requests.new) }
 {
     for _ in 0..u64::MAX {
         if let Some(closing) = serve_one(alloc, requests, writer, service) {

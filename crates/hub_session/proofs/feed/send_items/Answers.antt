@@ -2,11 +2,12 @@ use Rattle.std.proofs.Common.{arith, true, false, [], ◌∷◌}
 use Rattle.std.proofs.KnownBytes.{Appends-nil, Appends-kept}
 use Rattle.hub_session.specs.declared.closing.StreamEnd.TheVariants.{Complete, Stopped, NoMemory, Broken, Exhausted}
 use Rattle.hub_session.specs.Feeds.{Streams}
+use Rattle.hub_http.proofs.CountLemmas.{gave_up_since}
 use Rattle.hub_session.proofs.FeedLemmas.{went_none, went_more, fed_by, stream_fails, one_sent}
 use Rattle.hub_session.proofs.feed.send_items.Goals as goal
 
 pub loop-init : goal.loop-init
-loop-init g c = (went_none _ _ _ _, omega arith, omega arith)
+loop-init g c = (went_none _ _ _ _, omega arith, omega arith, omega arith)
 
 pub returns-in_default-clause-fed : goal.returns-in_default-clause-fed
 returns-in_default-clause-fed g c =
@@ -27,6 +28,10 @@ returns-in-Err-IoFault-clause-fed g c =
     (stream_fails g.S.Service.rules c.loop.counter c.loop.service c.item.new.self _ item c.in-Some.ensures c.give_back-in-Err-IoFault.ensures)
     (one_sent _ _ _ item true _ _ front)
 
+pub returns-in-Err-IoFault-clause-tried : goal.returns-in-Err-IoFault-clause-tried
+returns-in-Err-IoFault-clause-tried g c = λ broken.
+    gave_up_since _ _ _ _ _ _ c.loop.invariant.3 c.loop.invariant.1 (c.send_item.ensures.tried (cc))
+
 pub returns-then-is_end-clause-fed : goal.returns-then-is_end-clause-fed
 returns-then-is_end-clause-fed g c =
     let item = c.in-Some.item in
@@ -35,8 +40,9 @@ returns-then-is_end-clause-fed g c =
 pub loop-preserved : goal.loop-preserved
 loop-preserved g c = (
   rw c.rows_after-rows.ensures.rows (went_more _ _ _ _ _ _ _ _ c.in-Some.item c.loop.invariant.0 c.in-Some.ensures (cc) c.in-Ok.ensures.bytes),
-  omega (arith, c.loop.invariant.1, c.send.ensures.monotone),
+  omega (arith, c.loop.invariant.1, c.send_item.ensures.monotone),
   omega (arith, c.loop.invariant.2, c.rows_after-rows.ensures.bound),
+  omega (arith, c.loop.invariant.3, c.send_item.ensures.failures_monotone),
 )
 
 pub rows_after-rows-requires : goal.rows_after-rows-requires

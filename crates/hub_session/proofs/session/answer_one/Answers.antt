@@ -1,8 +1,9 @@
 use Rattle.std.proofs.Common.{◌∙◌, sym, subst}
 use Rattle.std.specs.Io.KnownBytes.{Appends}
 use Rattle.hub_http.specs.Counts.{AppendsFront}
+use Rattle.hub_http.proofs.CountLemmas.{gave_up_since}
 use Rattle.hub_http.specs.Stream.{asked_by}
-use Rattle.hub_session.proofs.AnswerLemmas.{told_whole, whole_broken, stream_broken, stream_bare, stream_fed}
+use Rattle.hub_session.proofs.AnswerLemmas.{broken_stream, told_whole, whole_broken, stream_broken, stream_bare, stream_fed}
 use Rattle.hub_session.proofs.session.answer_one.Goals as goal
 
 pub returns-in-Ok-clause-told : goal.returns-in-Ok-clause-told
@@ -31,6 +32,11 @@ returns-in-Ok-write_all-clause-told g c =
     stream_fed g.S.Service.rules (asked_by c.args.request.now) _ _ c.in-Stream.mode c.in-Stream.life _ _ _ _ c.in-Stream.ensures
     (sym c.is_head-head_only.ensures ∙ c.if-head_only.false) c.after_stream.ensures
     (subst (Appends _ _) (c.as_bytes-in-Stream.ensures.value ∙ c.stream_head_text-in-Stream.ensures) c.in-Ok-write_all.ensures.ok) c.stream_feed.ensures.fed
+
+pub returns-in-Ok-write_all-clause-tried : goal.returns-in-Ok-write_all-clause-tried
+returns-in-Ok-write_all-clause-tried g c = λ broken.
+    gave_up_since _ _ _ _ _ _ c.write_all.ensures.failures_monotone c.write_all.ensures.monotone
+    (c.stream_feed.ensures.tried (broken_stream _ _ (sym c.after_stream.ensures ∙ broken)))
 
 pub returns-clause-told : goal.returns-clause-told
 returns-clause-told g c =

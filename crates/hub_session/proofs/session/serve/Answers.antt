@@ -1,5 +1,6 @@
 use Rattle.std.proofs.Common.{arith, refl, sym, subst, ◌∙◌}
 use Rattle.hub_http.specs.Words.{HasEnded}
+use Rattle.hub_http.proofs.CountLemmas.{gave_up_since}
 use Rattle.hub_session.proofs.SessionLemmas.{served_none, serves_more, serves_so, serves_all}
 use Rattle.hub_session.proofs.session.serve.Goals as goal
 
@@ -14,6 +15,14 @@ returns-in-Some-clause-ended g c = λ ended.
     let at = c.in-Some.ensures.ended (subst HasEnded (sym same.0) ended) in
     let closing = at.0 in
     (cc, at.1 ∙ same.0, at.2 ∙ same.1, at.3 ∙ same.2)
+
+pub returns-in-Some-clause-tried : goal.returns-in-Some-clause-tried
+returns-in-Some-clause-tried g c = λ broken.
+    gave_up_since _ _ _ _ _ _ c.loop.invariant.failed_writes c.loop.invariant.writes (c.in-Some.ensures.tried (cc))
+
+pub returns-in-Some-clause-tried_reads : goal.returns-in-Some-clause-tried_reads
+returns-in-Some-clause-tried_reads g c = λ failed.
+    gave_up_since _ _ _ _ _ _ c.loop.invariant.failed_reads c.loop.invariant.reads (c.in-Some.ensures.tried_reads (cc))
 
 pub returns-clause-session : goal.returns-clause-session
 returns-clause-session g c = λ is_open.
@@ -30,7 +39,9 @@ loop-init g c = record {
   is_open = λ is_open. is_open;
   ended = λ ended. (refl, refl, refl, refl);
   writes = omega arith;
+  failed_writes = omega arith;
   reads = omega arith;
+  failed_reads = omega arith;
 }
 
 pub loop-preserved : goal.loop-preserved
@@ -43,5 +54,7 @@ loop-preserved g c = record {
       let closed = (c.in_default.ensures.ended (subst HasEnded (sym same.0) ended)).0 in
       cc;
   writes = omega (arith, c.loop.invariant.writes, c.serve_one.ensures.monotone);
+  failed_writes = omega (arith, c.loop.invariant.failed_writes, c.serve_one.ensures.failures_monotone);
   reads = omega (arith, c.loop.invariant.reads, c.serve_one.ensures.reads);
+  failed_reads = omega (arith, c.loop.invariant.failed_reads, c.serve_one.ensures.failed_reads);
 }

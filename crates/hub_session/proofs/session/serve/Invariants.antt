@@ -14,5 +14,7 @@ invariant-loop g l =
       is_open : IsOpen l.fn.requests → IsOpen l.requests;
       ended : HasEnded l.fn.requests → (l.requests ≡ l.fn.requests) × (l.service ≡ l.fn.service) × (l.writer ≡ l.fn.writer) × (l.counter ≡ 0);
       writes : g.W.Output.fault_count l.fn.writer ≤ g.W.Output.fault_count l.writer;
+      failed_writes : g.W.Output.failure_count l.fn.writer ≤ g.W.Output.failure_count l.writer;
       reads : g.R.Input.fault_count l.fn.requests.reader ≤ g.R.Input.fault_count l.requests.reader;
+      failed_reads : g.R.Input.failure_count l.fn.requests.reader ≤ g.R.Input.failure_count l.requests.reader;
     }
