@@ -1,8 +1,8 @@
 //! The hub over a reader and a writer.
 
 ghost use Rattle.std.specs.Prelude.{◌≡◌, ◌≤◌, Err, IfOk, IfSome, None, OnErr, Ok, Option};
-ghost use Rattle.hub_http.specs.Counts.{Rose};
-ghost use Rattle.hub_http.specs.Words.{HasEnded, IsOpen, faults_of, to_come};
+ghost use Rattle.hub_http.specs.Counts.{GaveUp, Rose};
+ghost use Rattle.hub_http.specs.Words.{HasEnded, IsOpen, failures_of, faults_of, to_come};
 ghost use Rattle.hub_http.specs.declared.fault.HttpFault.{HttpFault};
 ghost use Rattle.hub_session.specs.Rules.{moment};
 ghost use Rattle.hub_session.specs.Sessions.{IsSession};
@@ -36,10 +36,17 @@ pub fn serve_connection<N: Wait, P: Pumping, R: Input, W: Output>(
     ensures ended { HasEnded requests.old → (result ≡ Closing.Fault HttpFault.Ended)
         × (requests.new ≡ requests.old) × (writer.new ≡ writer.old) }
     ensures writes { W.fault_count writer.old ≤ W.fault_count writer.new }
+    ensures failed_writes { W.failure_count writer.old ≤ W.failure_count writer.new }
     ensures reads { faults_of R.fault_count requests.old ≤ faults_of R.fault_count requests.new }
+    ensures failed_reads { failures_of R.failure_count requests.old ≤ failures_of R.failure_count requests.new }
     ensures broken { result ≡ Closing.Broken → Rose (W.fault_count writer.old) (W.fault_count writer.new) }
+    ensures tried { result ≡ Closing.Broken → GaveUp (W.failure_count writer.old)
+        (W.failure_count writer.new) (W.fault_count writer.old) (W.fault_count writer.new) }
     ensures fault { result ≡ Closing.Fault HttpFault.IoFault
         → Rose (faults_of R.fault_count requests.old) (faults_of R.fault_count requests.new) }
+    ensures tried_reads { result ≡ Closing.Fault HttpFault.IoFault
+        → GaveUp (failures_of R.failure_count requests.old) (failures_of R.failure_count requests.new)
+        (faults_of R.fault_count requests.old) (faults_of R.fault_count requests.new) }
 {
     let mut connection = Connection::new(rt, alloc, hub, routes, pumping);
     serve(alloc, requests, writer, &mut connection)
@@ -61,10 +68,17 @@ pub fn answer_stream<N: Wait, R: Input, W: Output>(
     ensures ended { HasEnded requests.old → IfOk result (λ closing. (closing ≡ Closing.Fault HttpFault.Ended)
         × (requests.new ≡ requests.old) × (writer.new ≡ writer.old)) }
     ensures writes { W.fault_count writer.old ≤ W.fault_count writer.new }
+    ensures failed_writes { W.failure_count writer.old ≤ W.failure_count writer.new }
     ensures reads { faults_of R.fault_count requests.old ≤ faults_of R.fault_count requests.new }
+    ensures failed_reads { failures_of R.failure_count requests.old ≤ failures_of R.failure_count requests.new }
     ensures broken { result ≡ Ok Closing.Broken → Rose (W.fault_count writer.old) (W.fault_count writer.new) }
+    ensures tried { result ≡ Ok Closing.Broken → GaveUp (W.failure_count writer.old)
+        (W.failure_count writer.new) (W.fault_count writer.old) (W.fault_count writer.new) }
     ensures fault { result ≡ Ok (Closing.Fault HttpFault.IoFault)
         → Rose (faults_of R.fault_count requests.old) (faults_of R.fault_count requests.new) }
+    ensures tried_reads { result ≡ Ok (Closing.Fault HttpFault.IoFault)
+        → GaveUp (failures_of R.failure_count requests.old) (failures_of R.failure_count requests.new)
+        (faults_of R.fault_count requests.old) (faults_of R.fault_count requests.new) }
     ensures err { OnErr result ((writer.new ≡ writer.old) × (requests.new ≡ requests.old)) }
 {
     let hub = Hub::new(alloc, limits)?;
