@@ -15,6 +15,8 @@ mod feeds;
 #[cfg(test)]
 mod history_tests;
 #[cfg(test)]
+mod hostile_tests;
+#[cfg(test)]
 mod hub_tests;
 mod laws;
 mod locals;

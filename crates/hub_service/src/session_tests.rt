@@ -272,7 +272,7 @@ pub(crate) fn answers(alloc: Global, exchanges: &[Exchange]) -> Result<String, A
 }
 
 /// Whether the hub writes these bytes for those that it reads, and closes for this reason.
-fn is_written<N: Wait>(
+pub(crate) fn is_written<N: Wait>(
     rt: &N,
     alloc: Global,
     input: &[u8],

@@ -73,7 +73,7 @@ fn session<N: Wait, R: Drop + Read>(
 }
 
 /// A database, a batch and its feed.
-const RUN: &[Exchange] = &[
+pub(crate) const RUN: &[Exchange] = &[
     MAKE,
     (
         Batch(&[r#"{"_id":"a","_rev":"1-a"}"#, r#"{"_id":"b","_rev":"1-b"}"#]),
