@@ -41,7 +41,7 @@ impl StreamItem {
 
 /// An item as a stream of this mode sends it, of the life of this number, before which the stream
 /// wrote so many rows.
-#[derive(Clone, Copy, Debug)]
+#[derive(Debug, Drop)]
 pub(crate) struct ItemText<'a> {
     pub(crate) item: &'a StreamItem,
     pub(crate) mode: Mode,
