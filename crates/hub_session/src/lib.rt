@@ -2,27 +2,11 @@
 #![tactic(auto)]
 
 mod closing;
-#[cfg(test)]
-mod cut;
 mod feed;
-#[cfg(test)]
-mod flush_tests;
-#[cfg(test)]
-mod interruption_tests;
 mod item;
-#[cfg(test)]
-mod reader_tests;
 mod reply;
-#[cfg(test)]
-mod rows;
 mod service;
 mod session;
-#[cfg(test)]
-mod tests;
-#[cfg(test)]
-mod update_tests;
-#[cfg(test)]
-mod writer_tests;
 
 pub use closing::{Closing, StreamEnd};
 pub use feed::stream_feed;

@@ -1,8 +1,8 @@
 //! Sessions whose reads and writes are interrupted.
 
 use crate::rows::{EXCHANGES, answers, asks, two_rows};
-use crate::{Closing, serve};
 use hub_http::{Requests, Tally};
+use hub_session::{Closing, serve};
 use std::io;
 use std::io::{ErrorKind, Read, Write};
 use std::test::Fail;

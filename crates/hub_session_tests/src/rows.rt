@@ -1,11 +1,11 @@
 //! A service of one feed of two rows, what it is asked, and the texts of its answers.
 
 use crate::cut::CutWriter;
-use crate::{Answer, Closing, Service, StreamItem, serve};
 use http::StatusCode;
 use hub_document::{ChangeRow, Changes, Doc, RevId, Revisions};
 use hub_http::{Output, Refusal, Reply, Request, Requests, Tally};
 use hub_model::{Item, Mode};
+use hub_session::{Answer, Closing, Service, StreamItem, serve};
 use std::alloc::{AllocError, Global};
 use std::io::Read;
 

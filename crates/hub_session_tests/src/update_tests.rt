@@ -1,7 +1,7 @@
-use crate::{Answer, Closing, Service, StreamItem, serve};
 use hub_document::UpdateRow;
 use hub_http::{Request, Requests, Tally};
 use hub_model::{Item, Mode, UpdateKind};
+use hub_session::{Answer, Closing, Service, StreamItem, serve};
 use std::alloc::Global;
 use std::test::Fail;
 

@@ -1,9 +1,9 @@
 //! Where sessions flush.
 
-use crate::Closing;
 use crate::cut::CutWriter;
 use crate::rows::{two_rows, written};
 use hub_http::HttpFault;
+use hub_session::Closing;
 use std::alloc::Global;
 use std::process::Abort;
 

@@ -1,9 +1,9 @@
 //! Sessions whose reader fails or ends, and how far they read ahead.
 
-use crate::Closing;
 use crate::cut::CutReader;
 use crate::rows::{EXCHANGES, answers, asks, served, two_rows};
 use hub_http::HttpFault;
+use hub_session::Closing;
 use std::alloc::Global;
 use std::test::Fail;
 

@@ -1,8 +1,8 @@
 //! Sessions whose writer breaks or takes few bytes, and what their service is given back.
 
-use crate::Closing;
 use crate::cut::CutWriter;
 use crate::rows::{EXCHANGES, VERSION, answers, asks, two_rows, written};
+use hub_session::Closing;
 use std::test::Fail;
 
 /// Wherever a writer breaks, it holds the front of the answers.

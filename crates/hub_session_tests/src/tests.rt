@@ -4,9 +4,9 @@ use crate::cut::{CutReader, CutWriter};
 use crate::rows::{
     CREATED, EXCHANGES, FEED_HEAD, NORMAL, NORMAL_END, VERSION, answers, asks, served, two_rows,
 };
-use crate::{Closing, StreamEnd, serve, serve_one, stream_feed};
 use hub_http::{HttpFault, Output, Requests, Tally};
 use hub_model::Mode;
+use hub_session::{Closing, StreamEnd, serve, serve_one, stream_feed};
 use std::test::Fail;
 
 /// The exchanges of a session whose bytes come one by one.

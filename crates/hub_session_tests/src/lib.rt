@@ -1,0 +1,19 @@
+//! Tests of hub_session, as its users see it.
+#![tactic(auto)]
+
+#[cfg(test)]
+mod cut;
+#[cfg(test)]
+mod flush_tests;
+#[cfg(test)]
+mod interruption_tests;
+#[cfg(test)]
+mod reader_tests;
+#[cfg(test)]
+mod rows;
+#[cfg(test)]
+mod tests;
+#[cfg(test)]
+mod update_tests;
+#[cfg(test)]
+mod writer_tests;
