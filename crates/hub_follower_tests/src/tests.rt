@@ -8,6 +8,7 @@ mod logs;
 mod losses;
 mod named_peer;
 mod rounds;
+mod sessions;
 mod stops;
 mod threads;
 mod worlds;

@@ -129,24 +129,41 @@ const B2: &str = r#"{"_id":"b","_revisions":{"start":2,"ids":["d","b"]}}"#;
 
 const X3: &str = r#"{"_id":"x","_revisions":{"start":3,"ids":["d","a","q"]}}"#;
 
-// Whether what a feed hands above a sequence is right, and of how many items it is.
-fn handed(alloc: Global, since: u64, between: &[&str]) -> Result<(bool, usize), Fail> {
-    let mut db = DbState::new(alloc, Limits::full(), LIFE);
-    write(alloc, &mut db, &FIVE)?;
-    let items = hand_all(alloc, &mut db, since, between)?;
-    let right = rightly_handed(alloc, &db, since, items.as_slice())?;
+// Whether what a feed hands above a sequence behind FIVE is right, and of how many items it is.
+fn is_handed(
+    alloc: Global,
+    db: &mut DbState,
+    since: u64,
+    between: &[&str],
+) -> Result<(bool, usize), Fail> {
+    write(alloc, db, &FIVE)?;
+    let items = hand_all(alloc, db, since, between)?;
+    let right = rightly_handed(alloc, db, since, items.as_slice())?;
     Ok((right, items.len()))
 }
 
-// Three documents; the last of them; none; and feeds between whose rows documents move: b while it is still to
-// come, then x, and a behind its own row.
+// The same of a new database.
+fn handed(alloc: Global, since: u64, between: &[&str]) -> Result<(bool, usize), Fail> {
+    let mut db = DbState::new(alloc, Limits::full(), LIFE);
+    is_handed(alloc, &mut db, since, between)
+}
+
+// Where a feed begins, what is stored between its items, and how many of these there are: three documents;
+// the last of them; none; and feeds between whose rows documents move: b while it is still to come, then x, and
+// a behind its own row.
+const FEEDS: &[(u64, &[&str], usize)] = &[
+    (0, &[], 4),
+    (2, &[], 2),
+    (5, &[], 1),
+    (0, &[B2], 3),
+    (0, &[X3, B2], 3),
+];
+
 #[test]
 fn what_feeds_hand_is_right(rt: HostRuntime) -> Result<(), Fail> {
-    assert_eq!(rt; handed(rt.alloc(), 0, &[])?, (true, 4));
-    assert_eq!(rt; handed(rt.alloc(), 2, &[])?, (true, 2));
-    assert_eq!(rt; handed(rt.alloc(), 5, &[])?, (true, 1));
-    assert_eq!(rt; handed(rt.alloc(), 0, &[B2])?, (true, 3));
-    assert_eq!(rt; handed(rt.alloc(), 0, &[X3, B2])?, (true, 3));
+    for (since, between, count) in FEEDS {
+        assert_eq!(rt; handed(rt.alloc(), *since, *between)?, (true, *count));
+    }
     Ok(())
 }
 
@@ -230,13 +247,35 @@ fn first_other(
     Ok(None)
 }
 
+// The same of a database that has stored these texts, and once it is deleted.
+fn first_others(
+    alloc: Global,
+    db: &mut DbState,
+    texts: &[&str],
+    cases: &[(u64, &[Shown], bool)],
+) -> Result<(Option<usize>, Option<usize>), Fail> {
+    write(alloc, db, texts)?;
+    let first = first_other(alloc, db, cases)?;
+    if db.delete().is_err() {
+        return Err(Fail::new("not deleted"));
+    }
+    Ok((first, first_other(alloc, db, cases)?))
+}
+
+// The same of a new database.
+fn others_behind(
+    alloc: Global,
+    texts: &[&str],
+    cases: &[(u64, &[Shown], bool)],
+) -> Result<(Option<usize>, Option<usize>), Fail> {
+    let mut db = DbState::new(alloc, Limits::full(), LIFE);
+    first_others(alloc, &mut db, texts, cases)
+}
+
 #[test]
 fn cases_are_decided(rt: HostRuntime) -> Result<(), Fail> {
-    let mut db = DbState::new(rt.alloc(), Limits::full(), LIFE);
-    write(rt.alloc(), &mut db, &FIVE)?;
-    assert_eq!(rt; first_other(rt.alloc(), &db, CASES)?, None);
-    assert!(rt; db.delete().is_ok());
-    assert_eq!(rt; first_other(rt.alloc(), &db, CASES)?, None);
+    let others = others_behind(rt.alloc(), &FIVE, CASES)?;
+    assert_eq!(rt; others, (None, None));
     Ok(())
 }
 
@@ -268,9 +307,8 @@ const LATE_CASES: &[(u64, &[Shown], bool)] = &[
 
 #[test]
 fn rows_before_a_parent_came_are_decided(rt: HostRuntime) -> Result<(), Fail> {
-    let mut db = DbState::new(rt.alloc(), Limits::full(), LIFE);
-    write(rt.alloc(), &mut db, &LATE)?;
-    assert_eq!(rt; first_other(rt.alloc(), &db, LATE_CASES)?, None);
+    let others = others_behind(rt.alloc(), &LATE, LATE_CASES)?;
+    assert_eq!(rt; others, (None, None));
     Ok(())
 }
 
@@ -298,16 +336,19 @@ fn rows_of_many(alloc: Global, db: &mut DbState, count: u64) -> Result<Vec<Item<
     Ok(items)
 }
 
+// Whether a row of each of so many documents, and their end, are right.
+fn are_right(alloc: Global, db: &mut DbState, count: u64) -> Result<bool, Fail> {
+    let items = rows_of_many(alloc, db, count)?;
+    Ok(rightly_handed(alloc, db, 0, items.as_slice())?)
+}
+
 // A hundred rows are an answer, and one more are none.
 #[test]
 fn a_hundred_rows_at_most(rt: HostRuntime) -> Result<(), Fail> {
     for (count, right) in [(100, true), (101, false)] {
         let mut db = DbState::new(rt.alloc(), Limits::full(), LIFE);
-        let items = rows_of_many(rt.alloc(), &mut db, count)?;
-        assert_eq!(rt;
-            rightly_handed(rt.alloc(), &db, 0, items.as_slice())?,
-            right
-        );
+        let found = are_right(rt.alloc(), &mut db, count)?;
+        assert_eq!(rt; found, right);
     }
     Ok(())
 }

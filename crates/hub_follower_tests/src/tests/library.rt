@@ -32,14 +32,12 @@ fn copy<R: Wait>(
 
 #[test]
 fn a_database_is_copied(rt: HostRuntime) -> Result<(), Fail> {
-    let (source, target) = (
-        crate::tests::database(rt.alloc())?,
-        crate::tests::database(rt.alloc())?,
-    );
+    let source = crate::tests::database(rt.alloc())?;
+    let target = crate::tests::database(rt.alloc())?;
     crate::tests::write(&rt, rt.alloc(), &source, &crate::tests::TWO)?;
-    assert!(rt; copy(&rt, rt.alloc(), &source, &target, "2026-01-01").is_ok());
-    assert_eq!(rt; crate::tests::edits(&rt, &target)?, 2);
-    assert!(rt; copy(&rt, rt.alloc(), &source, &target, "2026-01-02").is_ok());
-    assert_eq!(rt; crate::tests::edits(&rt, &target)?, 2);
+    for session_id in ["2026-01-01", "2026-01-02"] {
+        assert!(rt; copy(&rt, rt.alloc(), &source, &target, session_id).is_ok());
+        assert_eq!(rt; crate::tests::edits(&rt, &target)?, 2);
+    }
     Ok(())
 }

@@ -1,9 +1,10 @@
 //! Sources that are deleted and made again, and logs of an earlier life.
 
 use crate::tests::named_peer::NamedPeer;
+use crate::tests::sessions::Step::{self, Records, Rounds};
+use crate::tests::sessions::{assert_session, copy_up_to};
 use crate::tests::{
-    LIFE, LOG, TWO, agree, at, checkpoint, copy_all, database_of_life, edits, recorded, round_into,
-    start, write,
+    LIFE, LOG, TWO, agree, at, checkpoint, database_of_life, recorded, round_into, write,
 };
 use hub_databases::{Hub, HubDb};
 use hub_document::{Limits, LocalDoc};
@@ -81,27 +82,50 @@ fn follow<'a, R: Wait>(
     }
 }
 
+// A follower of these.
+type Copier<'a, R> = Follower<NamedPeer<'a, R>, NamedPeer<'a, R>>;
+
+// What a round did, the place behind it, and how many edits the target then has.
+type Done = (Round, Option<Seq>, u64);
+
+// The same of the next round.
+fn next_round<'a, R: Wait>(rt: &R, hub: &Hub, follower: &mut Copier<'a, R>) -> Result<Done, Fail> {
+    round_into(rt, follower, found(rt, hub, TARGET)?.db())
+}
+
+// Stores three documents at the source.
+fn write_again<R: Wait>(rt: &R, alloc: Global, hub: &Hub) -> Result<(), Fail> {
+    write(rt, alloc, found(rt, hub, SOURCE)?.db(), &AGAIN)
+}
+
+// Whether the target's leaves are the source's.
+fn is_copied<R: Wait>(rt: &R, alloc: Global, hub: &Hub) -> Result<bool, Fail> {
+    let (source, target) = (found(rt, hub, SOURCE)?, found(rt, hub, TARGET)?);
+    agree(rt, alloc, source.db(), target.db(), &["a", "b", "c", "d"])
+}
+
 // A round copies two documents. Then both databases are made again, and three documents stored at the source:
-// what the next round does, the place behind it, how many edits the target then has, and whether its leaves
-// are the source's.
-fn round_again<R: Wait>(
+// what the next round does, and whether the target's leaves are then the source's.
+fn two_rounds<'a, R: Wait>(
     rt: &R,
     alloc: Global,
-    tells_lives: bool,
-) -> Result<((Round, Option<Seq>, u64), bool), Fail> {
-    let hub = hub(rt, alloc)?;
-    let mut follower = follow(rt, alloc, &hub, tells_lives)?;
-    let first = round_into(rt, &mut follower, found(rt, &hub, TARGET)?.db())?;
-    if first != (Round::Moved, at(2), 2) {
+    hub: &Hub,
+    follower: &mut Copier<'a, R>,
+) -> Result<(Done, bool), Fail> {
+    if next_round(rt, hub, follower)? != (Round::Moved, at(2), 2) {
         return Err(Fail::new("another first round"));
     }
-    make_again(rt, &hub)?;
-    let (source, target) = (found(rt, &hub, SOURCE)?, found(rt, &hub, TARGET)?);
-    write(rt, alloc, source.db(), &AGAIN)?;
-    let second = round_into(rt, &mut follower, target.db())?;
-    let ids = ["a", "b", "c", "d"];
-    let agrees = agree(rt, alloc, source.db(), target.db(), &ids)?;
-    Ok((second, agrees))
+    make_again(rt, hub)?;
+    write_again(rt, alloc, hub)?;
+    let second = next_round(rt, hub, follower)?;
+    Ok((second, is_copied(rt, alloc, hub)?))
+}
+
+// The same of a new hub.
+fn round_again<R: Wait>(rt: &R, alloc: Global, tells_lives: bool) -> Result<(Done, bool), Fail> {
+    let hub = hub(rt, alloc)?;
+    let mut follower = follow(rt, alloc, &hub, tells_lives)?;
+    two_rounds(rt, alloc, &hub, &mut follower)
 }
 
 // The second round begins at 0 of the new life. With numbers alone it would go on behind 2, and leave out the
@@ -120,22 +144,19 @@ fn a_source_that_is_made_again_is_copied_anew(rt: HostRuntime) -> Result<(), Fai
     Ok(())
 }
 
-// A follower of these.
-type Copier<'a, R> = Follower<NamedPeer<'a, R>, NamedPeer<'a, R>>;
-
-// While there is no source a round fails, and the place stays. Behind that the source is made again, and is empty:
-// what the next round does.
+// While there is no source a round fails, and the place stays. Behind that the source is made again, and is
+// empty: what the next round does.
 fn round_of_nothing<'a, R: Wait>(
     rt: &R,
     hub: &Hub,
     follower: &mut Copier<'a, R>,
-) -> Result<(Round, Option<Seq>, u64), Fail> {
+) -> Result<Done, Fail> {
     delete(rt, hub, SOURCE)?;
     if !matches!(follower.round(), Err(FollowFault::Peer)) || follower.place() != at(2) {
         return Err(Fail::new("a round without a source"));
     }
     make(rt, hub, SOURCE)?;
-    round_into(rt, follower, found(rt, hub, TARGET)?.db())
+    next_round(rt, hub, follower)
 }
 
 // What the round does in which the new source has documents. Behind it both logs record the place.
@@ -144,9 +165,9 @@ fn round_of_three<'a, R: Wait>(
     alloc: Global,
     hub: &Hub,
     follower: &mut Copier<'a, R>,
-) -> Result<(Round, Option<Seq>, u64), Fail> {
-    write(rt, alloc, found(rt, hub, SOURCE)?.db(), &AGAIN)?;
-    let done = round_into(rt, follower, found(rt, hub, TARGET)?.db())?;
+) -> Result<Done, Fail> {
+    write_again(rt, alloc, hub)?;
+    let done = next_round(rt, hub, follower)?;
     checkpoint(follower)?;
     for name in [SOURCE, TARGET] {
         if recorded(rt, alloc, found(rt, hub, name)?.db())? != follower.place() {
@@ -156,23 +177,39 @@ fn round_of_three<'a, R: Wait>(
     Ok(done)
 }
 
+// What the first round does, that of the empty source, and that of the source with documents.
+fn three_rounds<'a, R: Wait>(
+    rt: &R,
+    alloc: Global,
+    hub: &Hub,
+    follower: &mut Copier<'a, R>,
+) -> Result<(Done, Done, Done), Fail> {
+    let first = next_round(rt, hub, follower)?;
+    let second = round_of_nothing(rt, hub, follower)?;
+    let third = round_of_three(rt, alloc, hub, follower)?;
+    Ok((first, second, third))
+}
+
+// The same of a new hub.
+fn rounds_of_empty<R: Wait>(rt: &R, alloc: Global) -> Result<(Done, Done, Done), Fail> {
+    let hub = hub(rt, alloc)?;
+    let mut follower = follow(rt, alloc, &hub, true)?;
+    three_rounds(rt, alloc, &hub, &mut follower)
+}
+
 // The place becomes 0 of the new life, though nothing moved, and then the new source's.
 #[test]
 fn a_source_that_is_made_again_is_empty_at_first(rt: HostRuntime) -> Result<(), Fail> {
-    let hub = hub(&rt, rt.alloc())?;
-    let mut follower = follow(&rt, rt.alloc(), &hub, true)?;
-    let first = round_into(&rt, &mut follower, found(&rt, &hub, TARGET)?.db())?;
+    let (first, second, third) = rounds_of_empty(&rt, rt.alloc())?;
     assert_eq!(rt; first, (Round::Moved, at(2), 2));
-    let second = round_of_nothing(&rt, &hub, &mut follower)?;
     assert_eq!(rt; second, (Round::Idle, Some(Seq::of_life(0, 3)), 2));
-    let third = round_of_three(&rt, rt.alloc(), &hub, &mut follower)?;
     assert_eq!(rt; third, (Round::Moved, Some(Seq::of_life(3, 3)), 5));
     Ok(())
 }
 
 // Sequences that a source of life 1 with two documents is asked for changes above, a number alone or with a
 // life, and how many rows it answers.
-const ASKED: [(u64, Option<u64>, usize); 8] = [
+const ASKED: &[(u64, Option<u64>, usize)] = &[
     (0, None, 2),
     (1, None, 1),
     (9, None, 0),
@@ -183,20 +220,20 @@ const ASKED: [(u64, Option<u64>, usize); 8] = [
     (u64::MAX, Some(u64::MAX), 2),
 ];
 
+// How many rows a source answers above a sequence, with its last sequence and its life.
+fn asked<P: Peer>(source: &mut P, n: u64, life: Option<u64>) -> Option<(usize, u64, u64)> {
+    let changes = source.changes(Seq { n, life }).ok()?;
+    Some((changes.rows.len(), changes.last_seq, changes.life))
+}
+
 #[test]
 fn changes_begin_in_the_life_of_the_source(rt: HostRuntime) -> Result<(), Fail> {
     let source = database_of_life(rt.alloc(), LIFE)?;
     write(&rt, rt.alloc(), &source, &TWO)?;
     let mut peer = DbPeer::new(&rt, rt.alloc(), source.handle()?);
     for (n, life, count) in ASKED {
-        let Ok(changes) = peer.changes(Seq { n, life }) else {
-            return Err(Fail::new("no changes"));
-        };
-        assert_eq!(rt;
-            (changes.rows.len(), changes.last_seq, changes.life),
-            (count, 2, LIFE),
-            "above {n}"
-        );
+        let answer = asked(&mut peer, *n, *life);
+        assert_eq!(rt; answer, Some((*count, 2, LIFE)), "above {n}");
     }
     Ok(())
 }
@@ -242,7 +279,7 @@ fn resumed<R: Wait>(
 
 // What the logs of source and target record; where a session begins, a number alone or with its life; and how
 // many of the three documents it copies. A sequence of the first life is none in the second.
-const RECORDED: [(&str, &str, (u64, Option<u64>), u64); 9] = [
+const RECORDED: &[(&str, &str, (u64, Option<u64>), u64)] = &[
     ("2", "2", (2, None), 1),
     ("2", "1", (1, None), 2),
     (r#""2-2""#, r#""2-2""#, (2, Some(2)), 1),
@@ -262,49 +299,40 @@ fn copied_from<R: Wait>(
     logs: (&str, &str),
 ) -> Result<(Option<Seq>, u64), Fail> {
     let (source, target) = resumed(rt, alloc, logs)?;
-    let mut follower = start(rt, alloc, &source, &target, "S1")?;
-    let place = follower.place();
-    if copy_all(&mut follower).is_err() {
-        return Err(Fail::new("no copy"));
-    }
-    checkpoint(&mut follower)?;
-    let whole = Some(Seq::of_life(3, 2));
-    if recorded(rt, alloc, &source)? != whole || recorded(rt, alloc, &target)? != whole {
-        return Err(Fail::new("other logs"));
-    }
-    Ok((place, edits(rt, &target)?))
+    let whole = Seq::of_life(3, 2);
+    copy_up_to(rt, alloc, (&source, &target), "S1", whole)
 }
 
 #[test]
 fn a_session_goes_on_from_logs_of_its_life(rt: HostRuntime) -> Result<(), Fail> {
     for (source_log, target_log, (n, life), count) in RECORDED {
+        let found = copied_from(&rt, rt.alloc(), (*source_log, *target_log))?;
+        let place = Seq { n: *n, life: *life };
         assert_eq!(rt;
-            copied_from(&rt, rt.alloc(), (source_log, target_log))?,
-            (Some(Seq { n, life }), count),
+            found,
+            (Some(place), *count),
             "from {source_log} and {target_log}"
         );
     }
     Ok(())
 }
 
+const GOING_ON: &[Step] = &[Rounds(Round::Moved, (3, 2), 1), Records];
+
+const GONE_ON: &str = concat!(
+    r#"{"history":[{"end_last_seq":"3-2","recorded_seq":"3-2","session_id":"S1","start_last_seq":2},"#,
+    r#"{"end_last_seq":2,"recorded_seq":2,"session_id":"S0","start_last_seq":0}],"#,
+    r#""replication_id_version":3,"session_id":"S1","source_last_seq":"3-2"}"#
+);
+
 // The logs behind a session that went on from whole numbers: its own entry has texts, and the older one stays
 // as it was.
 #[test]
 fn logs_of_whole_numbers_go_on_with_texts(rt: HostRuntime) -> Result<(), Fail> {
     let (source, target) = resumed(&rt, rt.alloc(), ("2", "2"))?;
-    let mut follower = start(&rt, rt.alloc(), &source, &target, "S1")?;
-    assert_eq!(rt;
-        round_into(&rt, &mut follower, &target)?,
-        (Round::Moved, Some(Seq::of_life(3, 2)), 1)
-    );
-    checkpoint(&mut follower)?;
-    let expected = concat!(
-        r#"{"history":[{"end_last_seq":"3-2","recorded_seq":"3-2","session_id":"S1","start_last_seq":2},"#,
-        r#"{"end_last_seq":2,"recorded_seq":2,"session_id":"S0","start_last_seq":0}],"#,
-        r#""replication_id_version":3,"session_id":"S1","source_last_seq":"3-2"}"#
-    );
+    assert_session(&rt, rt.alloc(), (&source, &target), "S1", GOING_ON)?;
     for db in [&source, &target] {
-        assert_eq!(rt; kept_log(&rt, rt.alloc(), db)?.as_str(), expected);
+        assert_eq!(rt; kept_log(&rt, rt.alloc(), db)?.as_str(), GONE_ON);
     }
     Ok(())
 }

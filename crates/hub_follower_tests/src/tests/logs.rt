@@ -27,16 +27,49 @@ fn log(alloc: Global, session_id: &str, last: Seq, entries: &[(&str, Seq)]) -> R
     })
 }
 
+const SOURCE: &[(&str, Seq)] = &[("S3", NINE), ("S1", FOUR)];
+
+const TARGET: &[(&str, Seq)] = &[("S2", SEVEN), ("S1", FOUR)];
+
+const LATER_TARGET: &[(&str, Seq)] = &[("S3", SEVEN), ("S1", FOUR)];
+
+const FOUR: Seq = Seq { n: 4, life: None };
+
+const SEVEN: Seq = Seq { n: 7, life: None };
+
+const NINE: Seq = Seq { n: 9, life: None };
+
+// The log with these sessions, of which the first is the last one.
+fn log_of(alloc: Global, entries: &[(&str, Seq)]) -> Result<Log, Fail> {
+    match entries {
+        [(session_id, last), ..] => log(alloc, *session_id, *last, entries),
+        [] => Err(Fail::new("no session")),
+    }
+}
+
+// The sequence up to which logs with these sessions agree.
+fn agreed(alloc: Global, source: &[(&str, Seq)], target: &[(&str, Seq)]) -> Result<Seq, Fail> {
+    let source = log_of(alloc, source)?;
+    let target = log_of(alloc, target)?;
+    Ok(common_sequence(Some(&source), Some(&target)))
+}
+
+// The sequences up to which a log with these sessions agrees with none, as the source's and as the target's.
+fn agreed_alone(alloc: Global, entries: &[(&str, Seq)]) -> Result<(Seq, Seq), Fail> {
+    let log = log_of(alloc, entries)?;
+    Ok((
+        common_sequence(Some(&log), None),
+        common_sequence(None, Some(&log)),
+    ))
+}
+
 #[test]
 fn sequences_up_to_which_logs_agree(rt: HostRuntime) -> Result<(), Fail> {
-    let alloc = rt.alloc();
-    let source = log(alloc, "S3", bare(9), &[("S3", bare(9)), ("S1", bare(4))])?;
-    let target = log(alloc, "S2", bare(7), &[("S2", bare(7)), ("S1", bare(4))])?;
-    assert_eq!(rt; common_sequence(Some(&source), Some(&target)), bare(4));
-    let target = log(alloc, "S3", bare(7), &[("S3", bare(7)), ("S1", bare(4))])?;
-    assert_eq!(rt; common_sequence(Some(&source), Some(&target)), bare(7));
-    assert_eq!(rt; common_sequence(Some(&source), None), bare(0));
-    assert_eq!(rt; common_sequence(None, Some(&target)), bare(0));
+    assert_eq!(rt; agreed(rt.alloc(), SOURCE, TARGET)?, FOUR);
+    assert_eq!(rt; agreed(rt.alloc(), SOURCE, LATER_TARGET)?, SEVEN);
+    for entries in [SOURCE, LATER_TARGET] {
+        assert_eq!(rt; agreed_alone(rt.alloc(), entries)?, (bare(0), bare(0)));
+    }
     Ok(())
 }
 
@@ -55,7 +88,7 @@ fn written_log(alloc: Global, session_id: &str, seq: &str) -> Result<Log, Fail> 
 
 // What the log of the source records of a session, what that of the target does, and the sequence up to which
 // they agree: a number with the life that is there, if there is one.
-const LIVES: [(&str, &str, u64, Option<u64>); 8] = [
+const LIVES: &[(&str, &str, u64, Option<u64>)] = &[
     ("9", "7", 7, None),
     (r#""9-1""#, r#""7-1""#, 7, Some(1)),
     (r#""7-1""#, r#""9-1""#, 7, Some(1)),
@@ -66,45 +99,96 @@ const LIVES: [(&str, &str, u64, Option<u64>); 8] = [
     (r#""3-2""#, r#""7-2""#, 3, Some(2)),
 ];
 
+// The last sessions of both logs: that one of both, of the source's alone, or of neither.
+const LAST_SESSIONS: &[(&str, &str)] = &[("S3", "S3"), ("S3", "S4"), ("S5", "S4")];
+
+// The sequence up to which logs agree that record these sequences, whose last sessions are these.
+fn agreed_of_lives(
+    alloc: Global,
+    (source, target): (&str, &str),
+    (source_session, target_session): (&str, &str),
+) -> Result<Seq, Fail> {
+    let source = written_log(alloc, source_session, source)?;
+    let target = written_log(alloc, target_session, target)?;
+    Ok(common_sequence(Some(&source), Some(&target)))
+}
+
 // The session is the last one of both logs, or of the source's alone, or stands in the histories.
 #[test]
 fn sequences_of_lives(rt: HostRuntime) -> Result<(), Fail> {
-    let alloc = rt.alloc();
     for (source, target, n, life) in LIVES {
-        for (source_session, target_session) in [("S3", "S3"), ("S3", "S4"), ("S5", "S4")] {
-            let source = written_log(alloc, source_session, source)?;
-            let target = written_log(alloc, target_session, target)?;
-            let common = common_sequence(Some(&source), Some(&target));
-            assert_eq!(rt; common, Seq { n, life });
+        for sessions in LAST_SESSIONS {
+            let common = agreed_of_lives(rt.alloc(), (*source, *target), *sessions)?;
+            assert_eq!(rt; common, Seq { n: *n, life: *life });
         }
     }
     Ok(())
 }
 
+// Whether an entry of a log began at one sequence, ended at another and recorded a third.
+fn is_entry(log: &Log, at: usize, (start, end, recorded): (Seq, Seq, Seq)) -> bool {
+    match log.history.get(at) {
+        Some(entry) => {
+            entry.start_last_seq == start
+                && entry.end_last_seq == end
+                && entry.recorded_seq == recorded
+                && entry.recorded_seq() == recorded
+        }
+        None => false,
+    }
+}
+
+// Whether a log is of this last session with this last sequence, and has these entries.
+fn is_log(log: &Log, session_id: &str, last: Seq, entries: &[(Seq, Seq, Seq)]) -> bool {
+    let mut is_so = log.session_id.as_str() == session_id
+        && log.source_last_seq == last
+        && log.history.len() == entries.len();
+    for (at, entry) in entries.iter().enumerate() {
+        is_so = is_so && is_entry(log, at, *entry);
+    }
+    is_so
+}
+
+// Whether a text is read as such a log.
+fn is_read(
+    alloc: Global,
+    text: &[u8],
+    session_id: &str,
+    last: Seq,
+    entries: &[(Seq, Seq, Seq)],
+) -> Result<bool, Fail> {
+    match Log::read(alloc, text)? {
+        Some(log) => Ok(is_log(&log, session_id, last, entries)),
+        None => Ok(false),
+    }
+}
+
+const ZERO: Seq = Seq { n: 0, life: None };
+
+const SEVEN_OF_ONE: Seq = Seq {
+    n: 7,
+    life: Some(1),
+};
+
+const WRITTEN_LOG: &str = concat!(
+    r#"{"history":[{"end_last_seq":"7-1","recorded_seq":"7-1","session_id":"S\"2","start_last_seq":0},"#,
+    r#"{"end_last_seq":4,"recorded_seq":4,"session_id":"S1","start_last_seq":0}],"#,
+    r#""replication_id_version":3,"session_id":"S\"2","source_last_seq":"7-1"}"#
+);
+
+const ENTRIES: &[(Seq, Seq, Seq)] = &[(ZERO, SEVEN_OF_ONE, SEVEN_OF_ONE), (ZERO, FOUR, FOUR)];
+
+// The text of the log with these sessions, of which the first is the last one.
+fn text_of(alloc: Global, entries: &[(&str, Seq)]) -> Result<Vec<u8>, Fail> {
+    Ok(log_of(alloc, entries)?.text(alloc)?)
+}
+
 #[test]
 fn a_log_is_read_as_it_was_written(rt: HostRuntime) -> Result<(), Fail> {
     let alloc = rt.alloc();
-    let text = log(
-        alloc,
-        "S\"2",
-        Seq::of_life(7, 1),
-        &[("S\"2", Seq::of_life(7, 1)), ("S1", bare(4))],
-    )?
-    .text(alloc)?;
-    let expected = concat!(
-        r#"{"history":[{"end_last_seq":"7-1","recorded_seq":"7-1","session_id":"S\"2","start_last_seq":0},"#,
-        r#"{"end_last_seq":4,"recorded_seq":4,"session_id":"S1","start_last_seq":0}],"#,
-        r#""replication_id_version":3,"session_id":"S\"2","source_last_seq":"7-1"}"#
-    );
-    assert!(rt; text.as_slice() == expected.as_bytes());
-    let Some(log) = Log::read(alloc, text.as_slice())? else {
-        return Err(Fail::new("no log"));
-    };
-    assert_eq!(rt; log.session_id.as_str(), "S\"2");
-    assert_eq!(rt; log.source_last_seq, Seq::of_life(7, 1));
-    assert_eq!(rt; log.history.len(), 2);
-    assert_eq!(rt; log.history[0].recorded_seq(), Seq::of_life(7, 1));
-    assert_eq!(rt; log.history[1].recorded_seq(), bare(4));
+    let text = text_of(alloc, &[("S\"2", SEVEN_OF_ONE), ("S1", FOUR)])?;
+    assert!(rt; text.as_slice() == WRITTEN_LOG.as_bytes());
+    assert!(rt; is_read(alloc, text.as_slice(), "S\"2", SEVEN_OF_ONE, ENTRIES)?);
     Ok(())
 }
 
@@ -114,21 +198,27 @@ const MIXED: &str = concat!(
     r#""replication_id_version":3,"session_id":"S","source_last_seq":18446744073709551615}"#
 );
 
+const MIXED_ENTRIES: &[(Seq, Seq, Seq)] = &[(
+    Seq {
+        n: 1,
+        life: Some(7),
+    },
+    Seq { n: 2, life: None },
+    Seq {
+        n: 3,
+        life: Some(1),
+    },
+)];
+
 #[test]
 fn a_log_of_numbers_and_texts_is_read(rt: HostRuntime) -> Result<(), Fail> {
-    let Some(log) = Log::read(rt.alloc(), MIXED.as_bytes())? else {
-        return Err(Fail::new("no log"));
-    };
-    assert_eq!(rt; log.source_last_seq, bare(u64::MAX));
-    assert_eq!(rt; log.history.len(), 1);
-    assert_eq!(rt; log.history[0].start_last_seq, Seq::of_life(1, 7));
-    assert_eq!(rt; log.history[0].end_last_seq, bare(2));
-    assert_eq!(rt; log.history[0].recorded_seq, Seq::of_life(3, 1));
+    let last = bare(u64::MAX);
+    assert!(rt; is_read(rt.alloc(), MIXED.as_bytes(), "S", last, MIXED_ENTRIES)?);
     Ok(())
 }
 
 // What the log of a last session writes as its sequence, and whether that is one.
-const WRITTEN: [(&str, bool); 12] = [
+const WRITTEN: &[(&str, bool)] = &[
     ("1", true),
     (r#""1-1""#, true),
     (r#""18446744073709551615-18446744073709551615""#, true),
@@ -143,43 +233,51 @@ const WRITTEN: [(&str, bool); 12] = [
     ("-1", false),
 ];
 
+// Whether the text of a log with this last sequence is read as one.
+fn is_written(alloc: Global, seq: &str) -> Result<bool, Fail> {
+    let text = format!(in alloc;
+        r#"{{"history":[],"replication_id_version":3,"session_id":"S","source_last_seq":{seq}}}"#
+    )?;
+    Ok(Log::read(alloc, text.as_bytes())?.is_some())
+}
+
 #[test]
 fn sequences_that_are_written(rt: HostRuntime) -> Result<(), Fail> {
-    let alloc = rt.alloc();
     for (seq, is_one) in WRITTEN {
-        let text = format!(in alloc;
-            r#"{{"history":[],"replication_id_version":3,"session_id":"S","source_last_seq":{seq}}}"#
-        )?;
-        assert_eq!(rt;
-            Log::read(alloc, text.as_bytes())?.is_some(),
-            is_one,
-            "{seq}"
-        );
+        assert_eq!(rt; is_written(rt.alloc(), *seq)?, *is_one, "{seq}");
     }
     Ok(())
+}
+
+// A member is absent or of another kind, or the version is another.
+const ABSENT: &[&str] = &[
+    "[]",
+    "{",
+    r#"{"history":[],"replication_id_version":3,"session_id":"S"}"#,
+    r#"{"history":[],"replication_id_version":2,"session_id":"S","source_last_seq":1}"#,
+    r#"{"history":[],"replication_id_version":"3","session_id":"S","source_last_seq":"1-1"}"#,
+    r#"{"history":[{}],"replication_id_version":3,"session_id":"S","source_last_seq":1}"#,
+];
+
+// Whether a history of so many entries is read.
+fn is_read_of(alloc: Global, count: u64) -> Result<bool, Fail> {
+    let mut entries = Vec::new(alloc);
+    for _ in 0..count {
+        entries.push(("S", bare(1)))?;
+    }
+    let text = text_of(alloc, entries.as_slice())?;
+    Ok(Log::read(alloc, text.as_slice())?.is_some())
 }
 
 // A member that is absent or of another kind, another version, and a history that is too long.
 #[test]
 fn logs_that_are_absent(rt: HostRuntime) -> Result<(), Fail> {
-    let alloc = rt.alloc();
-    for text in [
-        "[]",
-        "{",
-        r#"{"history":[],"replication_id_version":3,"session_id":"S"}"#,
-        r#"{"history":[],"replication_id_version":2,"session_id":"S","source_last_seq":1}"#,
-        r#"{"history":[],"replication_id_version":"3","session_id":"S","source_last_seq":"1-1"}"#,
-        r#"{"history":[{}],"replication_id_version":3,"session_id":"S","source_last_seq":1}"#,
-    ] {
-        assert!(rt; Log::read(alloc, text.as_bytes())?.is_none(), "{text}");
+    for text in ABSENT {
+        let log = Log::read(rt.alloc(), text.as_bytes())?;
+        assert!(rt; log.is_none(), "{text}");
     }
     for (count, is_there) in [(50, true), (51, false)] {
-        let mut entries = Vec::new(alloc);
-        for _ in 0..count {
-            entries.push(("S", bare(1)))?;
-        }
-        let text = log(alloc, "S", bare(1), entries.as_slice())?.text(alloc)?;
-        assert!(rt; Log::read(alloc, text.as_slice())?.is_some() == is_there);
+        assert!(rt; is_read_of(rt.alloc(), count)? == is_there);
     }
     Ok(())
 }

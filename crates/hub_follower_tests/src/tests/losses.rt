@@ -1,9 +1,8 @@
 //! Calls and answers that are lost, at every call of a run.
 
-use crate::tests::{
-    FIVE, LOG, agree, at, checkpoint, copy_all, database, edits, recorded, start, write,
-};
-use hub_follower::{DbPeer, FaultPeer, FollowFault, Follower, Loss};
+use crate::tests::sessions::copy_in_session;
+use crate::tests::{FIVE, LOG, agree, at, copy_all, database, edits, recorded, write};
+use hub_follower::{DbPeer, FaultPeer, FollowFault, Follower, Loss, Peer};
 use hub_shared::{Db, Plain};
 use std::alloc::Global;
 use std::sync::Wait;
@@ -28,6 +27,14 @@ fn failing<'a, R: Wait>(
     Ok(FaultPeer::new(DbPeer::new(rt, alloc, db.handle()?), call, loss))
 }
 
+// Copies all, and records the place.
+fn copy_and_record<S: Peer + Drop, T: Peer + Drop>(
+    follower: &mut Follower<S, T>,
+) -> Result<(), FollowFault> {
+    copy_all(follower)?;
+    follower.checkpoint()
+}
+
 // One session of this id up to its checkpoint, or up to the call that fails.
 pub(crate) fn session<R: Wait>(
     rt: &R,
@@ -39,14 +46,10 @@ pub(crate) fn session<R: Wait>(
 ) -> Result<Result<(), FollowFault>, Fail> {
     let source = failing(rt, alloc, source, losses.source_call, losses.loss)?;
     let target = failing(rt, alloc, target, losses.target_call, losses.loss)?;
-    let mut follower = match Follower::start(alloc, source, target, LOG, session_id) {
-        Ok(follower) => follower,
-        Err(failed) => return Ok(Err(failed.fault)),
-    };
-    if let Err(fault) = copy_all(&mut follower) {
-        return Ok(Err(fault));
+    match Follower::start(alloc, source, target, LOG, session_id) {
+        Ok(mut follower) => Ok(copy_and_record(&mut follower)),
+        Err(failed) => Ok(Err(failed.fault)),
     }
-    Ok(follower.checkpoint())
 }
 
 // What a source has when a first session copies it, what it gets then, and which documents it has. The second
@@ -56,21 +59,6 @@ struct Writes<'a> {
     before: &'a [&'a str],
     after: &'a [&'a str],
     ids: &'a [&'a str],
-}
-
-// A session without losses.
-fn whole<R: Wait>(
-    rt: &R,
-    alloc: Global,
-    source: &Db<Plain>,
-    target: &Db<Plain>,
-    session_id: &str,
-) -> Result<(), Fail> {
-    let mut follower = start(rt, alloc, source, target, session_id)?;
-    if copy_all(&mut follower).is_err() {
-        return Err(Fail::new("a second fault"));
-    }
-    checkpoint(&mut follower)
 }
 
 // Whether both databases have so many edits, which both logs record.
@@ -89,24 +77,35 @@ fn are_recorded<R: Wait>(
 }
 
 // A session with losses, and where one failed another without any: whether a call was lost.
-fn run<R: Wait>(rt: &R, alloc: Global, writes: Writes<'_>, losses: Losses) -> Result<bool, Fail> {
-    let (source, target) = (database(alloc)?, database(alloc)?);
+fn run_between<R: Wait>(
+    rt: &R,
+    alloc: Global,
+    (source, target): (&Db<Plain>, &Db<Plain>),
+    writes: Writes<'_>,
+    losses: Losses,
+) -> Result<bool, Fail> {
     if !writes.before.is_empty() {
-        write(rt, alloc, &source, writes.before)?;
-        whole(rt, alloc, &source, &target, "S0")?;
+        write(rt, alloc, source, writes.before)?;
+        let _place = copy_in_session(rt, alloc, (source, target), "S0")?;
     }
-    write(rt, alloc, &source, writes.after)?;
-    let is_lost = session(rt, alloc, &source, &target, "S1", losses)?.is_err();
+    write(rt, alloc, source, writes.after)?;
+    let is_lost = session(rt, alloc, source, target, "S1", losses)?.is_err();
     if is_lost {
-        whole(rt, alloc, &source, &target, "S2")?;
+        let _place = copy_in_session(rt, alloc, (source, target), "S2")?;
     }
-    if !agree(rt, alloc, &source, &target, writes.ids)? {
+    if !agree(rt, alloc, source, target, writes.ids)? {
         return Err(Fail::new("other leaves"));
     }
-    if !are_recorded(rt, alloc, &source, &target)? {
+    if !are_recorded(rt, alloc, source, target)? {
         return Err(Fail::new("other edits"));
     }
     Ok(is_lost)
+}
+
+// The same between two new databases.
+fn run<R: Wait>(rt: &R, alloc: Global, writes: Writes<'_>, losses: Losses) -> Result<bool, Fail> {
+    let (source, target) = (database(alloc)?, database(alloc)?);
+    run_between(rt, alloc, (&source, &target), writes, losses)
 }
 
 // How many calls of the source are lost in turn, and how many of the target.
