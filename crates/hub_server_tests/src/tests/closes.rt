@@ -5,6 +5,7 @@ use crate::tests::{Open, Running, serve};
 use hub_document::Limits;
 use std::alloc::Global;
 use std::net::{Net, SocketAddr, TcpListener, TcpStream};
+use std::process::Abort;
 use std::test::Fail;
 use std::thread;
 use std::time::{Clock, Duration};
@@ -44,6 +45,29 @@ fn followers<R: Clock + Net<Listener = TcpListener, Stream = TcpStream>>(
     Ok(clients)
 }
 
+/// Asserts that as many feeds as there may be can be opened, and no other beside them. Their clients then
+/// close.
+fn assert_full<R: Abort + Clock + Net<Listener = TcpListener, Stream = TcpStream>>(
+    rt: &R,
+    alloc: Global,
+    address: SocketAddr,
+    writer: &mut Client,
+) -> Result<(), Fail> {
+    let followers = followers(rt, alloc, address)?;
+    assert!(rt; writer.gets("GET /d/_changes", "", "503")?);
+    drop(followers);
+    Ok(())
+}
+
+/// Writes three documents.
+fn write_three(rt: &impl Abort, alloc: Global, writer: &mut Client) -> Result<(), Fail> {
+    for number in 0..3 {
+        let line = format!(in alloc; "PUT /d/{number}")?;
+        assert!(rt; writer.gets(line.as_str(), "{}", "201")?);
+    }
+    Ok(())
+}
+
 /// The feeds of clients that closed are gone behind three writes and a heartbeat: as many as there may be
 /// can be opened again.
 #[test]
@@ -54,16 +78,9 @@ fn two_hundred_clients_that_close(rt: HostRuntime) -> Result<(), Fail> {
     let server = Running::start(&rt, alloc, 1 + 2 * CLIENTS, Open, limits)?;
     let mut writer = Client::connect(&rt, alloc, server.address)?;
     assert!(rt; writer.gets("PUT /d", "", "201")?);
-    let first = followers(&rt, alloc, server.address)?;
-    assert!(rt; writer.gets("GET /d/_changes", "", "503")?);
-    drop(first);
-    for number in 0..3 {
-        let line = format!(in alloc; "PUT /d/{number}")?;
-        assert!(rt; writer.gets(line.as_str(), "{}", "201")?);
-    }
-    let second = followers(&rt, alloc, server.address)?;
-    assert!(rt; writer.gets("GET /d/_changes", "", "503")?);
-    drop(second);
+    assert_full(&rt, alloc, server.address, &mut writer)?;
+    write_three(&rt, alloc, &mut writer)?;
+    assert_full(&rt, alloc, server.address, &mut writer)?;
     drop(writer);
     assert!(rt; server.ends(&rt));
     Ok(())
@@ -83,6 +100,53 @@ fn large_batch(alloc: Global, id: u64) -> Result<String, Fail> {
     Ok(body)
 }
 
+/// Makes `d`, with eight large documents.
+fn write_large(rt: &impl Abort, alloc: Global, writer: &mut Client) -> Result<(), Fail> {
+    assert!(rt; writer.gets("PUT /d", "", "201")?);
+    for id in 0..8 {
+        let batch = large_batch(alloc, id)?;
+        assert!(rt; writer.gets("POST /d/_bulk_docs", batch.as_str(), "201")?);
+    }
+    Ok(())
+}
+
+/// Clients that go in the middle of a head and of a body.
+fn go_in_requests<R: Net<Listener = TcpListener, Stream = TcpStream>>(
+    rt: &R,
+    alloc: Global,
+    address: SocketAddr,
+) -> Result<(), Fail> {
+    let head = Client::connect(rt, alloc, address)?;
+    head.send("PUT /e HTTP/1.1\r\nHo")?;
+    drop(head);
+    let body = Client::connect(rt, alloc, address)?;
+    body.send("PUT /d/a HTTP/1.1\r\nContent-Length: 7\r\n\r\n{\"v\":")?;
+    Ok(())
+}
+
+/// A client that goes in the middle of a chunk; whether the feed had begun.
+fn goes_in_chunk<R: Net<Listener = TcpListener, Stream = TcpStream>>(
+    rt: &R,
+    alloc: Global,
+    address: SocketAddr,
+) -> Result<bool, Fail> {
+    let mut client = Client::connect(rt, alloc, address)?;
+    if !client.follows("GET /d/_changes?include_docs=true")? {
+        return Ok(false);
+    }
+    let text = client.text(1_000)?;
+    Ok(text.as_str().starts_with("d\r\n{\"results\":["))
+}
+
+/// Asserts that the documents of `d` are as they were, and that there is no other database.
+fn assert_unchanged(rt: &impl Abort, writer: &mut Client) -> Result<(), Fail> {
+    let info = writer.answered("GET /d", "")?;
+    assert!(rt; info.body.as_str().contains("\"doc_count\":8,"));
+    let names = writer.answered("GET /_all_dbs", "")?;
+    assert_eq!(rt; names.body.as_str(), "[\"d\"]\n");
+    Ok(())
+}
+
 /// Clients that go in the middle of a head, of a body and of a chunk leave the others as they are, and
 /// nothing of what they began.
 #[test]
@@ -92,31 +156,11 @@ fn clients_that_go_in_the_middle(rt: HostRuntime) -> Result<(), Fail> {
     limits.feeds = 1;
     let server = Running::start(&rt, alloc, 5, Open, limits)?;
     let mut writer = Client::connect(&rt, alloc, server.address)?;
-    assert!(rt; writer.gets("PUT /d", "", "201")?);
-    for id in 0..8 {
-        let batch = large_batch(alloc, id)?;
-        assert!(rt; writer.gets("POST /d/_bulk_docs", batch.as_str(), "201")?);
-    }
-    let head = Client::connect(&rt, alloc, server.address)?;
-    head.send("PUT /e HTTP/1.1\r\nHo")?;
-    drop(head);
-    let body = Client::connect(&rt, alloc, server.address)?;
-    body.send("PUT /d/a HTTP/1.1\r\nContent-Length: 7\r\n\r\n{\"v\":")?;
-    drop(body);
-    let mut chunk = Client::connect(&rt, alloc, server.address)?;
-    assert!(rt; chunk.follows("GET /d/_changes?include_docs=true")?);
-    assert!(rt;
-        chunk
-            .text(1_000)?
-            .as_str()
-            .starts_with("d\r\n{\"results\":[")
-    );
-    drop(chunk);
+    write_large(&rt, alloc, &mut writer)?;
+    go_in_requests(&rt, alloc, server.address)?;
+    assert!(rt; goes_in_chunk(&rt, alloc, server.address)?);
     drop(follower(&rt, alloc, server.address)?);
-    let info = writer.answered("GET /d", "")?;
-    assert!(rt; info.body.as_str().contains("\"doc_count\":8,"));
-    let names = writer.answered("GET /_all_dbs", "")?;
-    assert_eq!(rt; names.body.as_str(), "[\"d\"]\n");
+    assert_unchanged(&rt, &mut writer)?;
     drop(writer);
     assert!(rt; server.ends(&rt));
     Ok(())

@@ -5,6 +5,7 @@ use crate::tests::{Open, Running, serve};
 use hub_document::Limits;
 use std::alloc::Global;
 use std::net::{Net, SocketAddr, TcpListener, TcpStream};
+use std::process::Abort;
 use std::test::Fail;
 use std::thread;
 
@@ -100,22 +101,29 @@ fn follower<R: Net<Listener = TcpListener, Stream = TcpStream>>(
     }
 }
 
-/// Two feeds show what fifty connections write, each row once and in order, as the database has it.
-#[test]
-fn fifty_writers_beside_two_feeds(rt: HostRuntime) -> Result<(), Fail> {
-    let alloc = rt.alloc();
-    let server = serve(&rt, alloc, 3 + WRITERS)?;
-    let address = server.address;
-    let mut control = Client::connect(&rt, alloc, address)?;
-    assert!(rt; control.gets("PUT /d", "", "201")?);
+/// The parts of a crowd: two that read, and those that write.
+fn parts<R: Net<Listener = TcpListener, Stream = TcpStream>>(
+    rt: &R,
+    alloc: Global,
+    address: SocketAddr,
+) -> Result<Vec<Part>, Fail> {
     let mut parts = Vec::new(alloc);
     for _ in 0..2 {
-        parts.push(Part::Read(follower(&rt, alloc, address)?))?;
+        parts.push(Part::Read(follower(rt, alloc, address)?))?;
     }
     for writer in 0..WRITERS {
         parts.push(Part::Write(writer))?;
     }
-    let played = thread::map_vec(&rt, parts, &|part| play(&rt, alloc, address, part))?;
+    Ok(parts)
+}
+
+/// Asserts that the first two of a crowd read each row that the database has, and that the others got on.
+fn assert_shown(
+    rt: &impl Abort,
+    alloc: Global,
+    control: &mut Client,
+    played: &[Option<String>],
+) -> Result<(), Fail> {
     let body = control.answered("GET /d/_changes", "")?.body;
     let Some(lines) = as_lines(alloc, body.as_str()) else {
         return Err(Fail::new("no feed"));
@@ -129,6 +137,20 @@ fn fifty_writers_beside_two_feeds(rt: HostRuntime) -> Result<(), Fail> {
             assert_eq!(rt; text.as_str(), lines.as_str());
         }
     }
+    Ok(())
+}
+
+/// Two feeds show what fifty connections write, each row once and in order, as the database has it.
+#[test]
+fn fifty_writers_beside_two_feeds(rt: HostRuntime) -> Result<(), Fail> {
+    let alloc = rt.alloc();
+    let server = serve(&rt, alloc, 3 + WRITERS)?;
+    let address = server.address;
+    let mut control = Client::connect(&rt, alloc, address)?;
+    assert!(rt; control.gets("PUT /d", "", "201")?);
+    let parts = parts(&rt, alloc, address)?;
+    let played = thread::map_vec(&rt, parts, &|part| play(&rt, alloc, address, part))?;
+    assert_shown(&rt, alloc, &mut control, played.as_slice())?;
     drop(control);
     assert!(rt; server.ends(&rt));
     Ok(())
@@ -161,6 +183,27 @@ fn is_row(client: &mut Client, alloc: Global, seq: u64) -> Result<bool, Fail> {
     Ok(false)
 }
 
+/// Asserts that one client gets each row as it is written, and another one, which reads late, gets all then.
+fn assert_not_held(
+    rt: &impl Abort,
+    alloc: Global,
+    (writer, slow, fast): (&mut Client, &mut Client, &mut Client),
+) -> Result<(), Fail> {
+    assert!(rt; writer.gets("PUT /d", "", "201")?);
+    let line = "GET /d/_changes?feed=continuous&include_docs=true&heartbeat=500";
+    assert!(rt; slow.follows(line)?);
+    assert!(rt; fast.follows(line)?);
+    for seq in 1..=LARGE {
+        let batch = large_batch(alloc, seq)?;
+        assert!(rt; writer.gets("POST /d/_bulk_docs", batch.as_str(), "201")?);
+        assert!(rt; is_row(fast, alloc, seq)?);
+    }
+    for seq in 1..=LARGE {
+        assert!(rt; is_row(slow, alloc, seq)?);
+    }
+    Ok(())
+}
+
 /// A client that does not read holds no writer and no other reader, and gets every row in the end.
 #[test]
 fn a_client_that_does_not_read(rt: HostRuntime) -> Result<(), Fail> {
@@ -169,20 +212,9 @@ fn a_client_that_does_not_read(rt: HostRuntime) -> Result<(), Fail> {
     limits.lane = 8;
     let server = Running::start(&rt, alloc, 3, Open, limits)?;
     let mut writer = Client::connect(&rt, alloc, server.address)?;
-    assert!(rt; writer.gets("PUT /d", "", "201")?);
     let mut slow = Client::connect(&rt, alloc, server.address)?;
     let mut fast = Client::connect(&rt, alloc, server.address)?;
-    let line = "GET /d/_changes?feed=continuous&include_docs=true&heartbeat=500";
-    assert!(rt; slow.follows(line)?);
-    assert!(rt; fast.follows(line)?);
-    for seq in 1..=LARGE {
-        let batch = large_batch(alloc, seq)?;
-        assert!(rt; writer.gets("POST /d/_bulk_docs", batch.as_str(), "201")?);
-        assert!(rt; is_row(&mut fast, alloc, seq)?);
-    }
-    for seq in 1..=LARGE {
-        assert!(rt; is_row(&mut slow, alloc, seq)?);
-    }
+    assert_not_held(&rt, alloc, (&mut writer, &mut slow, &mut fast))?;
     drop(slow);
     drop(fast);
     drop(writer);

@@ -2,6 +2,8 @@
 
 use crate::tests::client::Client;
 use crate::tests::serve;
+use std::alloc::Global;
+use std::process::Abort;
 use std::test::Fail;
 
 /// How the program's stored run begins, as it is sent.
@@ -52,6 +54,15 @@ const ROW: &str = concat!(
     "\n],\n\"last_seq\":\"1-1\",\"pending\":0}\n"
 );
 
+/// Asserts that a request's answer has this body.
+fn assert_body(rt: &impl Abort, client: &mut Client, line: &str, body: &str) -> Result<(), Fail> {
+    let answer = client.answered(line, "")?;
+    assert_eq!(rt; answer.body.as_str(), body);
+    Ok(())
+}
+
+const DOCUMENT: &str = "{\"_id\":\"a\",\"_rev\":\"1-91e3da135d1d0593e6703385cf55957a\",\"v\":7}\n";
+
 /// A document that is put is shown by the feed, and found.
 #[test]
 fn a_document_that_is_put(rt: HostRuntime) -> Result<(), Fail> {
@@ -59,37 +70,51 @@ fn a_document_that_is_put(rt: HostRuntime) -> Result<(), Fail> {
     let mut client = Client::connect(&rt, rt.alloc(), server.address)?;
     assert!(rt; client.gets("PUT /d", "", "201")?);
     assert!(rt; client.gets("PUT /d/a", r#"{"v":7}"#, "201")?);
-    let feed = client.answered("GET /d/_changes?include_docs=true", "")?;
-    assert_eq!(rt; feed.body.as_str(), ROW);
-    let document = client.answered("GET /d/a", "")?;
-    assert_eq!(rt;
-        document.body.as_str(),
-        "{\"_id\":\"a\",\"_rev\":\"1-91e3da135d1d0593e6703385cf55957a\",\"v\":7}\n"
-    );
+    assert_body(&rt, &mut client, "GET /d/_changes?include_docs=true", ROW)?;
+    assert_body(&rt, &mut client, "GET /d/a", DOCUMENT)?;
     drop(client);
     assert!(rt; server.ends(&rt));
+    Ok(())
+}
+
+/// Requests that make `d` and put fifty documents.
+fn requests(alloc: Global) -> Result<String, Fail> {
+    let mut asked = String::from_str(alloc, "PUT /d HTTP/1.1\r\n\r\n")?;
+    for number in 0..50 {
+        let text = format!(in alloc; "PUT /d/{number} HTTP/1.1\r\nContent-Length: 2\r\n\r\n{{}}")?;
+        asked.push_str(text.as_str())?;
+    }
+    Ok(asked)
+}
+
+/// Asserts that each of these requests is answered, which are sent at once.
+fn assert_answered(rt: &impl Abort, client: &mut Client, requests: &str) -> Result<(), Fail> {
+    client.send(requests)?;
+    for _ in 0..51 {
+        assert!(rt; client.answer()?.is("201"));
+    }
+    let info = client.answered("GET /d", "")?;
+    assert!(rt; info.body.as_str().contains("\"doc_count\":50,"));
     Ok(())
 }
 
 /// Requests may come before earlier ones are answered.
 #[test]
 fn requests_behind_one_another(rt: HostRuntime) -> Result<(), Fail> {
-    let alloc = rt.alloc();
-    let server = serve(&rt, alloc, 1)?;
-    let mut client = Client::connect(&rt, alloc, server.address)?;
-    let mut asked = String::from_str(alloc, "PUT /d HTTP/1.1\r\n\r\n")?;
-    for number in 0..50 {
-        let text = format!(in alloc; "PUT /d/{number} HTTP/1.1\r\nContent-Length: 2\r\n\r\n{{}}")?;
-        asked.push_str(text.as_str())?;
-    }
-    client.send(asked.as_str())?;
-    for _ in 0..51 {
-        assert!(rt; client.answer()?.is("201"));
-    }
-    let info = client.answered("GET /d", "")?;
-    assert!(rt; info.body.as_str().contains("\"doc_count\":50,"));
+    let requests = requests(rt.alloc())?;
+    let server = serve(&rt, rt.alloc(), 1)?;
+    let mut client = Client::connect(&rt, rt.alloc(), server.address)?;
+    assert_answered(&rt, &mut client, requests.as_str())?;
     drop(client);
     assert!(rt; server.ends(&rt));
+    Ok(())
+}
+
+/// Asserts that a connection is closed as it asks.
+fn assert_closed(rt: &impl Abort, client: &mut Client) -> Result<(), Fail> {
+    client.send("PUT /d HTTP/1.1\r\nConnection: close\r\n\r\nPUT /e HTTP/1.1\r\n\r\n")?;
+    assert!(rt; client.answer()?.is("201"));
+    assert!(rt; client.rest()?.is_empty());
     Ok(())
 }
 
@@ -99,14 +124,23 @@ fn a_connection_that_asks_to_be_closed(rt: HostRuntime) -> Result<(), Fail> {
     let server = serve(&rt, rt.alloc(), 2)?;
     let mut first = Client::connect(&rt, rt.alloc(), server.address)?;
     let mut second = Client::connect(&rt, rt.alloc(), server.address)?;
-    first.send("PUT /d HTTP/1.1\r\nConnection: close\r\n\r\nPUT /e HTTP/1.1\r\n\r\n")?;
-    assert!(rt; first.answer()?.is("201"));
-    assert!(rt; first.rest()?.is_empty());
-    let names = second.answered("GET /_all_dbs", "")?;
-    assert_eq!(rt; names.body.as_str(), "[\"d\"]\n");
+    assert_closed(&rt, &mut first)?;
+    assert_body(&rt, &mut second, "GET /_all_dbs", "[\"d\"]\n")?;
     drop(first);
     drop(second);
     assert!(rt; server.ends(&rt));
+    Ok(())
+}
+
+/// Sends a request whose body is too long.
+fn send_long(alloc: Global, client: &Client) -> Result<(), Fail> {
+    client.send("PUT /d/a HTTP/1.1\r\nContent-Length: 8388609\r\n\r\n")?;
+    let Ok(part) = String::from_utf8(vec![in alloc; b'x'; 8_192]?) else {
+        return Err(Fail::new("no text"));
+    };
+    for _ in 0..1_024 {
+        client.send(part.as_str())?;
+    }
     Ok(())
 }
 
@@ -116,14 +150,7 @@ fn a_body_that_is_too_long(rt: HostRuntime) -> Result<(), Fail> {
     let alloc = rt.alloc();
     let server = serve(&rt, alloc, 1)?;
     let mut client = Client::connect(&rt, alloc, server.address)?;
-    client.send("PUT /d/a HTTP/1.1\r\nContent-Length: 8388609\r\n\r\n")?;
-    let part = String::from_utf8(vec![in alloc; b'x'; 8_192]?);
-    let Ok(part) = part else {
-        return Err(Fail::new("no text"));
-    };
-    for _ in 0..1_024 {
-        client.send(part.as_str())?;
-    }
+    send_long(alloc, &client)?;
     assert!(rt; client.answer()?.is("413"));
     assert!(rt; client.rest()?.is_empty());
     drop(client);

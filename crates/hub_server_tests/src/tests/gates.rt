@@ -5,6 +5,7 @@ use crate::tests::client::Client;
 use hub_document::Limits;
 use hub_shared::{Gate, Point};
 use std::alloc::Global;
+use std::process::Abort;
 use std::sync::Arc;
 use std::sync::atomic::{AtomicBool, Ordering};
 use std::test::Fail;
@@ -75,6 +76,23 @@ fn is_held<R: time::Clock>(rt: &R, scene: &Scene) -> bool {
     false
 }
 
+/// Asserts that the second client is answered while the request of the first is held.
+fn assert_request_held<R: Abort + time::Clock>(
+    rt: &R,
+    scene: &Scene,
+    first: &mut Client,
+    second: &mut Client,
+) -> Result<(), Fail> {
+    assert!(rt; second.gets("PUT /d", "", "201")?);
+    first.ask("PUT /d/a", "{}")?;
+    assert!(rt; is_held(rt, scene));
+    assert!(rt; second.gets("PUT /d/b", "{}", "201")?);
+    scene.is_answered.store(true, Ordering::SeqCst);
+    assert!(rt; first.answer()?.is("201"));
+    assert!(rt; !scene.gave_up.load(Ordering::SeqCst));
+    Ok(())
+}
+
 #[test]
 fn a_writer_that_is_held_holds_no_other(rt: HostRuntime) -> Result<(), Fail> {
     let alloc = rt.alloc();
@@ -87,16 +105,29 @@ fn a_writer_that_is_held_holds_no_other(rt: HostRuntime) -> Result<(), Fail> {
     let server = Running::start(&rt, alloc, 2, gate, Limits::full())?;
     let mut first = Client::connect(&rt, alloc, server.address)?;
     let mut second = Client::connect(&rt, alloc, server.address)?;
-    assert!(rt; second.gets("PUT /d", "", "201")?);
-    first.ask("PUT /d/a", "{}")?;
-    assert!(rt; is_held(&rt, &scene));
-    assert!(rt; second.gets("PUT /d/b", "{}", "201")?);
-    scene.is_answered.store(true, Ordering::SeqCst);
-    assert!(rt; first.answer()?.is("201"));
-    assert!(rt; !scene.gave_up.load(Ordering::SeqCst));
+    assert_request_held(&rt, &scene, &mut first, &mut second)?;
     drop(first);
     drop(second);
     assert!(rt; server.ends(&rt));
+    Ok(())
+}
+
+/// Asserts that `y` is read while a pump is held inside the lock of `x`, for which a write to `x` waits.
+fn assert_pump_held<R: Abort + time::Clock>(
+    rt: &R,
+    scene: &Scene,
+    (reader, follower, writer): (&mut Client, &mut Client, &mut Client),
+) -> Result<(), Fail> {
+    assert!(rt; reader.gets("PUT /x", "", "201")? && reader.gets("PUT /y", "", "201")?);
+    follower.ask("GET /x/_changes", "")?;
+    assert!(rt; is_held(rt, scene));
+    writer.ask("PUT /x/a", "{}")?;
+    // Long enough for the write to come to the lock.
+    thread::sleep(rt, Duration::from_millis(200));
+    assert!(rt; reader.gets("GET /y", "", "200")?);
+    scene.is_answered.store(true, Ordering::SeqCst);
+    assert!(rt; writer.answer()?.is("201"));
+    assert!(rt; !scene.gave_up.load(Ordering::SeqCst));
     Ok(())
 }
 
@@ -112,18 +143,9 @@ fn a_database_that_is_held_holds_no_other(rt: HostRuntime) -> Result<(), Fail> {
     };
     let server = Running::start(&rt, alloc, 3, gate, Limits::full())?;
     let mut reader = Client::connect(&rt, alloc, server.address)?;
-    assert!(rt; reader.gets("PUT /x", "", "201")? && reader.gets("PUT /y", "", "201")?);
     let mut follower = Client::connect(&rt, alloc, server.address)?;
-    follower.ask("GET /x/_changes", "")?;
-    assert!(rt; is_held(&rt, &scene));
     let mut writer = Client::connect(&rt, alloc, server.address)?;
-    writer.ask("PUT /x/a", "{}")?;
-    // Long enough for the write to come to the lock.
-    thread::sleep(&rt, Duration::from_millis(200));
-    assert!(rt; reader.gets("GET /y", "", "200")?);
-    scene.is_answered.store(true, Ordering::SeqCst);
-    assert!(rt; writer.answer()?.is("201"));
-    assert!(rt; !scene.gave_up.load(Ordering::SeqCst));
+    assert_pump_held(&rt, &scene, (&mut reader, &mut follower, &mut writer))?;
     drop(follower);
     drop(writer);
     drop(reader);

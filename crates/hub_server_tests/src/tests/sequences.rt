@@ -3,6 +3,7 @@
 use crate::tests::client::Client;
 use crate::tests::serve;
 use std::alloc::Global;
+use std::process::Abort;
 use std::test::Fail;
 
 /// The text before a sequence, its hyphen and the text behind it, as clients send them: with its quotes or
@@ -154,6 +155,22 @@ const SECOND_LIFE: &str = concat!(
     "\n],\n\"last_seq\":\"2-2\",\"pending\":0}\n"
 );
 
+/// Asserts that `d`, removed and made again, shows everything behind the last sequence of this feed.
+fn assert_begins_anew(
+    rt: &impl Abort,
+    alloc: Global,
+    client: &mut Client,
+    feed: &str,
+) -> Result<(), Fail> {
+    assert!(rt; client.gets("DELETE /d", "", "200")?);
+    assert!(rt; makes_database(client)?);
+    let Some(last) = sequence_of(feed, "last_seq") else {
+        return Err(Fail::new("no sequence"));
+    };
+    assert!(rt; begins_at(client, alloc, "/d/_changes", last, SECOND_LIFE)?);
+    Ok(())
+}
+
 /// A database that is made in place of one that was removed shows everything behind a sequence of that one.
 #[test]
 fn a_sequence_of_a_removed_database(rt: HostRuntime) -> Result<(), Fail> {
@@ -162,12 +179,7 @@ fn a_sequence_of_a_removed_database(rt: HostRuntime) -> Result<(), Fail> {
     let mut client = Client::connect(&rt, alloc, server.address)?;
     assert!(rt; makes_database(&mut client)?);
     let feed = client.answered("GET /d/_changes", "")?;
-    assert!(rt; client.gets("DELETE /d", "", "200")?);
-    assert!(rt; makes_database(&mut client)?);
-    let Some(last) = sequence_of(feed.body.as_str(), "last_seq") else {
-        return Err(Fail::new("no sequence"));
-    };
-    assert!(rt; begins_at(&mut client, alloc, "/d/_changes", last, SECOND_LIFE)?);
+    assert_begins_anew(&rt, alloc, &mut client, feed.body.as_str())?;
     drop(client);
     assert!(rt; server.ends(&rt));
     Ok(())

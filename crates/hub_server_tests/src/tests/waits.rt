@@ -4,6 +4,7 @@ use crate::tests::client::Client;
 use crate::tests::serve;
 use std::alloc::Global;
 use std::net::{Net, SocketAddr, TcpListener, TcpStream};
+use std::process::Abort;
 use std::test::Fail;
 
 /// A client whose database `d` was made.
@@ -26,6 +27,16 @@ const ANSWERED: &str = concat!(
     "\n],\n\"last_seq\":\"1-1\",\"pending\":0}\n"
 );
 
+/// Asserts that a reader's longpoll is answered by the write of another connection.
+fn assert_longpoll(rt: &impl Abort, writer: &mut Client, reader: &mut Client) -> Result<(), Fail> {
+    assert!(rt; reader.follows("GET /d/_changes?feed=longpoll")?);
+    reader.half_close()?;
+    assert!(rt; writer.gets("PUT /d/a", "{}", "201")?);
+    assert_eq!(rt; reader.chunks()?.as_str(), ANSWERED);
+    assert!(rt; reader.rest()?.is_empty());
+    Ok(())
+}
+
 /// A longpoll is answered by the write of another connection, though its client has nothing more to send.
 #[test]
 fn a_longpoll_that_another_answers(rt: HostRuntime) -> Result<(), Fail> {
@@ -33,11 +44,8 @@ fn a_longpoll_that_another_answers(rt: HostRuntime) -> Result<(), Fail> {
     let server = serve(&rt, alloc, 2)?;
     let mut writer = writer(&rt, alloc, server.address)?;
     let mut reader = Client::connect(&rt, alloc, server.address)?;
-    assert!(rt; reader.follows("GET /d/_changes?feed=longpoll")?);
-    reader.half_close()?;
-    assert!(rt; writer.gets("PUT /d/a", "{}", "201")?);
-    assert_eq!(rt; reader.chunks()?.as_str(), ANSWERED);
-    assert!(rt; reader.rest()?.is_empty());
+    assert_longpoll(&rt, &mut writer, &mut reader)?;
+    drop(reader);
     drop(writer);
     assert!(rt; server.ends(&rt));
     Ok(())
@@ -48,15 +56,13 @@ const LINE: &str = concat!(
     "\n"
 );
 
-/// Reads heartbeats until something else comes: how many there were, and what came.
-fn beats(client: &mut Client) -> Result<(u64, String), Fail> {
-    let mut count = 0u64;
+/// Reads heartbeats until something else comes; whether this came.
+fn is_behind_beats(client: &mut Client, text: &str) -> Result<bool, Fail> {
     for _ in 0..u64::MAX {
         let chunk = client.chunk()?;
         if chunk.as_str() != "\n" {
-            return Ok((count, chunk));
+            return Ok(chunk.as_str() == text);
         }
-        count = count.saturating_add(1);
     }
     Err(Fail::new("only heartbeats"))
 }
@@ -71,6 +77,23 @@ fn are_beats(client: &mut Client, count: u64) -> Result<bool, Fail> {
     Ok(true)
 }
 
+/// Asserts that a reader's continuous feed beats, shows a row, beats again and ends with its database.
+fn assert_continuous(
+    rt: &impl Abort,
+    writer: &mut Client,
+    reader: &mut Client,
+) -> Result<(), Fail> {
+    assert!(rt; reader.follows("GET /d/_changes?feed=continuous&heartbeat=20")?);
+    assert!(rt; are_beats(reader, 3)?);
+    assert!(rt; writer.gets("PUT /d/a", "{}", "201")?);
+    assert!(rt; is_behind_beats(reader, LINE)?);
+    assert!(rt; are_beats(reader, 3)?);
+    assert!(rt; writer.gets("DELETE /d", "", "200")?);
+    assert!(rt; is_behind_beats(reader, "{\"last_seq\":\"1-1\",\"pending\":0}\n")?);
+    assert!(rt; reader.chunk()?.is_empty());
+    Ok(())
+}
+
 /// A continuous feed beats while nothing is written, and goes on behind its rows.
 #[test]
 fn a_continuous_feed_that_beats(rt: HostRuntime) -> Result<(), Fail> {
@@ -78,19 +101,21 @@ fn a_continuous_feed_that_beats(rt: HostRuntime) -> Result<(), Fail> {
     let server = serve(&rt, alloc, 2)?;
     let mut writer = writer(&rt, alloc, server.address)?;
     let mut reader = Client::connect(&rt, alloc, server.address)?;
-    assert!(rt; reader.follows("GET /d/_changes?feed=continuous&heartbeat=20")?);
-    assert!(rt; are_beats(&mut reader, 3)?);
-    assert!(rt; writer.gets("PUT /d/a", "{}", "201")?);
-    let (_, row) = beats(&mut reader)?;
-    assert_eq!(rt; row.as_str(), LINE);
-    assert!(rt; are_beats(&mut reader, 3)?);
-    assert!(rt; writer.gets("DELETE /d", "", "200")?);
-    let (_, end) = beats(&mut reader)?;
-    assert_eq!(rt; end.as_str(), "{\"last_seq\":\"1-1\",\"pending\":0}\n");
-    assert!(rt; reader.chunk()?.is_empty());
+    assert_continuous(&rt, &mut writer, &mut reader)?;
     drop(reader);
     drop(writer);
     assert!(rt; server.ends(&rt));
+    Ok(())
+}
+
+/// Asserts that a feed of the log of updates tells that `d` was made, and ends.
+fn assert_updates(rt: &impl Abort, reader: &mut Client) -> Result<(), Fail> {
+    assert_eq!(rt;
+        reader.chunk()?.as_str(),
+        "{\"db_name\":\"d\",\"type\":\"created\",\"seq\":\"1-0\"}\n"
+    );
+    assert_eq!(rt; reader.chunk()?.as_str(), "{\"last_seq\":\"1-0\"}\n");
+    assert!(rt; reader.chunk()?.is_empty());
     Ok(())
 }
 
@@ -102,12 +127,7 @@ fn a_feed_of_updates(rt: HostRuntime) -> Result<(), Fail> {
     let mut reader = Client::connect(&rt, alloc, server.address)?;
     assert!(rt; reader.follows("GET /_db_updates?feed=continuous&timeout=1500")?);
     let writer = writer(&rt, alloc, server.address)?;
-    assert_eq!(rt;
-        reader.chunk()?.as_str(),
-        "{\"db_name\":\"d\",\"type\":\"created\",\"seq\":\"1-0\"}\n"
-    );
-    assert_eq!(rt; reader.chunk()?.as_str(), "{\"last_seq\":\"1-0\"}\n");
-    assert!(rt; reader.chunk()?.is_empty());
+    assert_updates(&rt, &mut reader)?;
     drop(reader);
     drop(writer);
     assert!(rt; server.ends(&rt));
