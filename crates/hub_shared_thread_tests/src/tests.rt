@@ -7,6 +7,7 @@ mod audits;
 mod beats;
 mod clocks;
 mod databases;
+mod feeds;
 mod holding;
 mod limits;
 mod lives;
@@ -82,7 +83,7 @@ impl Clock for Stepping {
 
 // What an item is.
 #[derive(Clone, Copy, Debug, PartialEq, Eq)]
-enum Told {
+pub(crate) enum Told {
     Row(u64),
     Beat,
     End(u64),
@@ -96,10 +97,17 @@ fn as_told(item: &Item<ChangeRow>) -> Told {
     }
 }
 
+// The same of an item, if there is one.
+fn told_of(item: Option<Item<ChangeRow>>) -> Option<Told> {
+    match item {
+        Some(item) => Some(as_told(&item)),
+        None => None,
+    }
+}
+
 // The next item that was handed and not taken yet.
 fn take<R: Wait>(rt: &R, feed: &mut Feed<Plain>) -> Option<Told> {
-    let item = feed.take(rt)?;
-    Some(as_told(&item))
+    told_of(feed.take(rt))
 }
 
 // The next item, which is waited for; None where the pump ended and left none.
@@ -146,6 +154,17 @@ fn write<R: Wait>(
     texts: &[&str],
 ) -> Result<Accepted, Fail> {
     Ok(handle.write(rt, docs(alloc, texts)?, false)?)
+}
+
+// The same, whatever they are told.
+fn store<R: Wait>(
+    rt: &R,
+    alloc: Global,
+    handle: &mut Handle<Plain>,
+    texts: &[&str],
+) -> Result<(), Fail> {
+    let _accepted = write(rt, alloc, handle, texts)?;
+    Ok(())
 }
 
 // The parameters that a query asks for.

@@ -1,6 +1,6 @@
 //! What the calls of a handle answer with ample memory.
 
-use crate::tests::{database, docs, params, write};
+use crate::tests::{database, params, store, write};
 use hub_database::{DbFault, Descending, Diff, Lookup, OpenRev};
 use hub_document::{Asked, Changes, LocalDoc, OpenRevs, RevId, Revisions, write_local};
 use hub_feed::OpenFault;
@@ -12,7 +12,6 @@ use std::sync::Wait;
 use std::test::Fail;
 
 // What is asked of a database.
-#[derive(Debug, Drop)]
 enum Asking {
     Info,
     // A document, with its history or without.
@@ -196,7 +195,7 @@ const FIRST: &str = r#"{"_id":"a","_rev":"1-a","v":1}"#;
 const SECOND: &str = r#"{"_id":"a","_revisions":{"start":2,"ids":["c","a"]},"v":2}"#;
 
 // A document with two leaves and a deleted one above them, and a deleted document.
-const CONFLICTS: [&str; 5] = [
+const CONFLICTS: &[&str] = &[
     FIRST,
     SECOND,
     r#"{"_id":"a","_deleted":true,"_revisions":{"start":3,"ids":["f","e","a"]}}"#,
@@ -207,11 +206,11 @@ const CONFLICTS: [&str; 5] = [
 // A database with these documents.
 fn conflicts<R: Wait>(rt: &R, alloc: Global) -> Result<(Db<Plain>, Handle<Plain>), Fail> {
     let (db, mut handle) = database(alloc, 64, 64)?;
-    let _accepted = write(rt, alloc, &mut handle, &CONFLICTS)?;
+    store(rt, alloc, &mut handle, CONFLICTS)?;
     Ok((db, handle))
 }
 
-const DOCUMENTS: [(Asking, &str); 9] = [
+const DOCUMENTS: &[(Asking, &str)] = &[
     (Asking::Info, "1 1 5 6 "),
     (
         Asking::Get("a", false),
@@ -229,7 +228,7 @@ const DOCUMENTS: [(Asking, &str); 9] = [
     (Asking::Winner("z"), "none"),
 ];
 
-const REVISIONS: [(Asking, &str); 5] = [
+const REVISIONS: &[(Asking, &str)] = &[
     (
         Asking::Leaves("a"),
         concat!(
@@ -249,7 +248,7 @@ const REVISIONS: [(Asking, &str); 5] = [
     (Asking::Missing("b", &["1-b"]), ""),
 ];
 
-const FALLING: [(Asking, &str); 6] = [
+const FALLING: &[(Asking, &str)] = &[
     (Asking::Falling(""), "5 b 1-b 4 a 2-d last 4 0 6 "),
     (Asking::Falling("limit=1"), "5 b 1-b last 5 1 6 "),
     (Asking::Falling("since=4"), "5 b 1-b last 5 0 6 "),
@@ -258,62 +257,78 @@ const FALLING: [(Asking, &str); 6] = [
     (Asking::Falling("since=now"), "last 5 0 6 "),
 ];
 
+// How many questions have the answers that the texts are, before the first that has another.
+fn answer_count<R: Wait>(
+    rt: &R,
+    alloc: Global,
+    handle: &mut Handle<Plain>,
+    table: &[(Asking, &str)],
+) -> Result<usize, Fail> {
+    for (at, (asking, text)) in table.iter().enumerate() {
+        if !answers(rt, alloc, handle, asking, *text)? {
+            return Ok(at);
+        }
+    }
+    Ok(table.len())
+}
+
 #[test]
 fn questions_are_answered(rt: HostRuntime) -> Result<(), Fail> {
     let (_db, mut handle) = conflicts(&rt, rt.alloc())?;
-    for table in [&DOCUMENTS[..], &REVISIONS[..], &FALLING[..]] {
-        for (asking, text) in table {
-            let is_so = answers(&rt, rt.alloc(), &mut handle, asking, text)?;
-            assert!(rt; is_so, "at {asking:?}");
-        }
+    for table in [DOCUMENTS, REVISIONS, FALLING] {
+        let count = answer_count(&rt, rt.alloc(), &mut handle, table)?;
+        assert_eq!(rt; count, table.len());
     }
     Ok(())
 }
 
-// A local document that is written under an id.
-fn local(alloc: Global, text: &str) -> Result<LocalDoc, Fail> {
-    Ok(LocalDoc::read(alloc, "_local/x", text.as_bytes())?)
+// Writes a local document: how often it was written.
+fn put_local<R: Wait>(
+    rt: &R,
+    alloc: Global,
+    handle: &mut Handle<Plain>,
+    text: &str,
+) -> Result<Result<u64, DbFault>, Fail> {
+    let doc = LocalDoc::read(alloc, "_local/x", text.as_bytes())?;
+    Ok(handle.local_put(rt, doc))
 }
+
+const NO_LOCAL: &[(Asking, &str)] = &[(Asking::Local("_local/x"), "none")];
+
+const PUT_TWICE: &[(Asking, &str)] = &[
+    (
+        Asking::Local("_local/x"),
+        r#"{"_id":"_local/x","_rev":"0-2","v":{"w":[1,2]},"x":"y"}"#,
+    ),
+    (Asking::Info, "0 0 0 6 "),
+];
 
 #[test]
 fn local_documents_are_counted(rt: HostRuntime) -> Result<(), Fail> {
     let (_db, mut handle) = database(rt.alloc(), 64, 64)?;
-    assert!(rt;
-        answers(
-            &rt,
-            rt.alloc(),
-            &mut handle,
-            &Asking::Local("_local/x"),
-            "none"
-        )?
-    );
+    assert_eq!(rt; answer_count(&rt, rt.alloc(), &mut handle, NO_LOCAL)?, 1);
     for count in 1u64..3 {
-        let doc = local(rt.alloc(), r#"{"v":{"w":[1,2]},"x":"y"}"#)?;
-        assert_eq!(rt; handle.local_put(&rt, doc)?, count);
+        let text = r#"{"v":{"w":[1,2]},"x":"y"}"#;
+        assert_eq!(rt; put_local(&rt, rt.alloc(), &mut handle, text)?, Ok(count));
     }
-    let text = r#"{"_id":"_local/x","_rev":"0-2","v":{"w":[1,2]},"x":"y"}"#;
-    assert!(rt;
-        answers(
-            &rt,
-            rt.alloc(),
-            &mut handle,
-            &Asking::Local("_local/x"),
-            text
-        )?
-    );
-    assert!(rt; answers(&rt, rt.alloc(), &mut handle, &Asking::Info, "0 0 0 6 ")?);
+    assert_eq!(rt; answer_count(&rt, rt.alloc(), &mut handle, PUT_TWICE)?, 2);
     Ok(())
 }
 
-// Documents of one batch, and what each is told.
-const TOLD: [(&str, Outcome<&str>); 4] = [
-    (FIRST, Outcome::Stored("1-a")),
-    (FIRST, Outcome::Known),
-    (SECOND, Outcome::Stored("2-c")),
-    (
-        r#"{"_id":"a","_revisions":{"start":3,"ids":["e","c","q"]}}"#,
-        Outcome::Refused(Fault::Contradicts),
-    ),
+// Documents of one batch.
+const BATCH: &[&str] = &[
+    FIRST,
+    FIRST,
+    SECOND,
+    r#"{"_id":"a","_revisions":{"start":3,"ids":["e","c","q"]}}"#,
+];
+
+// What each is told.
+const TOLD: &[Outcome<&str>] = &[
+    Outcome::Stored("1-a"),
+    Outcome::Known,
+    Outcome::Stored("2-c"),
+    Outcome::Refused(Fault::Contradicts),
 ];
 
 // Whether a document is told so.
@@ -339,62 +354,90 @@ fn are_of_batch(receipts: &[Receipt]) -> bool {
     }
 }
 
+// Whether the documents of a batch are told so.
+fn are_told(replies: &[Outcome<RevId>], wanted: &[Outcome<&str>]) -> bool {
+    let mut is_so = replies.len() == wanted.len();
+    for (reply, wanted) in replies.iter().zip(wanted) {
+        is_so = is_so && is_told(reply, wanted);
+    }
+    is_so
+}
+
+// Whether a whole batch is told what became of it.
+fn is_batch_told<R: Wait>(rt: &R, alloc: Global, handle: &mut Handle<Plain>) -> Result<bool, Fail> {
+    let accepted = write(rt, alloc, handle, BATCH)?;
+    Ok(
+        !accepted.stopped
+            && are_told(accepted.replies.as_slice(), TOLD)
+            && are_of_batch(accepted.receipts.as_slice()),
+    )
+}
+
 #[test]
 fn a_batch_is_told_what_became_of_it(rt: HostRuntime) -> Result<(), Fail> {
     let (_db, mut handle) = database(rt.alloc(), 64, 64)?;
-    let texts = [TOLD[0].0, TOLD[1].0, TOLD[2].0, TOLD[3].0];
-    let accepted = write(&rt, rt.alloc(), &mut handle, &texts)?;
-    let replies = accepted.replies.as_slice();
-    assert_eq!(rt; replies.len(), 4);
-    for at in 0..replies.len().min(4) {
-        assert!(rt; is_told(&replies[at], &TOLD[at].1), "at {at}");
-    }
-    assert!(rt; !accepted.stopped && are_of_batch(accepted.receipts.as_slice()));
+    assert!(rt; is_batch_told(&rt, rt.alloc(), &mut handle)?);
     Ok(())
 }
 
-// Whether each question is answered that the database is deleted.
-fn reads_are_refused<R: Wait>(
+const DELETED: DbFault = DbFault::Refused(Fault::Deleted);
+
+// How many questions are answered that the database is deleted, before the first that is not.
+fn refused_count<R: Wait>(
     rt: &R,
     alloc: Global,
     handle: &mut Handle<Plain>,
     table: &[(Asking, &str)],
-) -> Result<bool, Fail> {
-    for (asking, _) in table {
+) -> Result<usize, Fail> {
+    for (at, (asking, _)) in table.iter().enumerate() {
         let fault = handle.read(rt, question(alloc, asking)?).err();
         if fault != Some(DELETED) {
-            return Ok(false);
+            return Ok(at);
         }
     }
-    Ok(true)
+    Ok(table.len())
 }
-
-const DELETED: DbFault = DbFault::Refused(Fault::Deleted);
 
 #[test]
 fn a_deleted_database_answers_nothing(rt: HostRuntime) -> Result<(), Fail> {
     let (_db, mut handle) = conflicts(&rt, rt.alloc())?;
     assert_eq!(rt; handle.delete(&rt), Ok(()));
-    for table in [&DOCUMENTS[..], &REVISIONS[..], &FALLING[..]] {
-        assert!(rt; reads_are_refused(&rt, rt.alloc(), &mut handle, table)?);
+    for table in [DOCUMENTS, REVISIONS, FALLING, NO_LOCAL] {
+        let count = refused_count(&rt, rt.alloc(), &mut handle, table)?;
+        assert_eq!(rt; count, table.len());
     }
-    let local_read = [(Asking::Local("_local/x"), "")];
-    assert!(rt; reads_are_refused(&rt, rt.alloc(), &mut handle, &local_read)?);
     assert_eq!(rt; handle.delete(&rt), Err(DELETED));
     Ok(())
+}
+
+// Whether no feed is opened, since the database is deleted.
+fn is_feed_refused<R: Wait>(
+    rt: &R,
+    alloc: Global,
+    handle: &mut Handle<Plain>,
+) -> Result<bool, Fail> {
+    let opened = handle.open_feed(rt, params(alloc, "")?).err();
+    Ok(opened == Some(OpenFault::Deleted))
+}
+
+// Whether a document is refused, since the database is deleted.
+fn is_write_refused<R: Wait>(
+    rt: &R,
+    alloc: Global,
+    handle: &mut Handle<Plain>,
+) -> Result<bool, Fail> {
+    let accepted = write(rt, alloc, handle, &[FIRST])?;
+    let told = &[Outcome::Refused(Fault::Deleted)];
+    Ok(are_told(accepted.replies.as_slice(), told) && accepted.receipts.is_empty())
 }
 
 #[test]
 fn a_deleted_database_takes_nothing(rt: HostRuntime) -> Result<(), Fail> {
     let (_db, mut handle) = conflicts(&rt, rt.alloc())?;
     assert_eq!(rt; handle.delete(&rt), Ok(()));
-    let local_put = handle.local_put(&rt, local(rt.alloc(), "{}")?);
-    assert_eq!(rt; local_put, Err(DELETED));
-    let opened = handle.open_feed(&rt, params(rt.alloc(), "")?).err();
-    assert_eq!(rt; opened, Some(OpenFault::Deleted));
-    let accepted = handle.write(&rt, docs(rt.alloc(), &CONFLICTS[..1])?, false)?;
-    let refused: [Outcome<RevId>; 1] = [Outcome::Refused(Fault::Deleted)];
-    assert!(rt; accepted.replies.as_slice() == refused.as_slice());
-    assert!(rt; accepted.receipts.is_empty());
+    let put = put_local(&rt, rt.alloc(), &mut handle, "{}")?;
+    assert_eq!(rt; put, Err(DELETED));
+    assert!(rt; is_feed_refused(&rt, rt.alloc(), &mut handle)?);
+    assert!(rt; is_write_refused(&rt, rt.alloc(), &mut handle)?);
     Ok(())
 }

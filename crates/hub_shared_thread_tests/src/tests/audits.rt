@@ -1,29 +1,48 @@
 //! What an audit of receipts tells.
 
 use crate::tests::{FIVE, database, write};
-use hub_shared::AuditFault;
+use hub_shared::{AuditFault, Handle, Plain};
+use std::alloc::Global;
+use std::sync::Wait;
 use std::test::Fail;
+
+// Whether the receipts of two writes are of the journal, and no receipts.
+fn are_honest<R: Wait>(rt: &R, alloc: Global, handle: &mut Handle<Plain>) -> Result<bool, Fail> {
+    let first = write(rt, alloc, handle, &FIVE[..2])?;
+    let rest = write(rt, alloc, handle, &FIVE)?;
+    Ok(
+        handle.audit(rt, first.receipts.as_slice()) == Ok(())
+            && handle.audit(rt, rest.receipts.as_slice()) == Ok(())
+            && handle.audit(rt, &[]) == Ok(()),
+    )
+}
 
 #[test]
 fn honest_receipts_are_of_the_journal(rt: HostRuntime) -> Result<(), Fail> {
     let (_db, mut handle) = database(rt.alloc(), 64, 64)?;
-    let first = write(&rt, rt.alloc(), &mut handle, &FIVE[..2])?;
-    let rest = write(&rt, rt.alloc(), &mut handle, &FIVE)?;
-    assert_eq!(rt; handle.audit(&rt, first.receipts.as_slice()), Ok(()));
-    assert_eq!(rt; handle.audit(&rt, rest.receipts.as_slice()), Ok(()));
-    assert_eq!(rt; handle.audit(&rt, &[]), Ok(()));
+    assert!(rt; are_honest(&rt, rt.alloc(), &mut handle)?);
     Ok(())
+}
+
+// What an audit tells of the receipts of five edits, of which the one at this place tells this sequence.
+fn audit_of<R: Wait>(
+    rt: &R,
+    alloc: Global,
+    at: usize,
+    seq: u64,
+) -> Result<Result<(), AuditFault>, Fail> {
+    let (_db, mut handle) = database(alloc, 64, 64)?;
+    let mut accepted = write(rt, alloc, &mut handle, &FIVE)?;
+    if let Some(receipt) = accepted.receipts.get_mut(at) {
+        receipt.seq = seq;
+    }
+    Ok(handle.audit(rt, accepted.receipts.as_slice()))
 }
 
 // The third receipt tells the sequence of the second.
 #[test]
 fn a_receipt_of_another_sequence_is_told(rt: HostRuntime) -> Result<(), Fail> {
-    let (_db, mut handle) = database(rt.alloc(), 64, 64)?;
-    let mut accepted = write(&rt, rt.alloc(), &mut handle, &FIVE)?;
-    if let Some(receipt) = accepted.receipts.get_mut(2) {
-        receipt.seq = 2;
-    }
-    let audit = handle.audit(&rt, accepted.receipts.as_slice());
+    let audit = audit_of(&rt, rt.alloc(), 2, 2)?;
     assert_eq!(rt; audit, Err(AuditFault::WrongReceipt { at: 2 }));
     Ok(())
 }
@@ -32,12 +51,7 @@ fn a_receipt_of_another_sequence_is_told(rt: HostRuntime) -> Result<(), Fail> {
 #[test]
 fn a_receipt_of_no_sequence_is_told(rt: HostRuntime) -> Result<(), Fail> {
     for (at, seq) in [(0usize, 0u64), (4, 6)] {
-        let (_db, mut handle) = database(rt.alloc(), 64, 64)?;
-        let mut accepted = write(&rt, rt.alloc(), &mut handle, &FIVE)?;
-        if let Some(receipt) = accepted.receipts.get_mut(at) {
-            receipt.seq = seq;
-        }
-        let audit = handle.audit(&rt, accepted.receipts.as_slice());
+        let audit = audit_of(&rt, rt.alloc(), at, seq)?;
         assert_eq!(rt; audit, Err(AuditFault::WrongReceipt { at }), "at {at}");
     }
     Ok(())

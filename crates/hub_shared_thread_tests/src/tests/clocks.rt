@@ -1,21 +1,24 @@
 //! Feeds whose time passes.
 
 use crate::tests::Told::{Beat, End};
-use crate::tests::{Counting, Stepping, database, next, open, pumps, take};
+use crate::tests::feeds::Step::{Pumps, Takes};
+use crate::tests::feeds::{Shown, assert_feed};
+use crate::tests::{Counting, Stepping, database, next, open, pumps};
 use hub_shared::{Feed, Plain};
 use std::sync::Wait;
 use std::test::Fail;
 use std::thread;
 
+const WITHOUT_NEWS: Shown = (
+    "feed=continuous&timeout=1000",
+    1000,
+    &[Pumps, Takes(Some(End(0))), Takes(None)],
+);
+
 #[test]
 fn a_feed_without_news_comes_to_its_end(rt: HostRuntime) -> Result<(), Fail> {
     let (db, mut handle) = database(rt.alloc(), 64, 64)?;
-    let mut feed = open(&rt, rt.alloc(), &mut handle, "feed=continuous&timeout=1000")?;
-    let is_ok = pumps(&rt, &db, feed.id(), &Counting::new(), &Stepping::new(1000));
-    assert!(rt; is_ok && feed.is_over());
-    assert_eq!(rt; take(&rt, &mut feed), Some(End(0)));
-    assert_eq!(rt; take(&rt, &mut feed), None);
-    Ok(())
+    assert_feed(&rt, rt.alloc(), &db, &mut handle, WITHOUT_NEWS)
 }
 
 // Whether the first item is a heartbeat. The feed is finished behind it.

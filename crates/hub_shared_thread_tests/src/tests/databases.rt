@@ -1,6 +1,6 @@
 //! Two databases have two locks.
 
-use crate::tests::{FIVE, Stepping, database, docs, open, pumps, write};
+use crate::tests::{FIVE, Stepping, database, docs, open, pumps, store};
 use hub_document::Doc;
 use hub_shared::{Gate, Handle, Plain, Point};
 use std::sync::Wait;
@@ -68,7 +68,7 @@ fn write_and_open<R: Wait, K: time::Clock>(
 fn a_held_database_holds_no_other(rt: HostRuntime) -> Result<(), Fail> {
     let (db, mut handle) = database(rt.alloc(), 64, 64)?;
     let (_other, mut writer) = database(rt.alloc(), 64, 64)?;
-    let _accepted = write(&rt, rt.alloc(), &mut handle, &FIVE)?;
+    store(&rt, rt.alloc(), &mut handle, &FIVE)?;
     let feed = open(&rt, rt.alloc(), &mut handle, "")?;
     let written = docs(rt.alloc(), &FIVE)?;
     let (id, gate, clock) = (feed.id(), Held::new(rt), Stepping::new(0));

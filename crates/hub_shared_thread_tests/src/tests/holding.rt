@@ -1,99 +1,104 @@
 //! What one holding of the lock hands.
 
 use crate::tests::Told::{End, Row};
-use crate::tests::{Counting, FIVE, as_told, database, open, take, write};
+use crate::tests::feeds::Step::{Hands, Takes, Turns};
+use crate::tests::feeds::{Shown, assert_feed, finished, hand};
+use crate::tests::{Counting, FIVE, database, open, store};
 use hub_document::Doc;
 use hub_model::Item;
-use hub_shared::{Feed, Handed, Plain, Turn, hold};
+use hub_shared::{Db, Feed, Handed, Handle, Plain, Turn, hold};
 use std::alloc::Global;
 use std::sync::Wait;
 use std::test::Fail;
 
-// What a holding answers that hands what is due.
-fn hands<R: Wait>(rt: &R, feed: &Feed<Plain>) -> Result<Handed, Fail> {
-    Ok(feed.hold(rt, Turn::Hand, &Counting::new())?)
-}
+const TWO_AT_ONCE: Shown = (
+    "",
+    0,
+    &[
+        Hands(Handed::Row),
+        Takes(Some(Row(1))),
+        Takes(Some(Row(2))),
+        Takes(None),
+        Hands(Handed::End),
+        Takes(Some(Row(3))),
+        Takes(Some(End(3))),
+        Takes(None),
+    ],
+);
 
 #[test]
 fn a_holding_hands_as_many_items_as_it_may(rt: HostRuntime) -> Result<(), Fail> {
-    let (_db, mut handle) = database(rt.alloc(), 64, 2)?;
-    let _accepted = write(&rt, rt.alloc(), &mut handle, &FIVE[..3])?;
-    let mut feed = open(&rt, rt.alloc(), &mut handle, "")?;
-    assert_eq!(rt; hands(&rt, &feed)?, Handed::Row);
-    for item in [Some(Row(1)), Some(Row(2)), None] {
-        assert_eq!(rt; take(&rt, &mut feed), item);
-    }
-    assert_eq!(rt; hands(&rt, &feed)?, Handed::End);
-    for item in [Some(Row(3)), Some(End(3)), None] {
-        assert_eq!(rt; take(&rt, &mut feed), item);
-    }
-    Ok(())
+    let (db, mut handle) = database(rt.alloc(), 64, 2)?;
+    store(&rt, rt.alloc(), &mut handle, &FIVE[..3])?;
+    assert_feed(&rt, rt.alloc(), &db, &mut handle, TWO_AT_ONCE)
 }
+
+const ENDED: Shown = ("", 0, &[Hands(Handed::End), Hands(Handed::Gone)]);
 
 #[test]
 fn a_feed_that_handed_its_end_is_gone(rt: HostRuntime) -> Result<(), Fail> {
-    let (_db, mut handle) = database(rt.alloc(), 64, 2)?;
-    let feed = open(&rt, rt.alloc(), &mut handle, "")?;
-    assert_eq!(rt; hands(&rt, &feed)?, Handed::End);
-    assert_eq!(rt; hands(&rt, &feed)?, Handed::Gone);
-    Ok(())
+    let (db, mut handle) = database(rt.alloc(), 64, 2)?;
+    assert_feed(&rt, rt.alloc(), &db, &mut handle, ENDED)
+}
+
+// Whether two holdings find a feed's lane full. Once the feed is finished it still has two rows, and is gone.
+fn keeps_two_rows<R: Wait>(rt: &R, db: &Db<Plain>, feed: Feed<Plain>) -> bool {
+    let id = feed.id();
+    let full = Some(Handed::Full);
+    let is_full = hand(rt, &feed) == full && hand(rt, &feed) == full;
+    let items = finished(rt, feed);
+    let gone = hold(rt, db, id, Turn::Hand, &Counting::new());
+    is_full && items == (Some(Row(1)), Some(Row(2)), None) && gone == Ok(Handed::Gone)
 }
 
 #[test]
 fn a_full_lane_keeps_its_rows(rt: HostRuntime) -> Result<(), Fail> {
     let (db, mut handle) = database(rt.alloc(), 2, 64)?;
-    let _accepted = write(&rt, rt.alloc(), &mut handle, &FIVE)?;
+    store(&rt, rt.alloc(), &mut handle, &FIVE)?;
     let feed = open(&rt, rt.alloc(), &mut handle, "")?;
-    let id = feed.id();
-    for _ in 0..2 {
-        assert_eq!(rt; hands(&rt, &feed)?, Handed::Full);
-    }
-    let mut receiver = feed.finish(&rt);
-    for item in [Some(Row(1)), Some(Row(2)), None] {
-        assert_eq!(rt; receiver.take(&rt).map(|item| as_told(&item)), item);
-    }
-    let gone = hold(&rt, &db, id, Turn::Hand, &Counting::new())?;
-    assert_eq!(rt; gone, Handed::Gone);
+    assert!(rt; keeps_two_rows(&rt, &db, feed));
     Ok(())
 }
+
+const WITH_ROOM: Shown = (
+    "",
+    0,
+    &[
+        Hands(Handed::Full),
+        Takes(Some(Row(1))),
+        Hands(Handed::Full),
+        Takes(Some(Row(2))),
+        Hands(Handed::End),
+        Takes(Some(Row(3))),
+        Takes(Some(End(3))),
+        Takes(None),
+    ],
+);
 
 // Room for one item more is handed one item more.
 #[test]
 fn a_lane_with_room_is_handed_on(rt: HostRuntime) -> Result<(), Fail> {
-    let (_db, mut handle) = database(rt.alloc(), 2, 64)?;
-    let _accepted = write(&rt, rt.alloc(), &mut handle, &FIVE[..3])?;
-    let mut feed = open(&rt, rt.alloc(), &mut handle, "")?;
-    for seq in 1..3 {
-        assert_eq!(rt; hands(&rt, &feed)?, Handed::Full);
-        assert_eq!(rt; take(&rt, &mut feed), Some(Row(seq)));
-    }
-    assert_eq!(rt; hands(&rt, &feed)?, Handed::End);
-    for item in [Some(Row(3)), Some(End(3)), None] {
-        assert_eq!(rt; take(&rt, &mut feed), item);
-    }
-    Ok(())
+    let (db, mut handle) = database(rt.alloc(), 2, 64)?;
+    store(&rt, rt.alloc(), &mut handle, &FIVE[..3])?;
+    assert_feed(&rt, rt.alloc(), &db, &mut handle, WITH_ROOM)
 }
+
+const ONE_STEP: Shown = (
+    "feed=continuous&heartbeat=1000",
+    0,
+    &[
+        Turns(Turn::Hand, Handed::Nothing),
+        Turns(Turn::Beat, Handed::Nothing),
+        Turns(Turn::Beat, Handed::Full),
+        Turns(Turn::Expire, Handed::Nothing),
+        Turns(Turn::Hand, Handed::Full),
+    ],
+);
 
 #[test]
 fn one_turn_is_one_step(rt: HostRuntime) -> Result<(), Fail> {
     let (db, mut handle) = database(rt.alloc(), 1, 64)?;
-    let feed = open(
-        &rt,
-        rt.alloc(),
-        &mut handle,
-        "feed=continuous&heartbeat=1000",
-    )?;
-    for (turn, answer) in [
-        (Turn::Hand, Handed::Nothing),
-        (Turn::Beat, Handed::Nothing),
-        (Turn::Beat, Handed::Full),
-        (Turn::Expire, Handed::Nothing),
-        (Turn::Hand, Handed::Full),
-    ] {
-        let found = hold(&rt, &db, feed.id(), turn, &Counting::new())?;
-        assert_eq!(rt; found, answer, "at {turn:?}");
-    }
-    Ok(())
+    assert_feed(&rt, rt.alloc(), &db, &mut handle, ONE_STEP)
 }
 
 // The text of the document that the first row of a feed shows.
@@ -109,16 +114,37 @@ fn first_document<R: Wait>(rt: &R, alloc: Global, feed: &mut Feed<Plain>) -> Res
     Ok(text)
 }
 
+// Stores a document whose revision is made here.
+fn make<R: Wait>(
+    rt: &R,
+    alloc: Global,
+    handle: &mut Handle<Plain>,
+    text: &str,
+) -> Result<(), Fail> {
+    let doc = Doc::read(alloc, text.as_bytes(), true)?;
+    let _accepted = handle.write(rt, vec![in alloc; doc]?, true)?;
+    Ok(())
+}
+
+// The text of the document that one holding hands of a feed with documents; it is all that is due.
+fn shown_document<R: Wait>(
+    rt: &R,
+    alloc: Global,
+    handle: &mut Handle<Plain>,
+) -> Result<Vec<u8>, Fail> {
+    let mut feed = open(rt, alloc, handle, "include_docs=true")?;
+    if hand(rt, &feed) != Some(Handed::End) {
+        return Err(Fail::new("another hand"));
+    }
+    first_document(rt, alloc, &mut feed)
+}
+
 #[test]
 fn a_row_shows_its_document_as_it_was_written(rt: HostRuntime) -> Result<(), Fail> {
-    let alloc = rt.alloc();
-    let (_db, mut handle) = database(alloc, 64, 64)?;
-    let doc = Doc::read(alloc, br#"{"_id":"a","v":7}"#, true)?;
-    let _accepted = handle.write(&rt, vec![in alloc; doc]?, true)?;
-    let mut feed = open(&rt, alloc, &mut handle, "include_docs=true")?;
-    assert_eq!(rt; hands(&rt, &feed)?, Handed::End);
+    let (_db, mut handle) = database(rt.alloc(), 64, 64)?;
+    make(&rt, rt.alloc(), &mut handle, r#"{"_id":"a","v":7}"#)?;
+    let text = shown_document(&rt, rt.alloc(), &mut handle)?;
     let wanted = r#"{"_id":"a","_rev":"1-91e3da135d1d0593e6703385cf55957a","v":7}"#;
-    let text = first_document(&rt, alloc, &mut feed)?;
     assert!(rt; text.as_slice() == wanted.as_bytes());
     Ok(())
 }

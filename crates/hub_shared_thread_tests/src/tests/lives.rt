@@ -2,7 +2,7 @@
 
 ghost use Rattle.std.specs.Prelude.{◌≡◌};
 
-use crate::tests::{FIVE, LIFE, database, docs, params, write};
+use crate::tests::{FIVE, LIFE, database, docs, store};
 use hub_document::{Doc, Limits};
 use hub_params::FeedParams;
 use hub_shared::{Count, Counted, Db, Handle, Plain, Updates};
@@ -14,7 +14,7 @@ use std::test::Fail;
 use std::thread::{self, Threads};
 
 // Where the feed of a query begins behind five edits: a sequence of another life is none.
-const BEGINNINGS: [(&str, u64); 9] = [
+const BEGINNINGS: &[(&str, u64)] = &[
     ("", 0),
     ("since=3", 3),
     ("since=9", 5),
@@ -48,8 +48,8 @@ fn first_other<C: Count, R: Wait>(
     handle: &mut Handle<C>,
 ) -> Option<&'static str> {
     for (query, since) in BEGINNINGS {
-        if beginning(rt, alloc, handle, query) != Some((since, LIFE)) {
-            return Some(query);
+        if beginning(rt, alloc, handle, *query) != Some((*since, LIFE)) {
+            return Some(*query);
         }
     }
     None
@@ -58,7 +58,7 @@ fn first_other<C: Count, R: Wait>(
 #[test]
 fn feeds_of_a_plain_handle_begin_in_its_life(rt: HostRuntime) -> Result<(), Fail> {
     let (_db, mut handle) = database(rt.alloc(), 64, 64)?;
-    let _accepted = write(&rt, rt.alloc(), &mut handle, &FIVE)?;
+    store(&rt, rt.alloc(), &mut handle, &FIVE)?;
     assert_eq!(rt; first_other(&rt, rt.alloc(), &mut handle), None);
     Ok(())
 }
@@ -103,7 +103,7 @@ const THREADS: u64 = 8;
 const ROUNDS: u64 = 20;
 
 // What each opens: feeds of each mode, from sequences of several lives.
-const QUERIES: [&str; 7] = [
+const QUERIES: &[&str; 7] = &[
     "",
     "since=now",
     "since=3",
@@ -118,7 +118,7 @@ fn count_of_life<R: Wait>(rt: &R, alloc: Global, db: &Db<Plain>, life: u64) -> O
     let mut handle = db.handle().ok()?;
     let mut count = 0u64;
     for query in QUERIES {
-        let (_since, of) = beginning(rt, alloc, &mut handle, query)?;
+        let (_since, of) = beginning(rt, alloc, &mut handle, *query)?;
         if of == life {
             count = count.saturating_add(1);
         }
@@ -127,7 +127,7 @@ fn count_of_life<R: Wait>(rt: &R, alloc: Global, db: &Db<Plain>, life: u64) -> O
 }
 
 // Stores a document of this number; None where it was not stored.
-fn store<R: Wait>(rt: &R, alloc: Global, db: &Db<Plain>, number: u64) -> Option<()> {
+fn store_numbered<R: Wait>(rt: &R, alloc: Global, db: &Db<Plain>, number: u64) -> Option<()> {
     let text = format!(in alloc; r#"{{"_id":"d{number}","_rev":"1-a"}}"#).ok()?;
     let doc = Doc::read(alloc, text.as_bytes(), false).ok()?;
     let mut handle = db.handle().ok()?;
@@ -150,8 +150,8 @@ fn part<R: Wait>(
         let others = count_of_life(rt, alloc, second, LIFE + 1)?;
         count = count.saturating_add(ours).saturating_add(others);
         let id = (number as u64).saturating_mul(ROUNDS).saturating_add(round);
-        store(rt, alloc, first, id)?;
-        store(rt, alloc, second, id)?;
+        store_numbered(rt, alloc, first, id)?;
+        store_numbered(rt, alloc, second, id)?;
     }
     Some(count)
 }
@@ -185,16 +185,27 @@ fn labels_of_one_database_have_one_life(rt: HostRuntime) -> Result<(), Fail> {
     Ok(())
 }
 
+// Where a feed of the log of updates begins, and of which life its label is; None where it is not opened.
+fn beginning_of_updates<R: Wait>(
+    rt: &R,
+    alloc: Global,
+    updates: &Updates,
+    query: &str,
+) -> Option<(u64, u64)> {
+    let params = FeedParams::read(alloc, query.as_bytes(), b"").ok()?;
+    let feed = updates.open_feed(rt, params).ok()?;
+    let label = (feed.label().since(), feed.label().life());
+    drop(feed.finish(rt));
+    Some(label)
+}
+
 // No database has the life 0.
 #[test]
 fn labels_of_the_log_of_updates_have_the_life_0(rt: HostRuntime) -> Result<(), Fail> {
     let updates = Updates::of_updates(rt.alloc(), Limits::full())?;
     for query in QUERIES {
-        let Ok(feed) = updates.open_feed(&rt, params(rt.alloc(), query)?) else {
-            return Err(Fail::new("no feed"));
-        };
-        assert_eq!(rt; (feed.label().since(), feed.label().life()), (0, 0));
-        drop(feed.finish(&rt));
+        let label = beginning_of_updates(&rt, rt.alloc(), &updates, *query);
+        assert_eq!(rt; label, Some((0, 0)));
     }
     Ok(())
 }

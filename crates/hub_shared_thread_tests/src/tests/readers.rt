@@ -1,9 +1,10 @@
 //! Readers of feeds whose pumps run in other threads.
 
 use crate::tests::Told::{self, End, Row};
-use crate::tests::{Counting, FIVE, Stepping, as_told, database, docs, next, open, pumps, write};
+use crate::tests::feeds::finished;
+use crate::tests::{Counting, FIVE, Stepping, database, docs, next, open, pumps, store};
 use hub_document::Doc;
-use hub_shared::{Feed, Handle, Plain, Question};
+use hub_shared::{Db, Feed, Handle, Plain, Question};
 use std::alloc::Global;
 use std::sync::Wait;
 use std::test::Fail;
@@ -20,18 +21,14 @@ fn gets_two_rows<R: Wait>(
 ) -> bool {
     gate.wait_for_pump(rt);
     let is_read = handle.read(rt, Question::Info).is_ok();
-    let mut receiver = feed.finish(rt);
-    let mut is_so = is_read;
-    for item in [Some(Row(1)), Some(Row(2)), None] {
-        is_so = is_so && receiver.take(rt).map(|item| as_told(&item)) == item;
-    }
-    is_so
+    let items = finished(rt, feed);
+    is_read && items == (Some(Row(1)), Some(Row(2)), None)
 }
 
 #[test]
 fn a_stopped_reader_lets_its_pump_end(rt: HostRuntime) -> Result<(), Fail> {
     let (db, mut handle) = database(rt.alloc(), 2, 64)?;
-    let _accepted = write(&rt, rt.alloc(), &mut handle, &FIVE)?;
+    store(&rt, rt.alloc(), &mut handle, &FIVE)?;
     let feed = open(&rt, rt.alloc(), &mut handle, "")?;
     let (id, gate, clock) = (feed.id(), Counting::new(), Stepping::new(0));
     let (is_ok, gets) = thread::join(
@@ -64,19 +61,25 @@ fn numbered(alloc: Global, number: u64) -> Result<Doc, Fail> {
     Ok(Doc::read(alloc, text.as_bytes(), false)?)
 }
 
-// So many documents.
-fn many(alloc: Global, count: u64) -> Result<Vec<Doc>, Fail> {
+// Stores so many documents.
+fn store_many<R: Wait>(
+    rt: &R,
+    alloc: Global,
+    handle: &mut Handle<Plain>,
+    count: u64,
+) -> Result<(), Fail> {
     let mut docs = Vec::new(alloc);
     for number in 0..count {
         docs.push(numbered(alloc, number)?)?;
     }
-    Ok(docs)
+    let _accepted = handle.write(rt, docs, false)?;
+    Ok(())
 }
 
 #[test]
 fn a_slow_reader_gets_every_row(rt: HostRuntime) -> Result<(), Fail> {
     let (db, mut handle) = database(rt.alloc(), 2, 64)?;
-    let _accepted = handle.write(&rt, many(rt.alloc(), 50)?, false)?;
+    store_many(&rt, rt.alloc(), &mut handle, 50)?;
     let feed = open(&rt, rt.alloc(), &mut handle, "")?;
     let (id, gate, clock) = (feed.id(), Counting::new(), Stepping::new(0));
     let (is_ok, rows) = thread::join(
@@ -108,39 +111,48 @@ fn first_two<R: Wait>(rt: &R, mut feed: Feed<Plain>) -> (Option<Told>, Option<To
     (first, second)
 }
 
-// What a feed's reader gets that waits before a document, or two of them, are written.
+// What a feed's reader gets that waits before these documents are written; None where its pump or the write
+// fails.
+fn got_later<R: Threads + Wait + time::Clock + Sync>(
+    rt: &R,
+    db: &Db<Plain>,
+    handle: &mut Handle<Plain>,
+    feed: Feed<Plain>,
+    docs: Vec<Doc>,
+) -> Option<(Option<Told>, Option<Told>)> {
+    let (id, gate, clock) = (feed.id(), Counting::new(), Stepping::new(0));
+    let (is_ok, (got, is_written)) = thread::join(
+        rt,
+        || pumps(rt, db, id, &gate, &clock),
+        || {
+            thread::join(
+                rt,
+                move || first_two(rt, feed),
+                || write_later(rt, &gate, handle, docs),
+            )
+        },
+    );
+    (is_ok && is_written).then_some(got)
+}
+
+// The same of a feed of a new database, and of the documents that the texts are.
 fn answered_later<R: Threads + Wait + time::Clock + Sync>(
     rt: &R,
     alloc: Global,
     query: &str,
     texts: &[&str],
-) -> Result<(Option<Told>, Option<Told>), Fail> {
+) -> Result<Option<(Option<Told>, Option<Told>)>, Fail> {
+    let written = docs(alloc, texts)?;
     let (db, mut handle) = database(alloc, 64, 64)?;
     let feed = open(rt, alloc, &mut handle, query)?;
-    let written = docs(alloc, texts)?;
-    let (id, gate, clock) = (feed.id(), Counting::new(), Stepping::new(0));
-    let (is_ok, (got, is_written)) = thread::join(
-        rt,
-        || pumps(rt, &db, id, &gate, &clock),
-        || {
-            thread::join(
-                rt,
-                move || first_two(rt, feed),
-                || write_later(rt, &gate, &mut handle, written),
-            )
-        },
-    );
-    if !is_ok || !is_written {
-        return Err(Fail::new("no pump or no write"));
-    }
-    Ok(got)
+    Ok(got_later(rt, &db, &mut handle, feed, written))
 }
 
 #[test]
 fn a_waiting_feed_is_told_of_a_write(rt: HostRuntime) -> Result<(), Fail> {
     let longpoll = answered_later(&rt, rt.alloc(), "feed=longpoll", &FIVE[..1])?;
-    assert_eq!(rt; longpoll, (Some(Row(1)), Some(End(1))));
+    assert!(rt; longpoll == Some((Some(Row(1)), Some(End(1)))));
     let continuous = answered_later(&rt, rt.alloc(), "feed=continuous", &FIVE[..2])?;
-    assert_eq!(rt; continuous, (Some(Row(1)), Some(Row(2))));
+    assert!(rt; continuous == Some((Some(Row(1)), Some(Row(2)))));
     Ok(())
 }

@@ -1,25 +1,22 @@
 //! One pump for all feeds of a database that wait, and the connections that show these.
 
-use crate::tests::Told::{self, Beat, End, Row};
-use crate::tests::{Counting, FIVE, Stepping, as_told, database, docs, open, write};
+use crate::tests::Told::{Beat, End, Row};
+use crate::tests::feeds::Step::{Gets, IsReady};
+use crate::tests::feeds::{Shown, assert_feed, get};
+use crate::tests::{Counting, FIVE, Stepping, database, docs, open, store};
 use hub_document::Doc;
 use hub_shared::{Feed, Handle, Plain};
+use std::alloc::Global;
 use std::sync::Wait;
 use std::test::Fail;
-use std::thread;
-
-// The next item, as a connection gets it.
-fn next<R: Wait>(rt: &R, feed: &mut Feed<Plain>, clock: &Stepping) -> Option<Told> {
-    let item = feed.next(rt, &Counting::new(), clock)?;
-    Some(as_told(&item))
-}
+use std::thread::{self, Threads};
 
 // Whether the first five rows come in order. The feed is finished behind them.
 fn gets_five<R: Wait>(rt: &R, mut feed: Feed<Plain>) -> bool {
     let clock = Stepping::new(0);
     let mut is_so = true;
     for seq in 1..=5 {
-        is_so = is_so && next(rt, &mut feed, &clock) == Some(Row(seq));
+        is_so = is_so && get(rt, &mut feed, &clock) == Some(Row(seq));
     }
     drop(feed.finish(rt));
     is_so
@@ -37,80 +34,113 @@ fn writes_beside<R: Wait>(
     matches!(other.missing_pump(rt), Ok(None)) && handle.write(rt, docs, false).is_ok()
 }
 
-// Lanes hold two items, so that both connections hand on themselves what is left of the five.
-#[test]
-fn one_pump_hands_all_feeds_that_wait(rt: HostRuntime) -> Result<(), Fail> {
-    let (_db, mut handle) = database(rt.alloc(), 2, 64)?;
-    let first = open(&rt, rt.alloc(), &mut handle, "feed=continuous")?;
-    let second = open(&rt, rt.alloc(), &mut handle, "feed=continuous")?;
-    let written = docs(rt.alloc(), &FIVE)?;
-    let Some(pump) = first.missing_pump(&rt)? else {
-        return Err(Fail::new("no pump"));
+// Whether two feeds get five rows by the pump that the first one misses: these documents are written once it is
+// at work.
+fn both_get_five<R: Threads + Wait + Sync>(
+    rt: &R,
+    handle: &mut Handle<Plain>,
+    (first, second): (Feed<Plain>, Feed<Plain>),
+    docs: Vec<Doc>,
+) -> bool {
+    let Ok(Some(pump)) = first.missing_pump(rt) else {
+        return false;
     };
     let gate = Counting::new();
     let ((), (is_first, is_second)) = thread::join(
-        &rt,
-        || pump.run(&rt, &gate),
+        rt,
+        || pump.run(rt, &gate),
         || {
             thread::join(
-                &rt,
-                || gets_five(&rt, first),
-                || {
-                    writes_beside(&rt, &gate, &mut handle, &second, written)
-                        && gets_five(&rt, second)
-                },
+                rt,
+                || gets_five(rt, first),
+                || writes_beside(rt, &gate, handle, &second, docs) && gets_five(rt, second),
             )
         },
     );
-    assert!(rt; is_first && is_second);
+    is_first && is_second
+}
+
+// Lanes hold two items, so that both connections hand on themselves what is left of the five.
+#[test]
+fn one_pump_hands_all_feeds_that_wait(rt: HostRuntime) -> Result<(), Fail> {
+    let written = docs(rt.alloc(), &FIVE)?;
+    let (_db, mut handle) = database(rt.alloc(), 2, 64)?;
+    let first = open(&rt, rt.alloc(), &mut handle, "feed=continuous")?;
+    let second = open(&rt, rt.alloc(), &mut handle, "feed=continuous")?;
+    assert!(rt; both_get_five(&rt, &mut handle, (first, second), written));
     Ok(())
+}
+
+// Whether a pump is missing for a feed of this query, which is finished then.
+fn misses_pump<R: Wait>(
+    rt: &R,
+    alloc: Global,
+    handle: &mut Handle<Plain>,
+    query: &str,
+) -> Result<bool, Fail> {
+    let feed = open(rt, alloc, handle, query)?;
+    let is_missing = matches!(feed.missing_pump(rt), Ok(Some(_)));
+    drop(feed.finish(rt));
+    Ok(is_missing)
+}
+
+// Whether a pump is missing for a feed that waits. The feed is finished before its pump runs, which then ends,
+// as no feed waits any more.
+fn runs_pump<R: Wait>(rt: &R, alloc: Global, handle: &mut Handle<Plain>) -> Result<bool, Fail> {
+    let feed = open(rt, alloc, handle, "feed=longpoll")?;
+    let missing = feed.missing_pump(rt);
+    drop(feed.finish(rt));
+    let Ok(Some(pump)) = missing else {
+        return Ok(false);
+    };
+    pump.run(rt, &Counting::new());
+    Ok(true)
 }
 
 #[test]
 fn a_pump_is_missing_where_a_feed_waits(rt: HostRuntime) -> Result<(), Fail> {
     let (_db, mut handle) = database(rt.alloc(), 64, 64)?;
-    let normal = open(&rt, rt.alloc(), &mut handle, "")?;
-    assert!(rt; normal.missing_pump(&rt)?.is_none());
-    drop(normal.finish(&rt));
-    let waiting = open(&rt, rt.alloc(), &mut handle, "feed=longpoll")?;
-    let Some(pump) = waiting.missing_pump(&rt)? else {
-        return Err(Fail::new("no pump"));
-    };
-    drop(waiting.finish(&rt));
-    // No feed waits any more, so it ends.
-    pump.run(&rt, &Counting::new());
-    let other = open(&rt, rt.alloc(), &mut handle, "feed=longpoll")?;
-    assert!(rt; other.missing_pump(&rt)?.is_some());
-    drop(other.finish(&rt));
+    assert!(rt; !misses_pump(&rt, rt.alloc(), &mut handle, "")?);
+    assert!(rt; runs_pump(&rt, rt.alloc(), &mut handle)?);
+    assert!(rt; misses_pump(&rt, rt.alloc(), &mut handle, "feed=longpoll")?);
     Ok(())
 }
+
+const NORMAL: Shown = (
+    "limit=2",
+    0,
+    &[
+        IsReady(true),
+        Gets(Some(Row(1))),
+        IsReady(true),
+        Gets(Some(Row(2))),
+        IsReady(true),
+        Gets(Some(End(2))),
+        IsReady(false),
+        Gets(None),
+    ],
+);
 
 #[test]
 fn a_connection_hands_a_normal_feed(rt: HostRuntime) -> Result<(), Fail> {
-    let (_db, mut handle) = database(rt.alloc(), 64, 64)?;
-    write(&rt, rt.alloc(), &mut handle, &FIVE)?;
-    let mut feed = open(&rt, rt.alloc(), &mut handle, "limit=2")?;
-    let clock = Stepping::new(0);
-    for told in [Row(1), Row(2), End(2)] {
-        assert!(rt; feed.is_ready(&rt, &Counting::new()));
-        assert_eq!(rt; next(&rt, &mut feed, &clock), Some(told));
-    }
-    assert!(rt; !feed.is_ready(&rt, &Counting::new()));
-    assert_eq!(rt; next(&rt, &mut feed, &clock), None);
-    drop(feed.finish(&rt));
-    Ok(())
+    let (db, mut handle) = database(rt.alloc(), 64, 64)?;
+    store(&rt, rt.alloc(), &mut handle, &FIVE)?;
+    assert_feed(&rt, rt.alloc(), &db, &mut handle, NORMAL)
 }
+
+const BEATING: Shown = (
+    "feed=continuous&heartbeat=1",
+    1000,
+    &[Gets(Some(Beat)), Gets(Some(Beat))],
+);
+
+const ENDING: Shown = ("feed=continuous&timeout=1000", 1000, &[Gets(Some(End(0)))]);
 
 #[test]
 fn a_connection_beats_and_ends_by_its_clock(rt: HostRuntime) -> Result<(), Fail> {
-    let (_db, mut handle) = database(rt.alloc(), 64, 64)?;
-    let clock = Stepping::new(1000);
-    let mut beating = open(&rt, rt.alloc(), &mut handle, "feed=continuous&heartbeat=1")?;
-    assert_eq!(rt; next(&rt, &mut beating, &clock), Some(Beat));
-    assert_eq!(rt; next(&rt, &mut beating, &clock), Some(Beat));
-    drop(beating.finish(&rt));
-    let mut ending = open(&rt, rt.alloc(), &mut handle, "feed=continuous&timeout=1000")?;
-    assert_eq!(rt; next(&rt, &mut ending, &clock), Some(End(0)));
-    drop(ending.finish(&rt));
+    let (db, mut handle) = database(rt.alloc(), 64, 64)?;
+    for shown in [BEATING, ENDING] {
+        assert_feed(&rt, rt.alloc(), &db, &mut handle, shown)?;
+    }
     Ok(())
 }

@@ -153,7 +153,7 @@ const ALL: &[u64] = &[
 
 const SOME: &str = r#"{"doc_ids":["d3","d7","d19"]}"#;
 
-const FEEDS: [Asked; 8] = [
+const FEEDS: &[Asked; 8] = &[
     Asked {
         query: "feed=normal",
         body: "",

@@ -1,0 +1,117 @@
+//! Feeds as tables: what is done with a feed of a database, and what that answers.
+
+use crate::tests::{Counting, Stepping, Told, open, pumps, take, told_of};
+use hub_shared::{Db, Feed, Handed, Handle, Plain, Turn, hold};
+use std::alloc::Global;
+use std::process::Abort;
+use std::sync::Wait;
+use std::test::Fail;
+use std::time;
+
+/// A step with a feed, and its answer.
+pub(crate) enum Step {
+    /// A holding of the lock that hands what is due.
+    Hands(Handed),
+    /// A turn of a holding, which names the feed by its number.
+    Turns(Turn, Handed),
+    /// The next item that was handed and not taken yet.
+    Takes(Option<Told>),
+    /// The next item, as a connection gets it.
+    Gets(Option<Told>),
+    /// Whether a connection gets an item at once.
+    IsReady(bool),
+    /// A pump of the feed ends, and the feed is over then.
+    Pumps,
+}
+
+/// The next item, as a connection gets it.
+pub(crate) fn get<R: Wait>(rt: &R, feed: &mut Feed<Plain>, clock: &Stepping) -> Option<Told> {
+    told_of(feed.next(rt, &Counting::new(), clock))
+}
+
+/// What a holding answers that hands what is due; None where it answers a fault.
+pub(crate) fn hand<R: Wait>(rt: &R, feed: &Feed<Plain>) -> Option<Handed> {
+    feed.hold(rt, Turn::Hand, &Counting::new()).ok()
+}
+
+// Whether a step has its answer.
+fn holds<R: Wait + time::Clock>(
+    rt: &R,
+    db: &Db<Plain>,
+    feed: &mut Feed<Plain>,
+    clock: &Stepping,
+    step: &Step,
+) -> bool {
+    let gate = Counting::new();
+    match step {
+        Step::Hands(handed) => hand(rt, feed) == Some(*handed),
+        Step::Turns(turn, handed) => hold(rt, db, feed.id(), *turn, &gate) == Ok(*handed),
+        Step::Takes(told) => take(rt, feed) == *told,
+        Step::Gets(told) => get(rt, feed, clock) == *told,
+        Step::IsReady(is_ready) => feed.is_ready(rt, &gate) == *is_ready,
+        Step::Pumps => pumps(rt, db, feed.id(), &gate, clock) && feed.is_over(),
+    }
+}
+
+// How many steps have their answers, before the first that has another.
+fn held_count<R: Wait + time::Clock>(
+    rt: &R,
+    db: &Db<Plain>,
+    feed: &mut Feed<Plain>,
+    clock: &Stepping,
+    steps: &[Step],
+) -> usize {
+    let mut count = 0usize;
+    for step in steps {
+        if !holds(rt, db, feed, clock, step) {
+            return count;
+        }
+        count = count.saturating_add(1);
+    }
+    count
+}
+
+/// What a feed is asked for, by how many milliseconds its clock goes on with each reading, and what is done
+/// with it.
+pub(crate) type Shown = (&'static str, u64, &'static [Step]);
+
+// How many steps have their answers, of a feed that is finished behind them.
+fn shown_count<R: Wait + time::Clock>(
+    rt: &R,
+    alloc: Global,
+    db: &Db<Plain>,
+    handle: &mut Handle<Plain>,
+    (query, milliseconds, steps): Shown,
+) -> Result<usize, Fail> {
+    let mut feed = open(rt, alloc, handle, query)?;
+    let count = held_count(rt, db, &mut feed, &Stepping::new(milliseconds), steps);
+    drop(feed.finish(rt));
+    Ok(count)
+}
+
+/// Asserts that these steps, one at least, have their answers. Where one has another, the count that the
+/// assertion shows is its place.
+pub(crate) fn assert_feed<R: Abort + Wait + time::Clock>(
+    rt: &R,
+    alloc: Global,
+    db: &Db<Plain>,
+    handle: &mut Handle<Plain>,
+    shown: Shown,
+) -> Result<(), Fail> {
+    let count = shown_count(rt, alloc, db, handle, shown)?;
+    assert_eq!(rt; count, shown.2.len());
+    assert!(rt; count > 0);
+    Ok(())
+}
+
+/// The first three items that a finished feed still has.
+pub(crate) fn finished<R: Wait>(
+    rt: &R,
+    feed: Feed<Plain>,
+) -> (Option<Told>, Option<Told>, Option<Told>) {
+    let mut receiver = feed.finish(rt);
+    let first = receiver.take(rt);
+    let second = receiver.take(rt);
+    let third = receiver.take(rt);
+    (told_of(first), told_of(second), told_of(third))
+}
