@@ -148,9 +148,9 @@ fn handed(alloc: Global, since: u64, between: &[&str]) -> Result<(bool, usize), 
     is_handed(alloc, &mut db, since, between)
 }
 
-// Where a feed begins, what is stored between its items, and how many of these there are: three documents;
-// the last of them; none; and feeds between whose rows documents move: b while it is still to come, then x, and
-// a behind its own row.
+// Where a feed begins, what is stored between its items, and how many items there are: three documents; the
+// last of them; none; and feeds between whose rows documents move: b while it is still to come, then x, and a
+// behind its own row.
 const FEEDS: &[(u64, &[&str], usize)] = &[
     (0, &[], 4),
     (2, &[], 2),

@@ -26,8 +26,8 @@ const BEGINNINGS: &[(&str, u64)] = &[
     ("since=now", 5),
 ];
 
-// Where the feed of a query begins, and of which life its label is; None where it is not opened. It is finished
-// behind that.
+// Where the feed of a query begins, and of which life its label is; None where it is not opened. The feed is
+// finished behind that.
 fn beginning<C: Count, R: Wait>(
     rt: &R,
     alloc: Global,

@@ -34,8 +34,8 @@ fn writes_beside<R: Wait>(
     matches!(other.missing_pump(rt), Ok(None)) && handle.write(rt, docs, false).is_ok()
 }
 
-// Whether two feeds get five rows by the pump that the first one misses: these documents are written once it is
-// at work.
+// Whether two feeds get five rows by the pump that the first one misses: these documents are written once the
+// pump is at work.
 fn both_get_five<R: Threads + Wait + Sync>(
     rt: &R,
     handle: &mut Handle<Plain>,
@@ -84,8 +84,8 @@ fn misses_pump<R: Wait>(
     Ok(is_missing)
 }
 
-// Whether a pump is missing for a feed that waits. The feed is finished before its pump runs, which then ends,
-// as no feed waits any more.
+// Whether a pump is missing for a feed that waits. The feed is finished before its pump runs. The pump then
+// ends, as no feed waits any more.
 fn runs_pump<R: Wait>(rt: &R, alloc: Global, handle: &mut Handle<Plain>) -> Result<bool, Fail> {
     let feed = open(rt, alloc, handle, "feed=longpoll")?;
     let missing = feed.missing_pump(rt);
