@@ -2,11 +2,11 @@
 
 ghost use Rattle.std.specs.Prelude.{◌≡◌, ◌⊎◌, ◌<◌, ◌-◌, ◌^◌, [], true, false, Err, map, string_bytes, Contains, IfErr, IfOk, IsSome, OnErr, OnOk};
 ghost use Rattle.std.specs.Arc.{arc_value};
-ghost use Rattle.hub_databases.specs.Asked.{updates_asked};
 ghost use Rattle.hub_databases.specs.Kept.{AreNames, most_databases, with_made, with_name};
 ghost use Rattle.hub_databases.specs.Names.{is_name as is_database_name};
 ghost use Rattle.hub_params.specs.FeedShown.{params_asked};
 ghost use Rattle.hub_shared.specs.Handles.{IsBeginningFor, IsWrittenBy};
+ghost use Rattle.hub_updates.specs.Asked.{updates_asked};
 
 use crate::fault::HubFault;
 use crate::hub_db::{HubDb, Named};
@@ -15,9 +15,8 @@ use crate::names::Names;
 use hub_database::DbFault;
 use hub_document::{Doc, Limits, UpdateRow};
 use hub_feed::{FeedId, OpenFault};
-use hub_filter::Filter;
 use hub_lane::Asks;
-use hub_model::{Item, Style, UpdateKind};
+use hub_model::{Item, UpdateKind};
 use hub_params::FeedParams;
 use hub_shared::{
     Accepted, Clock, Db, FeedLabel, Gate, Handed, Handle, Plain, Turn, Updates, UpdatesFeed, hold, pump,
@@ -251,22 +250,14 @@ impl Hub {
     }
 
     /// Opens a feed of the log of updates, which stays until it is finished: something is to call
-    /// `pump_updates` for it, and `HostFeed::take`. It shows every row of the log, upwards: `filter`,
-    /// `style`, `include_docs` and `descending` are not looked at. It costs the wait for the log, and
-    /// what `Updates::open_feed` does.
+    /// `pump_updates` for it, and `HostFeed::take`. It shows every row of the log, upwards
+    /// (`Updates::open_feed`). It costs the wait for the log, and what `Updates::open_feed` does.
     pub fn updates<R: Wait>(&self, rt: &R, params: FeedParams) -> Result<UpdatesFeed, OpenFault>
         ensures asks { IfOk result (λ feed. feed.label.asked ≡ updates_asked (params_asked params)) }
         ensures begins { IfOk result (λ feed. IsBeginningFor params.since 0 feed.label) }
         ensures none { IfOk result (λ feed. feed.taken ≡ []) }
         ensures err { IfErr result (λ e. (e ≡ OpenFault.NoMemory) ⊎ (e ≡ OpenFault.TooManyFeeds)) }
     {
-        let params = FeedParams {
-            descending: false,
-            style: Style::MainOnly,
-            include_docs: false,
-            filter: Filter::All,
-            ..params
-        };
         self.updates.open_feed(rt, params)
     }
 
