@@ -1,7 +1,7 @@
-//! A held database holds no other call.
+//! A held database holds no other call, also while a write waits for it.
 
 use crate::tests::{FIRST, created, docs, hub, params};
-use hub_databases::Hub;
+use hub_databases::{Hub, HubDb};
 use hub_document::Doc;
 use hub_shared::{Clock, Gate, Point, pump};
 use std::sync::Wait;
@@ -16,6 +16,7 @@ use std::time::{self, Duration};
 struct Held<R: time::Clock> {
     rt: R,
     is_reached: AtomicBool,
+    is_writing: AtomicBool,
     is_open: AtomicBool,
     gave_up: AtomicBool,
 }
@@ -25,6 +26,7 @@ impl<R: time::Clock> Held<R> {
         Held {
             rt,
             is_reached: AtomicBool::new(false),
+            is_writing: AtomicBool::new(false),
             is_open: AtomicBool::new(false),
             gave_up: AtomicBool::new(false),
         }
@@ -73,19 +75,42 @@ fn answers<R: Wait>(rt: &R, hub: &Hub, docs: Vec<Doc>) -> bool {
         && hub.list(rt).is_ok()
 }
 
-// Asks a hub once a pump stands at the gate, and opens it once all is answered.
+// Waits until a flag is set.
+fn wait_for<R: Wait>(rt: &R, flag: &AtomicBool) {
+    for _ in rt.forever() {
+        if flag.load(Ordering::SeqCst) {
+            break;
+        }
+        thread::yield_now();
+    }
+}
+
+// Writes to the database that a pump holds, once it stands at the gate. The write waits for the pump.
+fn write_held<R: Wait, K: time::Clock>(
+    rt: &R,
+    gate: &Held<K>,
+    hub: &Hub,
+    db: &HubDb,
+    docs: Vec<Doc>,
+) -> bool {
+    wait_for(rt, &gate.is_reached);
+    gate.is_writing.store(true, Ordering::SeqCst);
+    match hub.write(rt, db, docs, false) {
+        Ok(written) => written.accepted.receipts.len() == 1,
+        Err(_) => false,
+    }
+}
+
+// Asks a hub once a write waits for the held database, which it is given 20 milliseconds for, and opens the
+// gate once all is answered.
 fn ask_and_open<R: Wait, K: time::Clock>(
     rt: &R,
     gate: &Held<K>,
     hub: &Hub,
     docs: Vec<Doc>,
 ) -> bool {
-    for _ in rt.forever() {
-        if gate.is_reached.load(Ordering::SeqCst) {
-            break;
-        }
-        thread::yield_now();
-    }
+    wait_for(rt, &gate.is_writing);
+    thread::sleep(&gate.rt, Duration::from_millis(20));
     let is_answered = answers(rt, hub, docs);
     gate.is_open.store(true, Ordering::SeqCst);
     is_answered
@@ -100,13 +125,20 @@ fn a_held_database_holds_no_other_call(rt: HostRuntime) -> Result<(), Fail> {
     let Ok(feed) = held.handle()?.open_feed(&rt, params(alloc, "")?) else {
         return Err(Fail::new("no feed"));
     };
-    let (id, gate, docs) = (feed.id(), Held::new(rt), docs(alloc, FIRST)?);
-    let (is_ok, is_answered) = thread::join(
+    let (id, gate) = (feed.id(), Held::new(rt));
+    let (waiting, other) = (docs(alloc, FIRST)?, docs(alloc, FIRST)?);
+    let (is_ok, (is_written, is_answered)) = thread::join(
         &rt,
         || pump(&rt, held.db(), id, &gate, &Still).is_ok(),
-        || ask_and_open(&rt, &gate, &hub, docs),
+        || {
+            thread::join(
+                &rt,
+                || write_held(&rt, &gate, &hub, &held, waiting),
+                || ask_and_open(&rt, &gate, &hub, other),
+            )
+        },
     );
-    assert!(rt; is_ok && is_answered);
+    assert!(rt; is_ok && is_written && is_answered);
     assert!(rt; !gate.gave_up.load(Ordering::SeqCst));
     Ok(())
 }

@@ -127,6 +127,28 @@ fn a_full_log_refuses_what_it_would_note(rt: HostRuntime) -> Result<(), Fail> {
     Ok(())
 }
 
+// There is room for one name, and for one note.
+const FULL: &[Call] = &[
+    Create("a", Ok(())),
+    Create("B", Err(HubFault::BadName)),
+    Create("a", Err(HubFault::Exists)),
+    Create("b", Err(HubFault::TooMany)),
+    Remove("b", Err(HubFault::Absent)),
+    Remove("a", Err(HubFault::SequenceFull)),
+    List(&["a"]),
+];
+
+// That a log is full is told behind every other refusal.
+#[test]
+fn too_many_names_are_told_before_a_full_log(rt: HostRuntime) -> Result<(), Fail> {
+    let mut limits = Limits::full();
+    limits.databases = 1;
+    limits.journal = 1;
+    let hub = Hub::new(rt.alloc(), limits)?;
+    assert_eq!(rt; count(&rt, &hub, FULL), FULL.len());
+    Ok(())
+}
+
 const REFUSED: &[Call] = &[
     Create("d", Err(HubFault::Exists)),
     Create("D", Err(HubFault::BadName)),
