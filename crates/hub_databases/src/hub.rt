@@ -1,9 +1,10 @@
 //! A hub of databases behind locks.
 
-ghost use Rattle.std.specs.Prelude.{◌≡◌, ◌⊎◌, ◌<◌, ◌-◌, ◌^◌, [], true, false, Err, map, string_bytes, Contains, IfErr, IfOk, IsSome, OnErr, OnOk};
+ghost use Rattle.std.specs.Prelude.{◌≡◌, ◌⊎◌, ◌<◌, ◌-◌, ◌^◌, [], true, false, Err, length, map, string_bytes, Contains, IfErr, IfOk, IsSome, OnErr, OnOk};
 ghost use Rattle.std.specs.Arc.{arc_value};
-ghost use Rattle.hub_databases.specs.Kept.{AreNames, most_databases, with_made, with_name};
+ghost use Rattle.hub_databases.specs.Kept.{AreNames, most_databases, with_made, with_name, without_name};
 ghost use Rattle.hub_databases.specs.Names.{is_name as is_database_name};
+ghost use Rattle.hub_databases.specs.Refusals.{IsCreationFault, IsRemovalFault};
 ghost use Rattle.hub_params.specs.FeedShown.{params_asked};
 ghost use Rattle.hub_shared.specs.Handles.{IsBeginningFor, IsWrittenBy};
 ghost use Rattle.hub_updates.specs.Asked.{updates_asked};
@@ -19,7 +20,8 @@ use hub_lane::Asks;
 use hub_model::{Item, UpdateKind};
 use hub_params::FeedParams;
 use hub_shared::{
-    Accepted, Clock, Db, FeedLabel, Gate, Handed, Handle, Plain, Turn, Updates, UpdatesFeed, hold, pump,
+    Accepted, Clock, Db, FeedLabel, Gate, Handed, Handle, Plain, Turn, Updates, UpdatesFeed, hold,
+    pump,
 };
 use hub_updates::{NoteFault, Notice, UpdatesState};
 use std::alloc::{AllocError, Global};
@@ -86,10 +88,11 @@ impl Hub {
     fn add(&self, names: &mut Names<Arc<Named, Global>>, name: &str) -> Result<(), HubFault>
         requires { is_database_name name.now ≡ true }
         ensures new { OnOk result (¬ Contains names.old.names name.now) }
+        ensures room { OnOk result (length names.old.names < names.old.limit) }
         ensures low { OnOk result (names.old.made < 2 ^ 64 - 1) }
         ensures ok { OnOk result (names.new ≡ with_name name.now names.old) }
         ensures same { OnErr result (names.new ≡ names.old) }
-        ensures err { IfErr result (λ e. ¬ (e ≡ HubFault.BadName) × ¬ (e ≡ HubFault.Absent)) }
+        ensures err { IfErr result (λ e. IsCreationFault names.old name.now e) }
     {
         let life = names.next_life(name)?;
         let key = name.to_string(self.alloc)?;
@@ -108,9 +111,11 @@ impl Hub {
         notice: Notice,
     ) -> Result<(), HubFault>
         requires { is_database_name name.now ≡ true }
+        ensures new { OnOk result (¬ Contains names.old.names name.now) }
+        ensures room { OnOk result (length names.old.names < names.old.limit) }
         ensures ok { OnOk result (names.new ≡ with_made name.now names.old) }
         ensures same { OnErr result (names.new ≡ names.old) }
-        ensures err { IfErr result (λ e. ¬ (e ≡ HubFault.BadName) × ¬ (e ≡ HubFault.Absent)) }
+        ensures err { IfErr result (λ e. IsCreationFault names.old name.now e) }
     {
         if let Err(fault) = self.add(names, name) {
             notice.lapse();
@@ -160,12 +165,19 @@ impl Hub {
     }
 
     // Takes a database from under its name and notes that, or does neither. A handle on it is made
-    // first. The names are held throughout.
-    fn take<R: Wait>(&self, rt: &R, name: &str, notice: Notice) -> Result<Handle<Plain>, HubFault>
-        ensures { IfErr result (λ e. ¬ (e ≡ HubFault.BadName) × ¬ (e ≡ HubFault.Exists)
-            × ¬ (e ≡ HubFault.TooMany)) }
+    // first.
+    fn take<R: Wait>(
+        &self,
+        rt: &R,
+        names: &mut Names<Arc<Named, Global>>,
+        name: &str,
+        notice: Notice,
+    ) -> Result<Handle<Plain>, HubFault>
+        ensures there { OnOk result (Contains names.old.names name.now) }
+        ensures ok { OnOk result (names.new ≡ without_name name.now names.old) }
+        ensures same { OnErr result (names.new ≡ names.old) }
+        ensures err { IfErr result (λ e. IsRemovalFault names.old name.now e) }
     {
-        let mut names = self.names.write(rt);
         let handle = match names.find(name) {
             Some(named) => named.db.handle(),
             None => {
@@ -195,7 +207,8 @@ impl Hub {
             return Err(HubFault::BadName);
         }
         let notice = Notice::new(self.alloc, UpdateKind::Deleted, name)?;
-        let mut handle = self.take(rt, name, notice)?;
+        let taken = self.take(rt, &mut *self.names.write(rt), name, notice);
+        let mut handle = taken?;
         // Who has the database may have deleted it before.
         let _deleted = handle.delete(rt);
         Ok(())

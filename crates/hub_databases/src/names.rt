@@ -1,8 +1,9 @@
 //! What stands under each name.
 
-ghost use Rattle.std.specs.Prelude.{◌≡◌, ◌⊎◌, ◌↔◌, ◌<◌, ◌≤◌, ◌+◌, ◌-◌, ◌^◌, ℕ, List, [], true, length, map, string_bytes, Contains, IsSome, OnOk, OnErr, IfErr, IfOk, IfSome};
+ghost use Rattle.std.specs.Prelude.{◌≡◌, ◌↔◌, ◌<◌, ◌≤◌, ◌+◌, ◌-◌, ◌^◌, ℕ, List, [], true, Err, length, map, string_bytes, Contains, IsSome, OnOk, OnErr, IfErr, IfOk, IfSome};
 ghost use Rattle.hub_databases.specs.Kept.{AreNames, most_databases, with_name, without_name};
 ghost use Rattle.hub_databases.specs.Names.{is_name as is_database_name};
+ghost use Rattle.hub_databases.specs.Refusals.{IsCreationFault};
 
 use crate::fault::HubFault;
 use std::alloc::{AllocError, Global};
@@ -73,11 +74,9 @@ impl<D: HasName> Names<D> {
         ensures new { OnOk result (¬ Contains self.now.names name.now) }
         ensures room { OnOk result (length self.now.names < self.now.limit) }
         ensures ok { IfOk result (λ life. life ≡ self.now.made + 1) }
-        ensures err { IfErr result (λ e. ((e ≡ HubFault.Exists) × Contains self.now.names name.now)
-            ⊎ (¬ Contains self.now.names name.now
-            × (((e ≡ HubFault.TooMany) × (self.now.limit ≤ length self.now.names))
-            ⊎ ((e ≡ HubFault.SequenceFull) × (length self.now.names < self.now.limit)
-            × (self.now.made ≡ 2 ^ 64 - 1))))) }
+        ensures err { IfErr result (λ e. IsCreationFault self.now name.now e) }
+        ensures last { result ≡ Err HubFault.SequenceFull → self.now.made ≡ 2 ^ 64 - 1 }
+        ensures memory { ¬ (result ≡ Err HubFault.NoMemory) }
     {
         if self.find(name).is_some() {
             return Err(HubFault::Exists);
