@@ -28,13 +28,15 @@ use Rattle.hub_revtree.specs.declared.leaf.Winner.{Winner}
 use Rattle.hub_http.specs.Refusals.{of_doc_fault, of_fault}
 use Rattle.hub_http.specs.declared.refusal.Refusal.{Refusal}
 use Rattle.hub_http.specs.declared.refusal.Refusal.TheVariants.{BadRev, Conflict, SequenceFull, Missing}
-use Rattle.hub_http.specs.declared.refusal.Refusal.TheVariants.{DocDeleted}
+use Rattle.hub_http.specs.declared.refusal.Refusal.TheVariants.{DocDeleted, NoMemory}
 use Rattle.hub_params.specs.DocParams.{DocAsked}
 use Rattle.hub_replies.specs.Bodies.{info_body, edit_body, local_edit_body, doc_body, local_doc_body}
 use Rattle.hub_replies.specs.Bodies.{open_revs_body, diffs_body, commit_body}
 use Rattle.hub_replies.specs.Bulk.{batch_body}
 use Rattle.hub_service.specs.Bulk.{Batch, readings, read_docs, faults_of, replies_of}
-use Rattle.hub_service.specs.Said.{Said, Body, Refusing}
+use Rattle.hub_service.specs.Refusals.{of_note_fault}
+use Rattle.hub_service.specs.Said.{Said, Body, Refusing, Writing, refuses_all}
+use Rattle.hub_updates.specs.declared.state.NoteFault.{NoteFault}
 
 -- what a database of this name says of itself
 abbrev pub says_info : List ℕ → Database → Said
@@ -86,14 +88,27 @@ says_edit status id (Stored rev) = Body status (edit_body id rev)
 says_edit status id Known = Refusing Conflict
 says_edit status id (Refused fault) = Refusing (of_fault fault)
 
+-- what came of storing one edit; where memory ran out there is no outcome
+abbrev pub says_first : ℕ → List ℕ → List (Outcome Revision) → Said
+says_first status id [] = Refusing NoMemory
+says_first status id (o ∷ os) = says_edit status id o
+
+-- What a write is answered whose notice may have lapsed. That a notice lapsed is told before anything else: the
+-- stored edits stand, and have no note. A batch that stopped for memory behind a stored document, with a full
+-- log, is answered sequence_full.
+abbrev pub says_noted : Option NoteFault → Said → Said
+says_noted None said = said
+says_noted (Some fault) said = Refusing (of_note_fault fault)
+
 -- storing an edit whose revision is made here
-abbrev pub edits : ℕ → Database → Doc → Said
+abbrev pub edits : ℕ → Database → Doc → Writing
 edits status db doc =
-    says_edit status doc.id (makes_one db.deleted db.limits.journal db.journal doc).outcome
+    let outcome = (makes_one db.deleted db.limits.journal db.journal doc).outcome in
+    record { said = says_edit status doc.id outcome; outcomes = outcome ∷ [] }
 
 -- putting a document, or the refusal of its fault
-abbrev pub puts_doc : Database → Result Doc DocFault → Said
-puts_doc db (Err fault) = Refusing (of_doc_fault fault)
+abbrev pub puts_doc : Database → Result Doc DocFault → Writing
+puts_doc db (Err fault) = refuses_all (of_doc_fault fault)
 puts_doc db (Ok doc) = edits 201 db doc
 
 -- an edit that deletes
@@ -130,10 +145,17 @@ abbrev pub says_diffs : List Edit → Result (List Asked) DocFault → Said
 says_diffs journal (Err fault) = Refusing (of_doc_fault fault)
 says_diffs journal (Ok asked) = Body 200 (diffs_body (diffs journal asked))
 
+-- the answer to a batch with these faults, of whose documents this became; where memory ran out at a document
+-- the answer is that
+abbrev pub says_batch : Batch → List (Option DocFault) → Bool → List (Outcome Revision) → Said
+says_batch batch faults stopped outcomes =
+    if stopped then Refusing NoMemory
+    else Body 201 (batch_body batch.docs (replies_of batch.new_edits faults outcomes))
+
 -- storing a batch, or the refusal of the whole
-abbrev pub stores : Database → Result Batch Refusal → Said
-stores db (Err refusal) = Refusing refusal
+abbrev pub stores : Database → Result Batch Refusal → Writing
+stores db (Err refusal) = refuses_all refusal
 stores db (Ok batch) =
     let read = readings batch.new_edits batch.docs in
     let stored = writes batch.new_edits db.deleted db.limits.journal db.journal (read_docs read) in
-    Body 201 (batch_body batch.docs (replies_of batch.new_edits (faults_of read) stored.outcomes))
+    record { said = says_batch batch (faults_of read) false stored.outcomes; outcomes = stored.outcomes }

@@ -4,12 +4,14 @@ use Rattle.std.specs.Prelude.{if◌then◌else◌}
 use Rattle.hub_document.specs.Ids.{short_id}
 use Rattle.hub_document.specs.RevisionText.{revision_of}
 use Rattle.hub_model.specs.Revision.{Revision}
+use Rattle.hub_params.specs.DocParams.{doc_asked}
+use Rattle.hub_params.specs.Room.{DocNeedsRoom}
 use Rattle.hub_revtree.specs.declared.leaf.Winner.{Winner}
 use Rattle.hub_http.specs.declared.refusal.Refusal.{Refusal}
 use Rattle.hub_http.specs.declared.refusal.Refusal.TheVariants.{BadRev, Conflict, Missing, Deleted, DocDeleted}
 use Rattle.hub_service.specs.Calls.{deletion, edits, winner_in}
 use Rattle.hub_service.specs.Moments.{HasDatabase, IsRead, IsWritten}
-use Rattle.hub_service.specs.Said.{Refusing, IsSaid, IsWant}
+use Rattle.hub_service.specs.Said.{Refusing, IsWant}
 use Rattle.hub_service.specs.declared.response.Response.{Response}
 
 -- deleting a document that has this winner, where no leaf is named
@@ -26,19 +28,25 @@ IsUnknown id r = ((r ≡ Err Missing) × HasDatabase (λ db. (db.deleted ≡ fal
 abbrev pub IsKnown : List ℕ → Type 0
 IsKnown id = HasDatabase (λ db. (db.deleted ≡ false) × (winner_in db id ≢ None))
 
--- Deleting the leaf of a revision, of the document of an id, if there can be one of it: a look finds no such
--- document; or it finds one, and an edit is written, to the database as it is then.
+-- Deleting the leaf of a revision, of the document of an id, if a document can have it. A look finds no such
+-- document; or it finds one, and an edit is written, to the database as it is then. Memory is taken only for
+-- an id that a document can have.
 abbrev pub DeletesLeaf : List ℕ → Option (List ℕ) → Revision → Result Response Refusal → Type 0
-DeletesLeaf id None rev r = IsSaid (Refusing Missing) r
+DeletesLeaf id None rev r = r ≡ Err Missing
 DeletesLeaf id (Some short) rev r =
     IsUnknown id r ⊎ (IsWant r ⊎ (IsKnown id × IsWritten (λ db. edits 200 db (deletion short rev)) r))
 
 -- deleting the leaf that a text names
 abbrev pub DeletesNamed : List ℕ → Option Revision → Result Response Refusal → Type 0
-DeletesNamed id None r = IsSaid (Refusing BadRev) r
+DeletesNamed id None r = r ≡ Err BadRev
 DeletesNamed id (Some rev) r = DeletesLeaf id (short_id id) rev r
 
--- deleting a document
-abbrev pub IsDeletion : List ℕ → Option (List ℕ) → Result Response Refusal → Type 0
-IsDeletion id None r = IsRead (λ db. Refusing (refuses_unnamed (winner_in db id))) r
-IsDeletion id (Some text) r = DeletesNamed id (revision_of text) r
+-- deleting a document, or the leaf of it that is named
+abbrev pub Deletes : List ℕ → Option (List ℕ) → Result Response Refusal → Type 0
+Deletes id None r = IsRead (λ db. Refusing (refuses_unnamed (winner_in db id))) r
+Deletes id (Some text) r = DeletesNamed id (revision_of text) r
+
+-- Deleting a document by the `rev` of a query; reading the query may take memory. `rev=x` is BadRev, unless
+-- memory was missing for the text `x`.
+abbrev pub IsDeletion : List ℕ → List ℕ → Result Response Refusal → Type 0
+IsDeletion id query r = (IsWant r × DocNeedsRoom query) ⊎ Deletes id (doc_asked query).rev r

@@ -16,8 +16,9 @@ use Rattle.hub_databases.specs.Asked.{updates_asked}
 use Rattle.hub_updates.specs.Log as updates
 use Rattle.hub_feed.specs.Host.{opening_fault}
 use Rattle.hub_lane.specs.Ends.{IsAllowedBeginning, ReceiverState, behind_take}
-use Rattle.hub_params.specs.FeedParams.{FeedAsked}
+use Rattle.hub_params.specs.FeedParams.{FeedAsked, feed_asked}
 use Rattle.hub_params.specs.FeedModel.{params_in}
+use Rattle.hub_params.specs.Room.{FeedNeedsRoom}
 use Rattle.hub_params.specs.declared.feed_fault.ParamFault.{ParamFault}
 use Rattle.hub_http.specs.declared.refusal.Refusal.{Refusal}
 use Rattle.hub_http.specs.declared.refusal.Refusal.TheVariants as refusal
@@ -27,6 +28,7 @@ use Rattle.hub_shared.specs.Label.{Label}
 use Rattle.hub_shared.specs.Handles.{IsBeginningFor}
 use Rattle.hub_service.specs.Moments.{HasDatabase}
 use Rattle.hub_service.specs.Refusals.{of_open_fault, of_param_fault}
+use Rattle.hub_service.specs.Said.{IsWant}
 use Rattle.hub_service.specs.declared.response.Response.{Response}
 use Rattle.hub_service.specs.declared.response.Response.TheVariants.{Body, Stream}
 use Rattle.hub_service.specs.declared.sent.Sent.{Sent}
@@ -65,13 +67,11 @@ IsUnopened asked e = (db : Database)
     × (e ≡ if asked.descending then (if db.deleted then refusal.Deleted else refusal.NoMemory)
     else of_open_fault (opening_fault (hosted_of db)))
 
--- the feed of a database that is asked for is begun, or refused: `limit=x` is BadLimit
-abbrev pub Begins : Result FeedAsked ParamFault → Result Response Refusal → Type 0
-Begins asked (Ok (Body status body)) = ⊥
-Begins (Err fault) (Ok (Stream mode sent)) = ⊥
-Begins (Ok asked) (Ok (Stream mode sent)) = IsBegun asked mode sent
-Begins (Err fault) (Err e) = (e ≡ of_param_fault fault) ⊎ (e ≡ refusal.NoMemory)
-Begins (Ok asked) (Err e) = IsUnopened asked e ⊎ (e ≡ refusal.NoMemory)
+-- what parameters ask of a database is begun, or not: beginning takes memory
+abbrev pub BeginsChanges : FeedAsked → Result Response Refusal → Type 0
+BeginsChanges asked (Ok (Body status body)) = ⊥
+BeginsChanges asked (Ok (Stream mode sent)) = IsBegun asked mode sent
+BeginsChanges asked (Err e) = IsUnopened asked e ⊎ (e ≡ refusal.NoMemory)
 
 -- the feed of the log of updates that is asked for is begun, in this mode
 abbrev pub IsBegunOfUpdates : FeedAsked → Mode → Sent → Type 0
@@ -79,14 +79,24 @@ IsBegunOfUpdates asked mode (Listed answer) = ⊥
 IsBegunOfUpdates asked mode (Changes feed) = ⊥
 IsBegunOfUpdates asked mode (Updates feed) = (mode ≡ asked.mode) × IsNew (updates_asked asked) feed
 
--- the feed of the log of updates that is asked for is begun, or refused: parameters that mean nothing there are
--- refused where they are bad
-abbrev pub BeginsUpdates : Result FeedAsked ParamFault → Result Response Refusal → Type 0
+-- and so of the log of updates
+abbrev pub BeginsUpdates : FeedAsked → Result Response Refusal → Type 0
 BeginsUpdates asked (Ok (Body status body)) = ⊥
-BeginsUpdates (Err fault) (Ok (Stream mode sent)) = ⊥
-BeginsUpdates (Ok asked) (Ok (Stream mode sent)) = IsBegunOfUpdates asked mode sent
-BeginsUpdates (Err fault) (Err e) = (e ≡ of_param_fault fault) ⊎ (e ≡ refusal.NoMemory)
-BeginsUpdates (Ok asked) (Err e) = (e ≡ refusal.TooManyFeeds) ⊎ (e ≡ refusal.NoMemory)
+BeginsUpdates asked (Ok (Stream mode sent)) = IsBegunOfUpdates asked mode sent
+BeginsUpdates asked (Err e) = (e ≡ refusal.TooManyFeeds) ⊎ (e ≡ refusal.NoMemory)
+
+-- parameters begin this; or they are bad, and that is told, unless memory was missing that reading them needs
+abbrev pub BeginsRead : (FeedAsked → Result Response Refusal → Type 0) → Type 0 → Result FeedAsked ParamFault
+    → Result Response Refusal → Type 0
+BeginsRead begins needs (Ok asked) r = begins asked r
+BeginsRead begins needs (Err fault) r = (r ≡ Err (of_param_fault fault)) ⊎ (IsWant r × needs)
+
+-- What a query and a body ask is begun, or refused. `limit=x` is refused as BadLimit and takes no memory;
+-- `limit=%78`, which has to be decoded, may find none. Parameters that mean nothing of the log of updates are
+-- refused there too where they are bad.
+abbrev pub Begins : (FeedAsked → Result Response Refusal → Type 0) → List ℕ → List ℕ → Result Response Refusal
+    → Type 0
+Begins begins query body r = BeginsRead begins (FeedNeedsRoom query body) (feed_asked query body) r
 
 -- ---- its items
 

@@ -10,7 +10,7 @@ use Rattle.hub_databases.specs.declared.hub.Written.{Written}
 use Rattle.hub_http.specs.declared.refusal.Refusal.{Refusal}
 use Rattle.hub_http.specs.declared.refusal.Refusal.TheVariants.{NoMemory, Deleted, SequenceFull}
 use Rattle.hub_shared.specs.Handles.{IsWrittenBy}
-use Rattle.hub_service.specs.Said.{Said, Body, Refusing, Says, IsWant}
+use Rattle.hub_service.specs.Said.{Said, Refusing, Says, IsWant, Writing, HasStored}
 use Rattle.hub_service.specs.declared.response.Response.{Response}
 
 -- this holds of some database, as one may lie under its lock
@@ -32,16 +32,13 @@ IsFound found (Err e) = (e ≡ NoMemory) ⊎ ((e ≡ Deleted) × HasDatabase (λ
 abbrev pub IsRead : (Database → Said) → Result Response Refusal → Type 0
 IsRead says r = HasDatabase (λ db. Says r (stands db (says db))) ⊎ IsWant r
 
--- a call would have been answered with a body
-abbrev pub IsDone : Said → Type 0
-IsDone said = (status : ℕ) × (body : List ℕ) × (said ≡ Body status body)
-
--- A call that writes was answered as some database says it, which then has what was written; or memory was
--- missing; or it was written, and the log of updates was full, so that it has no note of it. With a log of
--- one note, that of the database's making, each put of a document is stored and answered 503 sequence_full.
-abbrev pub IsWritten : (Database → Said) → Result Response Refusal → Type 0
-IsWritten says r = HasDatabase (λ db. Says r (says db))
-    ⊎ (IsWant r ⊎ ((r ≡ Err SequenceFull) × HasDatabase (λ db. IsDone (says db))))
+-- A call that writes was answered as some database says it, which then has what was written. Or memory was
+-- missing. Or a document was stored, and the log of updates was full, so that it has no note of the write. With
+-- a log of one note, that of the database's making, each put of a document is stored and answered 503
+-- sequence_full. A batch of a known document stores nothing, and is answered 201.
+abbrev pub IsWritten : (Database → Writing) → Result Response Refusal → Type 0
+IsWritten does r = HasDatabase (λ db. Says r (does db).said)
+    ⊎ (IsWant r ⊎ ((r ≡ Err SequenceFull) × HasDatabase (λ db. HasStored (does db).outcomes)))
 
 -- what became of a write to some database: the log of updates may have no note of it only where edits were
 -- stored

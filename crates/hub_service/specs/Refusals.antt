@@ -10,11 +10,18 @@ use Rattle.hub_http.specs.declared.refusal.Refusal.{Refusal}
 use Rattle.hub_http.specs.declared.refusal.Refusal.TheVariants as refusal
 use Rattle.hub_params.specs.declared.feed_fault.ParamFault.{ParamFault}
 use Rattle.hub_params.specs.declared.feed_fault.ParamFault.TheVariants as param
+use Rattle.hub_updates.specs.declared.state.NoteFault.{NoteFault}
+use Rattle.hub_updates.specs.declared.state.NoteFault.TheVariants as note_fault
 
 -- the refusal of a call on a database that failed
 abbrev pub of_db_fault : DbFault → Refusal
 of_db_fault db_fault.NoMemory = refusal.NoMemory
 of_db_fault (db_fault.Refused fault) = of_fault fault
+
+-- the refusal of a write of which the log of updates has no note
+abbrev pub of_note_fault : NoteFault → Refusal
+of_note_fault note_fault.NoMemory = refusal.NoMemory
+of_note_fault note_fault.SequenceFull = refusal.SequenceFull
 
 -- the refusal of a call on the names of a hub that failed
 abbrev pub of_hub_fault : HubFault → Refusal

@@ -14,7 +14,6 @@ use Rattle.hub_http.specs.declared.refusal.Refusal.TheVariants.{NoMemory, BadNam
 use Rattle.hub_http.specs.declared.refusal.Refusal.TheVariants.{SequenceFull}
 use Rattle.hub_http.specs.declared.reply.Reply.TheVariants.{Done, Refused}
 use Rattle.hub_params.specs.DocParams.{doc_asked}
-use Rattle.hub_params.specs.FeedParams.{feed_asked}
 use Rattle.hub_replies.specs.Bodies.{welcome_body, ok_body, names_body}
 use Rattle.hub_routes.specs.Routes.{GoesTo}
 use Rattle.hub_routes.specs.RouteRefusals.{of_route_fault}
@@ -29,7 +28,7 @@ use Rattle.hub_service.specs.Bulk.{batch_in}
 use Rattle.hub_service.specs.Calls.{says_info, says_commit, gets_doc, puts_doc, says_local, puts_local, says_diffs}
 use Rattle.hub_service.specs.Calls.{asked_by, stores}
 use Rattle.hub_service.specs.Deletions.{IsDeletion}
-use Rattle.hub_service.specs.Feeds.{Begins, BeginsUpdates, life_of}
+use Rattle.hub_service.specs.Feeds.{Begins, BeginsChanges, BeginsUpdates, life_of}
 use Rattle.hub_service.specs.Moments.{IsRead, IsWritten}
 use Rattle.hub_service.specs.Said.{Body, IsSaid, IsWant, Says}
 use Rattle.hub_service.specs.declared.response.Response.{Response}
@@ -41,7 +40,7 @@ use Rattle.hub_service.specs.declared.sent.Sent.TheVariants.{Listed, Changes, Up
 abbrev pub AnswersCall : Call → List ℕ → List ℕ → Result Response Refusal → Type 0
 AnswersCall call.Info name body r = IsRead (λ db. says_info name db) r
 AnswersCall call.BulkDocs name body r = IsWritten (λ db. stores db (batch_in body)) r
-AnswersCall (call.Changes query) name body r = Begins (feed_asked query.items body) r
+AnswersCall (call.Changes query) name body r = Begins BeginsChanges query.items body r
 AnswersCall call.RevsDiff name body r = IsRead (λ db. says_diffs db.journal (asked_by body)) r
 AnswersCall call.FullCommit name body r = IsSaid says_commit r
 AnswersCall (call.GetDocument id query) name body r =
@@ -50,7 +49,7 @@ AnswersCall (call.PutDocument id query) name body r =
     let asked = doc_asked query.items in
     IsWritten (λ db. puts_doc db (put_in (string_bytes id) asked.rev asked.new_edits body)) r
 AnswersCall (call.DeleteDocument id query) name body r =
-    IsDeletion (string_bytes id) (doc_asked query.items).rev r
+    IsDeletion (string_bytes id) query.items r
 AnswersCall (call.GetLocal id) name body r = IsRead (λ db. says_local (local_of db.locals (string_bytes id))) r
 AnswersCall (call.PutLocal id) name body r =
     IsRead (λ db. puts_local db (local_in (string_bytes id) body)) r
@@ -84,7 +83,7 @@ Responds body (Ok route.Welcome) r = IsSaid (Body 200 welcome_body) r
 Responds body (Ok (route.PutDatabase name)) r = AtName (string_bytes name) IsMade r
 Responds body (Ok (route.DeleteDatabase name)) r = AtName (string_bytes name) IsRemoved r
 Responds body (Ok route.AllDbs) r = IsListed r
-Responds body (Ok (route.DbUpdates query)) r = BeginsUpdates (feed_asked query.items body) r
+Responds body (Ok (route.DbUpdates query)) r = Begins BeginsUpdates query.items body r
 Responds body (Ok (route.Database name c)) r =
     AtName (string_bytes name) (λ r. IsCalled c (string_bytes name) body r) r
 

@@ -1,7 +1,10 @@
 -- What a call is answered (own; CouchDB API reference, HTTP status codes).
-use Rattle.std.specs.Prelude.{◌≡◌, ◌⊎◌, ℕ, List, Result, Ok, Err}
+use Rattle.std.specs.Prelude.{◌≡◌, ◌⊎◌, ℕ, List, [], Result, Ok, Err, Contains}
 use Rattle.hub_http.specs.declared.refusal.Refusal.{Refusal}
 use Rattle.hub_http.specs.declared.refusal.Refusal.TheVariants.{NoMemory}
+use Rattle.hub_model.specs.Revision.{Revision}
+use Rattle.hub_model.specs.declared.outcomes.Outcome.{Outcome}
+use Rattle.hub_model.specs.declared.outcomes.Outcome.TheVariants.{Stored}
 use Rattle.hub_service.specs.declared.response.Response.{Response}
 use Rattle.hub_service.specs.declared.response.Response.TheVariants as response
 
@@ -20,6 +23,22 @@ Says r said = ⊥
 abbrev pub IsWant : Result Response Refusal → Type 0
 IsWant r = r ≡ Err NoMemory
 
--- the response says this, or memory was missing
+-- the response says this, and where it is a body memory may be missing for it: a refusal takes none
 abbrev pub IsSaid : Said → Result Response Refusal → Type 0
-IsSaid said r = Says r said ⊎ IsWant r
+IsSaid (Body status body) r = Says r (Body status body) ⊎ IsWant r
+IsSaid (Refusing refusal) r = Says r (Refusing refusal)
+
+-- ---- writing
+
+-- what a write is answered, and what became of its documents
+pub record Writing : Type 0 where
+  pub said : Said
+  pub outcomes : List (Outcome Revision)
+
+-- a write that is refused as a whole
+abbrev pub refuses_all : Refusal → Writing
+refuses_all refusal = record { said = Refusing refusal; outcomes = [] }
+
+-- one of the documents was stored
+abbrev pub HasStored : List (Outcome Revision) → Type 0
+HasStored outcomes = (rev : Revision) × Contains outcomes (Stored rev)

@@ -5,12 +5,14 @@ ghost use Rattle.serde_json.specs.Find.{get};
 ghost use Rattle.serde_json.specs.View.{view, items_view};
 ghost use Rattle.hub_replies.specs.Bulk.{batch_body};
 ghost use Rattle.hub_service.specs.Bulk.{batch_in, batch_of, faults_of, flag_of, read_docs, readings, replies_of, reply_to};
-ghost use Rattle.hub_service.specs.Calls.{stores};
+ghost use Rattle.hub_service.specs.Calls.{says_batch, says_noted, stores};
 ghost use Rattle.hub_service.specs.Moments.{IsWritten};
+ghost use Rattle.hub_service.specs.Said.{IsSaid};
 
 use crate::refusal::unnoted;
 use crate::response::{Response, created};
 use crate::target::Target;
+use hub_databases::Written;
 use hub_document::{Doc, DocFault, RevId, read_value};
 use hub_http::Refusal;
 use hub_model::Outcome;
@@ -130,6 +132,28 @@ fn answer_text(
     batch_body(alloc, elements, replies.as_slice())
 }
 
+// The answer to a batch of these elements, with these faults, that was written so.
+fn say_batch(
+    alloc: Global,
+    elements: &[Value],
+    new_edits: bool,
+    faults: &[Option<DocFault>],
+    written: &Written,
+) -> Result<Response, Refusal>
+    ensures { let w = written.now in IsSaid (says_noted w.lapsed (says_batch
+        (record { docs = items_view elements.now; new_edits = new_edits })
+        faults.now w.accepted.stopped w.accepted.replies)) result }
+{
+    if let Some(fault) = written.lapsed {
+        return Err(unnoted(fault));
+    }
+    if written.accepted.stopped {
+        return Err(Refusal::NoMemory);
+    }
+    let outcomes = written.accepted.replies.as_slice();
+    created(answer_text(alloc, elements, new_edits, faults, outcomes))
+}
+
 // Stores the batch of these elements.
 fn store_elements<N: Wait>(
     target: &Target<'_, N>,
@@ -141,20 +165,13 @@ fn store_elements<N: Wait>(
 {
     let Readings { docs, faults } = read_elements(target.alloc, elements, new_edits)?;
     let written = target.write(docs, new_edits)?;
-    if written.accepted.stopped {
-        return Err(Refusal::NoMemory);
-    }
-    if let Some(fault) = written.lapsed {
-        return Err(unnoted(fault));
-    }
-    let outcomes = written.accepted.replies.as_slice();
-    created(answer_text(
+    say_batch(
         target.alloc,
         elements,
         new_edits,
         faults.as_slice(),
-        outcomes,
-    ))
+        &written,
+    )
 }
 
 // Stores the batch that a value is.

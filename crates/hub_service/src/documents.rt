@@ -5,7 +5,7 @@ ghost use Rattle.hub_document.specs.Ids.{short_id};
 ghost use Rattle.hub_document.specs.Put.{put_in};
 ghost use Rattle.hub_params.specs.DocParams.{doc_asked};
 ghost use Rattle.hub_database.specs.Reads.{lookup};
-ghost use Rattle.hub_service.specs.Calls.{edits, gets_doc, gets_revs, is_all, puts_doc, says_edit, says_found, says_revs, winner_in};
+ghost use Rattle.hub_service.specs.Calls.{edits, gets_doc, gets_revs, is_all, puts_doc, says_edit, says_first, says_found, says_noted, says_revs, winner_in};
 ghost use Rattle.hub_service.specs.Deletions.{DeletesLeaf, IsDeletion, refuses_unnamed};
 ghost use Rattle.hub_service.specs.Moments.{IsRead, IsWritten};
 ghost use Rattle.hub_service.specs.Said.{IsSaid, Refusing};
@@ -15,6 +15,7 @@ use crate::response::{Response, ok};
 use crate::target::Target;
 use http::StatusCode;
 use hub_database::{Lookup, OpenRev};
+use hub_databases::Written;
 use hub_document::{Body, Doc, DocFault, DocId, OpenRevs, RevId};
 use hub_http::Refusal;
 use hub_model::Outcome;
@@ -118,6 +119,25 @@ fn say_edit(
     }
 }
 
+// The answer to an edit of this id that was written so, with this status where it was stored.
+fn say_written(
+    alloc: Global,
+    status: StatusCode,
+    id: &str,
+    written: &Written,
+) -> Result<Response, Refusal>
+    ensures { let w = written.now in
+        IsSaid (says_noted w.lapsed (says_first status id.now w.accepted.replies)) result }
+{
+    if let Some(fault) = written.lapsed {
+        return Err(unnoted(fault));
+    }
+    match written.accepted.replies.as_slice() {
+        [outcome, ..] => say_edit(alloc, status, id, outcome),
+        [] => Err(Refusal::NoMemory),
+    }
+}
+
 // A list of one document.
 fn listed(alloc: Global, doc: Doc) -> Result<Vec<Doc>, AllocError>
     ensures { IfOk result (λ docs. docs.items ≡ doc ∷ []) }
@@ -131,13 +151,7 @@ fn edit<N: Wait>(target: &Target<'_, N>, status: StatusCode, doc: Doc) -> Result
 {
     let id = doc.id.copy()?;
     let written = target.write(listed(target.alloc, doc)?, true)?;
-    if let Some(fault) = written.lapsed {
-        return Err(unnoted(fault));
-    }
-    match written.accepted.replies.as_slice() {
-        [outcome, ..] => say_edit(target.alloc, status, id.as_str(), outcome),
-        [] => Err(Refusal::NoMemory),
-    }
+    say_written(target.alloc, status, id.as_str(), &written)
 }
 
 // The document that a body is, which a query may name a leaf of.
@@ -221,7 +235,7 @@ pub(crate) fn delete<N: Wait>(
     id: String,
     query: &[u8],
 ) -> Result<Response, Refusal>
-    ensures { IsDeletion (string_bytes id) (doc_asked query.now).rev result }
+    ensures { IsDeletion (string_bytes id) query.now result }
 {
     let DocParams { rev, .. } = DocParams::read(target.alloc, query)?;
     let Some(text) = rev else {

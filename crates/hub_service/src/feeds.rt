@@ -1,10 +1,8 @@
 //! Feeds of a database, and of the log of updates (CouchDB API reference, `/{db}/_changes` and
 //! `/_db_updates`).
 
-ghost use Rattle.std.specs.Prelude.{◌≡◌, Ok};
-ghost use Rattle.hub_params.specs.FeedParams.{feed_asked};
 ghost use Rattle.hub_params.specs.FeedShown.{params_asked};
-ghost use Rattle.hub_service.specs.Feeds.{Begins, BeginsUpdates};
+ghost use Rattle.hub_service.specs.Feeds.{Begins, BeginsChanges, BeginsUpdates};
 
 use crate::refusal::{unopened, unread};
 use crate::response::Response;
@@ -19,7 +17,7 @@ use std::sync::Wait;
 
 // Begins what parameters ask of a database.
 fn begin_asked<N: Wait>(target: &Target<'_, N>, params: FeedParams) -> Result<Response, Refusal>
-    ensures { Begins (Ok (params_asked params)) result }
+    ensures { BeginsChanges (params_asked params) result }
 {
     if params.descending {
         let answer = target.descending(params)?;
@@ -40,7 +38,7 @@ pub(crate) fn begin<N: Wait>(
     query: &[u8],
     body: &[u8],
 ) -> Result<Response, Refusal>
-    ensures { Begins (feed_asked query.now body.now) result }
+    ensures { Begins BeginsChanges query.now body.now result }
 {
     match FeedParams::read(target.alloc, query, body) {
         Ok(params) => begin_asked(target, params),
@@ -50,7 +48,7 @@ pub(crate) fn begin<N: Wait>(
 
 // Begins what parameters ask of the log of updates.
 fn begin_asked_updates<N: Wait>(rt: &N, hub: &Hub, params: FeedParams) -> Result<Response, Refusal>
-    ensures { BeginsUpdates (Ok (params_asked params)) result }
+    ensures { BeginsUpdates (params_asked params) result }
 {
     let mode = params.mode;
     match hub.updates(rt, params) {
@@ -68,7 +66,7 @@ pub(crate) fn begin_updates<N: Wait>(
     query: &[u8],
     body: &[u8],
 ) -> Result<Response, Refusal>
-    ensures { BeginsUpdates (feed_asked query.now body.now) result }
+    ensures { Begins BeginsUpdates query.now body.now result }
 {
     match FeedParams::read(alloc, query, body) {
         Ok(params) => begin_asked_updates(rt, hub, params),

@@ -1,7 +1,7 @@
 //! Why a call is refused.
 
-ghost use Rattle.std.specs.Prelude.{◌≡◌, ◌⊎◌};
-ghost use Rattle.hub_service.specs.Refusals.{of_db_fault, of_hub_fault, of_open_fault, of_param_fault};
+ghost use Rattle.std.specs.Prelude.{◌≡◌};
+ghost use Rattle.hub_service.specs.Refusals.{of_db_fault, of_hub_fault, of_note_fault, of_open_fault, of_param_fault};
 
 use hub_database::DbFault;
 use hub_databases::HubFault;
@@ -22,7 +22,7 @@ pub(crate) fn refusal_of(fault: DbFault) -> Refusal
 
 /// The refusal of a write whose notice lapsed.
 pub(crate) fn unnoted(fault: NoteFault) -> Refusal
-    ensures { (result ≡ Refusal.NoMemory) ⊎ (result ≡ Refusal.SequenceFull) }
+    ensures { result ≡ of_note_fault fault }
 {
     match fault {
         NoteFault::NoMemory => Refusal::NoMemory,

@@ -1,6 +1,8 @@
 //! The hub over bytes: what limits refuse, the last generation, and what closes a connection.
 
-use crate::session_tests::Answer::{Feed, Found, Last, Nothing, Refused, Replies, Written};
+use crate::session_tests::Answer::{
+    Created, Feed, Found, Last, Nothing, Refused, Replies, Written,
+};
 use crate::session_tests::Ask::{Batch, Body, Bytes, Line, LongHistory};
 use crate::session_tests::{Answer, Exchange, MAKE, STORED, assert_session, is_session};
 use hub_document::Limits;
@@ -34,6 +36,13 @@ fn closing(rt: HostRuntime) -> Result<(), Fail> {
 fn two_edits() -> Limits {
     let mut limits = Limits::full();
     limits.databases = 1;
+    limits.journal = 2;
+    limits
+}
+
+/// Limits within which there may be two edits, and two notes.
+fn two_notes() -> Limits {
+    let mut limits = Limits::full();
     limits.journal = 2;
     limits
 }
@@ -102,6 +111,46 @@ const FULL_LOG: &[Exchange] = &[
 #[test]
 fn a_full_log(rt: HostRuntime) -> Result<(), Fail> {
     assert_session(&rt, rt.alloc(), FULL_LOG, one_edit(), Closing::Finished)
+}
+
+/// The document `a`, as a PUT made it.
+const A: &str = r#"{"_id":"a","_rev":"1-91e3da135d1d0593e6703385cf55957a","v":7}"#;
+
+/// What the database says of itself once the document was put and deleted.
+const DELETED: &str =
+    r#"{"db_name":"d","doc_count":0,"doc_del_count":1,"update_seq":"2-1","instance_start_time":"0"}"#;
+
+const FULL_LOG_OF_EDITS: &[Exchange] = &[
+    MAKE,
+    (Line("PUT /e"), Created(r#"{"ok":true}"#)),
+    (Body("PUT /d/a", r#"{"v":7}"#), SEQUENCE_FULL),
+    (Line("GET /d/a"), Found(A)),
+    (
+        Body("PUT /d/a?rev=1-x", "{}"),
+        Refused("409 Conflict", "conflict", "Document update conflict."),
+    ),
+    (
+        Line("DELETE /d/a?rev=1-91e3da135d1d0593e6703385cf55957a"),
+        SEQUENCE_FULL,
+    ),
+    (
+        Line("GET /d/a"),
+        Refused("404 Not Found", "not_found", "deleted"),
+    ),
+    (Line("GET /d"), Found(DELETED)),
+];
+
+/// The log of updates is full: it has the notes of two databases that were made. A PUT and a DELETE of a document
+/// are told so, and stand. An edit that is refused is told as that.
+#[test]
+fn a_full_log_of_edits(rt: HostRuntime) -> Result<(), Fail> {
+    assert_session(
+        &rt,
+        rt.alloc(),
+        FULL_LOG_OF_EDITS,
+        two_notes(),
+        Closing::Finished,
+    )
 }
 
 const LAST_GENERATION: &[Exchange] = &[

@@ -112,7 +112,8 @@ fn a_writer_that_is_held_holds_no_other(rt: HostRuntime) -> Result<(), Fail> {
     Ok(())
 }
 
-/// Asserts that `y` is read while a pump is held inside the lock of `x`, for which a write to `x` waits.
+/// Asserts that `y` is read and `z` is made while a pump is held inside the lock of `x`, for which a write to
+/// `x` waits.
 fn assert_pump_held<R: Abort + time::Clock>(
     rt: &R,
     scene: &Scene,
@@ -124,14 +125,15 @@ fn assert_pump_held<R: Abort + time::Clock>(
     writer.ask("PUT /x/a", "{}")?;
     // Long enough for the write to come to the lock.
     thread::sleep(rt, Duration::from_millis(200));
-    assert!(rt; reader.gets("GET /y", "", "200")?);
+    assert!(rt; reader.gets("GET /y", "", "200")? && reader.gets("PUT /z", "", "201")?);
     scene.is_answered.store(true, Ordering::SeqCst);
     assert!(rt; writer.answer()?.is("201"));
     assert!(rt; !scene.gave_up.load(Ordering::SeqCst));
     Ok(())
 }
 
-/// A pump is held inside the lock of `x`, and a write to `x` waits for that lock: `y` is read meanwhile.
+/// A pump is held inside the lock of `x`, and a write to `x` waits for that lock: `y` is read meanwhile, and `z`
+/// is made, which needs the names alone.
 #[test]
 fn a_database_that_is_held_holds_no_other(rt: HostRuntime) -> Result<(), Fail> {
     let alloc = rt.alloc();

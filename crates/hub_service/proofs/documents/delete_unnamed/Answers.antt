@@ -1,4 +1,4 @@
-use Rattle.std.proofs.Common.{◌≡◌, Err, inl, rules, string_bytes, sym, subst, ap}
+use Rattle.std.proofs.Common.{◌≡◌, Err, rules, string_bytes, sym, subst, ap}
 use Rattle.std.specs.Prelude.{Option}
 use Rattle.hub_database.specs.Database.{Database}
 use Rattle.hub_revtree.specs.declared.leaf.Winner.{Winner}
@@ -21,4 +21,4 @@ returns g c =
     found_read (λ (db : Database) (w : Option Winner). w ≡ winner_in db (string_bytes c.args.id))
     (λ db. Refusing (refuses_unnamed (winner_in db (string_bytes c.args.id)))) c.in_ok-winner.winner
     (Refusing (refuses_unnamed c.in_ok-winner.winner)) (Err c.refuse_unnamed.result) c.in_ok-winner.ensures
-    (inl c.refuse_unnamed.ensures) (λ db is. ap (λ w. Refusing (refuses_unnamed w)) is)
+    c.refuse_unnamed.ensures (λ db is. ap (λ w. Refusing (refuses_unnamed w)) is)

@@ -1,4 +1,4 @@
-use Rattle.std.proofs.Common.{◌≡◌, ℕ, List, Bool, true, false, Option, Some, None, Result, Err, option_map, string_bytes, refl, inl, sym, subst, ap, ◌∙◌}
+use Rattle.std.proofs.Common.{◌≡◌, ℕ, List, Bool, true, false, Option, Some, None, Result, Err, option_map, string_bytes, refl, sym, subst, ap, ◌∙◌}
 use Rattle.std.specs.Prelude.{T, is_some}
 use Rattle.hub_database.specs.Reads.{lookup}
 use Rattle.hub_document.specs.Asking.{open_revs_in}
@@ -26,7 +26,7 @@ rev_asked : {A : Type 0} (id : List ℕ) (revs : Bool) (f : A → List ℕ) (rev
     → leaves ≡ None → is_some rev ≡ true → IsRead (λ db. gets_by db.journal id revs (option_map f rev) leaves) (Err BadRev)
 rev_asked id revs f None leaves none some = absurd (subst T (sym some) tt)
 rev_asked id revs f (Some rev) leaves none some =
-    read_anyway (λ db. gets_by db.journal id revs (Some (f rev)) leaves) (Refusing BadRev) (Err BadRev) (inl refl)
+    read_anyway (λ db. gets_by db.journal id revs (Some (f rev)) leaves) (Refusing BadRev) (Err BadRev) refl
     (λ db. sym (ap (gets_by db.journal id revs (Some (f rev))) none))
 
 -- else the document is read

@@ -1,4 +1,4 @@
-use Rattle.std.proofs.Common.{◌≡◌, ℕ, List, Bool, Err, string_bytes, rules, refl, inl, sym, subst, ap, ◌∙◌}
+use Rattle.std.proofs.Common.{◌≡◌, ℕ, List, Bool, Err, string_bytes, rules, refl, sym, subst, ap, ◌∙◌}
 use Rattle.std.specs.Prelude.{Vec}
 use Rattle.std.specs.declared.alloc.Global.{Global}
 use Rattle.hub_database.specs.Database.{Database}
@@ -18,7 +18,7 @@ are_revs id which revs db found = found.items ≡ open_revs db.journal id which 
 
 pub returns-in_default : goal.returns-in_default
 returns-in_default g c =
-    read_anyway (λ db. gets_revs db.journal (string_bytes c.args.id) c.args.revs c.args.asked) (Refusing BadRev) (Err BadRev) (inl refl)
+    read_anyway (λ db. gets_revs db.journal (string_bytes c.args.id) c.args.revs c.args.asked) (Refusing BadRev) (Err BadRev) refl
     (λ db. sym (ap (gets_revs db.journal (string_bytes c.args.id) c.args.revs) c.in_default.is))
 
 pub returns-in_err-found : goal.returns-in_err-found

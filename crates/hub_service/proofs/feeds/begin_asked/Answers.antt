@@ -1,8 +1,8 @@
-use Rattle.std.proofs.Common.{◌≡◌, false, Ok, Err, rules, refl, sym, subst}
+use Rattle.std.proofs.Common.{◌≡◌, false, Err, rules, refl, sym, subst}
 use Rattle.hub_model.specs.Descending.{Descending, descending}
 use Rattle.hub_params.specs.FeedModel.{params_of}
 use Rattle.hub_params.specs.FeedShown.{params_asked}
-use Rattle.hub_service.specs.Feeds.{Begins}
+use Rattle.hub_service.specs.Feeds.{BeginsChanges}
 use Rattle.hub_service.specs.Moments.{HasDatabase}
 use Rattle.hub_service.proofs.Looks.{unfound_feed, unopened_feed}
 use Rattle.hub_service.proofs.feeds.begin_asked.Goals as goal
@@ -10,7 +10,7 @@ use Rattle.hub_service.proofs.feeds.begin_asked.Goals as goal
 pub returns-in_err-answer : goal.returns-in_err-answer
 returns-in_err-answer g c =
     let same : c.from_residual.result ≡ Err c.in_err-answer.field-0.0 = search rules in
-    subst (Begins (Ok (params_asked c.args.params))) (sym same)
+    subst (BeginsChanges (params_asked c.args.params)) (sym same)
     (unfound_feed (λ db (found : Descending). found ≡ descending db.journal db.life (params_of c.args.params)) (params_asked c.args.params) c.in_err-answer.field-0.0 c.if-params.true c.in_err-answer.ensures)
 
 pub returns-then-params : goal.returns-then-params

@@ -1,0 +1,38 @@
+-- A session whose written bytes stay as they are is the session that it was.
+use Rattle.std.proofs.Common.{◌≡◌, ℕ, List, ◌∙◌, Bool, true, false, take}
+use Rattle.std.specs.Prelude.{Option, Some, None, IfSome}
+use Rattle.std.specs.Io.KnownBytes.{Appends, Keeps}
+use Rattle.hub_http.specs.Counts.{Sends}
+use Rattle.hub_session.specs.Rules.{Moment, Rules, moment}
+use Rattle.hub_session.specs.Sessions.{IsSession, is_broken}
+use Rattle.hub_session.specs.declared.closing.Closing.{Closing}
+
+-- bytes that grew and then stayed have grown
+appends_kept : (old mid new : Option (List ℕ)) (bytes : List ℕ) → Appends old mid bytes → Keeps mid new → Appends old new bytes
+appends_kept None mid new bytes grew stays = tt
+appends_kept (Some xs) None new bytes grew stays = absurd grew
+appends_kept (Some xs) (Some ys) None bytes grew stays = absurd stays
+appends_kept (Some xs) (Some ys) (Some zs) bytes grew stays = stays ∙ grew
+
+-- and where the writing broke they have grown by a front
+sends_kept : (broken : Bool) (old mid new : Option (List ℕ)) (bytes : List ℕ) → Sends broken old mid bytes → Keeps mid new → Sends broken old new bytes
+sends_kept false old mid new bytes sent stays = appends_kept old mid new bytes sent stays
+sends_kept true old mid new bytes (n, sent) stays = (n, appends_kept old mid new (take n bytes) sent stays)
+
+-- a session goes on being one where what it wrote is flushed
+pub session_kept : {S : Type 0} (rules : Rules S) (bytes : List ℕ) (closing : Closing) (before : Moment S) (last : S)
+    (mid new : Option (List ℕ)) → IsSession rules bytes closing before (moment last mid) → Keeps mid new
+    → IsSession rules bytes closing before (moment last new)
+session_kept rules bytes closing before last mid new is stays = record {
+  exchanges = is.exchanges;
+  last = is.last;
+  mid = is.mid;
+  goes = is.goes;
+  whole = is.whole;
+  written = sends_kept (is_broken closing) is.mid mid new is.last is.written stays;
+}
+
+-- what follows for a value follows for it where it is told
+pub if_told : {A : Type 0} (o : Option A) (P Q : A → Type 0) → IfSome o P → ((a : A) → P a → Q a) → IfSome o Q
+if_told None P Q is follows = tt
+if_told (Some a) P Q is follows = follows a is
