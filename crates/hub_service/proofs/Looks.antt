@@ -1,6 +1,6 @@
 -- What one look at a database is answered.
 use Rattle.std.proofs.Common.{◌≡◌, ◌≤◌, ◌<◌, ◌^◌, ℕ, zero, suc, List, [], ◌∷◌, Bool, true, false, ◌⊎◌, inl, inr, refl, sym, ap, ◌∙◌, subst, length, take, arith}
-use Rattle.std.specs.Prelude.{Option, Some, None, Result, Ok, Err, IfOk, OnErr, IsSome, Contains, if◌then◌else◌, nat_le}
+use Rattle.std.specs.Prelude.{Option, Some, None, Result, Ok, Err, IfOk, IfErr, OnErr, IsSome, Contains, if◌then◌else◌, nat_le}
 use Rattle.std.proofs.lemmas.Bool.{le-leb, lt-leb}
 use Rattle.hub_model.specs.Journal.{Edit}
 use Rattle.hub_model.specs.Outcome.{Stores, stores_all}
@@ -44,7 +44,7 @@ use Rattle.hub_replies.specs.Bulk.{batch_body}
 use Rattle.hub_service.specs.Bulk.{Batch, batch_if, batch_in, batch_of, faults_of, read_docs, readings, replies_of}
 use Rattle.hub_service.specs.Calls.{edits, keeps, puts_doc, says_batch, says_edit, says_first, says_noted, stores}
 use Rattle.hub_service.specs.Feeds.{BeginsRead, IsUnopened}
-use Rattle.hub_service.specs.Moments.{IsFound, IsKept, IsRead, IsStored, IsWritten, stands}
+use Rattle.hub_service.specs.Moments.{HasDatabase, IsFound, IsKept, IsRead, IsStored, IsWritten, stands}
 use Rattle.hub_service.specs.Refusals.{of_db_fault, of_note_fault, of_open_fault, of_param_fault}
 use Rattle.hub_service.specs.Said.{Said, Body, Refusing, IsSaid, IsWant, Says, Writing, HasStored}
 use Rattle.hub_service.specs.declared.response.Response.{Response}
@@ -456,24 +456,33 @@ pub unfound_feed : {A : Type 0} (found : Database → A → Type 0) (asked : Fee
 unfound_feed found asked e down (inl want) = inr want
 unfound_feed found asked e down (inr (gone, is)) =
     let upwards = of_open_fault (opening_fault (hosted_of is.db)) in
-    inl (
-      is.db,
-      gone ∙ sym (ap (λ b. if b then (if is.db.deleted then Deleted else NoMemory) else upwards) down
-          ∙ ap (λ b. if b then Deleted else NoMemory) is.held),
-    )
+    inl (record {
+      db = is.db;
+      legal = is.legal;
+      held = gone ∙ sym (ap (λ b. if b then (if is.db.deleted then Deleted else NoMemory) else upwards) down
+          ∙ ap (λ b. if b then Deleted else NoMemory) is.held);
+    })
 
 -- why a feed was not opened
 pub unopened_feed : (asked : FeedAsked) (fault : OpenFault) (e : Refusal) → asked.descending ≡ false
-    → (fault ≡ open_fault.NoMemory) ⊎ ((db : Database) × (fault ≡ opening_fault (hosted_of db)))
+    → (fault ≡ open_fault.NoMemory) ⊎ HasDatabase (λ db. fault ≡ opening_fault (hosted_of db))
     → e ≡ of_open_fault fault → IsUnopened asked e ⊎ (e ≡ NoMemory)
 unopened_feed asked fault e up (inl want) is = inr (is ∙ ap of_open_fault want)
-unopened_feed asked fault e up (inr (db, told)) is =
-    let upwards = of_open_fault (opening_fault (hosted_of db)) in
-    inl (
-      db,
-      is ∙ (ap of_open_fault told
-          ∙ sym (ap (λ b. if b then (if db.deleted then Deleted else NoMemory) else upwards) up)),
-    )
+unopened_feed asked fault e up (inr told) is =
+    let upwards = of_open_fault (opening_fault (hosted_of told.db)) in
+    inl (record {
+      db = told.db;
+      legal = told.legal;
+      held = is ∙ (ap of_open_fault told.held
+          ∙ sym (ap (λ b. if b then (if told.db.deleted then Deleted else NoMemory) else upwards) up));
+    })
+
+-- a feed was opened, or the database that the handle found says why not
+pub opened_or_told : {A : Type 0} {counts : Bool} {all_parts : ℕ} {h : HandleState} (r : Result A OpenFault)
+    → IfErr r (λ e. (db : Database) × IsFoundBy counts all_parts h db × (e ≡ opening_fault (hosted_of db)))
+    → IfErr r (λ e. (e ≡ open_fault.NoMemory) ⊎ HasDatabase (λ db. e ≡ opening_fault (hosted_of db)))
+opened_or_told (Ok feed) told = tt
+opened_or_told (Err e) (db, found, told) = inr (record { db = db; legal = found.legal; held = told })
 
 -- what parameters ask is begun
 pub read_feed : (begins : FeedAsked → Result Response Refusal → Type 0) (needs : Type 0)

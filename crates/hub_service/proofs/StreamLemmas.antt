@@ -9,7 +9,7 @@ use Rattle.hub_model.specs.Row.{ChangeRow}
 use Rattle.hub_model.specs.Updates.{UpdateRow}
 use Rattle.hub_model.specs.declared.feeds.Item.{Item}
 use Rattle.hub_model.specs.declared.feeds.Item.TheVariants.{Row, Beat, End}
-use Rattle.hub_lane.specs.Ends.{IsAllowedBeginning, behind_take}
+use Rattle.hub_lane.specs.Ends.{IsAllowedBeginning}
 use Rattle.hub_params.specs.FeedModel.{params_in}
 use Rattle.hub_session.specs.Feeds.{Streams}
 use Rattle.hub_session.specs.Items as stream
@@ -17,8 +17,9 @@ use Rattle.hub_session.specs.declared.closing.StreamEnd.{StreamEnd}
 use Rattle.hub_session.specs.declared.closing.StreamEnd.TheVariants.{Complete, Stopped, NoMemory, Broken, Exhausted}
 use Rattle.hub_session.specs.declared.item.StreamItem.{StreamItem}
 use Rattle.hub_session.specs.declared.item.StreamItem.TheVariants.{Change, Update}
+use Rattle.hub_shared.specs.Feeds.{FeedState, behind_item, receiver_of}
 use Rattle.hub_shared.specs.Label.{Label}
-use Rattle.hub_service.specs.Feeds.{FeedOf, Gives, next_listed, sent_behind}
+use Rattle.hub_service.specs.Feeds.{Gives, next_listed, sent_behind}
 use Rattle.hub_service.specs.Laws.{connection_rules, StreamsOfChangesAreRight, CompleteChangesAreRight, StreamsOfUpdatesAreRight, CompleteUpdatesAreRight, CompleteListIsWhole, whole_list}
 use Rattle.hub_service.specs.declared.sent.Sent.{Sent}
 use Rattle.hub_service.specs.declared.sent.Sent.TheVariants.{Listed, Changes, Updates}
@@ -35,7 +36,7 @@ nothing_behind place (End l p ∷ x ∷ xs) item rest end ends = absurd (let e :
 
 -- what was sent of a feed of one kind, behind what was taken before
 record IsSentOf {R : Type 0} (wrap : Item R → StreamItem) (right : Label → List (Item R) → Type 0)
-    (feed : FeedOf R) (items : List StreamItem) (end : StreamEnd) : Type 0 where
+    (feed : FeedState R) (items : List StreamItem) (end : StreamEnd) : Type 0 where
   handed : List (Item R)
   wrapped : items ≡ map wrap handed
   rest : List (Item R)
@@ -43,26 +44,26 @@ record IsSentOf {R : Type 0} (wrap : Item R → StreamItem) (right : Label → L
   whole : end ≡ Complete → rest ≡ []
 
 -- how a stream of one kind goes on
-record IsStep {R : Type 0} (wrap : Item R → StreamItem) (sent : FeedOf R → Sent) (right : Label → List (Item R) → Type 0)
-    (feed : FeedOf R) (streamed : StreamItem) (mid : Option Sent) : Type 0 where
+record IsStep {R : Type 0} (wrap : Item R → StreamItem) (sent : FeedState R → Sent) (right : Label → List (Item R) → Type 0)
+    (feed : FeedState R) (streamed : StreamItem) (mid : Option Sent) : Type 0 where
   item : Item R
   wrapped : streamed ≡ wrap item
   ends : stream.is_end streamed ≡ is_end item
-  behind : mid ≡ sent_behind item (sent (behind_take feed item))
-  allowed : IsAllowedBeginning right (behind_take feed item)
+  behind : mid ≡ sent_behind item (sent (behind_item feed item))
+  allowed : IsAllowedBeginning right (receiver_of (behind_item feed item))
 
 -- what a stream hands of a feed of one kind, by how it goes on
-module _ {R : Type 0} (wrap : Item R → StreamItem) (sent : FeedOf R → Sent)
+module _ {R : Type 0} (wrap : Item R → StreamItem) (sent : FeedState R → Sent)
     (right : Label → List (Item R) → Type 0)
-    (step : (feed : FeedOf R) (item : StreamItem) (mid : Option Sent) → Gives (Some (sent feed)) (Some item) mid → IsStep wrap sent right feed item mid)
+    (step : (feed : FeedState R) (item : StreamItem) (mid : Option Sent) → Gives (Some (sent feed)) (Some item) mid → IsStep wrap sent right feed item mid)
     (ends : (l : Label) (items : List (Item R)) → right l items → (place : ℕ) × EndsAt place items) where
   -- the front of a list grows by an item that is taken
   grown : (l : Label) (taken : List (Item R)) (i : Item R) (items : List (Item R)) → right l ((taken ++ i ∷ []) ++ items) → right l (taken ++ i ∷ items)
   grown l taken i items r = subst (right l) (append_assoc taken (i ∷ []) items) r
 
   -- an item that is no End, and what is sent behind it
-  one_more : (feed : FeedOf R) (item : StreamItem) (items : List StreamItem) (end : StreamEnd) (mid : Option Sent) (s : IsStep wrap sent right feed item mid)
-      → IsSentOf wrap right (behind_take feed s.item) items end → IsSentOf wrap right feed (item ∷ items) end
+  one_more : (feed : FeedState R) (item : StreamItem) (items : List StreamItem) (end : StreamEnd) (mid : Option Sent) (s : IsStep wrap sent right feed item mid)
+      → IsSentOf wrap right (behind_item feed s.item) items end → IsSentOf wrap right feed (item ∷ items) end
   one_more feed item items end mid s later = record {
     handed = s.item ∷ later.handed;
     wrapped = ap (λ i. i ∷ items) s.wrapped ∙ ap (λ l. wrap s.item ∷ l) later.wrapped;
@@ -72,7 +73,7 @@ module _ {R : Type 0} (wrap : Item R → StreamItem) (sent : FeedOf R → Sent)
   }
 
   -- an End
-  last : (feed : FeedOf R) (item : StreamItem) (end : StreamEnd) (mid : Option Sent) (s : IsStep wrap sent right feed item mid) → stream.is_end item ≡ true
+  last : (feed : FeedState R) (item : StreamItem) (end : StreamEnd) (mid : Option Sent) (s : IsStep wrap sent right feed item mid) → stream.is_end item ≡ true
       → IsSentOf wrap right feed (item ∷ []) end
   last feed item end mid s is =
       let right_is = grown feed.label feed.taken s.item s.allowed.0 s.allowed.1 in
@@ -85,35 +86,35 @@ module _ {R : Type 0} (wrap : Item R → StreamItem) (sent : FeedOf R → Sent)
       }
 
   -- nothing more
-  none_more : (feed : FeedOf R) (end : StreamEnd) → IsAllowedBeginning right feed → (end ≡ Complete → ⊥) → IsSentOf wrap right feed [] end
+  none_more : (feed : FeedState R) (end : StreamEnd) → IsAllowedBeginning right (receiver_of feed) → (end ≡ Complete → ⊥) → IsSentOf wrap right feed [] end
   none_more feed end allowed stops = record { handed = []; wrapped = refl; rest = allowed.0; front = allowed.1; whole = λ c. absurd (stops c) }
 
-  step_from : (feed : FeedOf R) (s : Option Sent) (item : StreamItem) (mid : Option Sent) → s ≡ Some (sent feed) → Gives s (Some item) mid → IsStep wrap sent right feed item mid
+  step_from : (feed : FeedState R) (s : Option Sent) (item : StreamItem) (mid : Option Sent) → s ≡ Some (sent feed) → Gives s (Some item) mid → IsStep wrap sent right feed item mid
   step_from feed s item mid is given = step feed item mid (subst (λ o. Gives o (Some item) mid) is given)
 
   -- behind an item that is no End the feed is still sent
-  still_sent : (feed : FeedOf R) (item : StreamItem) (mid : Option Sent) (s : IsStep wrap sent right feed item mid) → stream.is_end item ≡ false → mid ≡ Some (sent (behind_take feed s.item))
-  still_sent feed item mid s is = s.behind ∙ ap (λ b. if b then None else Some (sent (behind_take feed s.item))) (sym s.ends ∙ is)
+  still_sent : (feed : FeedState R) (item : StreamItem) (mid : Option Sent) (s : IsStep wrap sent right feed item mid) → stream.is_end item ≡ false → mid ≡ Some (sent (behind_item feed s.item))
+  still_sent feed item mid s is = s.behind ∙ ap (λ b. if b then None else Some (sent (behind_item feed s.item))) (sym s.ends ∙ is)
 
   -- what is sent behind what was taken before
-  sent_behind_taken : {n : ℕ} {s t : Option Sent} {items : List StreamItem} {end : StreamEnd} → Streams connection_rules n s items end t
-      → (feed : FeedOf R) → s ≡ Some (sent feed) → IsAllowedBeginning right feed → IsSentOf wrap right feed items end
-  sent_behind_taken (Streams.goes_on {s = s} {mid = mid} {item = item} {items = items} {end = end} given is more) feed at allowed =
+  sent_behind_itemn : {n : ℕ} {s t : Option Sent} {items : List StreamItem} {end : StreamEnd} → Streams connection_rules n s items end t
+      → (feed : FeedState R) → s ≡ Some (sent feed) → IsAllowedBeginning right (receiver_of feed) → IsSentOf wrap right feed items end
+  sent_behind_itemn (Streams.goes_on {s = s} {mid = mid} {item = item} {items = items} {end = end} given is more) feed at allowed =
       let x = step_from feed s item mid at given in
-      one_more feed item items end mid x (sent_behind_taken more (behind_take feed x.item) (still_sent feed item mid x is) x.allowed)
-  sent_behind_taken (Streams.ends {s = s} {t = t} {item = item} given is) feed at allowed = last feed item Complete t (step_from feed s item t at given) is
-  sent_behind_taken (Streams.ends_broken {s = s} {t = t} {item = item} given is) feed at allowed = last feed item Broken t (step_from feed s item t at given) is
-  sent_behind_taken (Streams.stops mid given dropped) feed at allowed = none_more feed Stopped allowed (λ c. cc)
-  sent_behind_taken (Streams.loses mid lost given dropped) feed at allowed = none_more feed NoMemory allowed (λ c. cc)
-  sent_behind_taken (Streams.breaks dropped) feed at allowed = none_more feed Broken allowed (λ c. cc)
-  sent_behind_taken (Streams.gives_up dropped many) feed at allowed = none_more feed Exhausted allowed (λ c. cc)
+      one_more feed item items end mid x (sent_behind_itemn more (behind_item feed x.item) (still_sent feed item mid x is) x.allowed)
+  sent_behind_itemn (Streams.ends {s = s} {t = t} {item = item} given is) feed at allowed = last feed item Complete t (step_from feed s item t at given) is
+  sent_behind_itemn (Streams.ends_broken {s = s} {t = t} {item = item} given is) feed at allowed = last feed item Broken t (step_from feed s item t at given) is
+  sent_behind_itemn (Streams.stops mid given dropped) feed at allowed = none_more feed Stopped allowed (λ c. cc)
+  sent_behind_itemn (Streams.loses mid lost given dropped) feed at allowed = none_more feed NoMemory allowed (λ c. cc)
+  sent_behind_itemn (Streams.breaks dropped) feed at allowed = none_more feed Broken allowed (λ c. cc)
+  sent_behind_itemn (Streams.gives_up dropped many) feed at allowed = none_more feed Exhausted allowed (λ c. cc)
 
   -- what is sent of a feed, where anything is
   sent_of : {n : ℕ} {s t : Option Sent} {items : List StreamItem} {end : StreamEnd} → Streams connection_rules n s items end t
-      → (feed : FeedOf R) → s ≡ Some (sent feed) → items ≢ [] → IsSentOf wrap right feed items end
+      → (feed : FeedState R) → s ≡ Some (sent feed) → items ≢ [] → IsSentOf wrap right feed items end
   sent_of (Streams.goes_on {s = s} {mid = mid} {item = item} {items = items} {end = end} given is more) feed at some =
       let x = step_from feed s item mid at given in
-      one_more feed item items end mid x (sent_behind_taken more (behind_take feed x.item) (still_sent feed item mid x is) x.allowed)
+      one_more feed item items end mid x (sent_behind_itemn more (behind_item feed x.item) (still_sent feed item mid x is) x.allowed)
   sent_of (Streams.ends {s = s} {t = t} {item = item} given is) feed at some = last feed item Complete t (step_from feed s item t at given) is
   sent_of (Streams.ends_broken {s = s} {t = t} {item = item} given is) feed at some = last feed item Broken t (step_from feed s item t at given) is
   sent_of (Streams.stops mid given dropped) feed at some = absurd (some refl)
@@ -130,22 +131,22 @@ right_changes l items = changes.IsRightFor (params_in l.asked) l.since items
 abbrev right_updates : Label → List (Item UpdateRow) → Type 0
 right_updates l items = updates.IsRightFor (params_in l.asked) l.since items
 
-step_of_changes : (feed : FeedOf ChangeRow) (item : StreamItem) (mid : Option Sent) → Gives (Some (Changes feed)) (Some item) mid → IsStep Change Changes right_changes feed item mid
+step_of_changes : (feed : FeedState ChangeRow) (item : StreamItem) (mid : Option Sent) → Gives (Some (Changes feed)) (Some item) mid → IsStep Change Changes right_changes feed item mid
 step_of_changes feed (Change item) mid given = record { item = item; wrapped = refl; ends = refl; behind = given.0; allowed = given.1 }
 step_of_changes feed (Update item) mid given = absurd given
 
-step_of_updates : (feed : FeedOf UpdateRow) (item : StreamItem) (mid : Option Sent) → Gives (Some (Updates feed)) (Some item) mid → IsStep Update Updates right_updates feed item mid
+step_of_updates : (feed : FeedState UpdateRow) (item : StreamItem) (mid : Option Sent) → Gives (Some (Updates feed)) (Some item) mid → IsStep Update Updates right_updates feed item mid
 step_of_updates feed (Change item) mid given = absurd given
 step_of_updates feed (Update item) mid given = record { item = item; wrapped = refl; ends = refl; behind = given.0; allowed = given.1 }
 
-sent_changes : (items : List StreamItem) (feed : FeedOf ChangeRow) (end : StreamEnd) (t : Option Sent) → Streams connection_rules 0 (Some (Changes feed)) items end t → items ≢ [] → IsSentOf Change right_changes feed items end
+sent_changes : (items : List StreamItem) (feed : FeedState ChangeRow) (end : StreamEnd) (t : Option Sent) → Streams connection_rules 0 (Some (Changes feed)) items end t → items ≢ [] → IsSentOf Change right_changes feed items end
 sent_changes items feed end t goes some = sent_of Change Changes right_changes step_of_changes (λ l items r. (r.feed.place, r.right.ends)) goes feed refl some
 
-sent_updates : (items : List StreamItem) (feed : FeedOf UpdateRow) (end : StreamEnd) (t : Option Sent) → Streams connection_rules 0 (Some (Updates feed)) items end t → items ≢ [] → IsSentOf Update right_updates feed items end
+sent_updates : (items : List StreamItem) (feed : FeedState UpdateRow) (end : StreamEnd) (t : Option Sent) → Streams connection_rules 0 (Some (Updates feed)) items end t → items ≢ [] → IsSentOf Update right_updates feed items end
 sent_updates items feed end t goes some = sent_of Update Updates right_updates step_of_updates (λ l items r. (r.feed.place, r.right.ends)) goes feed refl some
 
 -- nothing was taken before
-from_nothing : {R : Type 0} (right : Label → List (Item R) → Type 0) (feed : FeedOf R) (items : List (Item R)) → feed.taken ≡ [] → right feed.label (feed.taken ++ items) → right feed.label items
+from_nothing : {R : Type 0} (right : Label → List (Item R) → Type 0) (feed : FeedState R) (items : List (Item R)) → feed.taken ≡ [] → right feed.label (feed.taken ++ items) → right feed.label items
 from_nothing right feed items none r = subst (λ taken. right feed.label (taken ++ items)) none r
 
 -- a stream that came to its end handed something

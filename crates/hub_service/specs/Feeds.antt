@@ -12,10 +12,10 @@ use Rattle.hub_model.specs.declared.feeds.Item.TheVariants.{Row, End}
 use Rattle.hub_database.specs.Database.{Database}
 use Rattle.hub_database.specs.Handing as changes
 use Rattle.hub_database.specs.Hosting.{hosted_of}
-use Rattle.hub_databases.specs.Asked.{updates_asked}
+use Rattle.hub_updates.specs.Asked.{updates_asked}
 use Rattle.hub_updates.specs.Log as updates
 use Rattle.hub_feed.specs.Host.{opening_fault}
-use Rattle.hub_lane.specs.Ends.{IsAllowedBeginning, ReceiverState, behind_take}
+use Rattle.hub_lane.specs.Ends.{IsAllowedBeginning}
 use Rattle.hub_params.specs.FeedParams.{FeedAsked, feed_asked}
 use Rattle.hub_params.specs.FeedModel.{params_in}
 use Rattle.hub_params.specs.Room.{FeedNeedsRoom}
@@ -24,7 +24,7 @@ use Rattle.hub_http.specs.declared.refusal.Refusal.{Refusal}
 use Rattle.hub_http.specs.declared.refusal.Refusal.TheVariants as refusal
 use Rattle.hub_session.specs.declared.item.StreamItem.{StreamItem}
 use Rattle.hub_session.specs.declared.item.StreamItem.TheVariants.{Change, Update}
-use Rattle.hub_shared.specs.Label.{Label}
+use Rattle.hub_shared.specs.Feeds.{FeedState, behind_item, receiver_of}
 use Rattle.hub_shared.specs.Handles.{IsBeginningFor}
 use Rattle.hub_service.specs.Moments.{HasDatabase}
 use Rattle.hub_service.specs.Refusals.{of_open_fault, of_param_fault}
@@ -33,10 +33,6 @@ use Rattle.hub_service.specs.declared.response.Response.{Response}
 use Rattle.hub_service.specs.declared.response.Response.TheVariants.{Body, Stream}
 use Rattle.hub_service.specs.declared.sent.Sent.{Sent}
 use Rattle.hub_service.specs.declared.sent.Sent.TheVariants.{Listed, Changes, Updates}
-
--- a feed as its connection has it: what was asked, where it began, and what was taken of it
-abbrev pub FeedOf : Type 0 → Type 0
-FeedOf R = ReceiverState Label (Item R)
 
 -- the number of the life that the sequences of what is sent are of
 abbrev pub life_of : Sent → ℕ
@@ -49,7 +45,7 @@ life_of (Updates feed) = feed.label.life
 -- A feed that was opened with these parameters, of which nothing was taken. It shows what lies above a
 -- sequence that is not above the one asked for, and below it only where that many edits were not there yet; a
 -- sequence of another life counts as 0.
-pub record IsNew {R : Type 0} (asked : FeedAsked) (feed : FeedOf R) : Type 0 where
+pub record IsNew {R : Type 0} (asked : FeedAsked) (feed : FeedState R) : Type 0 where
   pub asks : feed.label.asked ≡ asked
   pub begins : IsBeginningFor asked.since 0 feed.label
   pub none : feed.taken ≡ []
@@ -63,8 +59,8 @@ IsBegun asked mode (Updates feed) = ⊥
 
 -- why a database begins no feed: it was deleted, or it has as many as it may
 abbrev pub IsUnopened : FeedAsked → Refusal → Type 0
-IsUnopened asked e = (db : Database)
-    × (e ≡ if asked.descending then (if db.deleted then refusal.Deleted else refusal.NoMemory)
+IsUnopened asked e = HasDatabase (λ db.
+    e ≡ if asked.descending then (if db.deleted then refusal.Deleted else refusal.NoMemory)
     else of_open_fault (opening_fault (hosted_of db)))
 
 -- what parameters ask of a database is begun, or not: beginning takes memory
@@ -111,12 +107,14 @@ abbrev pub next_listed : Descending → Item ChangeRow × Option Descending
 next_listed answer = next_of_rows answer.rows answer.last_seq answer.pending answer.life
 
 -- what was taken of a feed of changes is a front of a list that is rightly handed for what was asked
-abbrev pub IsRightChanges : FeedOf ChangeRow → Type 0
-IsRightChanges = IsAllowedBeginning (λ l items. changes.IsRightFor (params_in l.asked) l.since items)
+abbrev pub IsRightChanges : FeedState ChangeRow → Type 0
+IsRightChanges feed =
+    IsAllowedBeginning (λ l items. changes.IsRightFor (params_in l.asked) l.since items) (receiver_of feed)
 
 -- and so of a feed of updates
-abbrev pub IsRightUpdates : FeedOf UpdateRow → Type 0
-IsRightUpdates = IsAllowedBeginning (λ l items. updates.IsRightFor (params_in l.asked) l.since items)
+abbrev pub IsRightUpdates : FeedState UpdateRow → Type 0
+IsRightUpdates feed =
+    IsAllowedBeginning (λ l items. updates.IsRightFor (params_in l.asked) l.since items) (receiver_of feed)
 
 -- what is sent behind an item: nothing more behind an end
 abbrev pub sent_behind : {R : Type 0} → Item R → Sent → Option Sent
@@ -132,11 +130,11 @@ Gives (Some (Listed answer)) (Some (Change item)) t =
     (item ≡ (next_listed answer).0) × (t ≡ option_map Listed (next_listed answer).1)
 Gives (Some (Listed answer)) (Some (Update item)) t = ⊥
 Gives (Some (Changes feed)) (Some (Change item)) t =
-    (t ≡ sent_behind item (Changes (behind_take feed item))) × IsRightChanges (behind_take feed item)
+    (t ≡ sent_behind item (Changes (behind_item feed item))) × IsRightChanges (behind_item feed item)
 Gives (Some (Changes feed)) (Some (Update item)) t = ⊥
 Gives (Some (Updates feed)) (Some (Change item)) t = ⊥
 Gives (Some (Updates feed)) (Some (Update item)) t =
-    (t ≡ sent_behind item (Updates (behind_take feed item))) × IsRightUpdates (behind_take feed item)
+    (t ≡ sent_behind item (Updates (behind_item feed item))) × IsRightUpdates (behind_item feed item)
 
 -- what is sent is not sent on
 abbrev pub Drops : Option Sent → Option Sent → Type 0

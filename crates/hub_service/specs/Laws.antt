@@ -14,7 +14,8 @@ use Rattle.hub_session.specs.declared.closing.StreamEnd.{StreamEnd}
 use Rattle.hub_session.specs.declared.closing.StreamEnd.TheVariants.{Complete}
 use Rattle.hub_session.specs.declared.item.StreamItem.{StreamItem}
 use Rattle.hub_session.specs.declared.item.StreamItem.TheVariants.{Change, Update}
-use Rattle.hub_service.specs.Feeds.{Drops, FeedOf, Gives}
+use Rattle.hub_shared.specs.Feeds.{FeedState}
+use Rattle.hub_service.specs.Feeds.{Drops, Gives}
 use Rattle.hub_service.specs.Requests.{Answers}
 use Rattle.hub_service.specs.declared.sent.Sent.{Sent}
 use Rattle.hub_service.specs.declared.sent.Sent.TheVariants.{Listed, Changes, Updates}
@@ -24,37 +25,37 @@ abbrev pub connection_rules : Rules (Option Sent)
 connection_rules = record { answers = Answers; gives = Gives; drops = Drops }
 
 -- these items are the front of a list that is rightly handed for what was asked of the feed
-abbrev pub IsFrontOfChanges : FeedOf ChangeRow → List (Item ChangeRow) → Type 0
+abbrev pub IsFrontOfChanges : FeedState ChangeRow → List (Item ChangeRow) → Type 0
 IsFrontOfChanges feed items = (rest : List (Item ChangeRow))
     × changes.IsRightFor (params_in feed.label.asked) feed.label.since (items ++ rest)
 
 -- and so of a feed of updates
-abbrev pub IsFrontOfUpdates : FeedOf UpdateRow → List (Item UpdateRow) → Type 0
+abbrev pub IsFrontOfUpdates : FeedState UpdateRow → List (Item UpdateRow) → Type 0
 IsFrontOfUpdates feed items = (rest : List (Item UpdateRow))
     × updates.IsRightFor (params_in feed.label.asked) feed.label.since (items ++ rest)
 
 -- what is sent of a feed of changes, however its stream ends, is the front of a list that is rightly handed
 abbrev pub StreamsOfChangesAreRight : Type 0
-StreamsOfChangesAreRight = (feed : FeedOf ChangeRow) (items : List StreamItem) (end : StreamEnd) (t : Option Sent)
+StreamsOfChangesAreRight = (feed : FeedState ChangeRow) (items : List StreamItem) (end : StreamEnd) (t : Option Sent)
     → feed.taken ≡ [] → items ≢ [] → Streams connection_rules 0 (Some (Changes feed)) items end t
     → (handed : List (Item ChangeRow)) × (items ≡ map Change handed) × IsFrontOfChanges feed handed
 
 -- what is sent of a feed of changes to its end is the whole of a list that is rightly handed
 abbrev pub CompleteChangesAreRight : Type 0
-CompleteChangesAreRight = (feed : FeedOf ChangeRow) (items : List StreamItem) (t : Option Sent)
+CompleteChangesAreRight = (feed : FeedState ChangeRow) (items : List StreamItem) (t : Option Sent)
     → feed.taken ≡ [] → Streams connection_rules 0 (Some (Changes feed)) items Complete t
     → (handed : List (Item ChangeRow)) × (items ≡ map Change handed)
     × changes.IsRightFor (params_in feed.label.asked) feed.label.since handed
 
 -- what is sent of a feed of updates, however its stream ends, is the front of a list that is rightly handed
 abbrev pub StreamsOfUpdatesAreRight : Type 0
-StreamsOfUpdatesAreRight = (feed : FeedOf UpdateRow) (items : List StreamItem) (end : StreamEnd) (t : Option Sent)
+StreamsOfUpdatesAreRight = (feed : FeedState UpdateRow) (items : List StreamItem) (end : StreamEnd) (t : Option Sent)
     → feed.taken ≡ [] → items ≢ [] → Streams connection_rules 0 (Some (Updates feed)) items end t
     → (handed : List (Item UpdateRow)) × (items ≡ map Update handed) × IsFrontOfUpdates feed handed
 
 -- what is sent of a feed of updates to its end is the whole of a list that is rightly handed
 abbrev pub CompleteUpdatesAreRight : Type 0
-CompleteUpdatesAreRight = (feed : FeedOf UpdateRow) (items : List StreamItem) (t : Option Sent)
+CompleteUpdatesAreRight = (feed : FeedState UpdateRow) (items : List StreamItem) (t : Option Sent)
     → feed.taken ≡ [] → Streams connection_rules 0 (Some (Updates feed)) items Complete t
     → (handed : List (Item UpdateRow)) × (items ≡ map Update handed)
     × updates.IsRightFor (params_in feed.label.asked) feed.label.since handed

@@ -1,8 +1,9 @@
 //! How the items of feeds come to the connection that sends them.
 
 ghost use Rattle.std.specs.Prelude.{◌≡◌, IfNone, IfSome};
-ghost use Rattle.hub_lane.specs.Ends.{IsAllowedBeginning, behind_take};
+ghost use Rattle.hub_lane.specs.Ends.{IsAllowedBeginning};
 ghost use Rattle.hub_params.specs.FeedModel.{params_in};
+ghost use Rattle.hub_shared.specs.Feeds.{behind_item, receiver_of};
 
 use hub_feed::FeedHost;
 use hub_model::Item;
@@ -26,10 +27,10 @@ pub trait Pumping: Drop {
         &self,
         feed: &mut HostFeed<S, H>,
     ) -> Option<Item<S::Row>>
-        ensures taken { IfSome result (λ item. feed.new ≡ behind_take feed.old item) }
+        ensures taken { IfSome result (λ item. feed.new ≡ behind_item feed.old item) }
         ensures same { IfNone result (feed.new ≡ feed.old) }
         ensures allowed { IsAllowedBeginning
-            (λ l items. S.right (params_in l.asked) l.since items) feed.new };
+            (λ l items. S.right (params_in l.asked) l.since items) (receiver_of feed.new) };
 
     /// Whether `next_item` would answer at once. It decides flushing alone.
     fn is_ready<S: FeedHost, H: Pumped<S>>(&self, feed: &HostFeed<S, H>) -> bool;

@@ -3,7 +3,6 @@
 ghost use Rattle.std.specs.Prelude.{◌≡◌, ◌⊎◌, ℕ, false, length, option_map, IfErr, IfOk, OnErr, string_bytes};
 ghost use Rattle.hub_model.specs.Descending.{descending};
 ghost use Rattle.hub_model.specs.Missing.{diffs};
-ghost use Rattle.hub_database.specs.Database.{Database};
 ghost use Rattle.hub_database.specs.Hosting.{hosted_of};
 ghost use Rattle.hub_database.specs.Locals.{local_of};
 ghost use Rattle.hub_database.specs.Reads.{info_of, lookup, open_revs};
@@ -13,7 +12,7 @@ ghost use Rattle.hub_params.specs.FeedShown.{params_asked};
 ghost use Rattle.hub_shared.specs.Answers.{IsAnswer, local_named};
 ghost use Rattle.hub_service.specs.Calls.{winner_in};
 ghost use Rattle.hub_service.specs.Feeds.{IsNew};
-ghost use Rattle.hub_service.specs.Moments.{IsFound, IsKept, IsStored};
+ghost use Rattle.hub_service.specs.Moments.{HasDatabase, IsFound, IsKept, IsStored};
 
 use crate::refusal::refusal_of;
 use hub_database::{Descending, Diff, Info, Local, Lookup, OpenRev};
@@ -144,7 +143,7 @@ impl<'a, N: Wait> Target<'a, N> {
     pub(crate) fn open_feed(&self, params: FeedParams) -> Result<Feed<Plain>, OpenFault>
         ensures new { IfOk result (λ feed. IsNew (params_asked params) feed) }
         ensures err { IfErr result (λ e. (e ≡ OpenFault.NoMemory)
-            ⊎ ((db : Database) × (e ≡ opening_fault (hosted_of db)))) }
+            ⊎ HasDatabase (λ db. e ≡ opening_fault (hosted_of db))) }
     {
         let Ok(mut handle) = self.db.handle() else {
             return Err(OpenFault::NoMemory);
