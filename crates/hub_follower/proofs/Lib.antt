@@ -1,6 +1,7 @@
 pub mod Opening
 pub mod Telling
 pub mod Walking
+pub mod Beginning
 pub mod Served
 pub mod ExactRuns
 pub mod ReadBack

@@ -1,15 +1,17 @@
 -- How a follower goes from call to call.
 use Rattle.std.proofs.Common.{◌≡◌, ◌∙◌, ◌+◌, ◌≤◌, ◌⊎◌, inl, inr, refl, sym, ap, subst, ⊎_elim, arith, List, [], ◌∷◌, ◌++◌, length, map, Bool, true, false, Option, Some, None, Result, Ok, Err}
-use Rattle.std.specs.Prelude.{OnErr}
+use Rattle.std.specs.Prelude.{OnErr, IfErr}
+use Rattle.std.specs.Result.{IsErrAnd}
 use Rattle.hub_model.specs.Journal.{Edit}
 use Rattle.hub_model.specs.Missing.{Asked}
 use Rattle.hub_follow_model.specs.Follower as follow
 use Rattle.hub_follow_model.specs.Sequence.{seq_of}
 use Rattle.hub_follow_model.specs.World as world
 use Rattle.hub_follow_model.specs.declared.seq.Seq.{Seq}
-use Rattle.hub_follower.specs.Peers.{Gives, Fails, Steps, FailsSo, Walks, Reaches, HasCountedCalls, IsPastAsking, calls_left, Idles}
+use Rattle.hub_follower.specs.Peers.{Gives, Fails, Standing, Steps, FailsSo, Breaks, Walks, Reaches, HasCountedCalls, IsPastAsking, calls_left, Idles}
+use Rattle.hub_follower.specs.declared.fault.FollowFault.{FollowFault}
 
--- a failed follower owes nothing, at the same place
+-- a failed follower owes nothing
 pub failed_free : (core : follow.Follower) → world.is_free (follow.after_failure core) ≡ true
 failed_free follow.Down = refl
 failed_free (follow.SourceStart name) = refl
@@ -17,16 +19,25 @@ failed_free (follow.TargetStart name source) = refl
 failed_free (follow.Ready s) = refl
 failed_free (follow.Busy s work) = refl
 
-pub failed_place : (core : follow.Follower) → world.place_of (follow.after_failure core) ≡ world.place_of core
-failed_place follow.Down = refl
-failed_place (follow.SourceStart name) = refl
-failed_place (follow.TargetStart name source) = refl
-failed_place (follow.Ready s) = refl
-failed_place (follow.Busy s work) = refl
+-- a round that fails leaves a follower that owes nothing as it was
+pub round_fails : (core : follow.Follower) → world.is_free core ≡ true → follow.after_failure (world.round_start core) ≡ core
+round_fails follow.Down f = refl
+round_fails (follow.SourceStart name) f = absurd (cc)
+round_fails (follow.TargetStart name source) f = absurd (cc)
+round_fails (follow.Ready s) f = refl
+round_fails (follow.Busy s work) f = absurd (cc)
+
+-- and so does a checkpoint
+pub checkpoint_fails : (core : follow.Follower) → world.is_free core ≡ true → follow.after_failure (world.checkpoint_start core) ≡ core
+checkpoint_fails follow.Down f = refl
+checkpoint_fails (follow.SourceStart name) f = absurd (cc)
+checkpoint_fails (follow.TargetStart name source) f = absurd (cc)
+checkpoint_fails (follow.Ready s) f = refl
+checkpoint_fails (follow.Busy s work) f = absurd (cc)
 
 -- what an answer leads to
 abbrev pub Leads : follow.Follower → follow.Follower → Type 0
-Leads core core' = ((follow.next_call core' ≡ None) ⊎ (world.place_of core' ≡ world.place_of core)) × IsPastAsking core' × (IsPastAsking core → HasCountedCalls core') × (HasCountedCalls core → (calls_left core' + 1 ≤ calls_left core))
+Leads core core' = ((follow.next_call core' ≡ None) ⊎ (follow.after_failure core' ≡ follow.after_failure core)) × IsPastAsking core' × (IsPastAsking core → HasCountedCalls core') × (HasCountedCalls core → (calls_left core' + 1 ≤ calls_left core))
 
 rests : (core core' : follow.Follower) (s : follow.Session) → core' ≡ follow.Ready s → (HasCountedCalls core → 1 ≤ calls_left core) → Leads core core'
 rests core core' s e n = subst (λ z. Leads core z) (sym e) (inl refl, tt, (λ p. tt), (λ p. let m = n p in omega (arith, m)))
@@ -94,50 +105,59 @@ past_none (follow.Ready s) e = (tt, tt)
 past_none (follow.Busy s work) e = absurd (cc)
 
 module _ {S T : Type 0} (gives_s : Gives S) (gives_t : Gives T) where
-  pub walk_more : (between : List (follow.Follower × S × T)) (core : follow.Follower) (s : S) (t : T) (mid : follow.Follower) (s1 : S) (t1 : T) (new : follow.Follower) (s2 : S) (t2 : T)
-      → Walks gives_s gives_t between core s t mid s1 t1 → Steps gives_s gives_t mid s1 t1 new s2 t2 → Walks gives_s gives_t (between ++ (new, s2, t2) ∷ []) core s t new s2 t2
-  walk_more [] core s t mid s1 t1 new s2 t2 (a, b, c) p = (subst (λ z. Steps gives_s gives_t z s t new s2 t2) a (subst (λ z. Steps gives_s gives_t mid z t new s2 t2) b (subst (λ z. Steps gives_s gives_t mid s1 z new s2 t2) c p)), (refl, refl, refl))
-  walk_more (q ∷ between) core s t mid s1 t1 new s2 t2 (x, w) p = (x, walk_more between q.0 q.1 q.2 mid s1 t1 new s2 t2 w p)
+  pub walk_more : (between : List (Standing S T)) (old mid new : Standing S T) → Walks gives_s gives_t between old mid → Steps gives_s gives_t mid new → Walks gives_s gives_t (between ++ new ∷ []) old new
+  walk_more [] old mid new e p = (subst (λ (z : Standing S T). Steps gives_s gives_t z new) e p, refl)
+  walk_more (q ∷ between) old mid new (x, w) p = (x, walk_more between q mid new w p)
 
-  pub reach_none : (core : follow.Follower) (s : S) (t : T) → Reaches gives_s gives_t core s t core s t
-  reach_none core s t = record { walk = ([], (refl, refl, refl)); place = inr refl }
+  pub reach_none : (old : Standing S T) → Reaches gives_s gives_t old old
+  reach_none old = record { walk = ([], refl); left = inr refl }
 
   -- a call was made, or none was owed
-  pub past_asking : (made : Bool) (core : follow.Follower) (s : S) (t : T) (new : follow.Follower) (s1 : S) (t1 : T) → Idles made core s t new s1 t1 → (made ≡ true → Steps gives_s gives_t core s t new s1 t1) → IsPastAsking new
-  past_asking false core s t new s1 t1 idle ok = let (n, e, a, b) = idle refl in subst IsPastAsking (sym e) (past_none core n).0
-  past_asking true core s t new s1 t1 idle ok = let p = ok refl in (leads core p.1 new p.4).1
+  pub past_asking : (made : Bool) (old new : Standing S T) → Idles made old new → (made ≡ true → Steps gives_s gives_t old new) → IsPastAsking new.follower
+  past_asking false old new idle ok = let (n, e) = idle refl in subst (λ (z : Standing S T). IsPastAsking z.follower) (sym e) (past_none old.follower n).0
+  past_asking true old new idle ok = let p = ok refl in (leads old.follower p.1 new.follower p.4).1
 
-  pub counted : (made : Bool) (core : follow.Follower) (s : S) (t : T) (new : follow.Follower) (s1 : S) (t1 : T) → Idles made core s t new s1 t1 → (made ≡ true → Steps gives_s gives_t core s t new s1 t1) → IsPastAsking core → HasCountedCalls new
-  counted false core s t new s1 t1 idle ok past = let (n, e, a, b) = idle refl in subst HasCountedCalls (sym e) (past_none core n).1
-  counted true core s t new s1 t1 idle ok past = let p = ok refl in (leads core p.1 new p.4).2 past
+  pub counted : (made : Bool) (old new : Standing S T) → Idles made old new → (made ≡ true → Steps gives_s gives_t old new) → IsPastAsking old.follower → HasCountedCalls new.follower
+  counted false old new idle ok past = let (n, e) = idle refl in subst (λ (z : Standing S T). HasCountedCalls z.follower) (sym e) (past_none old.follower n).1
+  counted true old new idle ok past = let p = ok refl in (leads old.follower p.1 new.follower p.4).2 past
 
-  pub counted_more : (core : follow.Follower) (s : S) (t : T) (new : follow.Follower) (s1 : S) (t1 : T) → Steps gives_s gives_t core s t new s1 t1 → HasCountedCalls core → HasCountedCalls new
-  counted_more core s t new s1 t1 p c = (leads core p.1 new p.4).2 (counted_past core c)
+  pub counted_more : (old new : Standing S T) → Steps gives_s gives_t old new → HasCountedCalls old.follower → HasCountedCalls new.follower
+  counted_more old new p c = (leads old.follower p.1 new.follower p.4).2 (counted_past old.follower c)
 
-  pub fewer_left : (core : follow.Follower) (s : S) (t : T) (new : follow.Follower) (s1 : S) (t1 : T) → Steps gives_s gives_t core s t new s1 t1 → HasCountedCalls core → calls_left new + 1 ≤ calls_left core
-  fewer_left core s t new s1 t1 p c = (leads core p.1 new p.4).3 c
+  pub fewer_left : (old new : Standing S T) → Steps gives_s gives_t old new → HasCountedCalls old.follower → calls_left new.follower + 1 ≤ calls_left old.follower
+  fewer_left old new p c = (leads old.follower p.1 new.follower p.4).3 c
 
-  module _ (core : follow.Follower) (s : S) (t : T) (mid : follow.Follower) (s1 : S) (t1 : T) (r : Reaches gives_s gives_t core s t mid s1 t1) where
-    -- while a call is owed, the place is the first one's
-    owing_place : (call : follow.Call) → follow.next_call mid ≡ Some call → world.place_of mid ≡ world.place_of core
-    owing_place call o = ⊎_elim (λ (n : follow.next_call mid ≡ None). absurd (let u : Some call ≡ None = sym o ∙ n in cc)) (λ p. p) r.place
+  module _ (old mid : Standing S T) (r : Reaches gives_s gives_t old mid) where
+    -- while a call is owed, a failure leaves what it leaves of the first follower
+    owing_left : (call : follow.Call) → follow.next_call mid.follower ≡ Some call → follow.after_failure mid.follower ≡ follow.after_failure old.follower
+    owing_left call o = ⊎_elim (λ (n : follow.next_call mid.follower ≡ None). absurd (let u : Some call ≡ None = sym o ∙ n in cc)) (λ p. p) r.left
 
-    pub reach_more : (new : follow.Follower) (s2 : S) (t2 : T) → Steps gives_s gives_t mid s1 t1 new s2 t2 → Reaches gives_s gives_t core s t new s2 t2
-    reach_more new s2 t2 p = record {
-      walk = (r.walk.0 ++ (new, s2, t2) ∷ [], walk_more r.walk.0 core s t mid s1 t1 new s2 t2 r.walk.1 p);
-      place = ⊎_elim (λ n. inl n) (λ q. inr (q ∙ owing_place p.0 p.2)) (leads mid p.1 new p.4).0;
+    pub reach_more : (new : Standing S T) → Steps gives_s gives_t mid new → Reaches gives_s gives_t old new
+    reach_more new p = record {
+      walk = (r.walk.0 ++ new ∷ [], walk_more r.walk.0 old mid new r.walk.1 p);
+      left = ⊎_elim (λ n. inl n) (λ q. inr (q ∙ owing_left p.0 p.2)) (leads mid.follower p.1 new.follower p.4).0;
     }
 
-    pub reach_on : (made : Bool) (new : follow.Follower) (s2 : S) (t2 : T) → Idles made mid s1 t1 new s2 t2 → (made ≡ true → Steps gives_s gives_t mid s1 t1 new s2 t2) → Reaches gives_s gives_t core s t new s2 t2
-    reach_on true new s2 t2 idle ok = reach_more new s2 t2 (ok refl)
-    reach_on false new s2 t2 idle ok =
-        let (n, e, a, b) = idle refl in
-        subst (λ z. Reaches gives_s gives_t core s t z s2 t2) (sym e) (subst (λ z. Reaches gives_s gives_t core s t mid z t2) (sym a) (subst (λ z. Reaches gives_s gives_t core s t mid s1 z) (sym b) r))
+    pub reach_on : (made : Bool) (new : Standing S T) → Idles made mid new → (made ≡ true → Steps gives_s gives_t mid new) → Reaches gives_s gives_t old new
+    reach_on true new idle ok = reach_more new (ok refl)
+    reach_on false new idle ok = let (n, e) = idle refl in subst (λ (z : Standing S T). Reaches gives_s gives_t old z) (sym e) r
 
-    pub reach_fails : (loses_s : Fails S) (loses_t : Fails T) (new : follow.Follower) (s2 : S) (t2 : T) → FailsSo gives_s gives_t loses_s loses_t mid s1 t1 new s2 t2 → (world.place_of new ≡ world.place_of core) × (world.is_free new ≡ true)
-    reach_fails loses_s loses_t new s2 t2 p = (ap world.place_of p.2 ∙ (failed_place mid ∙ owing_place p.0 p.1), ap world.is_free p.2 ∙ failed_free mid)
+    module _ (loses_s : Fails S) (loses_t : Fails T) (fault : FollowFault) (new : Standing S T) (p : FailsSo gives_s gives_t loses_s loses_t fault mid new) where
+      pub reach_breaks : Breaks gives_s gives_t loses_s loses_t fault old new
+      reach_breaks = (r.walk.0, mid, r.walk.1, p)
+
+      pub reach_fails : new.follower ≡ follow.after_failure old.follower
+      reach_fails = p.2 ∙ owing_left p.0 p.1
+
+      pub reach_rests : world.is_free new.follower ≡ true
+      reach_rests = ap world.is_free p.2 ∙ failed_free mid.follower
 
 -- what holds in every case holds where it failed
 pub on_err : {T E : Type 0} (r : Result T E) (P : Type 0) → P → OnErr r P
 on_err (Ok x) P p = tt
 on_err (Err e) P p = p
+
+-- a fault goes on as it is
+pub if_err_on : {T E : Type 0} (r : Result T E) (P : E → Type 0) (fault : E) → IsErrAnd r (λ e. e ≡ fault) → P fault → IfErr r P
+if_err_on (Ok x) P fault same p = tt
+if_err_on (Err e) P fault same p = subst P (sym same) p

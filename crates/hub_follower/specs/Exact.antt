@@ -1,15 +1,17 @@
--- A follower over two peers that answer exactly is a run of its world (own).
-use Rattle.std.specs.Prelude.{◌≡◌, ℕ, List, map, Option, Some}
+-- A follower over two peers that answer exactly is a run of its world, also where a call fails (own).
+use Rattle.std.specs.Prelude.{◌≡◌, ◌⊎◌, ℕ, List, map, take, Option, Some}
 use Rattle.hub_model.specs.Journal.{Edit}
 use Rattle.hub_model.specs.Missing.{diffs}
 use Rattle.hub_model.specs.Outcome.{merges_all}
 use Rattle.hub_model.specs.Walk.{shown}
 use Rattle.hub_follow_model.specs.Follower as follow
 use Rattle.hub_follow_model.specs.Sequence.{seq_in}
-use Rattle.hub_follow_model.specs.World.{World, Event, Run}
+use Rattle.hub_follow_model.specs.Copied.{IsFaithful}
+use Rattle.hub_follow_model.specs.World.{World, Event, Run, empty_world}
 use Rattle.hub_follow_model.specs.ChangesFeed.{HasChangesAnswer}
 use Rattle.hub_follow_model.specs.ReplicationLog.{ReplicationLog}
-use Rattle.hub_follower.specs.Peers.{IsWalk}
+use Rattle.hub_follower.specs.Peers.{Standing, IsWalk, Breaks}
+use Rattle.hub_follower.specs.declared.fault.FollowFault.{FollowFault}
 
 -- what a peer holds
 pub record Held : Type 0 where
@@ -22,27 +24,74 @@ abbrev pub IsExact : ℕ → Held → follow.Call → follow.Answer → Held →
 IsExact limit h (follow.LocalGet side) (follow.LogAnswer log) new = (log ≡ h.log) × (new ≡ h)
 IsExact limit h (follow.Changes since) (follow.ChangesAnswer rows last life) new =
     HasChangesAnswer h.journal (seq_in h.life since) rows last × (life ≡ h.life) × (new ≡ h)
-IsExact limit h (follow.RevsDiff asked) (follow.RevsDiffAnswer missed) new = (missed ≡ diffs h.journal asked) × (new ≡ h)
-IsExact limit h (follow.OpenRevs id revs) (follow.OpenRevsAnswer docs) new = (docs ≡ map (shown h.journal id) revs) × (new ≡ h)
-IsExact limit h (follow.Merge docs) (follow.MergeAnswer outcomes) new = (outcomes ≡ (merges_all limit h.journal docs).outcomes) × (new ≡ record h { journal = (merges_all limit h.journal docs).journal })
+IsExact limit h (follow.RevsDiff asked) (follow.RevsDiffAnswer missed) new =
+    (missed ≡ diffs h.journal asked) × (new ≡ h)
+IsExact limit h (follow.OpenRevs id revs) (follow.OpenRevsAnswer docs) new =
+    (docs ≡ map (shown h.journal id) revs) × (new ≡ h)
+IsExact limit h (follow.Merge docs) (follow.MergeAnswer outcomes) new =
+    (outcomes ≡ (merges_all limit h.journal docs).outcomes)
+    × (new ≡ record h { journal = (merges_all limit h.journal docs).journal })
 IsExact limit h (follow.LocalPut side log) follow.PutAnswer new = new ≡ record h { log = Some log }
 IsExact limit h call answer new = ⊥
 
--- the world of both and the follower
-abbrev pub world_at : ℕ → List (List ℕ) → Held → Held → follow.Follower → World
-world_at limit sessions s t follower =
+-- a merge of which so many documents were stored, the first ones
+abbrev pub IsStoredInPart : ℕ → Held → follow.Call → Held → Type 0
+IsStoredInPart limit h (follow.Merge docs) new =
+    (count : ℕ) × (new ≡ record h { journal = (merges_all limit h.journal (take count docs)).journal })
+IsStoredInPart limit h call new = ⊥
+
+-- How a call of such a database fails: it has no effect; or its whole effect, and the answer is lost; or it
+-- is a merge that stops. So of a merge of a and b the journal gets nothing, a, or both.
+abbrev pub IsExactLoss : ℕ → Held → follow.Call → Held → Type 0
+IsExactLoss limit h call new =
+    (new ≡ h)
+    ⊎ (((answer : follow.Answer) × IsExact limit h call answer new) ⊎ IsStoredInPart limit h call new)
+
+-- the world of a follower over such peers, in which these sessions have begun
+abbrev pub world_at : ℕ → List (List ℕ) → Standing Held Held → World
+world_at limit sessions at =
     record {
       limit = limit;
-      life = s.life;
-      source = s.journal;
-      target = t.journal;
-      source_log = s.log;
-      target_log = t.log;
+      life = at.source.life;
+      source = at.source.journal;
+      target = at.target.journal;
+      source_log = at.source.log;
+      target_log = at.target.log;
       sessions = sessions;
-      follower = follower;
+      follower = at.follower;
     }
 
--- whatever the follower does over such peers is a run of that world
+-- over such peers the follower makes its calls until it owes none
+abbrev pub IsExactWalk : ℕ → Standing Held Held → Standing Held Held → Type 0
+IsExactWalk limit old new = IsWalk (IsExact limit) (IsExact limit) old new
+
+-- or up to a call that fails, for this fault
+abbrev pub BreaksExactly : ℕ → FollowFault → Standing Held Held → Standing Held Held → Type 0
+BreaksExactly limit fault old new =
+    Breaks (IsExact limit) (IsExact limit) (IsExactLoss limit) (IsExactLoss limit) fault old new
+
+-- some events lead from one such standing to another
+abbrev pub HasRun : ℕ → List (List ℕ) → Standing Held Held → Standing Held Held → Type 0
+HasRun limit sessions old new =
+    (events : List Event) × Run (world_at limit sessions old) events (world_at limit sessions new)
+
+-- the law: whatever the follower does over such peers is a run of that world
 abbrev pub ExactWalksRun : Type 0
-ExactWalksRun = (limit : ℕ) (sessions : List (List ℕ)) (core core' : follow.Follower) (s t s' t' : Held) → IsWalk (IsExact limit) (IsExact limit) core s t core' s' t'
-    → (events : List Event) × Run (world_at limit sessions s t core) events (world_at limit sessions s' t' core')
+ExactWalksRun =
+    (limit : ℕ) (sessions : List (List ℕ)) (old new : Standing Held Held) → IsExactWalk limit old new
+    → HasRun limit sessions old new
+
+-- and so it is where a call fails
+abbrev pub ExactBreaksRun : Type 0
+ExactBreaksRun =
+    (limit : ℕ) (sessions : List (List ℕ)) (fault : FollowFault) (old new : Standing Held Held)
+    → BreaksExactly limit fault old new → HasRun limit sessions old new
+
+-- So what a run from two empty databases has copied stays copied: behind a walk, and behind a failure.
+abbrev pub ExactPeersCopy : Type 0
+ExactPeersCopy =
+    (limit : ℕ) (sessions : List (List ℕ)) (events : List Event) (fault : FollowFault)
+    (old new : Standing Held Held)
+    → Run (empty_world limit) events (world_at limit sessions old)
+    → IsExactWalk limit old new ⊎ BreaksExactly limit fault old new
+    → IsFaithful (world_at limit sessions new)

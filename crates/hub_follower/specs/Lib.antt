@@ -2,6 +2,7 @@ pub mod Views
 pub mod Peers
 pub mod LogText
 pub mod Exact
+pub mod Faults
 pub mod Shared
 pub mod Laws
 pub mod Listing

@@ -1,13 +1,14 @@
 -- A follower over its peers, by what each says of its own calls (own).
-use Rattle.std.specs.Prelude.{◌≡◌, ◌⊎◌, ◌<◌, ◌-◌, ◌+◌, ◌^◌, ℕ, length, Bool, false, List, [], ◌∷◌, Some, None, Ok}
+use Rattle.std.specs.Prelude.{◌≡◌, ◌⊎◌, ◌<◌, ◌-◌, ◌+◌, ◌^◌, ℕ, length, Bool, false, List, [], ◌∷◌, Some, None}
+use Rattle.std.specs.Prelude.{Ok}
 use Rattle.hub_follow_model.specs.Follower as follow
-use Rattle.hub_follow_model.specs.World as world
 use Rattle.hub_database.specs.declared.batch.DbFault.{DbFault}
 use Rattle.hub_database.specs.declared.batch.DbFault.TheVariants as db_fault
 use Rattle.hub_follower.specs.declared.fault.FollowFault.{FollowFault}
 use Rattle.hub_follower.specs.declared.fault.FollowFault.TheVariants as told
 use Rattle.hub_follower.specs.declared.peer.CallFault.{CallFault}
 use Rattle.hub_follower.specs.declared.peer.CallFault.TheVariants as call_fault
+use Rattle.hub_follower.specs.Views.{IsFaultOf}
 
 -- a count rose, or stands at its last value
 abbrev pub Rose : ℕ → ℕ → Type 0
@@ -63,17 +64,31 @@ Gives S = S → follow.Call → follow.Answer → S → Type 0
 abbrev pub Fails : Type 0 → Type 1
 Fails S = S → follow.Call → S → Type 0
 
+-- a follower and its two peers, as they stand between two calls
+pub record Standing (S T : Type 0) : Type 0 where
+  pub follower : follow.Follower
+  pub source : S
+  pub target : T
+
+-- this follower, over these peers
+abbrev pub standing_of : {S T : Type 0} → follow.Follower → S → T → Standing S T
+standing_of follower source target =
+    record { follower = follower; source = source; target = target }
+
 -- the peer at this side answers the call so, and the other one stays
-abbrev pub ServesAt : {S T : Type 0} → Gives S → Gives T → follow.Side → follow.Call → follow.Answer → S → T → S → T → Type 0
+abbrev pub ServesAt : {S T : Type 0} → Gives S → Gives T → follow.Side → follow.Call → follow.Answer
+    → S → T → S → T → Type 0
 ServesAt gives_s gives_t follow.Source call answer s t s' t' = gives_s s call answer s' × (t' ≡ t)
 ServesAt gives_s gives_t follow.Target call answer s t s' t' = (s' ≡ s) × gives_t t call answer t'
 
 -- the peer that the call names answers it so
-abbrev pub Serves : {S T : Type 0} → Gives S → Gives T → follow.Call → follow.Answer → S → T → S → T → Type 0
+abbrev pub Serves : {S T : Type 0} → Gives S → Gives T → follow.Call → follow.Answer
+    → S → T → S → T → Type 0
 Serves gives_s gives_t call answer s t s' t' = ServesAt gives_s gives_t (side_of call) call answer s t s' t'
 
 -- the peer at this side fails so, or is not asked; the other one stays
-abbrev pub LosesAt : {S T : Type 0} → Fails S → Fails T → follow.Side → follow.Call → S → T → S → T → Type 0
+abbrev pub LosesAt : {S T : Type 0} → Fails S → Fails T → follow.Side → follow.Call
+    → S → T → S → T → Type 0
 LosesAt loses_s loses_t follow.Source call s t s' t' = ((s' ≡ s) ⊎ loses_s s call s') × (t' ≡ t)
 LosesAt loses_s loses_t follow.Target call s t s' t' = (s' ≡ s) × ((t' ≡ t) ⊎ loses_t t call t')
 
@@ -82,26 +97,83 @@ abbrev pub Loses : {S T : Type 0} → Fails S → Fails T → follow.Call → S 
 Loses loses_s loses_t call s t s' t' = LosesAt loses_s loses_t (side_of call) call s t s' t'
 
 -- the owed call is answered, and its answer taken
-abbrev pub Steps : {S T : Type 0} → Gives S → Gives T → follow.Follower → S → T → follow.Follower → S → T → Type 0
-Steps gives_s gives_t core s t core' s' t' = (call : follow.Call) × (answer : follow.Answer) × (follow.next_call core ≡ Some call) × Serves gives_s gives_t call answer s t s' t' × (follow.answer_result core answer ≡ Ok core')
+abbrev pub Steps : {S T : Type 0} → Gives S → Gives T → Standing S T → Standing S T → Type 0
+Steps gives_s gives_t old new =
+    (call : follow.Call) × (answer : follow.Answer) × (follow.next_call old.follower ≡ Some call)
+    × Serves gives_s gives_t call answer old.source old.target new.source new.target
+    × (follow.answer_result old.follower answer ≡ Ok new.follower)
 
--- the owed call fails, or its answer is dropped: what is left of the follower is what its failing leaves
-abbrev pub FailsSo : {S T : Type 0} → Gives S → Gives T → Fails S → Fails T → follow.Follower → S → T → follow.Follower → S → T → Type 0
-FailsSo gives_s gives_t loses_s loses_t core s t core' s' t' = (call : follow.Call) × (follow.next_call core ≡ Some call) × (core' ≡ follow.after_failure core) × (((answer : follow.Answer) × Serves gives_s gives_t call answer s t s' t') ⊎ Loses loses_s loses_t call s t s' t')
+-- a call that fails is told so: nothing is said of a document
+abbrev pub IsFaultOfCall : FollowFault → Type 0
+IsFaultOfCall told.Peer = Unit {0}
+IsFaultOfCall told.NoMemory = Unit {0}
+IsFaultOfCall fault = ⊥
 
--- one step after another
-abbrev pub Walks : {S T : Type 0} → Gives S → Gives T → List (follow.Follower × S × T) → follow.Follower → S → T → follow.Follower → S → T → Type 0
-Walks gives_s gives_t [] core s t core' s' t' = (core' ≡ core) × (s' ≡ s) × (t' ≡ t)
-Walks gives_s gives_t (p ∷ between) core s t core' s' t' = Steps gives_s gives_t core s t p.0 p.1 p.2 × Walks gives_s gives_t between p.0 p.1 p.2 core' s' t'
+-- the call is answered, and its answer dropped for this fault: the one that it tells, or that memory ran out
+abbrev pub Drops : {S T : Type 0} → Gives S → Gives T → follow.Call → FollowFault
+    → Standing S T → Standing S T → Type 0
+Drops gives_s gives_t call fault old new =
+    (answer : follow.Answer)
+    × Serves gives_s gives_t call answer old.source old.target new.source new.target
+    × IsFaultOf fault (follow.answer_result old.follower answer)
 
--- calls are made and their answers taken, until none is owed
-abbrev pub IsWalk : {S T : Type 0} → Gives S → Gives T → follow.Follower → S → T → follow.Follower → S → T → Type 0
-IsWalk {S} {T} gives_s gives_t core s t core' s' t' = (between : List (follow.Follower × S × T)) × Walks gives_s gives_t between core s t core' s' t' × (follow.next_call core' ≡ None)
+-- The owed call fails for this fault, or its answer is dropped for it. The follower is then the one behind a
+-- failure, and the peer that is not called stays. Where the call is to store a and b, the target may have
+-- neither of them, both, or the part that its own way to fail leaves.
+abbrev pub FailsSo : {S T : Type 0} → Gives S → Gives T → Fails S → Fails T → FollowFault
+    → Standing S T → Standing S T → Type 0
+FailsSo gives_s gives_t loses_s loses_t fault old new =
+    (call : follow.Call) × (follow.next_call old.follower ≡ Some call)
+    × (new.follower ≡ follow.after_failure old.follower)
+    × (Drops gives_s gives_t call fault old new
+    ⊎ (IsFaultOfCall fault × Loses loses_s loses_t call old.source old.target new.source new.target))
 
--- from one follower and its peers calls were made and answers taken up to another: while it owes a call its place is the first one's
-pub record Reaches {S T : Type 0} (gives_s : Gives S) (gives_t : Gives T) (core : follow.Follower) (s : S) (t : T) (core' : follow.Follower) (s' : S) (t' : T) : Type 0 where
-  pub walk : (between : List (follow.Follower × S × T)) × Walks gives_s gives_t between core s t core' s' t'
-  pub place : (follow.next_call core' ≡ None) ⊎ (world.place_of core' ≡ world.place_of core)
+-- one step after another, through these standings; the last of them is the new one
+abbrev pub Walks : {S T : Type 0} → Gives S → Gives T → List (Standing S T)
+    → Standing S T → Standing S T → Type 0
+Walks gives_s gives_t [] old new = new ≡ old
+Walks gives_s gives_t (mid ∷ between) old new =
+    Steps gives_s gives_t old mid × Walks gives_s gives_t between mid new
+
+-- Calls are made and their answers taken, until none is owed. A round that finds no changes is a walk of one
+-- step.
+abbrev pub IsWalk : {S T : Type 0} → Gives S → Gives T → Standing S T → Standing S T → Type 0
+IsWalk {S} {T} gives_s gives_t old new =
+    (between : List (Standing S T)) × Walks gives_s gives_t between old new
+    × (follow.next_call new.follower ≡ None)
+
+-- Calls are made and their answers taken up to a middle, and the call that is owed there fails for this
+-- fault. In a round that lists a, compares it, fetches it and stores it, each of the four calls may fail.
+-- Where the target fails to store a, the middle owes the merge. Behind the failure the follower has its
+-- session, in no phase, at the place where the round began.
+abbrev pub Breaks : {S T : Type 0} → Gives S → Gives T → Fails S → Fails T → FollowFault
+    → Standing S T → Standing S T → Type 0
+Breaks {S} {T} gives_s gives_t loses_s loses_t fault old new =
+    (between : List (Standing S T)) × (mid : Standing S T) × Walks gives_s gives_t between old mid
+    × FailsSo gives_s gives_t loses_s loses_t fault mid new
+
+-- both peers stayed
+abbrev pub HasSamePeers : {S T : Type 0} → Standing S T → Standing S T → Type 0
+HasSamePeers old new = (new.source ≡ old.source) × (new.target ≡ old.target)
+
+-- A session does not begin for this fault. No call was made where the id of the logs is refused; where memory
+-- ran out, none was made or one broke; for any other fault one broke.
+abbrev pub BeginsNot : {S T : Type 0} → Gives S → Gives T → Fails S → Fails T → FollowFault
+    → Standing S T → Standing S T → Type 0
+BeginsNot gives_s gives_t loses_s loses_t told.BadLogId old new = HasSamePeers old new
+BeginsNot gives_s gives_t loses_s loses_t told.NoMemory old new =
+    HasSamePeers old new ⊎ Breaks gives_s gives_t loses_s loses_t told.NoMemory old new
+BeginsNot gives_s gives_t loses_s loses_t fault old new =
+    Breaks gives_s gives_t loses_s loses_t fault old new
+
+-- From one standing calls were made and answers taken up to another. While it owes a call, a failure leaves
+-- the follower that it would have left of the first one.
+pub record Reaches {S T : Type 0} (gives_s : Gives S) (gives_t : Gives T) (old new : Standing S T)
+    : Type 0 where
+  pub walk : (between : List (Standing S T)) × Walks gives_s gives_t between old new
+  pub left :
+      (follow.next_call new.follower ≡ None)
+      ⊎ (follow.after_failure new.follower ≡ follow.after_failure old.follower)
 
 -- the changes were asked for and compared, so that it is known how many calls are owed
 abbrev pub HasCountedCalls : follow.Follower → Type 0
@@ -128,5 +200,5 @@ calls_left (follow.Busy s follow.SourceCheckpoint) = 2
 calls_left (follow.Busy s follow.TargetCheckpoint) = 1
 
 -- no call was made only where none was owed, and all stayed
-abbrev pub Idles : {S T : Type 0} → Bool → follow.Follower → S → T → follow.Follower → S → T → Type 0
-Idles made core s t core' s' t' = made ≡ false → (follow.next_call core ≡ None) × (core' ≡ core) × (s' ≡ s) × (t' ≡ t)
+abbrev pub Idles : {S T : Type 0} → Bool → Standing S T → Standing S T → Type 0
+Idles made old new = made ≡ false → (follow.next_call old.follower ≡ None) × (new ≡ old)

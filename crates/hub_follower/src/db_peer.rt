@@ -255,7 +255,10 @@ pub struct DbPeer<'a, R: Wait> {
 
 impl<'a, R: Wait> DbPeer<'a, R> {
     /// The peer of this handle, which has no fault yet. It takes no memory.
-    pub fn new(rt: &'a R, alloc: Global, handle: Handle<Plain>) -> DbPeer<'a, R> {
+    pub fn new(rt: &'a R, alloc: Global, handle: Handle<Plain>) -> DbPeer<'a, R>
+        ensures faults { result.faults ≡ 0 }
+        ensures handle { result.handle ≡ handle }
+    {
         DbPeer {
             rt,
             alloc,

@@ -3,8 +3,8 @@
 ghost use Rattle.std.specs.Prelude.{◌≡◌, ◌≤◌, ◌⊎◌, true, false, None, IfOk, IfErr, OnOk, OnErr};
 ghost use Rattle.hub_follow_model.specs.Follower as follow;
 ghost use Rattle.hub_follow_model.specs.World as world;
-ghost use Rattle.hub_follower.specs.Peers.{Serves, Loses, Steps, FailsSo, Reaches, Idles};
-ghost use Rattle.hub_follower.specs.Peers.{IsCountedOf, IsCountedOfBoth};
+ghost use Rattle.hub_follower.specs.Peers.{standing_of, Serves, Loses, Steps, FailsSo, Breaks, Reaches};
+ghost use Rattle.hub_follower.specs.Peers.{Idles, IsCountedOf, IsCountedOfBoth, IsFaultOfCall};
 ghost use Rattle.hub_follower.specs.Views.{answer_of, call_of, AnswerHasPaths};
 
 use crate::call::{Answer, Call};
@@ -27,6 +27,7 @@ fn put_source<S: Peer>(
     ensures err { IfErr result (λ _. (source.new ≡ source.old) ⊎ S.loses source.old
         (follow.LocalPut follow.Source (follow.checkpoint_log session.now session.now.source_history))
         source.new) }
+    ensures call { IfErr result IsFaultOfCall }
     ensures fault { IfErr result (λ e. IsCountedOf e (S.fault_count source.old) (S.fault_count source.new)) }
     ensures counts { S.fault_count source.old ≤ S.fault_count source.new }
 {
@@ -52,6 +53,7 @@ fn put_target<T: Peer>(
     ensures err { IfErr result (λ _. (target.new ≡ target.old) ⊎ T.loses target.old
         (follow.LocalPut follow.Target (follow.checkpoint_log session.now session.now.target_history))
         target.new) }
+    ensures call { IfErr result IsFaultOfCall }
     ensures fault { IfErr result (λ e. IsCountedOf e (T.fault_count target.old) (T.fault_count target.new)) }
     ensures counts { T.fault_count target.old ≤ T.fault_count target.new }
 {
@@ -78,6 +80,7 @@ fn made<S: Peer, T: Peer>(
     ensures paths { IfOk result AnswerHasPaths }
     ensures err { IfErr result (λ _. Loses S.loses T.loses (call_of call.entry)
         source.old target.old source.new target.new) }
+    ensures call { IfErr result IsFaultOfCall }
     ensures fault { IfErr result (λ e. IsCountedOfBoth e (S.fault_count source.old) (S.fault_count source.new)
         (T.fault_count target.old) (T.fault_count target.new)) }
     ensures source { S.fault_count source.old ≤ S.fault_count source.new }
@@ -122,12 +125,12 @@ pub(crate) fn step<S: Peer, T: Peer>(
     target: &mut T,
     log_id: &str,
 ) -> Result<bool, FollowFault>
-    ensures idle { IfOk result (λ made.
-        Idles made core.old source.old target.old core.new source.new target.new) }
-    ensures ok { IfOk result (λ made. made ≡ true
-        → Steps S.gives T.gives core.old source.old target.old core.new source.new target.new) }
-    ensures err { IfErr result (λ _. FailsSo S.gives T.gives S.loses T.loses
-        core.old source.old target.old core.new source.new target.new) }
+    ensures idle { IfOk result (λ made. Idles made (standing_of core.old source.old target.old)
+        (standing_of core.new source.new target.new)) }
+    ensures ok { IfOk result (λ made. made ≡ true → Steps S.gives T.gives
+        (standing_of core.old source.old target.old) (standing_of core.new source.new target.new)) }
+    ensures err { IfErr result (λ e. FailsSo S.gives T.gives S.loses T.loses e
+        (standing_of core.old source.old target.old) (standing_of core.new source.new target.new)) }
     ensures fault { IfErr result (λ e. IsCountedOfBoth e (S.fault_count source.old) (S.fault_count source.new)
         (T.fault_count target.old) (T.fault_count target.new)) }
     ensures source { S.fault_count source.old ≤ S.fault_count source.new }
@@ -149,7 +152,7 @@ pub(crate) fn step<S: Peer, T: Peer>(
     }
 }
 
-/// Makes calls until there is no next one. After an error the phase is dropped, and the place stays.
+/// Makes calls until there is no next one, or one fails. The phase is then dropped, and the place stays.
 pub(crate) fn drive<S: Peer, T: Peer>(
     alloc: Global,
     core: &mut FollowCore,
@@ -158,10 +161,12 @@ pub(crate) fn drive<S: Peer, T: Peer>(
     log_id: &str,
 ) -> Result<(), FollowFault>
     ensures ok { OnOk result (Reaches S.gives T.gives
-        core.old source.old target.old core.new source.new target.new
+        (standing_of core.old source.old target.old) (standing_of core.new source.new target.new)
         × (follow.next_call core.new ≡ None)) }
-    ensures err { OnErr result ((world.place_of core.new ≡ world.place_of core.old)
-        × (world.is_free core.new ≡ true)) }
+    ensures err { IfErr result (λ e. Breaks S.gives T.gives S.loses T.loses e
+        (standing_of core.old source.old target.old) (standing_of core.new source.new target.new)) }
+    ensures same { OnErr result (core.new ≡ follow.after_failure core.old) }
+    ensures rests { OnErr result (world.is_free core.new ≡ true) }
     ensures fault { IfErr result (λ e. IsCountedOfBoth e (S.fault_count source.old) (S.fault_count source.new)
         (T.fault_count target.old) (T.fault_count target.new)) }
     ensures source { S.fault_count source.old ≤ S.fault_count source.new }

@@ -3,19 +3,26 @@
 use hub_document::{DocId, RevId};
 use hub_model::Fault;
 use std::alloc::AllocError;
+use thiserror::Error;
 
 /// Why a session, a round or a checkpoint fails.
-#[derive(Debug, Drop)]
+#[derive(Debug, Drop, Error)]
 pub enum FollowFault {
     /// A call on a peer failed, and its count of faults rose.
+    #[error("a peer failed")]
     Peer,
     /// A growth was refused.
+    #[error("out of memory")]
     NoMemory,
     /// No local document may have the id of the replication logs.
+    #[error("no local document may have the id of the replication logs")]
     BadLogId,
     /// The target refused this revision of a document.
+    #[error("the target refused a document")]
     Refused { id: DocId, rev: RevId, fault: Fault },
-    /// The source says that it misses this revision, which it listed.
+    /// The source says that it misses this revision, which it listed. The id is the text that the target
+    /// named in its answer, which may be no id of a document.
+    #[error("the source misses a revision that it listed")]
     Lost { id: String, rev: RevId },
 }
 

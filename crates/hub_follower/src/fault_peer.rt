@@ -1,7 +1,8 @@
 //! Peers that fail, for tests of what goes on behind a failure.
 
-ghost use Rattle.std.specs.Prelude.{◌≡◌, ◌⊎◌, ◌≤◌, min, ◌+◌, ◌-◌, ◌^◌};
+ghost use Rattle.std.specs.Prelude.{◌≡◌, ◌≢◌, ◌⊎◌, ◌≤◌, min, ◌+◌, ◌-◌, ◌^◌, IfSome, IfNone};
 ghost use Rattle.hub_follow_model.specs.Follower as follow;
+ghost use Rattle.hub_follower.specs.Faults.{IsCountedDown};
 
 use crate::log::Log;
 use crate::peer::{CallFault, Changes, Peer};
@@ -31,16 +32,13 @@ pub struct FaultPeer<P> {
     faults: u64,
 }
 
-// Asks a peer for a log, unless the call is lost, and loses the answer.
-fn lose_log<P: Peer>(peer: &mut P, log_id: &str, loss: Loss)
-    ensures lost { (side : follow.Side) → (peer.new ≡ peer.old)
-        ⊎ (((answer : follow.Answer) × P.gives peer.old (follow.LocalGet side) answer peer.new)
-        ⊎ P.loses peer.old (follow.LocalGet side) peer.new) }
+// Asks a peer for a log, and loses the answer.
+fn lose_log<P: Peer>(peer: &mut P, log_id: &str)
+    ensures lost { (side : follow.Side)
+        → ((answer : follow.Answer) × P.gives peer.old (follow.LocalGet side) answer peer.new)
+        ⊎ P.loses peer.old (follow.LocalGet side) peer.new }
     ensures counts { P.fault_count peer.old ≤ P.fault_count peer.new }
 {
-    if loss == Loss::Before {
-        return;
-    }
     match peer.local_get(log_id) {
         Ok(log) => return drop(log),
         Err(_) => return,
@@ -53,6 +51,7 @@ impl<P: Peer> FaultPeer<P> {
         ensures peer { result.peer ≡ peer }
         ensures call { (result.left ≡ call) × (result.again ≡ 0) }
         ensures loss { result.loss ≡ loss }
+        ensures faults { result.faults ≡ 0 }
     {
         FaultPeer {
             peer,
@@ -68,6 +67,7 @@ impl<P: Peer> FaultPeer<P> {
         ensures peer { result.peer ≡ peer }
         ensures calls { (result.left ≡ calls) × (result.again ≡ calls) }
         ensures loss { result.loss ≡ loss }
+        ensures faults { result.faults ≡ 0 }
     {
         FaultPeer {
             peer,
@@ -85,20 +85,25 @@ impl<P: Peer> FaultPeer<P> {
         self.peer
     }
 
-    // Counts a call, and says whether it fails.
-    fn is_failing(&mut self) -> bool
+    // Counts a call, and says what is lost of it; None: nothing.
+    fn next_loss(&mut self) -> Option<Loss>
         ensures peer { self.new.peer ≡ self.old.peer }
         ensures faults { self.new.faults ≡ self.old.faults }
+        ensures again { self.new.again ≡ self.old.again }
+        ensures loss { self.new.loss ≡ self.old.loss }
+        ensures left { IsCountedDown self.old.again self.old.left self.new.left }
+        ensures none { IfNone result (self.old.left ≢ 1) }
+        ensures some { IfSome result (λ loss. (self.old.left ≡ 1) × (self.old.loss ≡ loss)) }
     {
         match self.left {
-            0 => false,
+            0 => None,
             1 => {
                 self.left = self.again;
-                true
+                Some(self.loss)
             }
             left => {
                 self.left = left - 1;
-                false
+                None
             }
         }
     }
@@ -106,6 +111,9 @@ impl<P: Peer> FaultPeer<P> {
     // Counts a fault.
     fn fault(&mut self) -> CallFault
         ensures peer { self.new.peer ≡ self.old.peer }
+        ensures left { self.new.left ≡ self.old.left }
+        ensures again { self.new.again ≡ self.old.again }
+        ensures loss { self.new.loss ≡ self.old.loss }
         ensures faults { self.new.faults ≡ min (self.old.faults + 1) (2 ^ 64 - 1) }
         ensures value { result ≡ CallFault.Peer }
     {
@@ -115,77 +123,87 @@ impl<P: Peer> FaultPeer<P> {
 }
 
 impl<P: Peer> Peer for FaultPeer<P> {
-    ghost use Rattle.std.specs.Prelude.{◌≡◌, ◌⊎◌, min, ◌+◌, ◌-◌, ◌^◌};
-    ghost use Rattle.hub_follow_model.specs.Follower as follow;
+    ghost use Rattle.std.specs.Prelude.{◌≡◌, ◌≢◌, ◌⊎◌, min, ◌+◌, ◌-◌, ◌^◌};
+    ghost use Rattle.hub_follower.specs.Faults.{IsCountedDown, IsLost};
 
-    ghost gives = { λ s call answer new. P.gives s.peer call answer new.peer };
+    // nothing is lost of the call, and the other peer answers it
+    ghost gives = { λ s call answer new. (s.left ≢ 1) × P.gives s.peer call answer new.peer
+        × IsCountedDown s.again s.left new.left × (new.again ≡ s.again) × (new.loss ≡ s.loss)
+        × (new.faults ≡ s.faults) };
 
-    ghost loses = { λ s call new. (new.peer ≡ s.peer)
-        ⊎ (((answer : follow.Answer) × P.gives s.peer call answer new.peer) ⊎ P.loses s.peer call new.peer) };
+    // the call is the one that is lost, which is counted, or the other peer fails
+    ghost loses = { λ s call new.
+        (((s.left ≡ 1) × IsLost P.gives P.loses s.loss call s.peer new.peer
+        × (new.faults ≡ min (s.faults + 1) (2 ^ 64 - 1)))
+        ⊎ ((s.left ≢ 1) × P.loses s.peer call new.peer × (new.faults ≡ s.faults)))
+        × IsCountedDown s.again s.left new.left × (new.again ≡ s.again) × (new.loss ≡ s.loss) };
 
     ghost fault_count = { λ s. min (s.faults + P.fault_count s.peer) (2 ^ 64 - 1) };
 
     fn changes(&mut self, since: Seq) -> Result<Changes, CallFault> {
-        if !self.is_failing() {
-            return self.peer.changes(since);
+        match self.next_loss() {
+            None => self.peer.changes(since),
+            Some(Loss::Before) => Err(self.fault()),
+            Some(Loss::After) => {
+                drop(self.peer.changes(since));
+                Err(self.fault())
+            }
         }
-        match self.loss {
-            Loss::Before => {}
-            Loss::After => drop(self.peer.changes(since)),
-        }
-        Err(self.fault())
     }
 
     fn revs_diff(&mut self, asked: &[Asked]) -> Result<Vec<Diff>, CallFault> {
-        if !self.is_failing() {
-            return self.peer.revs_diff(asked);
+        match self.next_loss() {
+            None => self.peer.revs_diff(asked),
+            Some(Loss::Before) => Err(self.fault()),
+            Some(Loss::After) => {
+                drop(self.peer.revs_diff(asked));
+                Err(self.fault())
+            }
         }
-        match self.loss {
-            Loss::Before => {}
-            Loss::After => drop(self.peer.revs_diff(asked)),
-        }
-        Err(self.fault())
     }
 
     fn open_revs(&mut self, asked: &Asked) -> Result<Vec<OpenRev>, CallFault> {
-        if !self.is_failing() {
-            return self.peer.open_revs(asked);
+        match self.next_loss() {
+            None => self.peer.open_revs(asked),
+            Some(Loss::Before) => Err(self.fault()),
+            Some(Loss::After) => {
+                drop(self.peer.open_revs(asked));
+                Err(self.fault())
+            }
         }
-        match self.loss {
-            Loss::Before => {}
-            Loss::After => drop(self.peer.open_revs(asked)),
-        }
-        Err(self.fault())
     }
 
     fn merge(&mut self, docs: &[Doc]) -> Result<Replies, CallFault> {
-        if !self.is_failing() {
-            return self.peer.merge(docs);
+        match self.next_loss() {
+            None => self.peer.merge(docs),
+            Some(Loss::Before) => Err(self.fault()),
+            Some(Loss::After) => {
+                drop(self.peer.merge(docs));
+                Err(self.fault())
+            }
         }
-        match self.loss {
-            Loss::Before => {}
-            Loss::After => drop(self.peer.merge(docs)),
-        }
-        Err(self.fault())
     }
 
     fn local_get(&mut self, log_id: &str) -> Result<Option<Log>, CallFault> {
-        if !self.is_failing() {
-            return self.peer.local_get(log_id);
+        match self.next_loss() {
+            None => self.peer.local_get(log_id),
+            Some(Loss::Before) => Err(self.fault()),
+            Some(Loss::After) => {
+                lose_log(&mut self.peer, log_id);
+                Err(self.fault())
+            }
         }
-        lose_log(&mut self.peer, log_id, self.loss);
-        Err(self.fault())
     }
 
     fn local_put(&mut self, log_id: &str, log: &Log) -> Result<(), CallFault> {
-        if !self.is_failing() {
-            return self.peer.local_put(log_id, log);
+        match self.next_loss() {
+            None => self.peer.local_put(log_id, log),
+            Some(Loss::Before) => Err(self.fault()),
+            Some(Loss::After) => {
+                drop(self.peer.local_put(log_id, log));
+                Err(self.fault())
+            }
         }
-        match self.loss {
-            Loss::Before => {}
-            Loss::After => drop(self.peer.local_put(log_id, log)),
-        }
-        Err(self.fault())
     }
 
     fn faults(&self) -> u64 {

@@ -5,7 +5,7 @@ ghost use Rattle.hub_document.specs.Local.{IsLocalId};
 ghost use Rattle.hub_follow_model.specs.Follower as follow;
 ghost use Rattle.hub_follow_model.specs.Sequence.{is_same_place};
 ghost use Rattle.hub_follow_model.specs.World as world;
-ghost use Rattle.hub_follower.specs.Peers.{IsWalk, IsCountedOfBoth};
+ghost use Rattle.hub_follower.specs.Peers.{standing_of, IsWalk, Breaks, BeginsNot, IsCountedOfBoth};
 
 use crate::driving::drive;
 use crate::fault::FollowFault;
@@ -74,7 +74,7 @@ fn is_same_place(old: Option<Seq>, new: Option<Seq>) -> bool
     }
 }
 
-// Begins a session.
+// Begins a session. Where none begins, the follower has none.
 fn begin<S: Peer, T: Peer>(
     alloc: Global,
     core: &mut FollowCore,
@@ -84,9 +84,14 @@ fn begin<S: Peer, T: Peer>(
     session_id: &str,
 ) -> Result<(), FollowFault>
     requires { core.old ≡ follow.Down }
-    ensures walk { OnOk result (IsWalk S.gives T.gives (follow.SourceStart session_id.now)
-        source.old target.old core.new source.new target.new) }
+    ensures walk { OnOk result (IsWalk S.gives T.gives
+        (standing_of (follow.SourceStart session_id.now) source.old target.old)
+        (standing_of core.new source.new target.new)) }
     ensures rests { OnOk result (world.is_free core.new ≡ true) }
+    ensures err { IfErr result (λ e. BeginsNot S.gives T.gives S.loses T.loses e
+        (standing_of (follow.SourceStart session_id.now) source.old target.old)
+        (standing_of core.new source.new target.new)) }
+    ensures same { OnErr result (core.new ≡ follow.Down) }
     ensures fault { IfErr result (λ e. IsCountedOfBoth e (S.fault_count source.old) (S.fault_count source.new)
         (T.fault_count target.old) (T.fault_count target.new)) }
 {
@@ -100,7 +105,8 @@ fn begin<S: Peer, T: Peer>(
 impl<S: Peer + Drop, T: Peer + Drop> Follower<S, T> {
     /// A session begins where the logs of both peers agree, under an id that no session had before. The
     /// logs are the local documents of the id `log_id`; where no local document may have it, the session
-    /// is refused as `BadLogId`. After an error the peers come back.
+    /// is refused as `BadLogId`, and no call is made. After an error the peers come back, as the calls left
+    /// them that were made: a session only reads.
     pub fn start(
         alloc: Global,
         source: S,
@@ -109,10 +115,14 @@ impl<S: Peer + Drop, T: Peer + Drop> Follower<S, T> {
         session_id: &str,
     ) -> Result<Follower<S, T>, FailedStart<S, T>>
         ensures walk { IfOk result (λ f. IsWalk S.gives T.gives
-            (follow.SourceStart session_id.now) source target f.core f.source f.target) }
+            (standing_of (follow.SourceStart session_id.now) source target)
+            (standing_of f.core f.source f.target)) }
         ensures id { IfOk result (λ f. (f.log_id ≡ log_id.now) × IsLocalId log_id.now) }
         ensures bad_id { IfErr result (λ e. e.fault ≡ FollowFault.BadLogId → ¬ IsLocalId log_id.now) }
         ensures no_other { ¬ IsLocalId log_id.now → IfErr result (λ e. e.fault ≡ FollowFault.BadLogId) }
+        ensures err { IfErr result (λ e. BeginsNot S.gives T.gives S.loses T.loses e.fault
+            (standing_of (follow.SourceStart session_id.now) source target)
+            (standing_of follow.Down e.source e.target)) }
         ensures fault { IfErr result (λ e. ¬ (e.fault ≡ FollowFault.BadLogId) → IsCountedOfBoth e.fault
             (S.fault_count source) (S.fault_count e.source)
             (T.fault_count target) (T.fault_count e.target)) }
@@ -164,16 +174,21 @@ impl<S: Peer + Drop, T: Peer + Drop> Follower<S, T> {
     /// leaves it misses, fetches these with their histories, and stores them. A place of another life than
     /// the source's counts as 0, and one of no known life as it is; the round gives it the source's life.
     /// `Idle` where there were no changes: the place is the sequence that they end at; else it moves there,
-    /// once each fetched document was stored or known. After an error the place stays, and the target may
-    /// have some of the fetched revisions.
+    /// once each fetched document was stored or known. After an error the session stays as it was, with its
+    /// place; the source was only read, and the target may have some of the fetched revisions.
+    #[tactic(auto, using(crate::proofs::Walking::round_fails))]
     pub fn round(&mut self) -> Result<Round, FollowFault>
-        ensures walk { OnOk result (IsWalk S.gives T.gives (world.round_start self.old.core)
-            self.old.source self.old.target self.new.core self.new.source self.new.target) }
+        ensures walk { OnOk result (IsWalk S.gives T.gives
+            (standing_of (world.round_start self.old.core) self.old.source self.old.target)
+            (standing_of self.new.core self.new.source self.new.target)) }
         ensures idle { IfOk result (λ r. r ≡ Round.Idle
             → is_same_place (world.place_of self.old.core) (world.place_of self.new.core) ≡ true) }
         ensures moved { IfOk result (λ r. r ≡ Round.Moved
             → is_same_place (world.place_of self.old.core) (world.place_of self.new.core) ≡ false) }
-        ensures err { OnErr result (world.place_of self.new.core ≡ world.place_of self.old.core) }
+        ensures err { IfErr result (λ e. Breaks S.gives T.gives S.loses T.loses e
+            (standing_of (world.round_start self.old.core) self.old.source self.old.target)
+            (standing_of self.new.core self.new.source self.new.target)) }
+        ensures same { OnErr result (self.new.core ≡ self.old.core) }
         ensures id { self.new.log_id ≡ self.old.log_id }
         ensures fault { IfErr result (λ e. IsCountedOfBoth e
             (S.fault_count self.old.source) (S.fault_count self.new.source)
@@ -181,13 +196,9 @@ impl<S: Peer + Drop, T: Peer + Drop> Follower<S, T> {
     {
         let place = self.core.place();
         self.core.begin_round();
-        drive(
-            self.alloc,
-            &mut self.core,
-            &mut self.source,
-            &mut self.target,
-            self.log_id.as_str(),
-        )?;
+        let (source, target) = (&mut self.source, &mut self.target);
+        let log_id = self.log_id.as_str();
+        drive(self.alloc, &mut self.core, source, target, log_id)?;
         if is_same_place(place, self.core.place()) {
             Ok(Round::Idle)
         } else {
@@ -195,25 +206,26 @@ impl<S: Peer + Drop, T: Peer + Drop> Follower<S, T> {
         }
     }
 
-    /// Records the place at the source, then at the target. After an error the log may stand at neither
-    /// end, at one, or at both.
+    /// Records the place at the source, then at the target. After an error the session stays as it was, and
+    /// the log may stand at neither end, at the source, or at both.
+    #[tactic(auto, using(crate::proofs::Walking::checkpoint_fails))]
     pub fn checkpoint(&mut self) -> Result<(), FollowFault>
-        ensures walk { OnOk result (IsWalk S.gives T.gives (world.checkpoint_start self.old.core)
-            self.old.source self.old.target self.new.core self.new.source self.new.target) }
-        ensures err { OnErr result (world.place_of self.new.core ≡ world.place_of self.old.core) }
+        ensures walk { OnOk result (IsWalk S.gives T.gives
+            (standing_of (world.checkpoint_start self.old.core) self.old.source self.old.target)
+            (standing_of self.new.core self.new.source self.new.target)) }
+        ensures err { IfErr result (λ e. Breaks S.gives T.gives S.loses T.loses e
+            (standing_of (world.checkpoint_start self.old.core) self.old.source self.old.target)
+            (standing_of self.new.core self.new.source self.new.target)) }
+        ensures same { OnErr result (self.new.core ≡ self.old.core) }
         ensures id { self.new.log_id ≡ self.old.log_id }
         ensures fault { IfErr result (λ e. IsCountedOfBoth e
             (S.fault_count self.old.source) (S.fault_count self.new.source)
             (T.fault_count self.old.target) (T.fault_count self.new.target)) }
     {
         self.core.begin_checkpoint();
-        drive(
-            self.alloc,
-            &mut self.core,
-            &mut self.source,
-            &mut self.target,
-            self.log_id.as_str(),
-        )
+        let (source, target) = (&mut self.source, &mut self.target);
+        let log_id = self.log_id.as_str();
+        drive(self.alloc, &mut self.core, source, target, log_id)
     }
 
     /// The two peers. It takes no memory.

@@ -11,13 +11,16 @@ use crate::log::Log;
 use hub_database::{DbFault, Diff, OpenRev, Replies};
 use hub_document::{Asked, ChangeRow, Doc};
 use hub_follow_model::Seq;
+use thiserror::Error;
 
 /// Why a call on a peer fails.
-#[derive(Clone, Copy, Debug, PartialEq, Eq)]
+#[derive(Clone, Copy, Debug, PartialEq, Eq, Error)]
 pub enum CallFault {
     /// The peer failed: its count of faults rose, or stands at its last value.
+    #[error("the peer failed")]
     Peer,
     /// A growth was refused.
+    #[error("out of memory")]
     NoMemory,
 }
 
