@@ -53,6 +53,22 @@ fn rounds_go_on_behind_a_hundred_rows(rt: HostRuntime) -> Result<(), Fail> {
     assert_session(&rt, rt.alloc(), (&source, &target), "S1", MANY)
 }
 
+const ONE_FEED: &[Step] = &[
+    Rounds(Round::Moved, (2, LIFE), 2),
+    Rounds(Round::Idle, (2, LIFE), 2),
+];
+
+// The source has room for one feed. Each round opens one, and finishes it.
+#[test]
+fn a_round_finishes_its_feed(rt: HostRuntime) -> Result<(), Fail> {
+    let mut limits = Limits::full();
+    limits.feeds = 1;
+    let (source, _handle) = Db::new(rt.alloc(), limits, LIFE, Plain)?;
+    let target = database(rt.alloc())?;
+    write(&rt, rt.alloc(), &source, &TWO)?;
+    assert_session(&rt, rt.alloc(), (&source, &target), "S1", ONE_FEED)
+}
+
 const REFUSED: &[Step] = &[Refuses("b", "1-b", Fault::SequenceFull), Begins, Stores(1)];
 
 #[test]
