@@ -1,7 +1,5 @@
 //! The hub over bytes: feeds of changes, one at a time.
 
-use crate::connection::Connection;
-use crate::pumping::ByTurns;
 use crate::session_tests::Answer::{Feed, Found, Head, Written};
 use crate::session_tests::Ask::{Batch, Body, Line};
 use crate::session_tests::{Exchange, MAKE, STORED, answers, asks, assert_session};
@@ -9,6 +7,7 @@ use hub_databases::Hub;
 use hub_document::Limits;
 use hub_http::{Output, Requests, Tally};
 use hub_routes::Routes;
+use hub_service::{ByTurns, Connection};
 use hub_session::{Closing, serve};
 use std::alloc::{AllocError, Global};
 use std::io;

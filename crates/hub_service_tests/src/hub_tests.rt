@@ -1,7 +1,5 @@
 //! A hub before anything happened to it, and one with two connections.
 
-use crate::connection::Connection;
-use crate::pumping::ByTurns;
 use crate::session_tests::Answer::Written;
 use crate::session_tests::Ask::Line;
 use crate::session_tests::{Exchange, assert_session};
@@ -10,6 +8,7 @@ use hub_document::Limits;
 use hub_http::{Request, Requests, Tally};
 use hub_model::Item;
 use hub_routes::Routes;
+use hub_service::{ByTurns, Connection};
 use hub_session::{Closing, Service, StreamItem};
 use std::alloc::Global;
 use std::sync::Wait;
@@ -37,23 +36,20 @@ fn an_empty_log(rt: HostRuntime) -> Result<(), Fail> {
     )
 }
 
-/// The request that a text is.
-fn request(alloc: Global, text: &str) -> Result<Request, Fail> {
+/// The request that a text is; None where it is none.
+fn request(alloc: Global, text: &str) -> Option<Request> {
     let mut requests = Requests::new(alloc, Tally::new(text.as_bytes()));
-    match requests.next()? {
-        Some(request) => Ok(request),
-        None => Err(Fail::new("no request")),
-    }
+    requests.next().ok()?
 }
 
-/// Asks a connection, whatever it answers.
+/// Asks a connection, whatever it answers; None where the text is no request.
 fn ask<N: Wait>(
     alloc: Global,
     connection: &mut Connection<'_, N, ByTurns<'_, N>>,
     text: &str,
-) -> Result<(), Fail> {
+) -> Option<()> {
     let _answer = connection.answer(&request(alloc, text)?);
-    Ok(())
+    Some(())
 }
 
 /// The sequence of a row, or the last one at the end of a feed.
@@ -67,6 +63,21 @@ fn sequence(item: Option<StreamItem>) -> Option<(bool, u64)> {
 
 const PUT_A: &str = "PUT /d/a HTTP/1.1\r\nContent-Length: 2\r\n\r\n{}";
 
+/// The first item of a feed, and the next one behind the removal of its database by another connection.
+fn items_of_removed<N: Wait>(
+    alloc: Global,
+    writer: &mut Connection<'_, N, ByTurns<'_, N>>,
+    reader: &mut Connection<'_, N, ByTurns<'_, N>>,
+) -> Option<((bool, u64), (bool, u64))> {
+    ask(alloc, writer, "PUT /d HTTP/1.1\r\n\r\n")?;
+    ask(alloc, writer, PUT_A)?;
+    let feed = "GET /d/_changes?feed=continuous HTTP/1.1\r\n\r\n";
+    ask(alloc, reader, feed)?;
+    let first = sequence(reader.item())?;
+    ask(alloc, writer, "DELETE /d HTTP/1.1\r\n\r\n")?;
+    Some((first, sequence(reader.item())?))
+}
+
 /// A feed that is open where another connection removes its database comes to its end at its place.
 #[test]
 fn a_feed_of_a_removed_database(rt: HostRuntime) -> Result<(), Fail> {
@@ -74,15 +85,7 @@ fn a_feed_of_a_removed_database(rt: HostRuntime) -> Result<(), Fail> {
     let routes = Routes::new(rt.alloc())?;
     let mut writer = Connection::new(&rt, rt.alloc(), &hub, &routes, ByTurns::new(&rt));
     let mut reader = Connection::new(&rt, rt.alloc(), &hub, &routes, ByTurns::new(&rt));
-    ask(rt.alloc(), &mut writer, "PUT /d HTTP/1.1\r\n\r\n")?;
-    ask(rt.alloc(), &mut writer, PUT_A)?;
-    ask(
-        rt.alloc(),
-        &mut reader,
-        "GET /d/_changes?feed=continuous HTTP/1.1\r\n\r\n",
-    )?;
-    assert_eq!(rt; sequence(reader.item()), Some((false, 1)));
-    ask(rt.alloc(), &mut writer, "DELETE /d HTTP/1.1\r\n\r\n")?;
-    assert_eq!(rt; sequence(reader.item()), Some((true, 1)));
+    let items = items_of_removed(rt.alloc(), &mut writer, &mut reader);
+    assert_eq!(rt; items, Some(((false, 1), (true, 1))));
     Ok(())
 }

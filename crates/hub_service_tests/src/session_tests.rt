@@ -2,9 +2,9 @@
 //! here: they are the stored run of the program (`crates/changes_hub/stdin` and `stdout`).
 
 use crate::session_tests::Answer::{Created, Replies};
-use crate::stream::answer_stream;
 use hub_document::Limits;
 use hub_http::{Requests, Tally};
+use hub_service::answer_stream;
 use hub_session::Closing;
 use std::alloc::{AllocError, Global};
 use std::process::Abort;

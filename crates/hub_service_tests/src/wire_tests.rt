@@ -3,9 +3,9 @@
 use crate::session_tests::Answer::{Feed, Nothing, Written};
 use crate::session_tests::Ask::{Batch, Bytes, Line};
 use crate::session_tests::{Exchange, MAKE, STORED, answers, asks, assert_session};
-use crate::stream::answer_stream;
 use hub_document::Limits;
 use hub_http::{HttpFault, Requests, Tally};
+use hub_service::answer_stream;
 use hub_session::Closing;
 use std::alloc::{AllocError, Global};
 use std::io;
