@@ -478,11 +478,11 @@ unopened_feed asked fault e up (inr told) is =
     })
 
 -- a feed was opened, or the database that the handle found says why not
-pub opened_or_told : {A : Type 0} {counts : Bool} {all_parts : ℕ} {h : HandleState} (r : Result A OpenFault)
+pub opened_or_told : {A : Type 0} (counts : Bool) (all_parts : ℕ) (h : HandleState) (r : Result A OpenFault)
     → IfErr r (λ e. (db : Database) × IsFoundBy counts all_parts h db × (e ≡ opening_fault (hosted_of db)))
     → IfErr r (λ e. (e ≡ open_fault.NoMemory) ⊎ HasDatabase (λ db. e ≡ opening_fault (hosted_of db)))
-opened_or_told (Ok feed) told = tt
-opened_or_told (Err e) (db, found, told) = inr (record { db = db; legal = found.legal; held = told })
+opened_or_told counts all_parts h (Ok feed) told = tt
+opened_or_told counts all_parts h (Err e) (db, found, told) = inr (record { db = db; legal = found.legal; held = told })
 
 -- what parameters ask is begun
 pub read_feed : (begins : FeedAsked → Result Response Refusal → Type 0) (needs : Type 0)

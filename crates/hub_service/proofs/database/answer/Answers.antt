@@ -3,9 +3,23 @@ use Rattle.hub_document.specs.Local.{local_in}
 use Rattle.hub_document.specs.Put.{put_in}
 use Rattle.hub_params.specs.DocParams.{doc_asked}
 use Rattle.hub_service.specs.Calls.{gets_doc, puts_doc, puts_local}
+use Rattle.hub_service.specs.Deletions.{IsDeletion}
+use Rattle.hub_service.specs.Feeds.{Begins, BeginsChanges}
 use Rattle.hub_service.specs.Moments.{IsRead, IsWritten}
 use Rattle.hub_service.specs.Requests.{AnswersCall}
 use Rattle.hub_service.proofs.database.answer.Goals as goal
+
+pub returns-in-Changes : goal.returns-in-Changes
+returns-in-Changes g c =
+    let body = c.args.body.now in
+    subst (λ call. AnswersCall call c.args.name.now body c.begin.result) (sym c.in-Changes.is)
+    (subst (λ (query : List ℕ). Begins BeginsChanges query body c.begin.result) c.as_slice.ensures.value c.begin.ensures)
+
+pub returns-in-DeleteDocument : goal.returns-in-DeleteDocument
+returns-in-DeleteDocument g c =
+    subst (λ call. AnswersCall call c.args.name.now c.args.body.now c.delete.result) (sym c.in-DeleteDocument.is)
+    (subst (λ (query : List ℕ). IsDeletion (string_bytes c.in-DeleteDocument.id) query c.delete.result)
+    c.as_slice-in-DeleteDocument.ensures.value c.delete.ensures)
 
 pub returns-in-GetDocument : goal.returns-in-GetDocument
 returns-in-GetDocument g c =

@@ -2,4 +2,4 @@ use Rattle.hub_service.proofs.Looks.{opened_or_told}
 use Rattle.hub_service.proofs.target.Target.open_feed.Goals as goal
 
 pub returns-clause-err : goal.returns-clause-err
-returns-clause-err g c = opened_or_told c.open_feed.result c.open_feed.ensures.err
+returns-clause-err g c = opened_or_told _ _ _ c.open_feed.result c.open_feed.ensures.err
