@@ -1,0 +1,13 @@
+use Rattle.std.proofs.Common.{subst}
+use Rattle.hub_follow_model.specs.Follower as follow
+use Rattle.hub_follower.specs.Peers.{standing_of, Breaks}
+use Rattle.hub_follower.proofs.Walking.{if_err_on}
+use Rattle.hub_follower.proofs.follower.Follower.round.Goals as goal
+
+pub returns-in_err-drive-clause-err : goal.returns-in_err-drive-clause-err
+returns-in_err-drive-clause-err g c =
+    let s = c.args.self.now in
+    let new = c.drive.new in
+    let fault = c.in_err-drive.field-0.0 in
+    if_err_on c.from_residual.result _ fault c.from_residual.ensures.1
+    (subst (λ (z : follow.Follower). Breaks g.S.Peer.gives g.T.Peer.gives g.S.Peer.loses g.T.Peer.loses fault (standing_of z s.source s.target) (standing_of new.core new.source new.target)) c.begin_round.ensures c.in_err-drive.ensures.err)
