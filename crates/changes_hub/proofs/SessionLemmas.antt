@@ -3,9 +3,12 @@ use Rattle.std.proofs.Common.{◌≡◌, ℕ, List, ◌∙◌, Bool, true, false
 use Rattle.std.specs.Prelude.{Option, Some, None, IfSome}
 use Rattle.std.specs.Io.KnownBytes.{Appends, Keeps}
 use Rattle.hub_http.specs.Counts.{Sends}
+use Rattle.hub_service.specs.Laws.{connection_rules}
+use Rattle.hub_service.specs.declared.sent.Sent.{Sent}
 use Rattle.hub_session.specs.Rules.{Moment, Rules, moment}
 use Rattle.hub_session.specs.Sessions.{IsSession, is_broken}
 use Rattle.hub_session.specs.declared.closing.Closing.{Closing}
+use Rattle.changes_hub.specs.Statuses.{EndsWith, status_of}
 
 -- bytes that grew and then stayed have grown
 appends_kept : (old mid new : Option (List ℕ)) (bytes : List ℕ) → Appends old mid bytes → Keeps mid new → Appends old new bytes
@@ -20,7 +23,7 @@ sends_kept false old mid new bytes sent stays = appends_kept old mid new bytes s
 sends_kept true old mid new bytes (n, sent) stays = (n, appends_kept old mid new (take n bytes) sent stays)
 
 -- a session goes on being one where what it wrote is flushed
-pub session_kept : {S : Type 0} (rules : Rules S) (bytes : List ℕ) (closing : Closing) (before : Moment S) (last : S)
+session_kept : {S : Type 0} (rules : Rules S) (bytes : List ℕ) (closing : Closing) (before : Moment S) (last : S)
     (mid new : Option (List ℕ)) → IsSession rules bytes closing before (moment last mid) → Keeps mid new
     → IsSession rules bytes closing before (moment last new)
 session_kept rules bytes closing before last mid new is stays = record {
@@ -32,7 +35,10 @@ session_kept rules bytes closing before last mid new is stays = record {
   written = sends_kept (is_broken closing) is.mid mid new is.last is.written stays;
 }
 
--- what follows for a value follows for it where it is told
-pub if_told : {A : Type 0} (o : Option A) (P Q : A → Type 0) → IfSome o P → ((a : A) → P a → Q a) → IfSome o Q
-if_told None P Q is follows = tt
-if_told (Some a) P Q is follows = follows a is
+-- a session over known bytes that closed so ends with the status of its closing, also once its answers are flushed
+pub ends_with : (bytes : Option (List ℕ)) (closing : Closing) (status : ℕ) (before mid after : Option (List ℕ))
+    → IfSome bytes (λ bytes. (last : Option Sent) × IsSession connection_rules bytes closing (moment None before) (moment last mid))
+    → Keeps mid after → status ≡ status_of closing → IfSome bytes (λ bytes. EndsWith bytes status before after)
+ends_with None closing status before mid after is stays same = tt
+ends_with (Some bytes) closing status before mid after (last, is) stays same =
+    (closing, last, session_kept connection_rules bytes closing (moment None before) last mid after is stays, same)
