@@ -4,7 +4,7 @@ use Rattle.std.specs.Io.KnownBytes.{Appends}
 use Rattle.hub_http.specs.Counts.{AppendsFront, Sends}
 use Rattle.hub_http.proofs.SendLemmas.{front_of_more, sends_after}
 use Rattle.hub_http.specs.declared.reply.Reply.{Reply}
-use Rattle.hub_http.specs.Texts.{head_text, chunked_line}
+use Rattle.hub_http.specs.Texts.{head_text, chunked_line, reply_text}
 use Rattle.hub_http.specs.Stream.{Asked}
 use Rattle.hub_model.specs.declared.feeds.Mode.{Mode}
 use Rattle.hub_session.specs.declared.service.Answer.TheVariants.{Whole, Stream}
@@ -14,7 +14,6 @@ use Rattle.hub_session.specs.declared.closing.Closing.{Closing}
 use Rattle.hub_session.specs.declared.closing.Closing.TheVariants.{Broken}
 use Rattle.hub_session.specs.Feeds.{IsFed, feed_text, is_broken}
 use Rattle.hub_session.specs.Sessions.{Goes, HasAnswer, breaks, after_answer, after_stream, is_head}
-use Rattle.hub_session.specs.Replies.{whole_text}
 use Rattle.hub_session.specs.Rules.{Rules, Moment, moment}
 
 pub breaks-after_answer : (close : Bool) → breaks (after_answer close) ≡ false
@@ -43,30 +42,30 @@ stream_head asked = head_text 200 chunked_line asked.close
 -- the service answered, and is at mid
 module _ {S : Type 0} (rules : Rules S) (asked : Asked) (before : Moment S) (mid : S) where
   pub told_whole : (reply : Reply) (head_only : Bool) (next : Option Closing) (new : Option (List ℕ)) → rules.answers before.service asked (Whole reply) mid
-      → head_only ≡ is_head asked → next ≡ after_answer asked.close → ((found : Bool) × Appends before.written new (whole_text reply found head_only asked.close))
+      → head_only ≡ is_head asked → next ≡ after_answer asked.close → Appends before.written new (reply_text reply head_only asked.close)
       → HasAnswer rules asked next before (moment mid new)
   told_whole reply head_only next new a h e sent = record {
-    exchange = record { asked = asked; answer = Whole reply; found = sent.0; items = [] };
+    exchange = record { asked = asked; answer = Whole reply; items = [] };
     asked_is = refl;
     goes = record { mid = mid; answered = a; goes = Goes.whole reply refl refl refl e };
-    written = subst (λ b. Sends b before.written new (whole_text reply sent.0 (is_head asked) asked.close)) (sym (ap breaks e ∙ breaks-after_answer asked.close))
-        (subst (λ b. Appends before.written new (whole_text reply sent.0 b asked.close)) h sent.1);
+    written = subst (λ b. Sends b before.written new (reply_text reply (is_head asked) asked.close)) (sym (ap breaks e ∙ breaks-after_answer asked.close))
+        (subst (λ b. Appends before.written new (reply_text reply b asked.close)) h sent);
   }
 
   pub whole_broken : (reply : Reply) (head_only : Bool) (new : Option (List ℕ)) → rules.answers before.service asked (Whole reply) mid
-      → head_only ≡ is_head asked → ((found : Bool) × AppendsFront before.written new (whole_text reply found head_only asked.close))
+      → head_only ≡ is_head asked → AppendsFront before.written new (reply_text reply head_only asked.close)
       → HasAnswer rules asked (Some Broken) before (moment mid new)
   whole_broken reply head_only new a h sent = record {
-    exchange = record { asked = asked; answer = Whole reply; found = sent.0; items = [] };
+    exchange = record { asked = asked; answer = Whole reply; items = [] };
     asked_is = refl;
     goes = record { mid = mid; answered = a; goes = Goes.whole_broken reply refl refl refl refl };
-    written = subst (λ b. AppendsFront before.written new (whole_text reply sent.0 b asked.close)) h sent.1;
+    written = subst (λ b. AppendsFront before.written new (reply_text reply b asked.close)) h sent;
   }
 
   pub stream_broken : (mode : Mode) (life : ℕ) (after : Moment S) → rules.answers before.service asked (Stream mode life) mid → rules.drops mid after.service
       → AppendsFront before.written after.written (stream_head asked) → HasAnswer rules asked (Some Broken) before after
   stream_broken mode life after a d p = record {
-    exchange = record { asked = asked; answer = Stream mode life; found = true; items = [] };
+    exchange = record { asked = asked; answer = Stream mode life; items = [] };
     asked_is = refl;
     goes = record { mid = mid; answered = a; goes = Goes.head_broken mode life refl refl d refl };
     written = front_of_more before.written after.written (stream_head asked) _ p;
@@ -75,7 +74,7 @@ module _ {S : Type 0} (rules : Rules S) (asked : Asked) (before : Moment S) (mid
   pub stream_bare : (mode : Mode) (life : ℕ) (next : Option Closing) (after : Moment S) → rules.answers before.service asked (Stream mode life) mid → rules.drops mid after.service
       → is_head asked ≡ true → next ≡ after_answer asked.close → Appends before.written after.written (stream_head asked) → HasAnswer rules asked next before after
   stream_bare mode life next after a d h e p = record {
-    exchange = record { asked = asked; answer = Stream mode life; found = true; items = [] };
+    exchange = record { asked = asked; answer = Stream mode life; items = [] };
     asked_is = refl;
     goes = record { mid = mid; answered = a; goes = Goes.head_alone mode life refl h refl d e };
     written = rw (e, breaks-after_answer asked.close, h) (subst (Appends before.written after.written) (sym (append-nil (stream_head asked))) p);
@@ -85,7 +84,7 @@ module _ {S : Type 0} (rules : Rules S) (asked : Asked) (before : Moment S) (mid
       → is_head asked ≡ false → next ≡ after_stream asked.close end → Appends before.written sent (stream_head asked)
       → IsFed rules (feed_text mode life) end (moment mid sent) after → HasAnswer rules asked next before after
   stream_fed mode life next end sent after a h e p f = record {
-    exchange = record { asked = asked; answer = Stream mode life; found = true; items = f.items };
+    exchange = record { asked = asked; answer = Stream mode life; items = f.items };
     asked_is = refl;
     goes = record { mid = mid; answered = a; goes = Goes.stream_sent mode life end refl h f.streams e };
     written = rw (e, breaks-after_stream asked.close end, h) (sends_after (is_broken end) before.written sent after.written (stream_head asked) (feed_text mode life f.items) p f.written);

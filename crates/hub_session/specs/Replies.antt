@@ -1,10 +1,12 @@
 -- RFC 9112, section 9.6 (closing behind an error); own for the texts: replies to what is no request, and to
 -- want of memory.
-use Rattle.std.specs.Prelude.{ℕ, List, [], Bool, true, false, if◌then◌else◌}
+use Rattle.std.specs.Prelude.{ℕ, List, [], true, false, flat_map}
+use Rattle.std.specs.Borrow.{Bor}
 use Rattle.hub_http.specs.declared.reply.Reply.{Reply}
-use Rattle.hub_http.specs.declared.reply.Reply.TheVariants.{Refused}
+use Rattle.hub_http.specs.declared.reply.Reply.TheVariants.{Done, Refused}
 use Rattle.hub_http.specs.declared.refusal.Refusal.TheVariants as refusal
-use Rattle.hub_http.specs.Texts.{reply_text}
+use Rattle.hub_http.specs.Texts.{refusal_body, reply_text}
+use Rattle.hub_http.specs.Refusals.{status_of}
 use Rattle.hub_http.specs.declared.fault.HttpFault.{HttpFault}
 use Rattle.hub_http.specs.declared.fault.HttpFault.TheVariants.{NoMemory, BadHead, HeadTooLong, BodyTooLong}
 use Rattle.hub_http.specs.declared.fault.HttpFault.TheVariants.{Version, Coding, Ended, IoFault}
@@ -20,7 +22,17 @@ fault_text Coding = reply_text (Refused refusal.Coding) false true
 fault_text Ended = []
 fault_text IoFault = []
 
--- the text of a whole answer, or the one for want of memory where its own found none
-abbrev pub whole_text : Reply → Bool → Bool → Bool → List ℕ
-whole_text reply found head_only close =
-    if found then reply_text reply head_only close else reply_text (Refused refusal.NoMemory) head_only close
+-- the status of an answer
+abbrev pub status_in : Reply → ℕ
+status_in (Done status body) = status
+status_in (Refused refusal) = status_of refusal
+
+-- the body of an answer
+abbrev pub body_in : Reply → List ℕ
+body_in (Done status body) = body.items
+body_in (Refused refusal) = refusal_body refusal
+
+-- parts, one behind the other. An example: of HTTP/1.1 and a blank, 200, a blank, OK, and the end of a line
+-- it is the line `HTTP/1.1 200 OK`.
+abbrev pub parts_text : List (Bor (List ℕ)) → List ℕ
+parts_text parts = flat_map (λ p. p.now) parts

@@ -5,7 +5,7 @@ use Rattle.std.specs.List.{flat_map}
 use Rattle.std.specs.Io.KnownBytes.{Appends}
 use Rattle.hub_model.specs.declared.feeds.Mode.{Mode}
 use Rattle.hub_http.specs.Counts.{last_count, Sends}
-use Rattle.hub_http.specs.Texts.{head_text, chunked_line}
+use Rattle.hub_http.specs.Texts.{head_text, chunked_line, reply_text}
 use Rattle.hub_http.specs.declared.reply.Reply.{Reply}
 use Rattle.hub_http.specs.declared.fault.HttpFault.{HttpFault}
 use Rattle.hub_http.specs.Stream.{Asked, Spells, Faults}
@@ -18,15 +18,13 @@ use Rattle.hub_session.specs.declared.closing.Closing.{Closing}
 use Rattle.hub_session.specs.declared.closing.Closing.TheVariants.{Finished, Requested, Fault, Cut, Broken}
 use Rattle.hub_session.specs.declared.closing.Closing.TheVariants.{Exhausted}
 use Rattle.hub_session.specs.Feeds.{feed_text, Streams}
-use Rattle.hub_session.specs.Replies.{fault_text, whole_text}
+use Rattle.hub_session.specs.Replies.{fault_text}
 use Rattle.hub_session.specs.Rules.{Rules, Moment}
 
 -- a request with its answer
 pub record Exchange : Type 0 where
   pub asked : Asked
   pub answer : Answer
-  -- the text of a whole answer found memory
-  pub found : Bool
   -- those that were sent of a stream
   pub items : List StreamItem
 
@@ -35,14 +33,14 @@ abbrev pub is_head : Asked → Bool
 is_head asked = bytes_eq asked.method (codes "HEAD")
 
 -- the text of an answer
-abbrev pub answer_text : Answer → Bool → Bool → Bool → List StreamItem → List ℕ
-answer_text (Whole reply) found head_only close items = whole_text reply found head_only close
-answer_text (Stream mode life) found head_only close items =
+abbrev pub answer_text : Answer → Bool → Bool → List StreamItem → List ℕ
+answer_text (Whole reply) head_only close items = reply_text reply head_only close
+answer_text (Stream mode life) head_only close items =
     head_text 200 chunked_line close ++ (if head_only then [] else feed_text mode life items)
 
 -- what is written for a request
 abbrev pub exchange_text : Exchange → List ℕ
-exchange_text x = answer_text x.answer x.found (is_head x.asked) x.asked.close x.items
+exchange_text x = answer_text x.answer (is_head x.asked) x.asked.close x.items
 
 -- why a session closes behind a request that was answered, if it does
 abbrev pub after_answer : Bool → Option Closing

@@ -4,6 +4,7 @@
 mod closing;
 mod feed;
 mod item;
+mod parts;
 mod reply;
 mod service;
 mod session;

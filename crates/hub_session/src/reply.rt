@@ -1,8 +1,10 @@
 //! Whole answers to a writer.
-ghost use Rattle.std.specs.Prelude.{◌≡◌, ◌≤◌, Bool, is_err, OnErr};
+ghost use Rattle.std.specs.Prelude.{◌≡◌, ◌≤◌, is_err, OnErr};
 ghost use Rattle.hub_http.specs.Counts.{GaveUp, Rose, Sends};
-ghost use Rattle.hub_session.specs.Replies.{fault_text, whole_text};
+ghost use Rattle.hub_http.specs.Texts.{reply_text};
+ghost use Rattle.hub_session.specs.Replies.{fault_text};
 
+use crate::parts::send_in_parts;
 use hub_http::{HttpFault, IoFault, Output, Reply, no_memory_text, reply_bytes, send};
 use std::alloc::Global;
 
@@ -31,8 +33,8 @@ pub(crate) fn fault_text(fault: HttpFault) -> &'static str
     }
 }
 
-/// Writes a whole answer and flushes it, or the fixed text where its own found no memory. One
-/// write, mostly, of the answer's length.
+/// Writes a whole answer and flushes it: by one write, mostly, of the answer's length, or in parts where
+/// there is no memory for the whole, so that no answer is lost behind what its request did.
 pub(crate) fn send_reply<W: Output>(
     alloc: Global,
     writer: &mut W,
@@ -40,7 +42,7 @@ pub(crate) fn send_reply<W: Output>(
     head_only: bool,
     close: bool,
 ) -> Result<(), IoFault>
-    ensures sent { (found : Bool) × Sends (is_err result) (W.written writer.old) (W.written writer.new) (whole_text reply.now found head_only close) }
+    ensures sent { Sends (is_err result) (W.written writer.old) (W.written writer.new) (reply_text reply.now head_only close) }
     ensures monotone { W.fault_count writer.old ≤ W.fault_count writer.new }
     ensures failures_monotone { W.failure_count writer.old ≤ W.failure_count writer.new }
     ensures fault { OnErr result (Rose (W.fault_count writer.old) (W.fault_count writer.new)) }
@@ -49,6 +51,6 @@ pub(crate) fn send_reply<W: Output>(
 {
     match reply_bytes(alloc, reply, head_only, close) {
         Ok(bytes) => send(writer, bytes.as_slice()),
-        Err(_) => send(writer, no_memory_text(head_only, close).as_bytes()),
+        Err(_) => send_in_parts(writer, reply, head_only, close),
     }
 }

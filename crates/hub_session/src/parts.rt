@@ -1,0 +1,151 @@
+//! Whole answers to a writer in parts, which take no memory.
+ghost use Rattle.std.specs.Prelude.{◌≡◌, ◌≤◌, is_err, length, OnErr};
+ghost use Rattle.http.specs.StatusCode.{reason_phrase};
+ghost use Rattle.hub_http.specs.Counts.{GaveUp, Rose, Sends};
+ghost use Rattle.hub_http.specs.Texts.{close_line, head_text, length_line, phrase_or_empty, refusal_body, reply_text};
+ghost use Rattle.hub_session.specs.Replies.{body_in, parts_text, status_in};
+
+use http::StatusCode;
+use hub_http::{IoFault, Output, Refusal, Reply, send, write_all};
+use itoa::Buffer;
+
+fn phrase(status: StatusCode) -> &'static str
+    ensures { result.now ≡ phrase_or_empty (reason_phrase status) }
+{
+    match status.canonical_reason() {
+        Some(phrase) => phrase,
+        None => "",
+    }
+}
+
+fn close_line(close: bool) -> &'static str
+    ensures { result.now ≡ close_line close }
+{
+    if close { "Connection: close\r\n" } else { "" }
+}
+
+/// Writes parts, one behind the other, each mostly by one write, and does not flush.
+fn write_parts<W: Output>(writer: &mut W, parts: &[&[u8]]) -> Result<(), IoFault>
+    ensures sent { Sends (is_err result) (W.written writer.old) (W.written writer.new) (parts_text parts.now) }
+    ensures monotone { W.fault_count writer.old ≤ W.fault_count writer.new }
+    ensures failures_monotone { W.failure_count writer.old ≤ W.failure_count writer.new }
+    ensures fault { OnErr result (Rose (W.fault_count writer.old) (W.fault_count writer.new)) }
+    ensures tried { OnErr result (GaveUp (W.failure_count writer.old) (W.failure_count writer.new)
+        (W.fault_count writer.old) (W.fault_count writer.new)) }
+{
+    for part in parts {
+        write_all(writer, part)?;
+    }
+    Ok(())
+}
+
+/// Writes the head of an answer with a body of so many bytes.
+fn write_head<W: Output>(
+    writer: &mut W,
+    status: StatusCode,
+    len: usize,
+    close: bool,
+) -> Result<(), IoFault>
+    ensures sent { Sends (is_err result) (W.written writer.old) (W.written writer.new) (head_text status (length_line len) close) }
+    ensures monotone { W.fault_count writer.old ≤ W.fault_count writer.new }
+    ensures failures_monotone { W.failure_count writer.old ≤ W.failure_count writer.new }
+    ensures fault { OnErr result (Rose (W.fault_count writer.old) (W.fault_count writer.new)) }
+    ensures tried { OnErr result (GaveUp (W.failure_count writer.old) (W.failure_count writer.new)
+        (W.fault_count writer.old) (W.fault_count writer.new)) }
+{
+    let mut number = Buffer::new();
+    let mut length = Buffer::new();
+    write_parts(
+        writer,
+        &[
+            b"HTTP/1.1 ",
+            number.format(status.as_u16()).as_bytes(),
+            b" ",
+            phrase(status).as_bytes(),
+            b"\r\n",
+            b"Content-Type: application/json\r\n",
+            b"Content-Length: ",
+            length.format(len).as_bytes(),
+            b"\r\n",
+            close_line(close).as_bytes(),
+            b"\r\n",
+        ],
+    )
+}
+
+/// Writes the body of a refusal.
+fn write_refusal<W: Output>(writer: &mut W, refusal: Refusal) -> Result<(), IoFault>
+    ensures sent { Sends (is_err result) (W.written writer.old) (W.written writer.new) (refusal_body refusal) }
+    ensures monotone { W.fault_count writer.old ≤ W.fault_count writer.new }
+    ensures failures_monotone { W.failure_count writer.old ≤ W.failure_count writer.new }
+    ensures fault { OnErr result (Rose (W.fault_count writer.old) (W.fault_count writer.new)) }
+    ensures tried { OnErr result (GaveUp (W.failure_count writer.old) (W.failure_count writer.new)
+        (W.fault_count writer.old) (W.fault_count writer.new)) }
+{
+    write_parts(
+        writer,
+        &[
+            b"{\"error\":\"",
+            refusal.error().as_bytes(),
+            b"\",\"reason\":\"",
+            refusal.reason().as_bytes(),
+            b"\"}\n",
+        ],
+    )
+}
+
+/// How long the body of a refusal is.
+fn refusal_len(refusal: Refusal) -> usize
+    ensures { result ≡ length (refusal_body refusal) }
+{
+    25 + refusal.error().len() + refusal.reason().len()
+}
+
+/// The status of an answer, and how long its body is.
+fn framing(reply: &Reply) -> (StatusCode, usize)
+    ensures status { result.0 ≡ status_in reply.now }
+    ensures length { result.1 ≡ length (body_in reply.now) }
+{
+    match reply {
+        Reply::Done { status, body } => (*status, body.len()),
+        Reply::Refused(refusal) => (refusal.status(), refusal_len(*refusal)),
+    }
+}
+
+/// Writes the body of an answer.
+fn write_body<W: Output>(writer: &mut W, reply: &Reply) -> Result<(), IoFault>
+    ensures sent { Sends (is_err result) (W.written writer.old) (W.written writer.new) (body_in reply.now) }
+    ensures monotone { W.fault_count writer.old ≤ W.fault_count writer.new }
+    ensures failures_monotone { W.failure_count writer.old ≤ W.failure_count writer.new }
+    ensures fault { OnErr result (Rose (W.fault_count writer.old) (W.fault_count writer.new)) }
+    ensures tried { OnErr result (GaveUp (W.failure_count writer.old) (W.failure_count writer.new)
+        (W.fault_count writer.old) (W.fault_count writer.new)) }
+{
+    match reply {
+        Reply::Done { body, .. } => write_all(writer, body.as_slice()),
+        Reply::Refused(refusal) => write_refusal(writer, *refusal),
+    }
+}
+
+/// Writes a whole answer in parts, and flushes it. It takes no memory, and a write for each part of the
+/// head, some ten, and for the body.
+pub(crate) fn send_in_parts<W: Output>(
+    writer: &mut W,
+    reply: &Reply,
+    head_only: bool,
+    close: bool,
+) -> Result<(), IoFault>
+    ensures sent { Sends (is_err result) (W.written writer.old) (W.written writer.new) (reply_text reply.now head_only close) }
+    ensures monotone { W.fault_count writer.old ≤ W.fault_count writer.new }
+    ensures failures_monotone { W.failure_count writer.old ≤ W.failure_count writer.new }
+    ensures fault { OnErr result (Rose (W.fault_count writer.old) (W.fault_count writer.new)) }
+    ensures tried { OnErr result (GaveUp (W.failure_count writer.old) (W.failure_count writer.new)
+        (W.fault_count writer.old) (W.fault_count writer.new)) }
+{
+    let (status, len) = framing(reply);
+    write_head(writer, status, len, close)?;
+    if !head_only {
+        write_body(writer, reply)?;
+    }
+    send(writer, b"")
+}
