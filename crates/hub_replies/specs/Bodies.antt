@@ -39,6 +39,10 @@ info_body name info =
 unfoldable pub edit_text : List ℕ → List ℕ → List ℕ
 edit_text id rev = codes "{\"ok\":true,\"id\":" ++ (id ++ (codes ",\"rev\":" ++ (quoted rev ++ codes "}")))
 
+-- the front of the answer to an edit of the document of this id, up to its revision
+unfoldable pub edit_front : List ℕ → List ℕ
+edit_front id = codes "{\"ok\":true,\"id\":" ++ (quoted id ++ codes ",\"rev\":")
+
 -- the answer to an edit of the document of this id
 unfoldable pub edit_body : List ℕ → Revision → List ℕ
 edit_body id rev = edit_text (quoted id) (text_of rev) ++ codes "\n"

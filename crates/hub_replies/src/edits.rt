@@ -1,26 +1,40 @@
 //! The answers to edits.
 
-ghost use Rattle.std.specs.Prelude.{◌≡◌, ◌++◌, codes, decimal, IfOk, OnOk};
+ghost use Rattle.std.specs.Prelude.{◌≡◌, ◌++◌, List, ℕ, codes, decimal, IfOk, OnOk};
 ghost use Rattle.json.specs.Print.{quoted};
-ghost use Rattle.hub_replies.specs.Bodies.{edit_body, local_edit_body};
+ghost use Rattle.hub_replies.specs.Bodies.{edit_body, edit_front, local_edit_body};
 
 use hub_document::{RevId, put_quoted};
 use itoa::Buffer;
 use std::alloc::{AllocError, Global};
 
-// Room for what stands in an answer beside the id.
+// Room for what stands before and behind the id: the longest revision has 70 bytes.
 const ROOM: usize = 128;
 
-/// The answer to an edit of the document of this id, which has this revision now (CouchDB API
-/// reference, `PUT /{db}/{docid}`). It costs the text's length.
-#[tactic(auto, unfolding(crate::specs::Bodies::edit_body, crate::specs::Bodies::edit_text))]
-pub fn edit_body(alloc: Global, id: &str, rev: &RevId) -> Result<Vec<u8>, AllocError>
-    ensures { IfOk result (λ t. t.items ≡ edit_body id.now rev.now) }
+// Room for what stands behind the front.
+const REST: usize = 80;
+
+/// The front of the answer to an edit of the document of this id, up to its revision. Of a local document
+/// the id has its `_local/`. It has room for the rest, so that an answer which is begun before the edit
+/// takes no memory behind it. It costs the id's length.
+#[tactic(auto, unfolding(crate::specs::Bodies::edit_front))]
+pub fn edit_front(alloc: Global, id: &str) -> Result<Vec<u8>, AllocError>
+    ensures { IfOk result (λ t. t.items ≡ edit_front id.now) }
 {
     let mut text = Vec::with_capacity(alloc, ROOM.saturating_add(id.len()))?;
     text.extend_from_slice(b"{\"ok\":true,\"id\":")?;
     put_quoted(&mut text, id)?;
     text.extend_from_slice(b",\"rev\":")?;
+    text.try_reserve(REST)?;
+    Ok(text)
+}
+
+/// The answer with this front to an edit of a document that has this revision now (CouchDB API reference,
+/// `PUT /{db}/{docid}`). Constant time.
+pub fn edit_body(front: Vec<u8>, rev: &RevId) -> Result<Vec<u8>, AllocError>
+    ensures { IfOk result (λ t. (id : List ℕ) → front.items ≡ edit_front id → t.items ≡ edit_body id rev.now) }
+{
+    let mut text = front;
     rev.print_quoted(&mut text)?;
     text.extend_from_slice(b"}\n")?;
     Ok(text)
@@ -36,16 +50,12 @@ fn put_count(out: &mut Vec<u8>, count: u64) -> Result<(), AllocError>
     Ok(out.push(b'"')?)
 }
 
-/// The answer to an edit of the local document of this id, `_local/` included, which was written
-/// `count` times now (CouchDB API reference, `PUT /{db}/_local/{docid}`). It costs the text's length.
-#[tactic(auto, unfolding(crate::specs::Bodies::local_edit_body, crate::specs::Bodies::edit_text))]
-pub fn local_edit_body(alloc: Global, id: &str, count: u64) -> Result<Vec<u8>, AllocError>
-    ensures { IfOk result (λ t. t.items ≡ local_edit_body id.now count) }
+/// The answer with this front to an edit of a local document, which was written `count` times now (CouchDB
+/// API reference, `PUT /{db}/_local/{docid}`). Constant time.
+pub fn local_edit_body(front: Vec<u8>, count: u64) -> Result<Vec<u8>, AllocError>
+    ensures { IfOk result (λ t. (id : List ℕ) → front.items ≡ edit_front id → t.items ≡ local_edit_body id count) }
 {
-    let mut text = Vec::with_capacity(alloc, ROOM.saturating_add(id.len()))?;
-    text.extend_from_slice(b"{\"ok\":true,\"id\":")?;
-    put_quoted(&mut text, id)?;
-    text.extend_from_slice(b",\"rev\":")?;
+    let mut text = front;
     put_count(&mut text, count)?;
     text.extend_from_slice(b"}\n")?;
     Ok(text)

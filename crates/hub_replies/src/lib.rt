@@ -13,7 +13,7 @@ mod texts;
 pub use batch::{BatchReply, batch_body};
 pub use diffs::diffs_body;
 pub use docs::{doc_body, local_doc_body, open_revs_body};
-pub use edits::{edit_body, local_edit_body};
+pub use edits::{edit_body, edit_front, local_edit_body};
 pub use fixed::{commit_body, ok_body, welcome_body};
 pub use info::info_body;
 pub use names::names_body;

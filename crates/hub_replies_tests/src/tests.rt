@@ -4,7 +4,7 @@ use hub_database::{Diff, Info, Local, OpenRev};
 use hub_document::{Doc, RevId, Revisions};
 use hub_http::Refusal;
 use hub_replies::{
-    BatchReply, batch_body, commit_body, diffs_body, doc_body, edit_body, info_body,
+    BatchReply, batch_body, commit_body, diffs_body, doc_body, edit_body, edit_front, info_body,
     local_doc_body, local_edit_body, names_body, ok_body, open_revs_body, welcome_body,
 };
 use serde_json::Value;
@@ -113,10 +113,10 @@ fn databases_say_of_themselves(rt: HostRuntime) -> Result<(), Fail> {
 fn edits_are_answered(rt: HostRuntime) -> Result<(), Fail> {
     let alloc = rt.alloc();
     let rev = RevId::read("1-a").expect(&rt, "a revision");
-    let body = edit_body(alloc, "a", &rev)?;
+    let body = edit_body(edit_front(alloc, "a")?, &rev)?;
     is_line(&rt, body.as_slice(), r#"{"ok":true,"id":"a","rev":"1-a"}"#);
     let rev = RevId::read("65535-0Zz9").expect(&rt, "a revision");
-    let body = edit_body(alloc, ODD, &rev)?;
+    let body = edit_body(edit_front(alloc, ODD)?, &rev)?;
     let expected = format!(in alloc; r#"{{"ok":true,"id":{ODD_TEXT},"rev":"65535-0Zz9"}}"#)?;
     is_line(&rt, body.as_slice(), expected.as_str());
     Ok(())
@@ -125,13 +125,13 @@ fn edits_are_answered(rt: HostRuntime) -> Result<(), Fail> {
 #[test]
 fn local_edits_are_answered(rt: HostRuntime) -> Result<(), Fail> {
     let alloc = rt.alloc();
-    let body = local_edit_body(alloc, "_local/k", 2)?;
+    let body = local_edit_body(edit_front(alloc, "_local/k")?, 2)?;
     is_line(
         &rt,
         body.as_slice(),
         r#"{"ok":true,"id":"_local/k","rev":"0-2"}"#,
     );
-    let body = local_edit_body(alloc, ODD, 18446744073709551615)?;
+    let body = local_edit_body(edit_front(alloc, ODD)?, 18446744073709551615)?;
     let expected = format!(in alloc;
         r#"{{"ok":true,"id":{ODD_TEXT},"rev":"0-18446744073709551615"}}"#
     )?;

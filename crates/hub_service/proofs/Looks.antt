@@ -301,6 +301,12 @@ pub said_text : {B E : Type 0} (items : B → List ℕ) (status : ℕ) (text : L
 said_text items status text (Ok b) r is said want = subst (λ t. IsSaid (Body status t) r) is said
 said_text items status text (Err e) r is said want = inr want
 
+-- what is told of each that is such is told of this one
+pub told_of : {B E I : Type 0} (is_such : I → Type 0) (told : B → I → Type 0) (b : Result B E) (one : I) → is_such one
+    → IfOk b (λ x. (other : I) → is_such other → told x other) → IfOk b (λ x. told x one)
+told_of is_such told (Ok x) one such all = all one such
+told_of is_such told (Err e) one such all = tt
+
 -- what became of each document of a batch that did not stop
 batch_outcomes : (new_edits : Bool) (docs : List Doc) (a : Accepted)
     → (w : IsWrittenBy false 0 (record { parts = 0; count = 0 }) new_edits docs a) → a.stopped ≡ false

@@ -1,10 +1,11 @@
 //! Documents by their ids (CouchDB API reference, `/{db}/{docid}`).
 
-ghost use Rattle.std.specs.Prelude.{◌≡◌, ◌⊎◌, ◌∷◌, [], Err, IfErr, IfOk, Ok, string_bytes};
+ghost use Rattle.std.specs.Prelude.{◌≡◌, ◌⊎◌, ◌∷◌, [], Err, IfErr, IfOk, List, Ok, string_bytes, ℕ};
 ghost use Rattle.hub_document.specs.Ids.{short_id};
 ghost use Rattle.hub_document.specs.Put.{put_in};
 ghost use Rattle.hub_params.specs.DocParams.{doc_asked};
 ghost use Rattle.hub_database.specs.Reads.{lookup};
+ghost use Rattle.hub_replies.specs.Bodies.{edit_front};
 ghost use Rattle.hub_service.specs.Calls.{edits, gets_doc, gets_revs, is_all, puts_doc, says_edit, says_first, says_found, says_noted, says_revs, winner_in};
 ghost use Rattle.hub_service.specs.Deletions.{DeletesLeaf, IsDeletion, refuses_unnamed};
 ghost use Rattle.hub_service.specs.Moments.{IsRead, IsWritten};
@@ -20,7 +21,7 @@ use hub_document::{Body, Doc, DocFault, DocId, OpenRevs, RevId};
 use hub_http::Refusal;
 use hub_model::Outcome;
 use hub_params::DocParams;
-use hub_replies::{doc_body, edit_body, open_revs_body};
+use hub_replies::{doc_body, edit_body, edit_front, open_revs_body};
 use hub_revtree::Winner;
 use std::alloc::{AllocError, Global};
 use std::sync::Wait;
@@ -103,37 +104,32 @@ pub(crate) fn get<N: Wait>(
     get_found(target, id, revs)
 }
 
-// What came of storing an edit of this id, with this status where it was stored.
+// What came of storing an edit, with this status where it was stored, and this front of the answer.
 fn say_edit(
-    alloc: Global,
     status: StatusCode,
-    id: &str,
+    front: Vec<u8>,
     outcome: &Outcome<RevId>,
 ) -> Result<Response, Refusal>
-    ensures { IsSaid (says_edit status id.now outcome.now) result }
+    ensures { (id : List ℕ) → front.items ≡ edit_front id → IsSaid (says_edit status id outcome.now) result }
 {
     match outcome {
-        Outcome::Stored(rev) => Ok(Response::Body(status, edit_body(alloc, id, rev)?)),
+        Outcome::Stored(rev) => Ok(Response::Body(status, edit_body(front, rev)?)),
         Outcome::Known => Err(Refusal::Conflict),
         Outcome::Refused(fault) => Err(Refusal::from(*fault)),
     }
 }
 
-// The answer to an edit of this id that was written so, with this status where it was stored.
-fn say_written(
-    alloc: Global,
-    status: StatusCode,
-    id: &str,
-    written: &Written,
-) -> Result<Response, Refusal>
-    ensures { let w = written.now in
-        IsSaid (says_noted w.lapsed (says_first status id.now w.accepted.replies)) result }
+// The answer to an edit that was written so, with this status where it was stored, and this front of the
+// answer.
+fn say_written(status: StatusCode, front: Vec<u8>, written: &Written) -> Result<Response, Refusal>
+    ensures { let w = written.now in (id : List ℕ) → front.items ≡ edit_front id
+        → IsSaid (says_noted w.lapsed (says_first status id w.accepted.replies)) result }
 {
     if let Some(fault) = written.lapsed {
         return Err(unnoted(fault));
     }
     match written.accepted.replies.as_slice() {
-        [outcome, ..] => say_edit(alloc, status, id, outcome),
+        [outcome, ..] => say_edit(status, front, outcome),
         [] => Err(Refusal::NoMemory),
     }
 }
@@ -145,13 +141,14 @@ fn listed(alloc: Global, doc: Doc) -> Result<Vec<Doc>, AllocError>
     Ok(vec![in alloc; doc]?)
 }
 
-// Stores an edit whose revision is made here, and says so with this status.
+// Stores an edit whose revision is made here, and says so with this status. The answer is begun first, so
+// that no edit is stored that is not answered.
 fn edit<N: Wait>(target: &Target<'_, N>, status: StatusCode, doc: Doc) -> Result<Response, Refusal>
     ensures { IsWritten (λ db. edits status db doc) result }
 {
-    let id = doc.id.copy()?;
+    let front = edit_front(target.alloc, doc.id.as_str())?;
     let written = target.write(listed(target.alloc, doc)?, true)?;
-    say_written(target.alloc, status, id.as_str(), &written)
+    say_written(status, front, &written)
 }
 
 // The document that a body is, which a query may name a leaf of.
@@ -167,7 +164,7 @@ fn read_put(alloc: Global, id: &str, query: &[u8], body: &[u8]) -> Result<Doc, D
 }
 
 /// Puts a document: an edit of the leaf that the query or the body names. It costs the body's length,
-/// and what `Hub::write` does. Where memory is missing for the answer the edit stands.
+/// and what `Hub::write` does. Where memory is missing, no edit stands but one that could not be noted.
 pub(crate) fn put<N: Wait>(
     target: &Target<'_, N>,
     id: &str,
@@ -229,7 +226,7 @@ fn delete_leaf<N: Wait>(target: &Target<'_, N>, id: String, rev: RevId) -> Resul
 }
 
 /// Deletes a document: an edit of the leaf that the query names. It costs a look for the document, and
-/// what `Hub::write` does. Where memory is missing for the answer the edit stands.
+/// what `Hub::write` does. Where memory is missing, no edit stands but one that could not be noted.
 pub(crate) fn delete<N: Wait>(
     target: &Target<'_, N>,
     id: String,

@@ -13,7 +13,7 @@ use crate::target::Target;
 use hub_database::Local;
 use hub_document::LocalDoc;
 use hub_http::Refusal;
-use hub_replies::{local_doc_body, local_edit_body};
+use hub_replies::{edit_front, local_doc_body, local_edit_body};
 use std::alloc::Global;
 use std::sync::Wait;
 
@@ -37,18 +37,17 @@ pub(crate) fn get<N: Wait>(target: &Target<'_, N>, id: String) -> Result<Respons
     say_local(target.alloc, id.as_str(), &found)
 }
 
-// Keeps a local document.
+// Keeps a local document. The answer is begun first, so that none is kept that is not answered.
 fn keep<N: Wait>(target: &Target<'_, N>, doc: LocalDoc) -> Result<Response, Refusal>
     ensures { IsRead (λ db. keeps (written db.locals doc)) result }
 {
-    let id = doc.id.as_str().to_string(target.alloc)?;
+    let front = edit_front(target.alloc, doc.id.as_str())?;
     let count = target.local_put(doc)?;
-    created(local_edit_body(target.alloc, id.as_str(), count))
+    created(local_edit_body(front, count))
 }
 
 /// Keeps a local document in place of the one of its id. It costs the body's length, the wait for the
-/// database, and two looks in the map of local documents. Where memory is missing for the answer the
-/// document is kept.
+/// database, and two looks in the map of local documents. Where memory is missing, nothing is kept.
 pub(crate) fn put<N: Wait>(
     target: &Target<'_, N>,
     id: &str,

@@ -1,12 +1,11 @@
-use Rattle.std.proofs.Common.{◌≡◌, ℕ, Err, ◌<◌, ◌^◌, rules, sym, subst, ◌∙◌, arith}
+use Rattle.std.proofs.Common.{◌≡◌, ℕ, List, Err, ◌<◌, ◌^◌, rules, sym, subst, arith}
 use Rattle.std.specs.Prelude.{Vec}
 use Rattle.std.specs.declared.alloc.Global.{Global}
 use Rattle.hub_database.specs.Locals.{written}
-use Rattle.hub_replies.specs.Bodies.{local_edit_body}
+use Rattle.hub_replies.specs.Bodies.{edit_front, local_edit_body}
 use Rattle.hub_service.specs.Calls.{keeps}
 use Rattle.hub_service.specs.Moments.{IsRead}
-use Rattle.hub_service.specs.Said.{Body, IsSaid}
-use Rattle.hub_service.proofs.Looks.{kept_read, kept_said, said_text, unkept_read}
+use Rattle.hub_service.proofs.Looks.{kept_read, kept_said, said_text, told_of, unkept_read}
 use Rattle.hub_service.proofs.locals.keep.Goals as goal
 
 pub returns-in_err-count : goal.returns-in_err-count
@@ -19,7 +18,7 @@ pub returns : goal.returns
 returns g c =
     let n = c.in_ok-count.count in
     let few : n < 2 ^ 64 = omega arith in
-    let id : c.as_str-2.result.now ≡ c.args.doc.id = c.as_str-2.ensures.value ∙ (c.in_ok-id.ensures.ok ∙ c.as_str.ensures) in
-    let said = said_text (λ (b : Vec ℕ Global). b.items) 201 (local_edit_body c.as_str-2.result.now n) c.local_edit_body.result c.created.result c.local_edit_body.ensures c.created.ensures.said c.created.ensures.memory in
+    let front : c.in_ok-front.front.items ≡ edit_front c.args.doc.id = subst (λ (id : List ℕ). c.in_ok-front.front.items ≡ edit_front id) c.as_str.ensures c.in_ok-front.ensures in
+    let said = said_text (λ (b : Vec ℕ Global). b.items) 201 (local_edit_body c.args.doc.id n) c.local_edit_body.result c.created.result (told_of (λ (id : List ℕ). c.in_ok-front.front.items ≡ edit_front id) (λ (t : Vec ℕ Global) id. t.items ≡ local_edit_body id n) c.local_edit_body.result c.args.doc.id front c.local_edit_body.ensures) c.created.ensures.said c.created.ensures.memory in
     kept_read c.args.doc n c.created.result c.in_ok-count.ensures
-    (λ db is. kept_said db c.args.doc n c.created.result few (subst (λ id. IsSaid (Body 201 (local_edit_body id n)) c.created.result) id said) is)
+    (λ db is. kept_said db c.args.doc n c.created.result few said is)
