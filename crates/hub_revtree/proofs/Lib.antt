@@ -15,6 +15,8 @@ pub mod HighestLemmas
 pub mod WinnerLemmas
 pub mod SoughtLemmas
 pub mod IndexLemmas
+pub mod FirstLemmas
+pub mod LinkLemmas
 pub mod KeyLemmas
 pub mod MeetLemmas
 pub mod BringLemmas

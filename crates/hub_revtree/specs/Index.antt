@@ -1,43 +1,85 @@
--- An index of stems: from the key of a digest to the number of the stem that has a revision with that key
--- (own). An example: stem 0 has the revisions 2-d' and 1-e', and stem 1 has 3-f', where d' is the hexadecimal
--- text of the digest d, in lower-case digits, and so on. The key of d is the number of its first eight bytes.
--- Where the three keys differ, the entries are 0 at the keys of d and e, and 1 at the key of f. Where f
--- begins with the eight bytes of d, the entry at their key is `many`, since both stems have a revision with
--- it. A revision such as 4-x has no key.
-use Rattle.std.specs.Prelude.{◌≡◌, ℕ, ◌-◌, ◌⊎◌, List, length, map, slice_get, Option, Some, None, nat_eq, true}
+-- An index of stems: it tells the first stem that has a revision, and a stem that brought what stands behind
+-- it (own). An example: stem 0 has the revisions 2-d' and 1-e', stem 1 has 3-f', stem 2 has 4-x and stem 3
+-- has 4-y, where d' is the hexadecimal text of the digest d, in lower-case digits, and so on, and x and y are
+-- the texts of no digests. The key of d is the number of its first eight bytes. Where the three keys differ,
+-- the entries are 0 at the keys of d and e, and 1 at the key of f; the others are 2 at 4-x and 3 at 4-y.
+-- Where f begins with the eight bytes of d, the entry at their key is 0, and the others have 1 at 3-f'.
+-- Another one: 3-c' came alone, then 2-b' alone, then 4-d' 3-c' 2-b', so that the stems are 3-c', 2-b', and
+-- 4-d' 3-c' on 2-b'. The entries are 0 at the key of c, 1 at that of b and 2 at that of d: stem 2 has 3-c'
+-- too, but stem 0 is the first. Nothing stands behind 3-c' in stem 0, and 2-b' does in stem 2. So the link at
+-- 3-c' is 2.
+use Rattle.std.specs.Prelude.{◌≡◌, ℕ, ◌+◌, ◌-◌, ◌<◌, ◌≤◌, ◌⊎◌, List, length, map, slice_get, nat_eq, true}
+use Rattle.std.specs.Prelude.{Option, Some, None, IsSome}
 use Rattle.std.specs.HashMap.{get}
+use Rattle.std.specs.BTreeMap.{get as ordered_get}
 use Rattle.hex.specs.Hex.{encode_lower}
-use Rattle.hub_model.specs.Revision.{Revision}
+use Rattle.hub_model.specs.Revision.{Revision, revision_cmp}
 use Rattle.hub_model.specs.Path.{names}
 use Rattle.hub_revtree.specs.Key.{IsKey}
 use Rattle.hub_revtree.specs.Branch.{edits_in}
 use Rattle.hub_revtree.specs.Extend.{line_to}
-use Rattle.hub_revtree.specs.Stem.{Stem, branches_of, revisions_at}
+use Rattle.hub_revtree.specs.Stem.{Stem, branches_of, rev_at, revisions_at}
+use Rattle.hub_revtree.specs.declared.stem.Place.{Place}
 use Rattle.hub_revtree.specs.declared.index.Index.{Index}
-use Rattle.hub_revtree.specs.declared.index.Lead.{Lead}
-use Rattle.hub_revtree.specs.declared.index.Lead.TheVariants.{Nowhere, Only, Anywhere}
 
--- the entry at a key
+-- the entry at a key, the other at a revision, and its link
 abbrev pub entry_in : Index → ℕ → Option ℕ
 entry_in index key = get nat_eq index.stems key
 
--- what stands for more than one stem
-abbrev pub many : ℕ
-many = 4294967295
+abbrev pub other_in : Index → Revision → Option ℕ
+other_in index r = ordered_get revision_cmp index.others r
 
--- an entry leads to the stem of this number: it is the number, or `many`
-abbrev pub LeadsTo : Option ℕ → ℕ → Type 0
-LeadsTo None number = ⊥
-LeadsTo (Some entry) number = (entry ≡ number) ⊎ (entry ≡ many)
+abbrev pub link_in : Index → Revision → Option ℕ
+link_in index r = ordered_get revision_cmp index.links r
 
--- the entry at the key of each of these revisions leads to the stem of this number
-abbrev pub AreIn : (ℕ → Option ℕ) → ℕ → List Revision → Type 0
-AreIn entry number revisions =
-    (at : ℕ) (r : Revision) (key : ℕ) → slice_get revisions at ≡ Some r → IsKey r.hash key → LeadsTo (entry key) number
+-- the stem of this number has r
+abbrev pub Has : List Stem → ℕ → Revision → Type 0
+Has stems number r = names (revisions_at stems number) r ≡ true
 
--- each stem's revisions are in it, by the stem's number
-abbrev pub IsIndexOf : (ℕ → Option ℕ) → List Stem → Type 0
-IsIndexOf entry stems = (number : ℕ) (stem : Stem) → slice_get stems number ≡ Some stem → AreIn entry number stem.revisions
+-- the same of the first stems, so many, and of the first revisions of the next one, so many
+abbrev pub HasTo : List Stem → ℕ → ℕ → ℕ → Revision → Type 0
+HasTo stems count most number r =
+    ((number < count) × Has stems number r)
+    ⊎ ((number ≡ count) × ((at : ℕ) × (at < most) × (slice_get (revisions_at stems count) at ≡ Some r)))
+
+-- the stem of this number has r and no earlier one has it, where `has` says which ones have it
+abbrev pub IsFirstWith : (ℕ → Revision → Type 0) → ℕ → Revision → Type 0
+IsFirstWith has number r = has number r × ((earlier : ℕ) → earlier < number → ¬ has earlier r)
+
+-- the place is one of r in the first stem that has it
+abbrev pub IsFirstPlace : List Stem → Revision → Place → Type 0
+IsFirstPlace stems r place = (rev_at stems (Some place) ≡ Some r) × IsFirstWith (Has stems) place.stem r
+
+-- the entry at a key is the number of the first stem that has a revision with that key; each of the others is
+-- that of the first stem that has the revision; and each revision's first stem is told by one of the two
+pub record AreTold (has : ℕ → Revision → Type 0) (entry : ℕ → Option ℕ) (other : Revision → Option ℕ) : Type 0 where
+  pub entries : (key number : ℕ) → entry key ≡ Some number → (r : Revision) × has number r × IsKey r.hash key
+  pub keyed :
+      (number key : ℕ) (r : Revision) → has number r → IsKey r.hash key
+      → (first : ℕ) × (entry key ≡ Some first) × (first ≤ number)
+  pub others : (number : ℕ) (r : Revision) → other r ≡ Some number → IsFirstWith has number r
+  pub told :
+      (number : ℕ) (r : Revision) → IsFirstWith has number r
+      → ((key : ℕ) × IsKey r.hash key × (entry key ≡ Some number)) ⊎ (other r ≡ Some number)
+
+-- the stem of this number has r, and another one directly behind it, or stands on a place with it
+abbrev pub GoesOn : List Stem → ℕ → Revision → Type 0
+GoesOn stems number r =
+    (stem : Stem) × (at : ℕ) × (slice_get stems number ≡ Some stem) × (slice_get stem.revisions at ≡ Some r)
+    × ((at + 1 < length stem.revisions) ⊎ IsSome stem.parent)
+
+-- a link is the number of a stem that goes on behind the revision; and where a stem goes on behind one, the
+-- first stem that has it does too, or it has a link
+pub record AreLinked (has : ℕ → Revision → Type 0) (stems : List Stem) (link : Revision → Option ℕ) : Type 0 where
+  pub links : (number : ℕ) (r : Revision) → link r ≡ Some number → GoesOn stems number r
+  pub linked :
+      (number : ℕ) (r : Revision) → has number r → GoesOn stems number r
+      → ((first : ℕ) × IsFirstWith (Has stems) first r × GoesOn stems first r) ⊎ IsSome (link r)
+
+-- the index tells and links all revisions of the stems
+abbrev pub IsIndex : Index → List Stem → Type 0
+IsIndex index stems =
+    AreTold (Has stems) (entry_in index) (other_in index) × AreLinked (Has stems) stems (link_in index)
 
 -- the newest revision of the stem that came last, if there is one
 abbrev pub newest_rev : List Stem → Option Revision
@@ -56,18 +98,4 @@ IsNewestLine (Some digests) stems =
 -- the index is one of the stems, if there is one, and the line that it has is the newest one's
 abbrev pub IsIndexed : Option Index → List Stem → Type 0
 IsIndexed None stems = Unit {0}
-IsIndexed (Some index) stems = IsIndexOf (entry_in index) stems × IsNewestLine index.line stems
-
--- what leads to a stem still does
-abbrev pub Keeps : (ℕ → Option ℕ) → (ℕ → Option ℕ) → Type 0
-Keeps before after = (key number : ℕ) → LeadsTo (before key) number → LeadsTo (after key) number
-
--- the lead allows the stem of this number
-abbrev pub Allows : Lead → ℕ → Type 0
-Allows Nowhere number = ⊥
-Allows (Only found) number = found ≡ number
-Allows Anywhere number = Unit {0}
-
--- the lead allows each stem that has r
-abbrev pub IsLead : Lead → List Stem → Revision → Type 0
-IsLead lead stems r = (number : ℕ) → names (revisions_at stems number) r ≡ true → Allows lead number
+IsIndexed (Some index) stems = IsIndex index stems × IsNewestLine index.line stems

@@ -7,5 +7,7 @@ pub mod Extend
 pub mod Count
 pub mod Sought
 pub mod Key
+pub mod Order
+pub mod First
 pub mod Index
 pub mod Common

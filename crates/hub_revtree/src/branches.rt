@@ -114,7 +114,7 @@ fn without_line(index: Option<Box<Index>>) -> Option<Box<Index>>
 }
 
 // Whether nothing stands behind the path's last revision. Constant time where that is of the first
-// generation, or the index tells the only stem that may have it; else one look a stem.
+// generation; else it costs what `place_behind` does.
 fn ends(stems: &[Stem], index: Option<&Index>, path: &Run) -> bool
     requires stems { AreStems stems.now }
     requires index { IsIndexed (option_map (λ i. i.now) index) stems.now }
@@ -293,7 +293,7 @@ impl Branches {
 
     /// Puts the revision and all that stands behind it behind what the vector holds; nothing where no
     /// path names it. It costs a find, the length of what it puts there, and for each join of the line a look
-    /// for the edit that goes on: a look at each edit, or constant where the index tells that edit.
+    /// for the edit that goes on: two looks in the index, or a look at each edit where there is none.
     pub(crate) fn append_line(&self, rev: &RevId, line: &mut Vec<RevId>) -> Result<(), AllocError>
         requires { IsLegal (edits_in self.now.list) }
         ensures { OnOk result (line.new.items ≡ line.old.items ++ line_to (edits_in self.now.list) (Some rev.now)) }

@@ -1,69 +1,185 @@
 //! An index of a tree's revisions.
 
-ghost use Rattle.std.specs.Prelude.{◌≡◌, ◌-◌, None, length, map, option_map, take, IfSome, IfOk, OnOk};
-ghost use Rattle.hub_revtree.specs.Index.{AreIn, IsIndexOf, IsIndexed, IsLead, IsNewestLine, Keeps, LeadsTo, entry_in};
+ghost use Rattle.std.specs.Prelude.{◌≡◌, ℕ, [], ◌+◌, ◌-◌, ◌<◌, ◌≤◌, false, None, length, nat_eq, option_map, take, unwrap_or, IfNone, IfOk, IfSome, OnOk};
+ghost use Rattle.std.specs.BTreeMap.{get as ordered_get};
+ghost use Rattle.std.specs.Ordering.{eq_by_cmp};
+ghost use Rattle.hub_model.specs.Revision.{Revision, revision_cmp};
+ghost use Rattle.hub_revtree.specs.First.{first_put};
+ghost use Rattle.hub_revtree.specs.Index.{AreLinked, AreTold, Has, HasTo, IsFirstPlace, IsIndex, IsIndexed, IsNewestLine, entry_in, link_in, other_in};
+ghost use Rattle.hub_revtree.specs.Stem.{AreStems, has_revision, revisions_at};
 
 use crate::key::key_of_rev;
 use crate::line::Line;
-use crate::stem::Stem;
+use crate::rev_key::RevKey;
+use crate::sought::Sought;
+use crate::stem::{Place, Stem};
+use crate::stems::{behind_in, place_in};
 use hub_document::RevId;
 use std::alloc::{AllocError, Global};
-use std::collections::HashMap;
-
-// What stands for more than one stem.
-const MANY: u32 = u32::MAX;
+use std::collections::{BTreeMap, HashMap};
 
 // From so many stems on there is an index. A look at each of so many takes twice as long as one in the map,
 // and many documents with fewer edits shall have no more memory.
 const TURN: usize = 256;
 
-/// What a tree of many edits has so that looks need not pass over all of them.
+/// What a tree of many edits has so that looks need not pass over all of them. A look costs constant time
+/// where the revision's hash is a digest's text and no earlier stem has another one with the same first eight
+/// bytes; else at most log n comparisons of revisions, where n counts those of which this does not hold.
 #[derive(Debug, Drop)]
 pub(crate) struct Index {
-    /// From the key of a digest to the number of the stem that has a revision with that key, or to `MANY`.
-    /// Only revisions whose hash is a digest's text are in it. It takes some 30 to 60 bytes for each of them.
+    /// From the key of a digest to the number of the first stem that has a revision with that key. It takes
+    /// some 30 to 60 bytes for each of them.
     stems: HashMap<u64, u32>,
+    /// From the other revisions to the first stem that has each. It takes some 100 to 200 bytes for each, and
+    /// none before there is one.
+    others: BTreeMap<RevKey, u32>,
+    /// From a revision behind which nothing stands in the first stem that has it to one in which something
+    /// does. It takes as much for each.
+    links: BTreeMap<RevKey, u32>,
     /// The newest stem's newest revision and all that stands behind it, for the next one that stands on it;
     /// None where it was not made so, and where the memory for it was not to be had.
     line: Option<Line>,
 }
 
-/// Which stem may have a revision.
-#[derive(Debug)]
-pub(crate) enum Lead {
-    /// No stem has it.
-    Nowhere,
-    /// No other than this one.
-    Only(usize),
-    /// Each may have it.
-    Anywhere,
+// The number that the map has at the revision. At most log n comparisons of revisions.
+fn number_at(map: &BTreeMap<RevKey, u32>, rev: &RevId) -> Option<u32>
+    ensures { result ≡ ordered_get revision_cmp map.now rev.now }
+{
+    map.get(&RevKey::new(rev)).copied()
+}
+
+// Puts the number at the revision, where the map has none there. At most log n comparisons of revisions.
+fn put_at(map: &mut BTreeMap<RevKey, u32>, rev: &RevId, number: u32) -> Result<(), AllocError>
+    ensures { OnOk result ((r : Revision) → ordered_get revision_cmp map.new r ≡ first_put (eq_by_cmp revision_cmp) (ordered_get revision_cmp map.old) rev.now number r) }
+{
+    let key = RevKey::new(rev);
+    if map.contains_key(&key) {
+        return Ok(());
+    }
+    map.insert(key, number)?;
+    Ok(())
+}
+
+// The number of a stem, as the index keeps it.
+fn kept_number(number: usize) -> Result<u32, AllocError>
+    ensures { IfOk result (λ kept. kept ≡ number) }
+{
+    match u32::try_from(number) {
+        Ok(kept) => Ok(kept),
+        Err(_) => Err(AllocError),
+    }
 }
 
 impl Index {
-    // Puts the stem's number under the key; `MANY` where there is another one's. Constant time.
-    fn put(&mut self, key: u64, number: usize) -> Result<(), AllocError>
-        ensures own { OnOk result (LeadsTo (entry_in self.new key) number) }
-        ensures others { OnOk result (Keeps (entry_in self.old) (entry_in self.new)) }
+    // Puts the stem's number under the key where there is none, and answers the one that is there. Constant
+    // time.
+    fn put(&mut self, key: u64, number: u32) -> Result<u32, AllocError>
+        ensures first { IfOk result (λ first. first ≡ unwrap_or (entry_in self.old key) number) }
+        ensures entries { OnOk result ((q : ℕ) → entry_in self.new q ≡ first_put nat_eq (entry_in self.old) key number q) }
+        ensures others { self.new.others ≡ self.old.others }
+        ensures links { self.new.links ≡ self.old.links }
     {
-        let number = u32::try_from(number).unwrap_or(MANY);
         let other = self.stems.insert(key, number)?;
-        if other.is_some_and(|other| other != number) {
-            self.stems.insert(key, MANY)?;
+        let Some(first) = other else {
+            return Ok(number);
+        };
+        self.stems.insert(key, first)?;
+        Ok(first)
+    }
+
+    // Takes in the revision at this place of the newest stem, which has this number. Constant time where the
+    // key of its hash is a new one; else at most log n comparisons of revisions.
+    fn add_at(&mut self, stems: &[Stem], number: u32, at: usize) -> Result<(), AllocError>
+        requires stems { AreStems stems.now }
+        requires newest { number + 1 ≡ length stems.now }
+        requires within { at < length (revisions_at stems.now number) }
+        requires told { AreTold (HasTo stems.now number at) (entry_in self.old) (other_in self.old) }
+        ensures told { OnOk result (AreTold (HasTo stems.now number (at + 1)) (entry_in self.new) (other_in self.new)) }
+        ensures links { self.new.links ≡ self.old.links }
+    {
+        let stem = &stems[number as usize];
+        let Some(key) = stem.key_at(at) else {
+            return put_at(&mut self.others, &stem.rev(at), number);
+        };
+        let first = self.put(key, number)?;
+        if first == number {
+            return Ok(());
+        }
+        let rev = stem.rev(at);
+        if place_in(stems, first as usize, &rev).is_some() {
+            return Ok(());
+        }
+        put_at(&mut self.others, &rev, number)
+    }
+
+    // Takes in the revisions of the newest stem, which has this number. It costs what `add_at` does for each.
+    fn add_all(&mut self, stems: &[Stem], number: u32) -> Result<(), AllocError>
+        requires stems { AreStems stems.now }
+        requires newest { number + 1 ≡ length stems.now }
+        requires told { AreTold (Has (take number stems.now)) (entry_in self.old) (other_in self.old) }
+        ensures told { OnOk result (AreTold (Has stems.now) (entry_in self.new) (other_in self.new)) }
+        ensures links { self.new.links ≡ self.old.links }
+    {
+        for at in 0..stems[number as usize].len() {
+            self.add_at(stems, number, at)?;
         }
         Ok(())
     }
 
-    // Puts the number of the stem under the key of each of its revisions. It costs their number.
-    fn add(&mut self, stem: &Stem, number: usize) -> Result<(), AllocError>
-        ensures own { OnOk result (AreIn (entry_in self.new) number stem.now.revisions) }
-        ensures others { OnOk result (Keeps (entry_in self.old) (entry_in self.new)) }
+    // Links the revision at this place of the newest stem, where its first stem does not go on behind it, and
+    // this one does. It costs a find, and at most log n comparisons of revisions.
+    fn link_at(&mut self, stems: &[Stem], number: u32, at: usize) -> Result<(), AllocError>
+        requires stems { AreStems stems.now }
+        requires newest { number + 1 ≡ length stems.now }
+        requires within { at < length (revisions_at stems.now number) }
+        requires told { AreTold (Has stems.now) (entry_in self.old) (other_in self.old) }
+        requires linked { AreLinked (HasTo stems.now number at) stems.now (link_in self.old) }
+        ensures linked { OnOk result (AreLinked (HasTo stems.now number (at + 1)) stems.now (link_in self.new)) }
+        ensures entries { self.new.stems ≡ self.old.stems }
+        ensures others { self.new.others ≡ self.old.others }
     {
-        for at in 0..stem.len() {
-            if let Some(key) = stem.key_at(at) {
-                self.put(key, number)?;
-            }
+        let rev = stems[number as usize].rev(at);
+        let Some(place) = self.place(stems, &rev) else {
+            return Ok(());
+        };
+        if behind_in(stems, place.stem, &Sought::once(&rev)).is_some() {
+            return Ok(());
+        }
+        if behind_in(stems, number as usize, &Sought::once(&rev)).is_none() {
+            return Ok(());
+        }
+        put_at(&mut self.links, &rev, number)
+    }
+
+    // Links the revisions of the newest stem, which has this number. It costs what `link_at` does for each.
+    fn link_all(&mut self, stems: &[Stem], number: u32) -> Result<(), AllocError>
+        requires stems { AreStems stems.now }
+        requires newest { number + 1 ≡ length stems.now }
+        requires told { AreTold (Has stems.now) (entry_in self.old) (other_in self.old) }
+        requires linked { AreLinked (Has (take number stems.now)) (take number stems.now) (link_in self.old) }
+        ensures { OnOk result (IsIndex self.new stems.now) }
+    {
+        for at in 0..stems[number as usize].len() {
+            self.link_at(stems, number, at)?;
         }
         Ok(())
+    }
+
+    // Takes in the newest of the stems, of all others of which it is an index. It costs what `add_at` does for
+    // each of its revisions, and where it joins others what `link_at` does.
+    fn add(&mut self, stems: &[Stem]) -> Result<(), AllocError>
+        requires stems { AreStems stems.now }
+        requires some { 1 ≤ length stems.now }
+        requires index { IsIndex self.old (take (length stems.now - 1) stems.now) }
+        ensures { OnOk result (IsIndex self.new stems.now) }
+    {
+        let newest = stems.len() - 1;
+        let number = kept_number(newest)?;
+        self.add_all(stems, number)?;
+        if !stems[newest].joins() {
+            return Ok(());
+        }
+        self.link_all(stems, number)
     }
 
     /// The newest revision and all that stands behind it, if these are kept.
@@ -76,64 +192,95 @@ impl Index {
     /// Gives up the path, so that whoever shares it may have it alone.
     pub(crate) fn drop_line(&mut self)
         ensures stems { self.new.stems ≡ self.old.stems }
+        ensures others { self.new.others ≡ self.old.others }
+        ensures links { self.new.links ≡ self.old.links }
         ensures line { self.new.line ≡ None }
     {
         self.line = None;
     }
 
-    // Which of the stems may have the revision. Constant time.
-    fn lead(&self, stems: &[Stem], rev: &RevId) -> Lead
-        requires { IsIndexOf (entry_in self.now) stems.now }
-        ensures { IsLead result stems.now rev.now }
+    // The place of the revision in the stem that the others tell. At most log n comparisons of revisions.
+    fn place_other(&self, stems: &[Stem], rev: &RevId) -> Option<Place>
+        requires stems { AreStems stems.now }
+        requires told { AreTold (Has stems.now) (entry_in self.now) (other_in self.now) }
+        ensures found { IfSome result (IsFirstPlace stems.now rev.now) }
+        ensures none { IfNone result (other_in self.now rev.now ≡ None) }
+    {
+        match number_at(&self.others, rev) {
+            Some(number) => place_in(stems, number as usize, rev),
+            None => None,
+        }
+    }
+
+    /// Where the revision stands in the first of the stems that has it; None where none has it. Constant time
+    /// where its hash is a digest's text and that stem is the first with its first eight bytes; else at most
+    /// log n comparisons of revisions.
+    pub(crate) fn place(&self, stems: &[Stem], rev: &RevId) -> Option<Place>
+        requires stems { AreStems stems.now }
+        requires told { AreTold (Has stems.now) (entry_in self.now) (other_in self.now) }
+        ensures found { IfSome result (IsFirstPlace stems.now rev.now) }
+        ensures none { IfNone result (has_revision stems.now rev.now ≡ false) }
     {
         let Some(key) = key_of_rev(rev) else {
-            return Lead::Anywhere;
+            return self.place_other(stems, rev);
         };
-        match self.stems.get(&key) {
-            Some(&MANY) => Lead::Anywhere,
-            Some(&number) => Lead::Only(number as usize),
-            None => Lead::Nowhere,
+        let Some(&number) = self.stems.get(&key) else {
+            return None;
+        };
+        match place_in(stems, number as usize, rev) {
+            Some(place) => Some(place),
+            None => self.place_other(stems, rev),
+        }
+    }
+
+    /// The number of a later stem that goes on behind the revision, where the first one that has it does not.
+    /// At most log n comparisons of revisions.
+    pub(crate) fn link(&self, rev: &RevId) -> Option<usize>
+        ensures { result ≡ link_in self.now rev.now }
+    {
+        match number_at(&self.links, rev) {
+            Some(number) => Some(number as usize),
+            None => None,
         }
     }
 }
 
-/// Which of the stems may have the revision. It says no more than that each may where there is no index,
-/// where the revision's hash is no digest's text, and where more than one stem has its key. Constant time.
-pub(crate) fn lead_to(stems: &[Stem], index: Option<&Index>, rev: &RevId) -> Lead
-    requires { IsIndexed (option_map (λ i. i.now) index) stems.now }
-    ensures { IsLead result stems.now rev.now }
+// An index of no stems, with room for so many keys.
+fn empty(alloc: Global, capacity: usize) -> Result<Index, AllocError>
+    ensures { IfOk result (λ i. IsIndex i []) }
 {
-    match index {
-        Some(index) => index.lead(stems, rev),
-        None => Lead::Anywhere,
-    }
+    let stems = HashMap::with_capacity(alloc, capacity)?;
+    Ok(Index {
+        stems,
+        others: BTreeMap::new(alloc),
+        links: BTreeMap::new(alloc),
+        line: None,
+    })
 }
 
-// An index of the stems. It costs the number of their revisions.
+// An index of the stems. It costs what `add` does for each.
 fn built(alloc: Global, stems: &[Stem]) -> Result<Box<Index>, AllocError>
-    ensures { IfOk result (λ i. IsIndexOf (entry_in i.value) stems.now) }
+    requires { AreStems stems.now }
+    ensures { IfOk result (λ i. IsIndex i.value stems.now) }
 {
-    let mut index = Index {
-        stems: HashMap::with_capacity(alloc, stems.len())?,
-        line: None,
-    };
-    for (number, stem) in stems.iter().enumerate() {
-        index.add(stem, number)?;
+    let mut index = empty(alloc, stems.len())?;
+    for count in 0..stems.len() {
+        index.add(&stems[..count + 1])?;
     }
     Ok(Box::new(alloc, index)?)
 }
 
 // The index with the newest of the stems, of all others of which it is one, and with the newest one's path.
 fn with_newest(mut index: Box<Index>, stems: &[Stem], line: Option<Line>) -> Option<Box<Index>>
-    requires { IsIndexOf (entry_in index.value) (take (length stems.now - 1) stems.now) }
-    ensures index { IfSome result (λ i. IsIndexOf (entry_in i.value) stems.now) }
+    requires stems { AreStems stems.now }
+    requires index { IsIndex index.value (take (length stems.now - 1) stems.now) }
+    ensures index { IfSome result (λ i. IsIndex i.value stems.now) }
     ensures line { IfSome result (λ i. i.value.line ≡ line) }
 {
     if stems.is_empty() {
         return None;
     }
-    let newest = stems.len() - 1;
-    match index.add(&stems[newest], newest) {
+    match index.add(stems) {
         Ok(()) => {
             index.line = line;
             Some(index)
@@ -144,7 +291,8 @@ fn with_newest(mut index: Box<Index>, stems: &[Stem], line: Option<Line>) -> Opt
 
 // An index of the stems where they are so many that it is time for one, and there is memory for it.
 fn begun(alloc: Global, stems: &[Stem], line: Option<Line>) -> Option<Box<Index>>
-    ensures index { IfSome result (λ i. IsIndexOf (entry_in i.value) stems.now) }
+    requires { AreStems stems.now }
+    ensures index { IfSome result (λ i. IsIndex i.value stems.now) }
     ensures line { IfSome result (λ i. i.value.line ≡ line) }
 {
     if stems.len() < TURN || !stems.len().is_power_of_two() {
@@ -162,14 +310,15 @@ fn begun(alloc: Global, stems: &[Stem], line: Option<Line>) -> Option<Box<Index>
 /// The index of the stems, of one of all but the newest, with the newest one's path where it is given. Where
 /// there was none it is built, if the stems are so many, and at most once for each doubling of their number.
 /// Where the memory for it is not to be had there is none, until their number is a power of two again, and
-/// looks take longer. It costs the number of the newest stem's revisions, or that of all where it is built.
+/// looks take longer. It costs what `add` does for the newest stem, or that for each where it is built.
 pub(crate) fn renewed(
     alloc: Global,
     index: Option<Box<Index>>,
     stems: &[Stem],
     line: Option<Line>,
 ) -> Option<Box<Index>>
-    requires { IsIndexed (option_map (λ i. i.value) index) (take (length stems.now - 1) stems.now) }
+    requires stems { AreStems stems.now }
+    requires index { IsIndexed (option_map (λ i. i.value) index) (take (length stems.now - 1) stems.now) }
     ensures { IsNewestLine line stems.now → IsIndexed (option_map (λ i. i.value) result) stems.now }
 {
     match index {

@@ -11,6 +11,7 @@ mod key;
 mod leaf;
 mod line;
 mod look;
+mod rev_key;
 mod run;
 mod sought;
 mod stem;

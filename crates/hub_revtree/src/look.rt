@@ -40,8 +40,8 @@ impl RevTree {
 
     /// A known revision and all that stands behind it, in memory of its own, with room for these alone;
     /// None of one that is not known. It costs two finds, the length of the path, and for each join of the
-    /// path two looks for the edit that goes on: each a look at each edit, or constant where the index tells
-    /// that edit.
+    /// path two looks for the edit that goes on: each two looks in the index, or a look at each edit where
+    /// there is none.
     pub fn path(&self, alloc: Global, rev: &RevId) -> Result<Option<Path>, AllocError>
         ensures ok { IfOk result (λ path. path ≡ path_to self.now.edits rev.now) }
         ensures memory { OnErr result (IsKnown self.now.edits [] rev.now) }

@@ -1,6 +1,6 @@
 //! The revisions of a tree, as its edits brought them.
 
-ghost use Rattle.std.specs.Prelude.{◌≡◌, ◌≤◌, ◌<◌, ◌-◌, ◌^◌, ◌++◌, length, Some, false, map, take, filter, not, find, is_some, slice_get, option_map, IsTrue, IfSome, IfNone, IfOk, OnOk};
+ghost use Rattle.std.specs.Prelude.{◌≡◌, ◌≤◌, ◌<◌, ◌-◌, ◌^◌, ◌++◌, length, Some, None, false, map, take, filter, not, find, is_some, slice_get, option_map, IsTrue, IfSome, IfNone, IfOk, OnOk};
 ghost use Rattle.std.specs.List.{list_any, list_all};
 ghost use Rattle.hex.specs.Hex.{encode_lower};
 ghost use Rattle.hub_model.specs.Journal.{IsLegal};
@@ -10,10 +10,10 @@ ghost use Rattle.hub_model.specs.Walk.{behind_in as behind_of};
 ghost use Rattle.hub_revtree.specs.Branch.{edits_in};
 ghost use Rattle.hub_revtree.specs.Common.{common as common_of, last_in};
 ghost use Rattle.hub_revtree.specs.Extend.{line_to};
-ghost use Rattle.hub_revtree.specs.Index.{IsIndexed};
+ghost use Rattle.hub_revtree.specs.Index.{AreLinked, GoesOn, Has, IsIndex, IsIndexed, link_in};
 ghost use Rattle.hub_revtree.specs.Stem.{Stem as StemModel, AreStems, AreUpTo, IsBrought, IsWithin, branches_of, chain_from, chains_of, has_revision, is_at as is_revision_at, is_behind_newest, own_path, rev_at, revisions_at};
 
-use crate::index::{Index, Lead, lead_to};
+use crate::index::Index;
 use crate::run::Run;
 use crate::sought::Sought;
 use crate::stem::{Place, Stem};
@@ -35,10 +35,11 @@ fn place_among(stems: &[Stem], rev: &RevId) -> Option<Place>
     None
 }
 
-// Where the revision stands in the stem of this number, if it does. Constant time.
-fn place_in(stems: &[Stem], number: usize, rev: &RevId) -> Option<Place>
+/// Where the revision stands in the stem of this number, if it does. Constant time.
+pub(crate) fn place_in(stems: &[Stem], number: usize, rev: &RevId) -> Option<Place>
     requires { AreStems stems.now }
     ensures found { IfSome result (λ place. slice_get (revisions_at stems.now place.stem) place.at ≡ Some rev.now) }
+    ensures stem { IfSome result (λ place. place.stem ≡ number) }
     ensures none { IfNone result (names (revisions_at stems.now number) rev.now ≡ false) }
 {
     if number >= stems.len() {
@@ -50,18 +51,19 @@ fn place_in(stems: &[Stem], number: usize, rev: &RevId) -> Option<Place>
     }
 }
 
-/// Where the revision stands; None where no edit brought it. Constant time where the index tells the edit
-/// that may have brought it; else one look an edit, from the newest on up to the one that brought it.
+/// Where the revision stands; None where no edit brought it. With an index it is a look there, and the place
+/// is that in the first stem that has the revision: constant time for digests that differ in their first eight
+/// bytes, else at most log n comparisons of revisions. Without one it is one look an edit, from the newest on
+/// up to the one that brought it.
 pub(crate) fn place_of(stems: &[Stem], index: Option<&Index>, rev: &RevId) -> Option<Place>
     requires stems { AreStems stems.now }
     requires index { IsIndexed (option_map (λ i. i.now) index) stems.now }
     ensures found { IfSome result (λ place. slice_get (revisions_at stems.now place.stem) place.at ≡ Some rev.now) }
     ensures none { IfNone result (has_revision stems.now rev.now ≡ false) }
 {
-    match lead_to(stems, index, rev) {
-        Lead::Nowhere => None,
-        Lead::Only(number) => place_in(stems, number, rev),
-        Lead::Anywhere => place_among(stems, rev),
+    match index {
+        Some(index) => index.place(stems, rev),
+        None => place_among(stems, rev),
     }
 }
 
@@ -143,34 +145,35 @@ fn headed_among<'a>(stems: &'a [Stem], rev: &RevId) -> Option<&'a Stem>
     None
 }
 
-// The stem of this number, where this is its newest revision. Constant time.
-fn headed_in<'a>(stems: &'a [Stem], number: usize, rev: &RevId) -> Option<&'a Stem>
-    requires { AreStems stems.now }
-    ensures found { IfSome result (λ stem. Some stem.now ≡ find (λ s. is_first rev.now s.revisions) stems.now) }
-    ensures none { IfNone result (is_first rev.now (revisions_at stems.now number) ≡ false) }
+// The stem that the revision heads, which is the first one that has it: no stem's newest revision is one of an
+// earlier stem. It costs a look in the index.
+fn headed_by<'a>(stems: &'a [Stem], index: &Index, rev: &RevId) -> Option<&'a Stem>
+    requires stems { AreStems stems.now }
+    requires index { IsIndex index.now stems.now }
+    ensures { option_map (λ s. s.now) result ≡ find (λ s. is_first rev.now s.revisions) stems.now }
 {
-    if number >= stems.len() {
-        return None;
-    }
-    let stem = &stems[number];
-    if stem.is_head(&Sought::once(rev)) {
-        Some(stem)
-    } else {
-        None
+    match index.place(stems, rev) {
+        Some(place) => {
+            if place.at == 0 {
+                Some(&stems[place.stem])
+            } else {
+                None
+            }
+        }
+        None => None,
     }
 }
 
-/// The stem whose newest revision this is. Constant time where the index tells the one that may have it; else
-/// one look an edit, from the newest on up to that one.
+/// The stem whose newest revision this is. With an index it costs what `place_of` does; else one look an edit,
+/// from the newest on up to that one.
 pub(crate) fn headed<'a>(stems: &'a [Stem], index: Option<&Index>, rev: &RevId) -> Option<&'a Stem>
     requires stems { AreStems stems.now }
     requires index { IsIndexed (option_map (λ i. i.now) index) stems.now }
     ensures { option_map (λ s. s.now) result ≡ find (λ s. is_first rev.now s.revisions) stems.now }
 {
-    match lead_to(stems, index, rev) {
-        Lead::Nowhere => None,
-        Lead::Only(number) => headed_in(stems, number, rev),
-        Lead::Anywhere => headed_among(stems, rev),
+    match index {
+        Some(index) => headed_by(stems, index, rev),
+        None => headed_among(stems, rev),
     }
 }
 
@@ -267,12 +270,14 @@ fn end_of(stems: &[Stem], place: Place) -> RevId
     stem.rev(stem.len() - 1)
 }
 
-// The place directly behind the revision in what the stem of this number brought. Constant time.
-fn behind_in(stems: &[Stem], number: usize, sought: &Sought) -> Option<Place>
+/// The place directly behind the revision in what the stem of this number brought. Constant time.
+pub(crate) fn behind_in(stems: &[Stem], number: usize, sought: &Sought) -> Option<Place>
     requires stems { AreStems stems.now }
     requires within { number < length stems.now }
     ensures found { IfSome result (λ place. IsWithin stems.now place × ((r : Revision) → rev_at stems.now (Some place) ≡ Some r → IsBrought stems.now r sought.now)) }
     ensures none { IfNone result ((stem : StemModel) (r : Revision) → slice_get stems.now number ≡ Some stem → ¬ IsNext (own_path stems.now stem) sought.now r) }
+    ensures goes { IfSome result (λ _. GoesOn stems.now number sought.now) }
+    ensures ends { IfNone result (¬ GoesOn stems.now number sought.now) }
 {
     let stem = &stems[number];
     let at = stem.position(sought)?;
@@ -303,23 +308,54 @@ fn behind_among(stems: &[Stem], rev: &RevId) -> Option<Place>
     None
 }
 
-/// The place directly behind the revision in what a stem brought. Constant time where the index tells the
-/// only stem that may have the revision; else one look a stem.
+// The place directly behind the revision in what the stem of its link brought, if it has one. At most log n
+// comparisons of revisions.
+fn linked(stems: &[Stem], index: &Index, rev: &RevId) -> Option<Place>
+    requires stems { AreStems stems.now }
+    requires links { AreLinked (Has stems.now) stems.now (link_in index.now) }
+    ensures found { IfSome result (λ place. IsWithin stems.now place × ((r : Revision) → rev_at stems.now (Some place) ≡ Some r → IsBrought stems.now r rev.now)) }
+    ensures none { IfNone result (link_in index.now rev.now ≡ None) }
+{
+    match index.link(rev) {
+        Some(number) => {
+            if number >= stems.len() {
+                return None;
+            }
+            behind_in(stems, number, &Sought::once(rev))
+        }
+        None => None,
+    }
+}
+
+// The place directly behind the revision in what the first stem that has it brought, or else the one of its
+// link. It costs two looks in the index at most.
+fn behind_by(stems: &[Stem], index: &Index, rev: &RevId) -> Option<Place>
+    requires stems { AreStems stems.now }
+    requires index { IsIndex index.now stems.now }
+    ensures found { IfSome result (λ place. IsWithin stems.now place × ((r : Revision) → rev_at stems.now (Some place) ≡ Some r → IsBrought stems.now r rev.now)) }
+    ensures none { IfNone result ((r : Revision) → ¬ IsBrought stems.now r rev.now) }
+{
+    let Some(place) = index.place(stems, rev) else {
+        return None;
+    };
+    match behind_in(stems, place.stem, &Sought::once(rev)) {
+        Some(behind) => Some(behind),
+        None => linked(stems, index, rev),
+    }
+}
+
+/// The place directly behind the revision in what a stem brought. With an index it costs what `place_of` does,
+/// and where the first stem that has the revision has none behind it one more look there, at most log n
+/// comparisons of revisions; else one look a stem.
 pub(crate) fn place_behind(stems: &[Stem], index: Option<&Index>, rev: &RevId) -> Option<Place>
     requires stems { AreStems stems.now }
     requires index { IsIndexed (option_map (λ i. i.now) index) stems.now }
     ensures found { IfSome result (λ place. IsWithin stems.now place × ((r : Revision) → rev_at stems.now (Some place) ≡ Some r → IsBrought stems.now r rev.now)) }
     ensures none { IfNone result ((r : Revision) → ¬ IsBrought stems.now r rev.now) }
 {
-    match lead_to(stems, index, rev) {
-        Lead::Nowhere => None,
-        Lead::Only(number) => {
-            if number >= stems.len() {
-                return None;
-            }
-            behind_in(stems, number, &Sought::once(rev))
-        }
-        Lead::Anywhere => behind_among(stems, rev),
+    match index {
+        Some(index) => behind_by(stems, index, rev),
+        None => behind_among(stems, rev),
     }
 }
 

@@ -23,9 +23,9 @@ use std::marker::Model;
 /// id stands elsewhere.
 ///
 /// A find of a revision costs one look an edit, from the newest on up to the one that brought it. From 256
-/// edits on a tree has an index of its revisions, if it finds memory for it; then a find takes constant time,
-/// but where the hash is no digest's text, and where two edits brought digests that begin with the eight
-/// bytes that its own begins with.
+/// edits on a tree has an index of its revisions, if it finds memory for it. Then a find takes constant time
+/// where the hash is a digest's text and no other revision with its first eight bytes came before; else it
+/// costs at most log n comparisons of revisions.
 /// Then edits on one another share their path, too, so that one on the newest of a line takes constant time.
 #[derive(Debug, Drop)]
 pub struct RevTree {

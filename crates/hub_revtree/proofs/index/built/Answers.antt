@@ -1,13 +1,12 @@
-use Rattle.std.proofs.Common.{arith}
-use Rattle.hub_revtree.specs.Index.{entry_in}
-use Rattle.hub_revtree.proofs.IndexLemmas.{all_stand, one_stands}
-use Rattle.hub_revtree.proofs.StemLooks.{read_stem}
+use Rattle.std.proofs.Common.{◌+◌, sym, subst, arith}
+use Rattle.hub_revtree.specs.Index.{IsIndex}
+use Rattle.hub_revtree.proofs.CountLemmas.{are_taken}
+use Rattle.hub_revtree.proofs.IndexLemmas.{one_shorter}
 use Rattle.hub_revtree.proofs.index.built.Goals as goal
 
-pub loop-number-preserved : goal.loop-number-preserved
-loop-number-preserved c =
-    one_stands (entry_in c.loop-number.index) (entry_in c.add.new.self) c.args.stems.now c.loop-number.number c.index-stems-number.result c.loop-number.invariant c.in_ok-add.ensures.others
-    (read_stem c.args.stems.now c.loop-number.number c.index-stems-number.result (omega (arith, c.loop-number-test.true)) c.index-stems-number.is) c.in_ok-add.ensures.own
+pub add-requires-clause-stems : goal.add-requires-clause-stems
+add-requires-clause-stems c = are_taken (c.loop-count.count + 1) c.args.stems.now c.requires
 
-pub returns : goal.returns
-returns c = rw c.in_ok-new.ensures.ok (all_stand (entry_in c.loop-number.index) c.args.stems.now c.loop-number.number (omega (arith, c.loop-number-test.false)) c.loop-number.invariant)
+pub add-requires-clause-index : goal.add-requires-clause-index
+add-requires-clause-index c =
+    subst (IsIndex c.loop-count.index) (sym (one_shorter c.args.stems.now c.loop-count.count (omega (arith, c.loop-count-test.true)))) c.loop-count.invariant

@@ -1,6 +1,6 @@
-use Rattle.hub_revtree.specs.Index.{entry_in}
-use Rattle.hub_revtree.proofs.IndexLemmas.{StandIn}
+use Rattle.std.proofs.Common.{take}
+use Rattle.hub_revtree.specs.Index.{IsIndex}
 use Rattle.hub_revtree.proofs.index.built.Given as goal
 
-abbrev pub invariant-loop-number : goal.invariant-loop-number
-invariant-loop-number l = StandIn (entry_in l.index) l.stems l.number
+abbrev pub invariant-loop-count : goal.invariant-loop-count
+invariant-loop-count l = IsIndex l.index (take l.count l.stems)

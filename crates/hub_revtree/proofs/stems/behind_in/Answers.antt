@@ -4,6 +4,7 @@ use Rattle.std.proofs.lemmas.Option.{same_Some}
 use Rattle.hub_model.specs.Path.{names}
 use Rattle.hub_revtree.specs.Stem.{Stem}
 use Rattle.hub_revtree.proofs.BranchLemmas.{within_generation}
+use Rattle.hub_revtree.proofs.LinkLemmas.{ends_parent, goes_absent, goes_inner, goes_parent}
 use Rattle.hub_revtree.proofs.RunLemmas.{newest_of}
 use Rattle.hub_revtree.proofs.StemLooks.{read_stem}
 use Rattle.hub_revtree.proofs.StepLemmas.{inner_brought, none_own, none_parent, parent_brought}
@@ -40,3 +41,25 @@ returns-else-from-len-clause-none c =
     let there = read_stem c.args.stems.now c.args.number c.index-stems-number.result c.requires.within c.index-stems-number.is in
     let past : length c.index-stems-number.result.revisions ≤ c.in_ok-at.at + 1 = grind (arith, common_steps, c.if-from-len.false, c.from.ensures, c.len.ensures) in
     rw c.parent.ensures (none_parent c.args.stems.now c.requires.stems c.args.number c.index-stems-number.result there c.args.sought.now c.in_ok-at.at c.in_ok-at.ensures.found past)
+
+pub returns-in_err-at-clause-ends : goal.returns-in_err-at-clause-ends
+returns-in_err-at-clause-ends c =
+    let there = read_stem c.args.stems.now c.args.number c.index-stems-number.result c.requires.within c.index-stems-number.is in
+    rw c.from_residual.ensures (goes_absent c.args.stems.now c.requires.stems c.args.number c.index-stems-number.result there c.args.sought.now c.in_err-at.ensures.absent)
+
+pub returns-then-from-len-clause-goes : goal.returns-then-from-len-clause-goes
+returns-then-from-len-clause-goes c =
+    let there = read_stem c.args.stems.now c.args.number c.index-stems-number.result c.requires.within c.index-stems-number.is in
+    let low : c.in_ok-at.at + 1 < length c.index-stems-number.result.revisions = grind (arith, common_steps, c.if-from-len.true, c.from.ensures, c.len.ensures) in
+    goes_inner c.args.stems.now c.requires.stems c.args.number c.index-stems-number.result there c.args.sought.now c.in_ok-at.at c.in_ok-at.ensures.found low
+
+pub returns-else-from-len-clause-goes : goal.returns-else-from-len-clause-goes
+returns-else-from-len-clause-goes c =
+    let there = read_stem c.args.stems.now c.args.number c.index-stems-number.result c.requires.within c.index-stems-number.is in
+    rw c.parent.ensures (goes_parent c.args.stems.now c.requires.stems c.args.number c.index-stems-number.result there c.args.sought.now c.in_ok-at.at c.in_ok-at.ensures.found)
+
+pub returns-else-from-len-clause-ends : goal.returns-else-from-len-clause-ends
+returns-else-from-len-clause-ends c =
+    let there = read_stem c.args.stems.now c.args.number c.index-stems-number.result c.requires.within c.index-stems-number.is in
+    let past : length c.index-stems-number.result.revisions ≤ c.in_ok-at.at + 1 = grind (arith, common_steps, c.if-from-len.false, c.from.ensures, c.len.ensures) in
+    rw c.parent.ensures (ends_parent c.args.stems.now c.requires.stems c.args.number c.index-stems-number.result there c.args.sought.now c.in_ok-at.at c.in_ok-at.ensures.found past)

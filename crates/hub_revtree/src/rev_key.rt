@@ -1,0 +1,75 @@
+//! Revisions as keys of an ordered map.
+
+ghost use Rattle.std.specs.Prelude.{◌≡◌, Some, refl};
+ghost use Rattle.std.specs.Ordering.{eq_by_cmp};
+ghost use Rattle.std.specs.Cmp.{partial_equiv_from_equiv, partial_order_from_total};
+ghost use Rattle.hub_model.specs.Revision.{revision_cmp};
+ghost use Rattle.hub_revtree.specs.Order.{revisions_level, revisions_total};
+
+use hub_document::RevId;
+use std::cmp::Ordering;
+use std::marker::Model;
+
+/// A revision as a key: in the order of the generations, and then of the hashes.
+#[derive(Debug, Drop)]
+pub(crate) struct RevKey {
+    rev: RevId,
+}
+
+impl Model for RevKey {
+    ghost use Rattle.hub_model.specs.Revision.{Revision};
+
+    ghost Value = { Revision };
+
+    ghost view = { λ a. a.rev };
+}
+
+impl RevKey {
+    /// The key of the revision.
+    pub(crate) fn new(rev: &RevId) -> RevKey
+        ensures { result ≡ rev.now }
+    {
+        RevKey { rev: *rev }
+    }
+}
+
+impl PartialEq for RevKey {
+    ghost eq = { eq_by_cmp revision_cmp };
+
+    ghost laws = { partial_equiv_from_equiv revisions_level };
+
+    fn eq(&self, other: &RevKey) -> bool {
+        self.cmp(other).is_eq()
+    }
+}
+
+impl Eq for RevKey {
+    ghost laws = { revisions_level };
+}
+
+impl PartialOrd for RevKey {
+    ghost partial_cmp = { λ r s. Some (revision_cmp r s) };
+
+    ghost laws = { partial_order_from_total revisions_total };
+
+    fn partial_cmp(&self, other: &RevKey) -> Option<Ordering> {
+        Some(self.cmp(other))
+    }
+}
+
+impl Ord for RevKey {
+    ghost cmp = { revision_cmp };
+
+    ghost total = { revisions_total };
+
+    ghost matches_partial_cmp = { λ r s. refl };
+
+    ghost matches_eq = { λ r s. refl };
+
+    fn cmp(&self, other: &RevKey) -> Ordering {
+        self.rev
+            .generation()
+            .cmp(&other.rev.generation())
+            .then_with(|| self.rev.hash().cmp(other.rev.hash()))
+    }
+}
