@@ -13,6 +13,7 @@ pub mod StemLemmas
 pub mod StemLooks
 pub mod HighestLemmas
 pub mod WinnerLemmas
+pub mod MarkLemmas
 pub mod SoughtLemmas
 pub mod IndexLemmas
 pub mod KeyLemmas

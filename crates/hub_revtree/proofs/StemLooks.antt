@@ -108,18 +108,6 @@ module _ (xs : List Stem) (a : AreStems xs) (r : Revision) where
   from_stem : (k : ℕ) (s : Stem) → slice_get xs k ≡ Some s → is_behind_newest xs r s ≡ true → list_any (λ b. is_behind_head r (edit_of b)) (branches_of xs) ≡ true
   from_stem k s e t = any_at (λ b. is_behind_head r (edit_of b)) (branches_of xs) k (branch_of (chain_of (chains_of xs) s)) (shown_at xs a k s e) (own_behind k s e t)
 
-  -- what stands behind no head before the newest stands behind no stem's newest before the last
-  pub earlier_front : list_any (λ b. is_behind_head r (edit_of b)) (earlier_branches (branches_of xs)) ≡ false → list_any (is_behind_newest xs r) (take (length xs - 1) xs) ≡ false
-  earlier_front f = elim (cases_Bool (list_any (is_behind_newest xs r) (take (length xs - 1) xs))) [
-    | inl t ↦
-        let i = any_place (is_behind_newest xs r) (take (length xs - 1) xs) t in
-        let low = slice_get_within (take (length xs - 1) xs) i.0 i.1 i.2 in
-        let there : slice_get xs i.0 ≡ Some i.1 = sym (get_taken (length xs - 1) i.0 xs (omega (arith, low, length-take (length xs - 1) xs))) ∙ i.2 in
-        let shown = get_taken (length (branches_of xs) - 1) i.0 (branches_of xs) (omega (arith, low, length-take (length xs - 1) xs, as_many xs)) ∙ shown_at xs a i.0 i.1 there in
-        absurd (both_ways _ f (any_at (λ b. is_behind_head r (edit_of b)) (earlier_branches (branches_of xs)) i.0 (branch_of (chain_of (chains_of xs) i.1)) shown (own_behind i.0 i.1 there i.3)))
-    | inr t ↦ t
-  ]
-
   to_stem : (n k : ℕ) (s : Stem) → k < n → slice_get xs k ≡ Some s → names (drop 1 (chain_of (chains_of xs) s).whole) r ≡ true → list_any (is_behind_newest xs r) xs ≡ true
   to_stem zero k s low e t = absurd (omega arith)
   to_stem (suc n) k s low e t = elim (cases_Bool (names (drop 1 s.revisions) r)) [
@@ -228,13 +216,6 @@ module _ (r : Revision) where
 
   pub headed_in : (xs : List Stem) → AreStems xs → found (find (λ b. is_first r b.path) (branches_of xs)) ≡ option_map tip_in (find (λ s. is_first r s.revisions) xs)
   headed_in = from_end AreHeaded (λ a. refl) headed_more
-
--- the revision at a place of its stem
-pub is_at_place : (xs : List Stem) (r : Revision) (o : Option Place) (p : Place) (s : Stem) → IfSome o (IsWithin xs) → o ≡ Some p → s ≡ get_or xs p.stem s → is_first r (drop p.at s.revisions) ≡ is_at xs r o
-is_at_place xs r o p s w is item =
-    let i = within_stem xs p (rw is at w) in
-    let stem : s ≡ i.0 = item ∙ get_or_from_slice_get xs p.stem i.0 s i.1 in
-    rw (is, i.1) (ap (λ (z : Stem). is_first r (drop p.at z.revisions)) stem)
 
 -- a walk goes from a place to where its stem stands
 module _ (xs : List Stem) (a : AreStems xs) (o : Option Place) (p : Place) (s : Stem) (w : IfSome o (IsWithin xs)) (is : o ≡ Some p) (item : s ≡ get_or xs p.stem s) where

@@ -177,15 +177,6 @@ module _ (bs : List Branch) (legal : IsLegal (edits_in bs)) (best : ℕ) (before
     pub better_wins : is_gt (leaf_cmp leaf.deleted leaf.rev w.deleted w.rev) ≡ true → option_and_then head_in (slice_get bs (n - 1)) ≡ winner_of (leaves_of (edits_in bs) [])
     better_wins better = newest_wins (ap (is_better_than leaf) was ∙ better)
 
-    -- it stood behind nothing before
-    pub was_leaf : list_any (λ c. is_behind_head w.rev (edit_of c)) (earlier_branches bs) ≡ false
-    was_leaf =
-        let es = edits_in (earlier_branches bs) in
-        let win = wins es before.legal w (sym before.first ∙ was) in
-        let named = is_named (revisions_of (leaves_of es [])) w.rev (is_leaf_from es [] w.rev win.1) in
-        let front = not_true _ (and_parts (is_known es [] w.rev) _ (sym (leaf_law es [] w.rev) ∙ named)).1 in
-        sym (ap (list_any (is_behind_head w.rev)) (all_of_one (earlier_branches bs)) ∙ any_map (is_behind_head w.rev) edit_of (earlier_branches bs)) ∙ front
-
     -- it stands behind nothing still, and the newest is not above it
     pub still_wins : is_gt (leaf_cmp leaf.deleted leaf.rev w.deleted w.rev) ≡ false → list_any (λ c. is_behind_head w.rev (edit_of c)) bs ≡ false → option_and_then head_in (slice_get bs best) ≡ winner_of (leaves_of (edits_in bs) [])
     still_wins lower front =

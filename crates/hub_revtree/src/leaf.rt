@@ -52,8 +52,7 @@ fn is_better(leaf: &Winner, best: &Option<Winner>) -> bool
 }
 
 /// The number of the edit whose revision is the best of those that stand behind no head; where there is
-/// none, how many edits there are. The newest comes first, and one is looked for in each edit only where
-/// it would be the best so far: so a line of edits costs a step an edit.
+/// none, how many edits there are. One step an edit.
 pub(crate) fn best_leaf(branches: &Branches) -> usize
     ensures { option_and_then head_in (slice_get branches.now.list result)
         ≡ winner_of (best_first (leaves_among (edits_in branches.now.list) (edits_in branches.now.list))) }
@@ -65,7 +64,7 @@ pub(crate) fn best_leaf(branches: &Branches) -> usize
         if !is_better(&leaf, &best) {
             continue;
         }
-        if branches.is_behind(&leaf.rev) {
+        if branches.is_head_inner(at) {
             continue;
         }
         best = Some(leaf);
@@ -91,7 +90,7 @@ pub(crate) fn best_with_newest(branches: &Branches, best: usize) -> usize
     if leaf_order(&leaf, &winner).is_gt() {
         return newest;
     }
-    if branches.is_behind_newest(&winner.rev) {
+    if branches.is_head_inner(best) {
         return best_leaf(branches);
     }
     best
@@ -123,7 +122,7 @@ pub(crate) fn best_leaves(alloc: Global, branches: &Branches) -> Result<Vec<Winn
     let mut leaves = Vec::new(alloc);
     for at in (0..branches.len()).rev() {
         let leaf = branches.head(at);
-        if branches.is_behind(&leaf.rev) {
+        if branches.is_head_inner(at) {
             continue;
         }
         put(&mut leaves, leaf)?;
@@ -131,17 +130,16 @@ pub(crate) fn best_leaves(alloc: Global, branches: &Branches) -> Result<Vec<Winn
     Ok(leaves)
 }
 
-// Whether the head of the edit of this number is a leaf, and of a generation below this one. One look
-// an edit.
+// Whether the head of the edit of this number is a leaf, and of a generation below this one. Constant time.
 fn is_leaf_below(branches: &Branches, at: usize, generation: u16) -> bool
     requires { at < length branches.now.list }
     ensures { option_map (λ b. has_below generation (with_leaf (edits_in branches.now.list) (edit_of b) b.path [])) (slice_get branches.now.list at) ≡ Some result }
 {
     let head = branches.head(at);
-    head.rev.generation() < generation && !branches.is_behind(&head.rev)
+    head.rev.generation() < generation && !branches.is_head_inner(at)
 }
 
-/// Whether a leaf is of a generation below this one. Each head is looked for in each edit.
+/// Whether a leaf is of a generation below this one. One step an edit.
 pub(crate) fn has_leaf_below(branches: &Branches, generation: u16) -> bool
     ensures { result ≡ list_any (λ b. has_below generation (with_leaf (edits_in branches.now.list) (edit_of b) b.path [])) branches.now.list }
 {
