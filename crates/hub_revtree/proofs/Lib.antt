@@ -2,6 +2,7 @@ pub mod AloneLemmas
 pub mod BranchLemmas
 pub mod HeadLemmas
 pub mod LeafLemmas
+pub mod LeavesLemmas
 pub mod TreeLemmas
 pub mod LineLemmas
 pub mod AncestorLemmas

@@ -1,12 +1,12 @@
 //! The order of leaves.
 
-ghost use Rattle.std.specs.Prelude.{◌≡◌, ◌<◌, [], Some, length, map, option_and_then, option_map, position, slice_get, IfOk, OnOk};
+ghost use Rattle.std.specs.Prelude.{◌≡◌, ◌<◌, [], Some, length, map, option_and_then, option_map, reverse, slice_get, List, IfOk};
 ghost use Rattle.std.specs.List.{list_any};
 ghost use Rattle.hub_model.specs.Revision.{revision_cmp};
 ghost use Rattle.hub_model.specs.Journal.{IsLegal};
-ghost use Rattle.hub_model.specs.Leaves.{leaf_cmp, leaves_among, leaves_of, best_first, with_leaf};
+ghost use Rattle.hub_model.specs.Leaves.{Leaf, leaf_cmp, leaves_among, leaves_of, best_first, with_leaf};
 ghost use Rattle.hub_revtree.specs.Branch.{earlier_branches, edit_of, edits_in};
-ghost use Rattle.hub_revtree.specs.Winner.{HasWinner, has_below, head_in, winner_of, is_better_than, is_above, put_in, winners_of};
+ghost use Rattle.hub_revtree.specs.Winner.{HasWinner, has_below, head_in, winner_of, is_better_than, winners_of};
 
 use crate::branches::Branches;
 use hub_document::RevId;
@@ -96,26 +96,15 @@ pub(crate) fn best_with_newest(branches: &Branches, best: usize) -> usize
     best
 }
 
-// The place of the first of the leaves that this one is above.
-fn first_below(leaf: &Winner, leaves: &[Winner]) -> Option<usize>
-    ensures { result ≡ position (is_above leaf.now) leaves.now }
+// Puts leaves in order, the best first: the same as the definition does. A sort in place: their number times
+// its logarithm.
+fn put_in_order(leaves: &mut [Winner])
+    ensures { (found : List Leaf) → leaves.old ≡ reverse (winners_of found) → leaves.new ≡ winners_of (best_first found) }
 {
-    leaves
-        .iter()
-        .position(|other| leaf_order(leaf, other).is_gt())
+    leaves.sort_unstable_by(|leaf, other| leaf_order(other, leaf));
 }
 
-// Puts a leaf before the first that it is above.
-fn put(leaves: &mut Vec<Winner>, leaf: Winner) -> Result<(), AllocError>
-    ensures { OnOk result (leaves.new.items ≡ put_in leaf leaves.old.items) }
-{
-    let place = first_below(&leaf, leaves.as_slice()).unwrap_or(leaves.len());
-    leaves.insert(place, leaf)?;
-    Ok(())
-}
-
-/// The edits' revisions that stand behind no head, best first. Each is looked for in each edit, and
-/// each leaf is compared with those that came before it.
+/// The edits' revisions that stand behind no head, best first. One step an edit, and a sort of the leaves.
 pub(crate) fn best_leaves(alloc: Global, branches: &Branches) -> Result<Vec<Winner>, AllocError>
     ensures { IfOk result (λ leaves. leaves.items ≡ winners_of (best_first (leaves_among (edits_in branches.now.list) (edits_in branches.now.list)))) }
 {
@@ -125,8 +114,9 @@ pub(crate) fn best_leaves(alloc: Global, branches: &Branches) -> Result<Vec<Winn
         if branches.is_head_inner(at) {
             continue;
         }
-        put(&mut leaves, leaf)?;
+        leaves.push(leaf)?;
     }
+    put_in_order(leaves.as_mut_slice());
     Ok(leaves)
 }
 
