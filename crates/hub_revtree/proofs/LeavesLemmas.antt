@@ -1,19 +1,18 @@
 -- Leaves in order: there is one such list of them.
-use Rattle.std.proofs.Common.{◌≡◌, ℕ, suc, ◌+◌, ◌<◌, ◌≤◌, List, [], ◌∷◌, ◌++◌, map, length, get_or, reverse, Bool, true, false, cond, inl, inr, sym, ◌∙◌, ap, ap₂, refl, Ordering, arith}
+use Rattle.std.proofs.Common.{◌≡◌, ℕ, suc, ◌+◌, ◌<◌, ◌≤◌, List, [], ◌∷◌, length, get_or, reverse, Bool, true, false, cond, inl, inr, sym, ◌∙◌, ap, ap₂, refl, Ordering, arith}
 use Rattle.std.specs.List.{All, sum_by}
 use Rattle.std.specs.List.Sorted.{IsPermutation, IsSortedBy}
-use Rattle.std.specs.Prelude.{if◌then◌else◌}
 use Rattle.std.specs.Cmp.{IsTotalOrder, IsStrictWeakOrder}
 use Rattle.std.specs.Ordering.{is_gt, is_lt, ordering_reverse}
 use Rattle.std.specs.declared.cmp.Ordering.TheVariants.{Less, Equal, Greater}
 use Rattle.std.proofs.lemmas.Bool.{cases_Bool}
 use Rattle.std.proofs.lemmas.Cmp.{back_total, on_total, tied_itself, upto}
 use Rattle.std.proofs.lemmas.List.Elements.{All-tail}
-use Rattle.std.proofs.lemmas.List.Sorted.{IsPermutation-reverse, IsPermutation-trans, sum_by-IsPermutation, sorted_far, ranks_by}
+use Rattle.std.proofs.lemmas.List.Sorted.{IsPermutation-reverse, sum_by-IsPermutation, sorted_far, ranks_by}
 use Rattle.std.proofs.lemmas.List.Sums.{sum_by-cons}
 use Rattle.hub_model.specs.Revision.{Revision}
 use Rattle.hub_model.specs.Leaves.{Leaf, best_first, comes_before, leaf_cmp, placed}
-use Rattle.hub_model.proofs.Order.{leaf_equal, order, order_total}
+use Rattle.hub_model.proofs.Order.{leaf_equal, order_total}
 use Rattle.hub_revtree.specs.declared.leaf.Winner.{Winner}
 use Rattle.hub_revtree.specs.Winner.{winners_of}
 

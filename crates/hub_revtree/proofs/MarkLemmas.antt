@@ -1,6 +1,6 @@
 -- What is noted of stems changes nothing else of them, and stays right as one stem more comes.
-use Rattle.std.proofs.Common.{◌≡◌, ◌≢◌, ℕ, zero, suc, ◌+◌, ◌-◌, ◌<◌, ◌≤◌, List, [], ◌∷◌, ◌++◌, length, drop, take, map, Bool, true, false, inl, inr, refl, sym, ap, ap₂, ◌∙◌, subst, ◌||◌, arith}
-use Rattle.std.specs.Prelude.{Option, Some, None, IfSome, IfNone, not, ◌&&◌, slice_get, slice_set, find, option_map, option_and_then, nat_eq, nat_lt}
+use Rattle.std.proofs.Common.{◌≡◌, ◌≢◌, ℕ, zero, suc, ◌-◌, ◌<◌, ◌≤◌, List, [], ◌∷◌, ◌++◌, length, drop, take, map, Bool, true, false, inl, inr, refl, sym, ap, ap₂, ◌∙◌, subst, ◌||◌, arith}
+use Rattle.std.specs.Prelude.{Option, Some, None, IfSome, not, ◌&&◌, slice_get, slice_set, find, option_and_then, nat_eq, nat_lt}
 use Rattle.std.specs.List.{list_any}
 use Rattle.std.proofs.lemmas.Bool.{both_ways, cases_Bool, eqb-false, eqb-true, ltb-false, ltb-true}
 use Rattle.std.proofs.lemmas.List.{drop_all, length-append, length-map, map-append, take-map}
@@ -11,19 +11,19 @@ use Rattle.hub_model.specs.Revision.{Revision, is_same}
 use Rattle.hub_model.specs.Path.{IsPath, names, is_first}
 use Rattle.hub_model.specs.Leaves.{is_behind_head}
 use Rattle.hub_model.proofs.Shown.{find_is}
-use Rattle.hub_model.proofs.Tests.{or_false, or_left, or_right, same_is, same_self}
+use Rattle.hub_model.proofs.Tests.{or_left, or_right, same_self}
 use Rattle.hub_revtree.specs.declared.stem.Place.{Place}
 use Rattle.hub_revtree.specs.declared.index.Index.{Index}
 use Rattle.hub_revtree.specs.declared.leaf.Winner.{Winner}
 use Rattle.hub_revtree.specs.Branch.{Branch, edit_of, edits_in}
 use Rattle.hub_revtree.specs.Extend.{line_to}
 use Rattle.hub_revtree.specs.Index.{AreIn, IsIndexOf, IsIndexed, IsNewestLine, entry_in, newest_rev}
-use Rattle.hub_revtree.specs.Mark.{AreMarked, AreNoted, Notes, is_inner, plain, with_note}
+use Rattle.hub_revtree.specs.Mark.{AreMarked, Notes, is_inner, plain, with_note}
 use Rattle.hub_revtree.specs.Stem.{Stem, Chain, AreStems, AreUpTo, IsWithin, branch_of, branches_of, chain_of, chains_after, chains_of, has_revision, is_at, is_behind_newest, rev_at, revisions_at, revisions_in, whole_in}
 use Rattle.hub_revtree.specs.Winner.{head_in}
 use Rattle.hub_revtree.proofs.HighestLemmas.{behind_is_lower}
 use Rattle.hub_revtree.proofs.RunLemmas.{dropped_one, get_some}
-use Rattle.hub_revtree.proofs.StemLemmas.{any_at, any_place, as_many, get_front, get_last, get_pushed, get_taken, named_in, names_drop, same_truth, within_stem}
+use Rattle.hub_revtree.proofs.StemLemmas.{any_at, any_place, get_front, get_last, get_pushed, get_taken, named_in, names_drop, within_stem}
 use Rattle.hub_revtree.proofs.StemLooks.{behind_in, first_named, first_there, head_at, some_path}
 
 -- ---- what is noted changes nothing else

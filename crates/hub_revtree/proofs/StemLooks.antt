@@ -1,10 +1,10 @@
 -- What is looked for among stems is found among their branches.
-use Rattle.std.proofs.Common.{◌≡◌, ℕ, zero, suc, ◌+◌, ◌-◌, ◌<◌, ◌≤◌, List, [], ◌∷◌, ◌++◌, length, get_or, drop, take, Bool, true, false, inl, inr, refl, sym, ap, ◌∙◌, subst, ◌||◌, arith}
+use Rattle.std.proofs.Common.{◌≡◌, ℕ, zero, suc, ◌+◌, ◌<◌, ◌≤◌, List, [], ◌∷◌, ◌++◌, length, get_or, drop, take, Bool, true, false, inl, inr, refl, sym, ap, ◌∙◌, subst, ◌||◌, arith}
 use Rattle.std.specs.Prelude.{Option, Some, None, IfSome, slice_get, find, option_map, option_and_then}
 use Rattle.std.specs.List.{list_any}
 use Rattle.std.specs.Option.{option_or}
 use Rattle.std.proofs.lemmas.Bool.{cases_Bool, both_ways}
-use Rattle.std.proofs.lemmas.List.{drop-append-le, length-drop, length-take, length-take-le}
+use Rattle.std.proofs.lemmas.List.{drop-append-le, length-drop, length-take-le}
 use Rattle.std.proofs.lemmas.List.Folds.{list_any-append, find-append}
 use Rattle.std.proofs.lemmas.Option.{get_or_from_slice_get, same_Some, slice_get_past, slice_get_read, slice_get_within}
 use Rattle.hub_model.specs.Revision.{Revision, is_same}
@@ -13,12 +13,12 @@ use Rattle.hub_model.specs.Leaves.{is_behind_head}
 use Rattle.hub_model.proofs.Shown.{find_is}
 use Rattle.hub_model.proofs.Tests.{or_false, or_left, or_right, same_is}
 use Rattle.hub_revtree.specs.declared.stem.Place.{Place}
-use Rattle.hub_revtree.specs.Branch.{Branch, earlier_branches, edit_of}
+use Rattle.hub_revtree.specs.Branch.{Branch, edit_of}
 use Rattle.hub_revtree.specs.Stem.{Stem, Chain, AreStems, IsWithin, branch_of, branches_of, chain_from, chain_of, chains_of, is_at, is_behind_newest, one_of, own_path, rev_at, revisions_at, whole_in}
 use Rattle.hub_revtree.specs.Tree.{Tip, tip, tip_of}
 use Rattle.hub_revtree.specs.Winner.{head_in}
 use Rattle.hub_revtree.proofs.RunLemmas.{get_some}
-use Rattle.hub_revtree.proofs.StemLemmas.{any_at, any_place, as_many, as_many_chains, chained_at, from_end, front, get_last, get_taken, names_drop, names_front, names_take, one_chain_more, one_stem_more, own_front, rest_at, same_truth, shown_at, steps_left, within_stem}
+use Rattle.hub_revtree.proofs.StemLemmas.{any_at, any_place, as_many, as_many_chains, chained_at, from_end, front, get_last, names_drop, names_front, names_take, one_chain_more, one_stem_more, own_front, rest_at, same_truth, shown_at, steps_left, within_stem}
 
 -- the first of some revisions
 first_append : (p q : List Revision) (r : Revision) → 0 < length p → is_first r (p ++ q) ≡ is_first r p

@@ -6,29 +6,27 @@ use Rattle.std.specs.Ordering.{is_gt}
 use Rattle.std.specs.declared.cmp.Ordering.{Ordering}
 use Rattle.std.specs.declared.cmp.Ordering.TheVariants.{Less, Equal, Greater}
 use Rattle.std.proofs.Math.Seq.{take-append_seam}
-use Rattle.std.proofs.lemmas.Bool.{and_parts, both_ways, cases_Bool}
+use Rattle.std.proofs.lemmas.Bool.{both_ways, cases_Bool}
 use Rattle.std.proofs.lemmas.List.{length-append, length-take, map-append}
 use Rattle.std.proofs.lemmas.List.Elements.{Contains-push, Contains-push_cases}
 use Rattle.std.proofs.lemmas.Option.{same_Some, slice_get_past}
 use Rattle.hub_model.specs.Revision.{Revision}
 use Rattle.hub_model.specs.Path.{IsFirst, names}
-use Rattle.hub_model.specs.Journal.{Edit, IsAcceptable, IsKnown, IsLegal, IsLegalAfter, is_known}
+use Rattle.hub_model.specs.Journal.{Edit, IsAcceptable, IsKnown, IsLegal, IsLegalAfter}
 use Rattle.hub_model.specs.Leaves.{IsLeaf, IsMarked, Leaf, is_behind_head, leaf_cmp, leaves_of, revisions_of}
 use Rattle.hub_model.proofs.Drafts.{new_leaf, old_leaf}
 use Rattle.hub_model.proofs.Legal.{first_in, holds_more}
-use Rattle.hub_model.proofs.Leaves.{is_leaf_from, leaf_law}
 use Rattle.hub_model.proofs.Lists.{contains_cases, contains_here, contains_none}
 use Rattle.hub_model.proofs.Order.{order_back, order_flip, order_total}
 use Rattle.hub_model.proofs.Sorted.{mark_is, winner_is}
-use Rattle.hub_model.proofs.Tests.{is_named, not_true}
+use Rattle.hub_model.proofs.Tests.{is_named}
 use Rattle.hub_revtree.specs.declared.leaf.Winner.{Winner}
 use Rattle.hub_revtree.specs.Branch.{Branch, earlier_branches, edit_of, edits_in}
 use Rattle.hub_revtree.specs.Tree.{IsRevTree}
 use Rattle.hub_revtree.specs.Winner.{HasWinner, head_in, is_better_than, winner_of}
-use Rattle.hub_revtree.proofs.BranchLemmas.{any_map}
 use Rattle.hub_revtree.proofs.LeafLemmas.{head_there}
 use Rattle.hub_revtree.proofs.StemLemmas.{any_at, get_taken, split_at}
-use Rattle.hub_revtree.proofs.TreeLemmas.{all_of_one, none_wins, rev_tree, wins}
+use Rattle.hub_revtree.proofs.TreeLemmas.{none_wins, rev_tree, wins}
 
 abbrev leaf_as : Revision → Bool → Winner
 leaf_as r d = record { rev = r; deleted = d }

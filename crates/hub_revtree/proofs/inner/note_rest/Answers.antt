@@ -1,4 +1,4 @@
-use Rattle.std.proofs.Common.{◌≡◌, ◌∙◌, ◌<◌, refl, sym, arith}
+use Rattle.std.proofs.Common.{◌≡◌, ◌∙◌, refl, sym, arith}
 use Rattle.hub_revtree.proofs.MarkLemmas.{indexed_same, last_noted, one_noted, stems_same}
 use Rattle.hub_revtree.proofs.StemLooks.{some_path}
 use Rattle.hub_revtree.proofs.inner.note_rest.Goals as goal
