@@ -2,7 +2,7 @@
 use Rattle.std.proofs.Common.{◌≡◌, ℕ, ◌+◌, ◌<◌, List, [], ◌∷◌, Bool, true, false, ◌⊎◌, inl, inr, refl, sym, ap, ◌∙◌, subst, arith}
 use Rattle.std.specs.Prelude.{Contains, Option, Some, None, Ok, Err, IsTrue, ◌↔◌, not, ◌&&◌, nat_le, slice_get}
 use Rattle.std.specs.List.{list_any}
-use Rattle.std.proofs.lemmas.Bool.{and_from, leb-true, both_ways, cases_Bool}
+use Rattle.std.proofs.lemmas.Bool.{and_from, and_parts, leb-true, both_ways, cases_Bool}
 use Rattle.std.proofs.lemmas.Option.{same_Some}
 use Rattle.hub_model.specs.Revision.{Revision}
 use Rattle.hub_model.specs.Path.{IsFirst, IsNext, IsHistory, names, is_history, agrees}
@@ -23,15 +23,7 @@ use Rattle.hub_revtree.specs.Extend.{draft, extends, extends_path, line_to, path
 use Rattle.hub_revtree.specs.Tree.{IsRevTree, nameless}
 use Rattle.hub_revtree.specs.Winner.{winner_of}
 use Rattle.hub_revtree.proofs.BranchLemmas.{any_map}
-use Rattle.hub_revtree.proofs.TreeLemmas.{all_of_one, wins}
-
-pub and_false : (b : Bool) → (b && false) ≡ false
-and_false true = refl
-and_false false = refl
-
-pub and_true : (b : Bool) → (b && true) ≡ b
-and_true true = refl
-and_true false = refl
+use Rattle.hub_revtree.proofs.TreeLemmas.{all_of_one, known_by, wins}
 
 pub not_false : (b : Bool) → not b ≡ false → b ≡ true
 not_false true e = refl
@@ -43,20 +35,21 @@ module _ (bs : List Branch) (es : List Edit) (same : edits_in bs ≡ es) (r : Re
   leaf_by = subst (λ z. names (revisions_of (leaves_of z [])) r ≡ (is_known z [] r && not (list_any (λ b. is_behind_head r (edit_of b)) bs))) same
       (leaf_law (edits_in bs) [] r ∙ ap (λ x. is_known (edits_in bs) [] r && not x) (ap (λ xs. list_any (is_behind_head r) xs) (all_of_one bs) ∙ any_map (is_behind_head r) edit_of bs))
 
-  pub behind_extends : list_any (λ b. is_behind_head r (edit_of b)) bs ≡ true → extended es [] (leaves_of es []) (Some r) ≡ None
-  behind_extends t =
-      let no_leaf : names (revisions_of (leaves_of es [])) r ≡ false = leaf_by ∙ (ap (λ x. is_known es [] r && not x) t ∙ and_false (is_known es [] r)) in
-      rw no_leaf refl
+  known_same : is_known es [] r ≡ list_any (λ b. names b.path r) bs
+  known_same = subst (λ z. is_known z [] r ≡ list_any (λ b. names b.path r) bs) same (known_by bs r)
 
-  pub leaf_extends : list_any (λ b. is_behind_head r (edit_of b)) bs ≡ false → path_to es r ≡ extended es [] (leaves_of es []) (Some r)
-  leaf_extends t =
-      let leaf : names (revisions_of (leaves_of es [])) r ≡ is_known es [] r = leaf_by ∙ (ap (λ x. is_known es [] r && not x) t ∙ and_true (is_known es [] r)) in
-      rw leaf refl
+  module _ (b : Bool) (is : b ≡ (list_any (λ b. names b.path r) bs && not (list_any (λ b. is_behind_head r (edit_of b)) bs))) where
+    leaf_told : names (revisions_of (leaves_of es [])) r ≡ b
+    leaf_told = leaf_by ∙ (ap (λ x. x && not (list_any (λ b. is_behind_head r (edit_of b)) bs)) known_same ∙ sym is)
 
-  pub unknown_extends : is_known es [] r ≡ false → extended es [] (leaves_of es []) (Some r) ≡ None
-  unknown_extends f =
-      let no_leaf : names (revisions_of (leaves_of es [])) r ≡ false = leaf_by ∙ ap (λ x. x && not (list_any (λ b. is_behind_head r (edit_of b)) bs)) f in
-      rw no_leaf refl
+    pub no_leaf : b ≡ false → extended es [] (leaves_of es []) (Some r) ≡ None
+    no_leaf t = let none : names (revisions_of (leaves_of es [])) r ≡ false = leaf_told ∙ t in rw none refl
+
+    pub leaf_known : b ≡ true → is_known es [] r ≡ true
+    leaf_known t = known_same ∙ (and_parts (list_any (λ b. names b.path r) bs) (not (list_any (λ b. is_behind_head r (edit_of b)) bs)) (sym is ∙ t)).0
+
+    pub leaf_taken : b ≡ true → path_to es r ≡ extended es [] (leaves_of es []) (Some r)
+    leaf_taken t = let leaf : names (revisions_of (leaves_of es [])) r ≡ is_known es [] r = leaf_told ∙ (t ∙ sym (leaf_known t)) in rw leaf refl
 
 -- the path of a known revision
 pub known_path : (es : List Edit) (r : Revision) → is_known es [] r ≡ true → path_to es r ≡ Some (line_to es (Some r))

@@ -16,13 +16,6 @@ use Rattle.hub_revtree.specs.Stem.{Stem, AreStems, AreUpTo, branch_of, branches_
 use Rattle.hub_revtree.proofs.StemLemmas.{named_in, one_stem_more}
 use Rattle.hub_revtree.proofs.StemLooks.{behind_in, first_there}
 
--- a revision of the highest generation stands behind nothing
-pub highest_leads : (xs : List Stem) (highest : ℕ) (r : Revision) → AreStems xs → AreUpTo xs highest → highest ≤ r.generation → list_any (λ b. is_behind_head r (edit_of b)) (branches_of xs) ≡ false
-highest_leads xs highest r a up high = behind_in xs a r ∙ elim (cases_Bool (list_any (is_behind_newest xs r) xs)) [
-  | inl t ↦ absurd (omega (arith, up.behind r t, high))
-  | inr t ↦ t
-]
-
 -- a path is up to its first generation
 behind_below : (p : List Revision) (x r : Revision) → IsPath p → slice_get p 0 ≡ Some x → names (drop 1 p) r ≡ true → r.generation < x.generation
 behind_below [] x r f e n = absurd f

@@ -1,17 +1,15 @@
 -- The first of the leaves, one branch more at a time.
-use Rattle.std.proofs.Common.{◌≡◌, ℕ, ap₂, suc, ◌+◌, ◌-◌, ◌<◌, ◌≤◌, List, [], ◌∷◌, length, Bool, true, false, ap, refl, sym, ◌∙◌, subst, inl, inr, arith}
-use Rattle.std.specs.Prelude.{Option, Some, None, option_and_then, option_map, slice_get, drop, if◌then◌else◌, map, insert, not, nat_lt, position, unwrap_or}
-use Rattle.std.specs.List.{list_any, position_or_len}
-use Rattle.std.proofs.lemmas.Bool.{cases_Bool, ltb-false}
-use Rattle.std.proofs.lemmas.List.Sums.{prefix_len-le-length}
-use Rattle.std.proofs.lemmas.List.{drop_all}
+use Rattle.std.proofs.Common.{◌≡◌, ℕ, suc, ◌-◌, ◌<◌, List, [], ◌∷◌, ◌++◌, length, reverse, Bool, true, false, ap, refl, sym, ◌∙◌, subst, arith}
+use Rattle.std.specs.Prelude.{Option, Some, None, option_and_then, option_map, slice_get, drop, if◌then◌else◌, map}
+use Rattle.std.specs.List.{list_any}
+use Rattle.std.proofs.lemmas.List.{drop_all, reverse-append}
 use Rattle.std.proofs.lemmas.Option.{same_Some, slice_get_past}
 use Rattle.hub_model.specs.Revision.{Revision}
 use Rattle.hub_model.specs.Journal.{Edit}
 use Rattle.hub_model.specs.Leaves.{Leaf, is_behind_head, with_leaf, leaves_among, comes_before, placed, best_first, revisions_of}
 use Rattle.hub_revtree.specs.declared.leaf.Winner.{Winner}
 use Rattle.hub_revtree.specs.Branch.{Branch, edit_of, edits_in}
-use Rattle.hub_revtree.specs.Winner.{winner_of, head_in, better_of, is_better_than, is_above, put_in, winners_of}
+use Rattle.hub_revtree.specs.Winner.{winner_of, head_in, better_of, is_better_than, winners_of}
 use Rattle.hub_revtree.proofs.BranchLemmas.{any_map}
 use Rattle.hub_revtree.proofs.RunLemmas.{dropped_one}
 
@@ -63,46 +61,21 @@ pub passed_by : (all some : List Branch) (branch : Branch) (r : Revision) (best 
 passed_by all some branch r None h leaf same high = one_more all some branch r h false leaf ∙ rw same refl
 passed_by all some branch r (Some w) h leaf same high = one_more all some branch r h false leaf ∙ rw (same, high) refl
 
-pub place_within : {A : Type 0} (p : A → Bool) (xs : List A) → position_or_len p xs ≤ length xs
-place_within p xs = prefix_len-le-length (λ x. not (p x)) xs
+-- the branches from one on that are leaves, in their order
+abbrev pub found_of : List Branch → List Branch → List Winner
+found_of all some = winners_of (leaves_among (edits_in all) (edits_in some))
 
--- the place of the first that passes, or the end
-place_is : {A : Type 0} (p : A → Bool) (xs : List A) → unwrap_or (position p xs) (length xs) ≡ position_or_len p xs
-place_is p xs = elim (cases_Bool (nat_lt (position_or_len p xs) (length xs))) [
-  | inl t ↦ rw t refl
-  | inr t ↦ rw t (omega (arith, place_within p xs, ltb-false (position_or_len p xs) (length xs) t))
-]
-
-pub place_from : {A : Type 0} (p : A → Bool) (xs : List A) (o : Option ℕ) (n place : ℕ) → o ≡ position p xs → n ≡ length xs → place ≡ unwrap_or o n → place ≡ position_or_len p xs
-place_from p xs o n place found end at = at ∙ (ap₂ (λ (x : Option ℕ) (y : ℕ). unwrap_or x y) found end ∙ place_is p xs)
-
--- a leaf that is put in its place
-placed_put : (l : Leaf) (ls : List Leaf) → winners_of (placed l ls) ≡ put_in (one l) (winners_of ls)
-placed_put l [] = refl
-placed_put l (m ∷ ms) = from (comes_before l m) (placed_put l ms)
-  where
-    from : (b : Bool) → winners_of (placed l ms) ≡ put_in (one l) (winners_of ms)
-        → winners_of (if b then (l ∷ m ∷ ms) else (m ∷ placed l ms)) ≡ insert (winners_of (m ∷ ms)) (if not b then 1 + position_or_len (is_above (one l)) (winners_of ms) else 0) (one l)
-    from true ih = refl
-    from false ih =
-        let one_on : 1 + position_or_len (is_above (one l)) (winners_of ms) ≡ suc (position_or_len (is_above (one l)) (winners_of ms)) = omega arith in
-        rw one_on (ap (λ ws. one m ∷ ws) ih)
-
--- the branches from one on that are leaves, best first
-abbrev pub sorted_of : List Branch → List Branch → List Winner
-sorted_of all some = winners_of (best_first (leaves_among (edits_in all) (edits_in some)))
-
-sorted_with : (es : List Edit) (e : Edit) (path : List Revision) (r : Revision) (ls : List Leaf) → slice_get path 0 ≡ Some r → (b : Bool) → list_any (is_behind_head r) es ≡ b
-    → winners_of (best_first (with_leaf es e path ls)) ≡ (if b then winners_of (best_first ls) else put_in (record { rev = r; deleted = e.deleted }) (winners_of (best_first ls)))
-sorted_with es e [] r ls h b is = absurd (cc)
-sorted_with es e (x ∷ older) r ls h true is = let t : list_any (is_behind_head x) es ≡ true = subst (λ z. list_any (is_behind_head z) es ≡ true) (sym (same_Some x r h)) is in rw t refl
-sorted_with es e (x ∷ older) r ls h false is =
+found_with : (es : List Edit) (e : Edit) (path : List Revision) (r : Revision) (ls : List Leaf) → slice_get path 0 ≡ Some r → (b : Bool) → list_any (is_behind_head r) es ≡ b
+    → winners_of (with_leaf es e path ls) ≡ (if b then winners_of ls else (record { rev = r; deleted = e.deleted } ∷ winners_of ls))
+found_with es e [] r ls h b is = absurd (cc)
+found_with es e (x ∷ older) r ls h true is = let t : list_any (is_behind_head x) es ≡ true = subst (λ z. list_any (is_behind_head z) es ≡ true) (sym (same_Some x r h)) is in rw t refl
+found_with es e (x ∷ older) r ls h false is =
     let t : list_any (is_behind_head x) es ≡ false = subst (λ z. list_any (is_behind_head z) es ≡ false) (sym (same_Some x r h)) is in
-    rw t (placed_put (record { rev = x; edit = e }) (best_first ls) ∙ ap (λ z. put_in (record { rev = z; deleted = e.deleted }) (winners_of (best_first ls))) (same_Some x r h))
+    rw t (ap (λ (z : Revision). record { rev = z; deleted = e.deleted } ∷ winners_of ls) (same_Some x r h))
 
-pub sorted_more : (all some : List Branch) (branch : Branch) (r : Revision) → slice_get branch.path 0 ≡ Some r → (b : Bool) → list_any (λ c. is_behind_head r (edit_of c)) all ≡ b
-    → sorted_of all (branch ∷ some) ≡ (if b then sorted_of all some else put_in (record { rev = r; deleted = branch.deleted }) (sorted_of all some))
-sorted_more all some branch r h b is = sorted_with (edits_in all) (edit_of branch) branch.path r (leaves_among (edits_in all) (edits_in some)) h b (any_map (is_behind_head r) edit_of all ∙ is)
+found_more : (all some : List Branch) (branch : Branch) (r : Revision) → slice_get branch.path 0 ≡ Some r → (b : Bool) → list_any (λ c. is_behind_head r (edit_of c)) all ≡ b
+    → found_of all (branch ∷ some) ≡ (if b then found_of all some else (record { rev = r; deleted = branch.deleted } ∷ found_of all some))
+found_more all some branch r h b is = found_with (edits_in all) (edit_of branch) branch.path r (leaves_among (edits_in all) (edits_in some)) h b (any_map (is_behind_head r) edit_of all ∙ is)
 
 -- the revisions of the leaves
 pub revs_of : (ls : List Leaf) → map (λ w. w.rev) (winners_of ls) ≡ revisions_of ls
@@ -150,10 +123,11 @@ module _ (all : List Branch) (at : ℕ) (leaf : Winner) (some : 0 < at) (head : 
   best_taken best same leads high =
       ap (best_of all) one_left ∙ passed_by all (drop at all) here.0 leaf.rev best here.2 leads same (ap (λ w. is_better_than w best) as_leaf ∙ high) ∙ ap Some as_leaf
 
-  pub sorted_behind : (ws : List Winner) → sorted_of all (drop at all) ≡ ws → list_any (λ c. is_behind_head leaf.rev (edit_of c)) all ≡ true → sorted_of all (drop (at - 1) all) ≡ ws
-  sorted_behind ws same behind = ap (sorted_of all) one_left ∙ sorted_more all (drop at all) here.0 leaf.rev here.2 true behind ∙ same
+  pub found_behind : (ws : List Winner) → ws ≡ reverse (found_of all (drop at all)) → list_any (λ c. is_behind_head leaf.rev (edit_of c)) all ≡ true → ws ≡ reverse (found_of all (drop (at - 1) all))
+  found_behind ws same behind = same ∙ ap reverse (sym (ap (found_of all) one_left ∙ found_more all (drop at all) here.0 leaf.rev here.2 true behind))
 
-  pub sorted_taken : (ws : List Winner) → sorted_of all (drop at all) ≡ ws → list_any (λ c. is_behind_head leaf.rev (edit_of c)) all ≡ false → sorted_of all (drop (at - 1) all) ≡ put_in leaf ws
-  sorted_taken ws same leads =
-      ap (sorted_of all) one_left ∙ sorted_more all (drop at all) here.0 leaf.rev here.2 false leads
-      ∙ ap (λ w. put_in w (sorted_of all (drop at all))) as_leaf ∙ ap (put_in leaf) same
+  pub found_taken : (ws : List Winner) → ws ≡ reverse (found_of all (drop at all)) → list_any (λ c. is_behind_head leaf.rev (edit_of c)) all ≡ false → ws ++ leaf ∷ [] ≡ reverse (found_of all (drop (at - 1) all))
+  found_taken ws same leads =
+      ap (λ z. z ++ leaf ∷ []) same
+      ∙ sym (ap reverse (ap (found_of all) one_left ∙ (found_more all (drop at all) here.0 leaf.rev here.2 false leads ∙ ap (λ w. w ∷ found_of all (drop at all)) as_leaf))
+      ∙ reverse-append (leaf ∷ []) (found_of all (drop at all)))

@@ -2,6 +2,7 @@ pub mod AloneLemmas
 pub mod BranchLemmas
 pub mod HeadLemmas
 pub mod LeafLemmas
+pub mod LeavesLemmas
 pub mod TreeLemmas
 pub mod LineLemmas
 pub mod AncestorLemmas
@@ -13,6 +14,7 @@ pub mod StemLemmas
 pub mod StemLooks
 pub mod HighestLemmas
 pub mod WinnerLemmas
+pub mod MarkLemmas
 pub mod SoughtLemmas
 pub mod IndexLemmas
 pub mod FirstLemmas

@@ -1,13 +1,13 @@
 -- The revisions that a run keeps.
 use Rattle.std.proofs.Common.{◌≡◌, ℕ, zero, suc, ◌+◌, ◌-◌, ◌<◌, ◌≤◌, min, List, [], ◌∷◌, ◌++◌, length, get_or, drop, take, map, Bool, true, false, ◌&&◌, inl, inr, refl, sym, ap, ap₂, ◌∙◌, subst, add-one, arith}
-use Rattle.std.specs.Prelude.{Option, Some, None, IfSome, IfNone, slice_get, option_map, is_some, nat_eq}
+use Rattle.std.specs.Prelude.{Option, Some, None, IfSome, IfNone, slice_get, option_map, nat_eq}
 use Rattle.std.specs.Bool.{then_some}
 use Rattle.std.specs.Str.{bytes_eq}
-use Rattle.std.proofs.lemmas.Bool.{both_ways, cases_Bool, cases_lt}
+use Rattle.std.proofs.lemmas.Bool.{both_ways, cases_lt}
 use Rattle.std.proofs.lemmas.List.{append_assoc, get_or-take, length-drop, length-map, length-take, map-append, take_all}
 use Rattle.std.proofs.lemmas.Option.{get_or_from_slice_get, same_Some, slice_get_read}
 use Rattle.hub_model.proofs.Tests.{same_is, same_self}
-use Rattle.hub_document.proofs.PlaceLemmas.{above_head, named, not_named, past_end}
+use Rattle.hub_document.proofs.PlaceLemmas.{above_head, not_named, past_end}
 use Rattle.hex.specs.Hex.{encode_lower}
 use Rattle.hub_model.specs.Revision.{Revision, is_same}
 use Rattle.hub_model.specs.Path.{Falls, IsHistory, IsPath, names, is_first}
@@ -132,29 +132,6 @@ module _ (p : List Revision) (path : IsPath p) (n : ℕ) (newest : option_map (�
     is_absent false is =
         let x = newest_of p n newest in
         not_named p x.0 r k path x.1 (omega (arith, down, x.2)) (λ e. both_ways (is_first r (drop k p)) (sym is) (first_drop p k r r e ∙ same_self r))
-
-  -- behind the newest one stand those of lower generations alone
-  pub behind_lower : r.generation < n → (o : Option ℕ) → IfSome o (λ k. slice_get p k ≡ Some r) → IfNone o (names p r ≡ false) → is_some o ≡ names (drop 1 p) r
-  behind_lower low o found absent = shown o found absent ∙ other p path newest
-    where
-      shown : (o : Option ℕ) → IfSome o (λ k. slice_get p k ≡ Some r) → IfNone o (names p r ≡ false) → is_some o ≡ names p r
-      shown None found absent = sym absent
-      shown (Some k) found absent = sym (named p k r found)
-
-      other : (q : List Revision) → IsPath q → option_map (λ r. r.generation) (slice_get q 0) ≡ Some n → names q r ≡ names (drop 1 q) r
-      other [] path newest = absurd path
-      other (x ∷ q) path newest = elim (cases_Bool (is_same r x)) [
-        | inl t ↦ absurd (omega (arith, low, same_Some x.generation n newest, ap (λ (z : Revision). z.generation) (same_is r x t)))
-        | inr f ↦ rw f refl
-      ]
-
-  pub none_lower : n ≤ r.generation → names (drop 1 p) r ≡ false
-  none_lower high = from p path newest
-    where
-      from : (q : List Revision) → IsPath q → option_map (λ r. r.generation) (slice_get q 0) ≡ Some n → names (drop 1 q) r ≡ false
-      from [] path newest = absurd path
-      from (x ∷ []) path newest = refl
-      from (x ∷ y ∷ q) path newest = above_head (y ∷ q) y r path.1 refl (omega (arith, path.0, same_Some x.generation n newest, high))
 
 -- one revision on
 pub one_on : (p line : List Revision) (k : ℕ) (r : Revision) → slice_get p k ≡ Some r → (line ++ r ∷ []) ++ drop (k + 1) p ≡ line ++ drop k p

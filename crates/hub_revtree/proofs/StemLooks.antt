@@ -1,10 +1,10 @@
 -- What is looked for among stems is found among their branches.
-use Rattle.std.proofs.Common.{◌≡◌, ℕ, zero, suc, ◌+◌, ◌-◌, ◌<◌, ◌≤◌, List, [], ◌∷◌, ◌++◌, length, get_or, drop, take, Bool, true, false, inl, inr, refl, sym, ap, ◌∙◌, subst, ◌||◌, arith}
+use Rattle.std.proofs.Common.{◌≡◌, ℕ, zero, suc, ◌+◌, ◌<◌, ◌≤◌, List, [], ◌∷◌, ◌++◌, length, get_or, drop, take, Bool, true, false, inl, inr, refl, sym, ap, ◌∙◌, subst, ◌||◌, arith}
 use Rattle.std.specs.Prelude.{Option, Some, None, IfSome, slice_get, find, option_map, option_and_then}
 use Rattle.std.specs.List.{list_any}
 use Rattle.std.specs.Option.{option_or}
 use Rattle.std.proofs.lemmas.Bool.{cases_Bool, both_ways}
-use Rattle.std.proofs.lemmas.List.{drop-append-le, length-drop, length-take, length-take-le}
+use Rattle.std.proofs.lemmas.List.{drop-append-le, length-drop, length-take-le}
 use Rattle.std.proofs.lemmas.List.Folds.{list_any-append, find-append}
 use Rattle.std.proofs.lemmas.Option.{get_or_from_slice_get, same_Some, slice_get_past, slice_get_read, slice_get_within}
 use Rattle.hub_model.specs.Revision.{Revision, is_same}
@@ -13,12 +13,12 @@ use Rattle.hub_model.specs.Leaves.{is_behind_head}
 use Rattle.hub_model.proofs.Shown.{find_is}
 use Rattle.hub_model.proofs.Tests.{or_false, or_left, or_right, same_is}
 use Rattle.hub_revtree.specs.declared.stem.Place.{Place}
-use Rattle.hub_revtree.specs.Branch.{Branch, earlier_branches, edit_of}
+use Rattle.hub_revtree.specs.Branch.{Branch, edit_of}
 use Rattle.hub_revtree.specs.Stem.{Stem, Chain, AreStems, IsWithin, branch_of, branches_of, chain_from, chain_of, chains_of, is_at, is_behind_newest, one_of, own_path, rev_at, revisions_at, whole_in}
 use Rattle.hub_revtree.specs.Tree.{Tip, tip, tip_of}
 use Rattle.hub_revtree.specs.Winner.{head_in}
 use Rattle.hub_revtree.proofs.RunLemmas.{get_some}
-use Rattle.hub_revtree.proofs.StemLemmas.{any_at, any_place, as_many, as_many_chains, chained_at, from_end, front, get_last, get_taken, names_drop, names_front, names_take, one_chain_more, one_stem_more, own_front, rest_at, same_truth, shown_at, steps_left, within_stem}
+use Rattle.hub_revtree.proofs.StemLemmas.{any_at, any_place, as_many, as_many_chains, chained_at, from_end, front, get_last, names_drop, names_front, names_take, one_chain_more, one_stem_more, own_front, rest_at, same_truth, shown_at, steps_left, within_stem}
 
 -- the first of some revisions
 first_append : (p q : List Revision) (r : Revision) → 0 < length p → is_first r (p ++ q) ≡ is_first r p
@@ -107,18 +107,6 @@ module _ (xs : List Stem) (a : AreStems xs) (r : Revision) where
 
   from_stem : (k : ℕ) (s : Stem) → slice_get xs k ≡ Some s → is_behind_newest xs r s ≡ true → list_any (λ b. is_behind_head r (edit_of b)) (branches_of xs) ≡ true
   from_stem k s e t = any_at (λ b. is_behind_head r (edit_of b)) (branches_of xs) k (branch_of (chain_of (chains_of xs) s)) (shown_at xs a k s e) (own_behind k s e t)
-
-  -- what stands behind no head before the newest stands behind no stem's newest before the last
-  pub earlier_front : list_any (λ b. is_behind_head r (edit_of b)) (earlier_branches (branches_of xs)) ≡ false → list_any (is_behind_newest xs r) (take (length xs - 1) xs) ≡ false
-  earlier_front f = elim (cases_Bool (list_any (is_behind_newest xs r) (take (length xs - 1) xs))) [
-    | inl t ↦
-        let i = any_place (is_behind_newest xs r) (take (length xs - 1) xs) t in
-        let low = slice_get_within (take (length xs - 1) xs) i.0 i.1 i.2 in
-        let there : slice_get xs i.0 ≡ Some i.1 = sym (get_taken (length xs - 1) i.0 xs (omega (arith, low, length-take (length xs - 1) xs))) ∙ i.2 in
-        let shown = get_taken (length (branches_of xs) - 1) i.0 (branches_of xs) (omega (arith, low, length-take (length xs - 1) xs, as_many xs)) ∙ shown_at xs a i.0 i.1 there in
-        absurd (both_ways _ f (any_at (λ b. is_behind_head r (edit_of b)) (earlier_branches (branches_of xs)) i.0 (branch_of (chain_of (chains_of xs) i.1)) shown (own_behind i.0 i.1 there i.3)))
-    | inr t ↦ t
-  ]
 
   to_stem : (n k : ℕ) (s : Stem) → k < n → slice_get xs k ≡ Some s → names (drop 1 (chain_of (chains_of xs) s).whole) r ≡ true → list_any (is_behind_newest xs r) xs ≡ true
   to_stem zero k s low e t = absurd (omega arith)
@@ -228,13 +216,6 @@ module _ (r : Revision) where
 
   pub headed_in : (xs : List Stem) → AreStems xs → found (find (λ b. is_first r b.path) (branches_of xs)) ≡ option_map tip_in (find (λ s. is_first r s.revisions) xs)
   headed_in = from_end AreHeaded (λ a. refl) headed_more
-
--- the revision at a place of its stem
-pub is_at_place : (xs : List Stem) (r : Revision) (o : Option Place) (p : Place) (s : Stem) → IfSome o (IsWithin xs) → o ≡ Some p → s ≡ get_or xs p.stem s → is_first r (drop p.at s.revisions) ≡ is_at xs r o
-is_at_place xs r o p s w is item =
-    let i = within_stem xs p (rw is at w) in
-    let stem : s ≡ i.0 = item ∙ get_or_from_slice_get xs p.stem i.0 s i.1 in
-    rw (is, i.1) (ap (λ (z : Stem). is_first r (drop p.at z.revisions)) stem)
 
 -- a walk goes from a place to where its stem stands
 module _ (xs : List Stem) (a : AreStems xs) (o : Option Place) (p : Place) (s : Stem) (w : IfSome o (IsWithin xs)) (is : o ≡ Some p) (item : s ≡ get_or xs p.stem s) where

@@ -6,29 +6,27 @@ use Rattle.std.specs.Ordering.{is_gt}
 use Rattle.std.specs.declared.cmp.Ordering.{Ordering}
 use Rattle.std.specs.declared.cmp.Ordering.TheVariants.{Less, Equal, Greater}
 use Rattle.std.proofs.Math.Seq.{take-append_seam}
-use Rattle.std.proofs.lemmas.Bool.{and_parts, both_ways, cases_Bool}
+use Rattle.std.proofs.lemmas.Bool.{both_ways, cases_Bool}
 use Rattle.std.proofs.lemmas.List.{length-append, length-take, map-append}
 use Rattle.std.proofs.lemmas.List.Elements.{Contains-push, Contains-push_cases}
 use Rattle.std.proofs.lemmas.Option.{same_Some, slice_get_past}
 use Rattle.hub_model.specs.Revision.{Revision}
 use Rattle.hub_model.specs.Path.{IsFirst, names}
-use Rattle.hub_model.specs.Journal.{Edit, IsAcceptable, IsKnown, IsLegal, IsLegalAfter, is_known}
+use Rattle.hub_model.specs.Journal.{Edit, IsAcceptable, IsKnown, IsLegal, IsLegalAfter}
 use Rattle.hub_model.specs.Leaves.{IsLeaf, IsMarked, Leaf, is_behind_head, leaf_cmp, leaves_of, revisions_of}
 use Rattle.hub_model.proofs.Drafts.{new_leaf, old_leaf}
 use Rattle.hub_model.proofs.Legal.{first_in, holds_more}
-use Rattle.hub_model.proofs.Leaves.{is_leaf_from, leaf_law}
 use Rattle.hub_model.proofs.Lists.{contains_cases, contains_here, contains_none}
 use Rattle.hub_model.proofs.Order.{order_back, order_flip, order_total}
 use Rattle.hub_model.proofs.Sorted.{mark_is, winner_is}
-use Rattle.hub_model.proofs.Tests.{is_named, not_true}
+use Rattle.hub_model.proofs.Tests.{is_named}
 use Rattle.hub_revtree.specs.declared.leaf.Winner.{Winner}
 use Rattle.hub_revtree.specs.Branch.{Branch, earlier_branches, edit_of, edits_in}
 use Rattle.hub_revtree.specs.Tree.{IsRevTree}
 use Rattle.hub_revtree.specs.Winner.{HasWinner, head_in, is_better_than, winner_of}
-use Rattle.hub_revtree.proofs.BranchLemmas.{any_map}
 use Rattle.hub_revtree.proofs.LeafLemmas.{head_there}
 use Rattle.hub_revtree.proofs.StemLemmas.{any_at, get_taken, split_at}
-use Rattle.hub_revtree.proofs.TreeLemmas.{all_of_one, none_wins, rev_tree, wins}
+use Rattle.hub_revtree.proofs.TreeLemmas.{none_wins, rev_tree, wins}
 
 abbrev leaf_as : Revision → Bool → Winner
 leaf_as r d = record { rev = r; deleted = d }
@@ -176,15 +174,6 @@ module _ (bs : List Branch) (legal : IsLegal (edits_in bs)) (best : ℕ) (before
     -- the newest is above it
     pub better_wins : is_gt (leaf_cmp leaf.deleted leaf.rev w.deleted w.rev) ≡ true → option_and_then head_in (slice_get bs (n - 1)) ≡ winner_of (leaves_of (edits_in bs) [])
     better_wins better = newest_wins (ap (is_better_than leaf) was ∙ better)
-
-    -- it stood behind nothing before
-    pub was_leaf : list_any (λ c. is_behind_head w.rev (edit_of c)) (earlier_branches bs) ≡ false
-    was_leaf =
-        let es = edits_in (earlier_branches bs) in
-        let win = wins es before.legal w (sym before.first ∙ was) in
-        let named = is_named (revisions_of (leaves_of es [])) w.rev (is_leaf_from es [] w.rev win.1) in
-        let front = not_true _ (and_parts (is_known es [] w.rev) _ (sym (leaf_law es [] w.rev) ∙ named)).1 in
-        sym (ap (list_any (is_behind_head w.rev)) (all_of_one (earlier_branches bs)) ∙ any_map (is_behind_head w.rev) edit_of (earlier_branches bs)) ∙ front
 
     -- it stands behind nothing still, and the newest is not above it
     pub still_wins : is_gt (leaf_cmp leaf.deleted leaf.rev w.deleted w.rev) ≡ false → list_any (λ c. is_behind_head w.rev (edit_of c)) bs ≡ false → option_and_then head_in (slice_get bs best) ≡ winner_of (leaves_of (edits_in bs) [])

@@ -2,6 +2,7 @@ pub mod Tree
 pub mod Branch
 pub mod Run
 pub mod Stem
+pub mod Mark
 pub mod Winner
 pub mod Extend
 pub mod Count

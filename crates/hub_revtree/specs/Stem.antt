@@ -19,8 +19,8 @@ use Rattle.hub_revtree.specs.declared.stem.Place.{Place}
 use Rattle.hub_revtree.specs.Branch.{Branch}
 
 -- what an edit brought: the first of its path's revisions, where the one behind them stands, how many
--- revisions its path has, how many its chain has, whether one of its revisions was known before, and the rest
--- of the edit
+-- revisions its path has, how many its chain has, whether one of its revisions was known before, whether it
+-- deletes the document, whether its newest revision is noted to stand behind another, and the members
 pub record Stem : Type 0 where
   pub revisions : List Revision
   pub parent : Option Place
@@ -28,6 +28,7 @@ pub record Stem : Type 0 where
   pub reach : ℕ
   pub joins : Bool
   pub deleted : Bool
+  pub inner : Bool
   pub body : List ℕ
 
 -- where a stem stands, if it does: on the stem of this number, at this place

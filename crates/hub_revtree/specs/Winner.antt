@@ -1,7 +1,7 @@
 -- The first of some leaves (CouchDB API reference, document revisions and conflicts).
-use Rattle.std.specs.Prelude.{◌≡◌, ℕ, List, [], ◌∷◌, map, insert, nat_lt, Bool, true, Option, Some, None}
+use Rattle.std.specs.Prelude.{◌≡◌, ℕ, List, [], ◌∷◌, map, nat_lt, Bool, true, Option, Some, None}
 use Rattle.std.specs.Prelude.{if◌then◌else◌, option_map, slice_get}
-use Rattle.std.specs.List.{list_any, position_or_len}
+use Rattle.std.specs.List.{list_any}
 use Rattle.std.specs.Ordering.{is_gt}
 use Rattle.hub_model.specs.Journal.{Edit, IsLegal}
 use Rattle.hub_model.specs.Leaves.{Leaf, leaf_cmp, leaves_of}
@@ -32,14 +32,6 @@ abbrev pub better_of : Winner → Option Winner → Winner
 better_of leaf None = leaf
 better_of leaf (Some best) =
     if is_gt (leaf_cmp leaf.deleted leaf.rev best.deleted best.rev) then leaf else best
-
--- whether a leaf is above another
-abbrev pub is_above : Winner → Winner → Bool
-is_above leaf other = is_gt (leaf_cmp leaf.deleted leaf.rev other.deleted other.rev)
-
--- a leaf put before the first that it is above, or last
-abbrev pub put_in : Winner → List Winner → List Winner
-put_in leaf leaves = insert leaves (position_or_len (is_above leaf) leaves) leaf
 
 -- the revisions and the marks of the leaves
 abbrev pub winners_of : List Leaf → List Winner

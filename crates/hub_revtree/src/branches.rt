@@ -1,6 +1,6 @@
 //! The stored edits of a document, which share what stands behind them.
 
-ghost use Rattle.std.specs.Prelude.{◌≡◌, ◌≤◌, ◌<◌, ◌+◌, ◌++◌, ◌∷◌, List, Some, [], ◌-◌, ◌^◌, length, map, min, take, is_some, false, find, option_map, option_and_then, slice_get, IfSome, IfOk, IsSomeAnd, IsTrue, OnOk, OnErr};
+ghost use Rattle.std.specs.Prelude.{◌≡◌, ◌≤◌, ◌<◌, ◌+◌, ◌++◌, ◌∷◌, List, Some, [], ◌-◌, ◌^◌, length, map, min, take, is_some, false, find, not, ◌&&◌, option_map, option_and_then, slice_get, IfSome, IfOk, IsSomeAnd, IsTrue, OnOk, OnErr};
 ghost use Rattle.std.specs.List.{list_any, list_all};
 ghost use Rattle.hex.specs.Hex.{encode_lower};
 ghost use Rattle.hub_document.specs.Changes.{IsDigestText};
@@ -9,7 +9,7 @@ ghost use Rattle.hub_model.specs.Leaves.{is_behind_head as stands_behind_head};
 ghost use Rattle.hub_model.specs.Missing.{highest as highest_of, missing as missing_from};
 ghost use Rattle.hub_model.specs.Path.{IsHistory, IsPath, agrees as agrees_with, is_first, names};
 ghost use Rattle.hub_revtree.specs.Winner.{head_in};
-ghost use Rattle.hub_revtree.specs.Branch.{earlier_branches, edit_of, edits_in, unnamed_in};
+ghost use Rattle.hub_revtree.specs.Branch.{edit_of, edits_in, unnamed_in};
 ghost use Rattle.hub_revtree.specs.Count.{revision_count as count_of};
 ghost use Rattle.hub_revtree.specs.Extend.{line_to};
 ghost use Rattle.hub_revtree.specs.Index.{IsIndexed};
@@ -20,13 +20,14 @@ ghost use Rattle.hub_revtree.specs.Tree.{nameless, tip, tip_of};
 
 use crate::heads::StoredEdit;
 use crate::index::{Index, renewed};
+use crate::inner::note_inner;
 use crate::leaf::Winner;
 use crate::line::Line;
 use crate::run::Run;
 use crate::stem::{Standing, Stem};
 use crate::stems::{
-    Meeting, agreeing, append_digests, append_from, headed, is_behind, is_behind_last, is_newest,
-    line_length, met_by, new_in, place_behind, place_of, place_up_to,
+    Meeting, agreeing, append_digests, append_from, headed, is_newest, line_length, met_by, new_in,
+    place_behind, place_of, place_up_to,
 };
 use hub_document::{Body, Changes, Path, RevId};
 use std::alloc::{AllocError, Global};
@@ -51,11 +52,12 @@ impl Model for Branches {
     ghost Value = { Storage };
 
     ghost use Rattle.hub_revtree.specs.Index.{IsIndexed};
+    ghost use Rattle.hub_revtree.specs.Mark.{AreMarked};
     ghost use Rattle.hub_revtree.specs.Stem.{AreStems, AreUpTo, branches_of};
 
     ghost view = { λ a. record { list = branches_of a.stems.items; spare = vec_capacity a.stems - vec_len a.stems } };
 
-    ghost invariant = { λ a. AreStems a.stems.items × AreUpTo a.stems.items a.highest × IsIndexed (option_map (λ i. i.value) a.index) a.stems.items };
+    ghost invariant = { λ a. AreStems a.stems.items × AreUpTo a.stems.items a.highest × IsIndexed (option_map (λ i. i.value) a.index) a.stems.items × AreMarked a.stems.items };
 }
 
 // The index as it is lent, if there is one.
@@ -260,20 +262,22 @@ impl Branches {
         place_up_to(self.stems.as_slice(), lent(&self.index), self.highest, rev).is_some()
     }
 
-    /// Whether the revision stands behind a head. One look an edit; constant time where no generation is
-    /// above its own.
-    pub(crate) fn is_behind(&self, rev: &RevId) -> bool
-        ensures { result ≡ list_any (λ b. stands_behind_head rev.now (edit_of b)) self.now.list }
+    /// Whether the revision of the edit of this number stands behind a head. Constant time.
+    pub(crate) fn is_head_inner(&self, at: usize) -> bool
+        requires { at < length self.now.list }
+        ensures { (w : Winner) → option_and_then head_in (slice_get self.now.list at) ≡ Some w → result ≡ list_any (λ b. stands_behind_head w.rev (edit_of b)) self.now.list }
     {
-        rev.generation() < self.highest && is_behind(self.stems.as_slice(), rev)
+        self.stems[at].is_inner()
     }
 
-    /// The same of a revision that stands behind no head of the edits before the newest. Constant time.
-    pub(crate) fn is_behind_newest(&self, rev: &RevId) -> bool
-        requires { list_any (λ b. stands_behind_head rev.now (edit_of b)) (earlier_branches self.now.list) ≡ false }
-        ensures { result ≡ list_any (λ b. stands_behind_head rev.now (edit_of b)) self.now.list }
+    /// Whether a path names the revision, and it stands behind no head. One find.
+    pub(crate) fn is_leaf(&self, rev: &RevId) -> bool
+        ensures { result ≡ (list_any (λ b. names b.path rev.now) self.now.list && not (list_any (λ b. stands_behind_head rev.now (edit_of b)) self.now.list)) }
     {
-        is_behind_last(self.stems.as_slice(), rev)
+        match headed(self.stems.as_slice(), lent(&self.index), rev) {
+            Some(stem) => !stem.is_inner(),
+            None => false,
+        }
     }
 
     /// How many revisions this one and all that stand behind it are; 0 where no path names it. It costs a
@@ -375,7 +379,7 @@ impl Branches {
     /// path that it shares, and goes on without these where there is none. The run is the front of its path;
     /// where it is of just those that are new, it is kept, and the path is shared with the next edit or its
     /// memory given back, else that memory is cut to what they need. It costs what `new_count` does, and what
-    /// `renewed` does.
+    /// `renewed` does; and where some of those revisions were known, a find for each of them.
     pub(crate) fn push(&mut self, path: Run, run: Run, deleted: bool, body: Body)
         requires legal { IsLegal (edits_in self.old.list) }
         requires acceptable { IsAcceptable (edits_in self.old.list) (nameless path deleted body) }
@@ -392,6 +396,7 @@ impl Branches {
         let index = without_line(self.index.take());
         let (run, line) = kept(run, path, met.at);
         let line = if whole { line } else { None };
+        note_inner(&mut self.stems, lent(&index), &run, &standing);
         self.stems
             .push_reserved(Stem::new(run, standing, deleted, body));
         self.index = renewed(*self.stems.allocator(), index, self.stems.as_slice(), line);

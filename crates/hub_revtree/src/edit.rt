@@ -48,18 +48,14 @@ fn generation(rev: &Option<RevId>) -> u16
 }
 
 impl RevTree {
-    // The leaf that is named. One look an edit; where no generation is above its own, one find.
+    // The leaf that is named. One find.
     fn leaf(&self, rev: RevId) -> Result<Option<RevId>, EditFault>
         ensures tree { IsRevTree self.now.edits }
         ensures line { option_map (line_to self.now.edits) (result_ok result) ≡ extended_in self.now.edits [] (leaves_of self.now.edits []) (Some rev) }
         ensures first { IfOk result (λ older. parent_of (line_to self.now.edits older) ≡ older) }
         ensures conflict { IfErr result (λ e. e ≡ EditFault.Conflict) }
     {
-        let branches = self.branches();
-        if !self.knows(&rev) {
-            return Err(EditFault::Conflict);
-        }
-        if branches.is_behind(&rev) {
+        if !self.branches().is_leaf(&rev) {
             return Err(EditFault::Conflict);
         }
         Ok(Some(rev))
@@ -238,10 +234,10 @@ impl RevTree {
     /// Looks what becomes of an edit that is made here, on the leaf that is named, or, without a
     /// name, on nothing where the document is unknown and on its winner where that is deleted: the
     /// edit with the revision that is made for it, with memory for it. `id` is the document's, which
-    /// the revision's hash has in it. It costs a look an edit, and the lengths of the path and the
-    /// body: of the path a copy of 16 bytes a revision where the hashes are digests, else of 68. Where no
-    /// generation is above that of the leaf, it costs finds in place of the looks; and where the leaf is the
-    /// newest edit of 256 and more, and was made on the one before it, it costs nothing of the path's length.
+    /// the revision's hash has in it. It costs finds of the leaf and of the new revision, and the lengths of the
+    /// path and the body: of the path a copy of 16 bytes a revision where the hashes are digests, else of 68.
+    /// Where the leaf is the newest edit of 256 and more, and was made on the one before it, it costs nothing
+    /// of the path's length.
     pub fn look_extend(
         &mut self,
         id: &DocId,

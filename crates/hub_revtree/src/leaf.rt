@@ -1,12 +1,12 @@
 //! The order of leaves.
 
-ghost use Rattle.std.specs.Prelude.{◌≡◌, ◌<◌, [], Some, length, map, option_and_then, option_map, position, slice_get, IfOk, OnOk};
+ghost use Rattle.std.specs.Prelude.{◌≡◌, ◌<◌, [], Some, length, map, option_and_then, option_map, reverse, slice_get, List, IfOk};
 ghost use Rattle.std.specs.List.{list_any};
 ghost use Rattle.hub_model.specs.Revision.{revision_cmp};
 ghost use Rattle.hub_model.specs.Journal.{IsLegal};
-ghost use Rattle.hub_model.specs.Leaves.{leaf_cmp, leaves_among, leaves_of, best_first, with_leaf};
+ghost use Rattle.hub_model.specs.Leaves.{Leaf, leaf_cmp, leaves_among, leaves_of, best_first, with_leaf};
 ghost use Rattle.hub_revtree.specs.Branch.{earlier_branches, edit_of, edits_in};
-ghost use Rattle.hub_revtree.specs.Winner.{HasWinner, has_below, head_in, winner_of, is_better_than, is_above, put_in, winners_of};
+ghost use Rattle.hub_revtree.specs.Winner.{HasWinner, has_below, head_in, winner_of, is_better_than, winners_of};
 
 use crate::branches::Branches;
 use hub_document::RevId;
@@ -52,8 +52,7 @@ fn is_better(leaf: &Winner, best: &Option<Winner>) -> bool
 }
 
 /// The number of the edit whose revision is the best of those that stand behind no head; where there is
-/// none, how many edits there are. The newest comes first, and one is looked for in each edit only where
-/// it would be the best so far: so a line of edits costs a step an edit.
+/// none, how many edits there are. One step an edit.
 pub(crate) fn best_leaf(branches: &Branches) -> usize
     ensures { option_and_then head_in (slice_get branches.now.list result)
         ≡ winner_of (best_first (leaves_among (edits_in branches.now.list) (edits_in branches.now.list))) }
@@ -65,7 +64,7 @@ pub(crate) fn best_leaf(branches: &Branches) -> usize
         if !is_better(&leaf, &best) {
             continue;
         }
-        if branches.is_behind(&leaf.rev) {
+        if branches.is_head_inner(at) {
             continue;
         }
         best = Some(leaf);
@@ -91,57 +90,46 @@ pub(crate) fn best_with_newest(branches: &Branches, best: usize) -> usize
     if leaf_order(&leaf, &winner).is_gt() {
         return newest;
     }
-    if branches.is_behind_newest(&winner.rev) {
+    if branches.is_head_inner(best) {
         return best_leaf(branches);
     }
     best
 }
 
-// The place of the first of the leaves that this one is above.
-fn first_below(leaf: &Winner, leaves: &[Winner]) -> Option<usize>
-    ensures { result ≡ position (is_above leaf.now) leaves.now }
+// Puts leaves in order, the best first: the same as the definition does. A sort in place: their number times
+// its logarithm.
+fn put_in_order(leaves: &mut [Winner])
+    ensures { (found : List Leaf) → leaves.old ≡ reverse (winners_of found) → leaves.new ≡ winners_of (best_first found) }
 {
-    leaves
-        .iter()
-        .position(|other| leaf_order(leaf, other).is_gt())
+    leaves.sort_unstable_by(|leaf, other| leaf_order(other, leaf));
 }
 
-// Puts a leaf before the first that it is above.
-fn put(leaves: &mut Vec<Winner>, leaf: Winner) -> Result<(), AllocError>
-    ensures { OnOk result (leaves.new.items ≡ put_in leaf leaves.old.items) }
-{
-    let place = first_below(&leaf, leaves.as_slice()).unwrap_or(leaves.len());
-    leaves.insert(place, leaf)?;
-    Ok(())
-}
-
-/// The edits' revisions that stand behind no head, best first. Each is looked for in each edit, and
-/// each leaf is compared with those that came before it.
+/// The edits' revisions that stand behind no head, best first. One step an edit, and a sort of the leaves.
 pub(crate) fn best_leaves(alloc: Global, branches: &Branches) -> Result<Vec<Winner>, AllocError>
     ensures { IfOk result (λ leaves. leaves.items ≡ winners_of (best_first (leaves_among (edits_in branches.now.list) (edits_in branches.now.list)))) }
 {
     let mut leaves = Vec::new(alloc);
     for at in (0..branches.len()).rev() {
         let leaf = branches.head(at);
-        if branches.is_behind(&leaf.rev) {
+        if branches.is_head_inner(at) {
             continue;
         }
-        put(&mut leaves, leaf)?;
+        leaves.push(leaf)?;
     }
+    put_in_order(leaves.as_mut_slice());
     Ok(leaves)
 }
 
-// Whether the head of the edit of this number is a leaf, and of a generation below this one. One look
-// an edit.
+// Whether the head of the edit of this number is a leaf, and of a generation below this one. Constant time.
 fn is_leaf_below(branches: &Branches, at: usize, generation: u16) -> bool
     requires { at < length branches.now.list }
     ensures { option_map (λ b. has_below generation (with_leaf (edits_in branches.now.list) (edit_of b) b.path [])) (slice_get branches.now.list at) ≡ Some result }
 {
     let head = branches.head(at);
-    head.rev.generation() < generation && !branches.is_behind(&head.rev)
+    head.rev.generation() < generation && !branches.is_head_inner(at)
 }
 
-/// Whether a leaf is of a generation below this one. Each head is looked for in each edit.
+/// Whether a leaf is of a generation below this one. One step an edit.
 pub(crate) fn has_leaf_below(branches: &Branches, generation: u16) -> bool
     ensures { result ≡ list_any (λ b. has_below generation (with_leaf (edits_in branches.now.list) (edit_of b) b.path [])) branches.now.list }
 {

@@ -24,8 +24,7 @@ fn below(alloc: Global, revs: &[RevId], generation: u16) -> Result<Vec<RevId>, A
 }
 
 impl RevTree {
-    /// The leaves, best first. Each head is looked for in each edit's path, and each leaf is compared
-    /// with other leaves: at most the square of the number of edits.
+    /// The leaves, best first. One step an edit, and a sort of the leaves: their number times its logarithm.
     pub fn leaves(&self, alloc: Global) -> Result<Revisions, AllocError>
         ensures ok { IfOk result (λ revs. revs ≡ revisions_of (leaves_of self.now.edits [])) }
         ensures memory { OnErr result (¬ (self.now.edits ≡ [])) }

@@ -341,15 +341,6 @@ impl Run {
         self.is_at(usize::from(place), sought).then_some(place)
     }
 
-    /// Whether the revision stands behind the newest. Constant time; it compares no hashes where the
-    /// generation is not below the newest one's.
-    pub(crate) fn has_behind(&self, sought: &Sought) -> bool
-        requires { IsPath self.now }
-        ensures { result ≡ names (drop 1 self.now) sought.now }
-    {
-        sought.generation() < self.generation() && self.position(sought).is_some()
-    }
-
     /// Puts the revision at this place, and those behind it, behind what the vector holds. It costs their
     /// number.
     pub(crate) fn append_from(&self, at: usize, line: &mut Vec<RevId>) -> Result<(), AllocError>

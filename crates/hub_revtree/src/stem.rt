@@ -1,13 +1,15 @@
 //! What one edit of a tree brought.
 
-ghost use Rattle.std.specs.Prelude.{◌≡◌, ◌≤◌, ◌<◌, ◌++◌, Some, false, drop, length, map, option_map, slice_get, take, IfSome, IfNone, IfOk, IsSomeAnd, IsTrue, OnErr, OnOk};
+ghost use Rattle.std.specs.Prelude.{◌≡◌, ◌≤◌, ◌<◌, ◌++◌, Some, false, true, drop, length, map, option_map, slice_get, take, IfSome, IfNone, IfOk, IsSomeAnd, IsTrue, OnErr, OnOk};
 ghost use Rattle.hex.specs.Hex.{encode_lower};
 ghost use Rattle.hub_document.specs.Changes.{IsDigestText};
 ghost use Rattle.hub_model.specs.Path.{IsPath, names, is_first};
 ghost use Rattle.hub_model.specs.Revision.{Revision};
 ghost use Rattle.hub_revtree.specs.Common.{common as common_of};
 ghost use Rattle.hub_revtree.specs.Key.{HasKey};
+ghost use Rattle.hub_revtree.specs.Mark.{with_note};
 
+use crate::mark::Mark;
 use crate::run::Run;
 use crate::sought::Sought;
 use hub_document::{Body, Changes, RevId};
@@ -25,8 +27,8 @@ pub(crate) struct Place {
 
 /// What an edit brought: the first of its path's revisions, newest first, up to the last that was unknown, or
 /// behind which no other edit had the next one; where the revision behind them stands, whose chain has the
-/// rest of the edit's path; how many revisions the path has; whether it deletes the document; and the
-/// members. It takes 72 bytes, and what the revisions and the members take.
+/// rest of the edit's path; how many revisions the path has; whether it deletes the document, and whether
+/// its revision is inner; and the members. It takes 72 bytes, and what the revisions and the members take.
 #[derive(Debug, Drop)]
 pub(crate) struct Stem {
     run: Run,
@@ -40,7 +42,7 @@ pub(crate) struct Stem {
     reach: u16,
     /// Whether one of its own revisions was known before.
     joins: bool,
-    deleted: bool,
+    mark: Mark,
 }
 
 /// How an edit's path goes on behind the revisions that its stem keeps.
@@ -64,16 +66,17 @@ impl Model for Stem {
     ghost Value = { Stem };
 
     ghost use Rattle.std.specs.Prelude.{length, nat_lt};
+    ghost use Rattle.hub_revtree.specs.Mark.{deletes, is_passed};
 
-    ghost view = { λ a. record { revisions = a.run; parent = standing (nat_lt (length a.run) a.reach) a.below a.at; count = a.count; reach = a.reach; joins = a.joins; deleted = a.deleted; body = a.body } };
+    ghost view = { λ a. record { revisions = a.run; parent = standing (nat_lt (length a.run) a.reach) a.below a.at; count = a.count; reach = a.reach; joins = a.joins; deleted = deletes a.mark; inner = is_passed a.mark; body = a.body } };
 }
 
 impl Stem {
-    /// The stem of these.
+    /// The stem of these, whose newest revision is a leaf.
     pub(crate) fn new(run: Run, standing: Standing, deleted: bool, body: Body) -> Stem
         requires stands { IfSome standing.parent (λ _. length run < standing.reach) }
         requires free { IfNone standing.parent (standing.reach ≤ length run) }
-        ensures { result ≡ record { revisions = run; parent = standing.parent; count = standing.count; reach = standing.reach; joins = standing.joins; deleted = deleted; body = body } }
+        ensures { result ≡ record { revisions = run; parent = standing.parent; count = standing.count; reach = standing.reach; joins = standing.joins; deleted = deleted; inner = false; body = body } }
     {
         let place = standing.parent.unwrap_or(Place { stem: 0, at: 0 });
         Stem {
@@ -84,7 +87,7 @@ impl Stem {
             count: standing.count,
             reach: standing.reach,
             joins: standing.joins,
-            deleted,
+            mark: Mark::of_leaf(deleted),
         }
     }
 
@@ -124,7 +127,21 @@ impl Stem {
     pub(crate) fn deleted(&self) -> bool
         ensures { result ≡ self.now.deleted }
     {
-        self.deleted
+        self.mark.deleted()
+    }
+
+    /// Whether its newest revision is inner: it stands behind that of another stem by now.
+    pub(crate) fn is_inner(&self) -> bool
+        ensures { result ≡ self.now.inner }
+    {
+        self.mark.is_inner()
+    }
+
+    /// Notes that its newest revision is inner.
+    pub(crate) fn pass(&mut self)
+        ensures { self.new ≡ with_note true self.old }
+    {
+        self.mark = self.mark.passed();
     }
 
     /// The members.
@@ -175,29 +192,12 @@ impl Stem {
         self.run.position(sought)
     }
 
-    /// Whether the revision is the one at this place. Constant time.
-    pub(crate) fn is_at(&self, at: u16, sought: &Sought) -> bool
-        requires path { IsPath self.now.revisions }
-        requires within { at < length self.now.revisions }
-        ensures { result ≡ is_first sought.now (drop at self.now.revisions) }
-    {
-        self.run.is_at(usize::from(at), sought)
-    }
-
     /// Whether the revision is the newest. Constant time.
     pub(crate) fn is_head(&self, sought: &Sought) -> bool
         requires { IsPath self.now.revisions }
         ensures { result ≡ is_first sought.now self.now.revisions }
     {
         self.run.is_at(0, sought)
-    }
-
-    /// Whether the revision stands behind the newest. Constant time.
-    pub(crate) fn has_behind(&self, sought: &Sought) -> bool
-        requires { IsPath self.now.revisions }
-        ensures { result ≡ names (drop 1 self.now.revisions) sought.now }
-    {
-        self.run.has_behind(sought)
     }
 
     /// As `Run::append_from`.

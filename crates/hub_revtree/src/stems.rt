@@ -11,7 +11,7 @@ ghost use Rattle.hub_revtree.specs.Branch.{edits_in};
 ghost use Rattle.hub_revtree.specs.Common.{common as common_of, last_in};
 ghost use Rattle.hub_revtree.specs.Extend.{line_to};
 ghost use Rattle.hub_revtree.specs.Index.{AreLinked, GoesOn, Has, IsIndex, IsIndexed, link_in};
-ghost use Rattle.hub_revtree.specs.Stem.{Stem as StemModel, AreStems, AreUpTo, IsBrought, IsWithin, branches_of, chain_from, chains_of, has_revision, is_at as is_revision_at, is_behind_newest, own_path, rev_at, revisions_at};
+ghost use Rattle.hub_revtree.specs.Stem.{Stem as StemModel, AreStems, AreUpTo, IsBrought, IsWithin, branches_of, chain_from, chains_of, has_revision, own_path, rev_at, revisions_at};
 
 use crate::index::Index;
 use crate::run::Run;
@@ -85,49 +85,6 @@ pub(crate) fn place_up_to(
         return None;
     }
     place_of(stems, index, rev)
-}
-
-// Whether the revision is the one at the place. Constant time.
-fn is_at(stems: &[Stem], place: Option<Place>, sought: &Sought) -> bool
-    requires stems { AreStems stems.now }
-    requires within { IfSome place (IsWithin stems.now) }
-    ensures { result ≡ is_revision_at stems.now sought.now place }
-{
-    match place {
-        Some(place) => stems[place.stem].is_at(place.at, sought),
-        None => false,
-    }
-}
-
-/// Whether the revision stands behind the newest of a stem. One look an edit: at its generation alone, where
-/// that is not above the revision's.
-pub(crate) fn is_behind(stems: &[Stem], rev: &RevId) -> bool
-    requires { AreStems stems.now }
-    ensures { result ≡ list_any (is_behind_newest stems.now rev.now) stems.now }
-{
-    let sought = Sought::among(rev, stems.len());
-    for stem in stems {
-        if stem.generation() <= sought.generation() {
-            continue;
-        }
-        if stem.has_behind(&sought) || is_at(stems, stem.parent(), &sought) {
-            return true;
-        }
-    }
-    false
-}
-
-/// The same of a revision that stands behind the newest of none of the earlier stems. Constant time.
-pub(crate) fn is_behind_last(stems: &[Stem], rev: &RevId) -> bool
-    requires stems { AreStems stems.now }
-    requires others { list_any (is_behind_newest stems.now rev.now) (take (length stems.now - 1) stems.now) ≡ false }
-    ensures { result ≡ list_any (is_behind_newest stems.now rev.now) stems.now }
-{
-    let sought = Sought::once(rev);
-    match stems.last() {
-        Some(last) => last.has_behind(&sought) || is_at(stems, last.parent(), &sought),
-        None => false,
-    }
 }
 
 // The stem whose newest revision this is. One look an edit, from the newest on up to that one.

@@ -27,6 +27,9 @@ use std::marker::Model;
 /// where the hash is a digest's text and no other revision with its first eight bytes came before; else it
 /// costs at most log n comparisons of revisions.
 /// Then edits on one another share their path, too, so that one on the newest of a line takes constant time.
+///
+/// Of each edit the tree notes in one bit whether its revision stands behind another by now, so that a look
+/// whether it is a leaf takes constant time.
 #[derive(Debug, Drop)]
 pub struct RevTree {
     branches: Branches,
@@ -276,10 +279,9 @@ impl RevTree {
     /// no answer. It gives back the path's: the tree keeps the revisions that are new as the look made them.
     /// Where the look found more or fewer, as it may in a tree that is not this one, the path's memory is cut
     /// to them instead. It costs what `look_merge` does. The winner takes constant time where it is the
-    /// edit's revision, or the old one which the edit does not stand on; else it is found anew: each head is
-    /// looked for in each edit where it would be the best so far. So an edit that `look_extend` made on the
-    /// newest one of a line takes constant time, but that its path's memory is given back, and that the index
-    /// and the shared path grow, or are made.
+    /// edit's revision, or the old one which the edit does not stand on; else it is found anew, in one step an
+    /// edit. So an edit that `look_extend` made on the newest one of a line takes constant time, but that its
+    /// path's memory is given back, and that the index and the shared path grow, or are made.
     pub fn adopt(&mut self, ready: Ready)
         requires acceptable { IsAcceptable self.old.edits ready }
         requires room { length ready.path ≤ self.old.room }

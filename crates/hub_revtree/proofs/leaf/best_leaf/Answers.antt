@@ -11,14 +11,14 @@ loop-at-preserved-then-not-is_better c = (
   c.loop-at.invariant.1,
 )
 
-pub loop-at-preserved-then-is_behind : goal.loop-at-preserved-then-is_behind
-loop-at-preserved-then-is_behind c = (
-  best_behind c.args.branches.now.list c.loop-at.at c.head-leaf.result c.loop-at-test.true c.head-leaf.ensures c.loop-at.best c.loop-at.invariant.0 (sym c.is_behind.ensures ∙ c.if-is_behind.true),
+pub loop-at-preserved-then-is_head_inner : goal.loop-at-preserved-then-is_head_inner
+loop-at-preserved-then-is_head_inner c = (
+  best_behind c.args.branches.now.list c.loop-at.at c.head-leaf.result c.loop-at-test.true c.head-leaf.ensures c.loop-at.best c.loop-at.invariant.0 (sym (c.is_head_inner.ensures c.head-leaf.result c.head-leaf.ensures) ∙ c.if-is_head_inner.true),
   c.loop-at.invariant.1,
 )
 
 pub loop-at-preserved : goal.loop-at-preserved
 loop-at-preserved c = (
-  best_taken c.args.branches.now.list c.loop-at.at c.head-leaf.result c.loop-at-test.true c.head-leaf.ensures c.loop-at.best c.loop-at.invariant.0 (sym c.is_behind.ensures ∙ c.if-is_behind.false) (sym c.is_better.ensures ∙ c.if-not-is_better.false),
+  best_taken c.args.branches.now.list c.loop-at.at c.head-leaf.result c.loop-at-test.true c.head-leaf.ensures c.loop-at.best c.loop-at.invariant.0 (sym (c.is_head_inner.ensures c.head-leaf.result c.head-leaf.ensures) ∙ c.if-is_head_inner.false) (sym c.is_better.ensures ∙ c.if-not-is_better.false),
   c.head-leaf.ensures,
 )

@@ -2,7 +2,7 @@ use Rattle.std.proofs.Common.{◌∙◌, ap, sym}
 use Rattle.std.specs.Ordering.{is_gt}
 use Rattle.hub_revtree.specs.Winner.{winner_of}
 use Rattle.hub_revtree.proofs.TreeLemmas.{leaves_by}
-use Rattle.hub_revtree.proofs.WinnerLemmas.{better_wins, first_wins, still_wins, was_leaf}
+use Rattle.hub_revtree.proofs.WinnerLemmas.{better_wins, first_wins, still_wins}
 use Rattle.hub_revtree.proofs.leaf.best_with_newest.Goals as goal
 
 pub returns-then-best-newest : goal.returns-then-best-newest
@@ -14,14 +14,10 @@ returns-then-is_gt c =
     better_wins c.args.branches.now.list c.requires.legal c.args.best c.requires.winner c.len-newest.result c.len-newest.ensures c.requires.some c.head-leaf.result c.head-leaf.ensures c.if-best-newest.false c.head-winner.result c.head-winner.ensures
     (ap is_gt (sym c.leaf_order.ensures) ∙ (sym c.is_gt.ensures ∙ c.if-is_gt.true))
 
-pub is_behind_newest-requires : goal.is_behind_newest-requires
-is_behind_newest-requires c =
-    was_leaf c.args.branches.now.list c.requires.legal c.args.best c.requires.winner c.len-newest.result c.len-newest.ensures c.requires.some c.head-leaf.result c.head-leaf.ensures c.if-best-newest.false c.head-winner.result c.head-winner.ensures
-
-pub returns-then-is_behind_newest : goal.returns-then-is_behind_newest
-returns-then-is_behind_newest c = c.best_leaf.ensures ∙ ap winner_of (sym (leaves_by c.args.branches.now.list))
+pub returns-then-is_head_inner : goal.returns-then-is_head_inner
+returns-then-is_head_inner c = c.best_leaf.ensures ∙ ap winner_of (sym (leaves_by c.args.branches.now.list))
 
 pub returns : goal.returns
 returns c =
     still_wins c.args.branches.now.list c.requires.legal c.args.best c.requires.winner c.len-newest.result c.len-newest.ensures c.requires.some c.head-leaf.result c.head-leaf.ensures c.if-best-newest.false c.head-winner.result c.head-winner.ensures
-    (ap is_gt (sym c.leaf_order.ensures) ∙ (sym c.is_gt.ensures ∙ c.if-is_gt.false)) (sym c.is_behind_newest.ensures ∙ c.if-is_behind_newest.false)
+    (ap is_gt (sym c.leaf_order.ensures) ∙ (sym c.is_gt.ensures ∙ c.if-is_gt.false)) (sym (c.is_head_inner.ensures c.head-winner.result c.head-winner.ensures) ∙ c.if-is_head_inner.false)

@@ -1,9 +1,11 @@
-use Rattle.std.proofs.Common.{◌++◌, ◌∷◌, [], ◌∙◌, refl, sym, ap, max, arith}
+use Rattle.std.proofs.Common.{◌++◌, ◌∷◌, [], ◌∙◌, refl, sym, ap, false, max, arith}
+use Rattle.hub_revtree.specs.Branch.{edits_in}
 use Rattle.hub_revtree.specs.Index.{IsNewestLine}
 use Rattle.hub_revtree.specs.Stem.{Stem}
 use Rattle.hub_revtree.proofs.BranchLemmas.{within_generation}
-use Rattle.hub_revtree.proofs.BringLemmas.{Brings, Meets, brought_edit, brought_line, brought_stems, met_brings, reach_low, some_kept, stands_low}
+use Rattle.hub_revtree.proofs.BringLemmas.{Brings, Meets, brought_edit, brought_line, brought_stems, met_brings, reach_low, some_kept, stands_low, take_falls}
 use Rattle.hub_revtree.proofs.HighestLemmas.{up_to_more}
+use Rattle.hub_revtree.proofs.MarkLemmas.{branches_same, indexed_front, line_same, marked_more, plain_more, stems_same, up_to_same, within_told}
 use Rattle.hub_revtree.proofs.RunLemmas.{newest_of}
 use Rattle.hub_revtree.proofs.branches.Branches.push.Goals as goal
 use Rattle.hub_revtree.proofs.branches.Branches.push.Goals.{Joined-drop, then-whole, else-whole}
@@ -51,6 +53,7 @@ stem_of c = record {
   reach = c.standing_of-standing.result.reach;
   joins = c.standing_of-standing.result.joins;
   deleted = c.args.deleted;
+  inner = false;
   body = c.args.body;
 }
 
@@ -75,44 +78,72 @@ line_of c =
       | else-whole w ↦ rw w.line2-is tt
     ]
 
-pub renewed-requires-clause-stems : goal.renewed-requires-clause-stems
-renewed-requires-clause-stems c =
+pub note_inner-requires-clause-run : goal.note_inner-requires-clause-run
+note_inner-requires-clause-run c =
     let xs = c.self.inside.stems.items in
     let legal = rw (sym c.self.view_is) at c.requires.legal in
     let ok = rw (sym c.self.view_is) at c.requires.acceptable in
     let met = rw c.as_slice-stems.ensures.value at c.met_by-met.ensures in
     let is : Meets xs c.args.path c.met_by-met.result.at c.met_by-met.result.place c.met_by-met.result.behind c.met_by-met.result.joins = record { kept = met.kept; within = met.within; same = met.same; long = met.behind; rest = met.rest; none = met.none; fresh = met.fresh } in
-    let stem : Stem = record {
-      revisions = c.kept-run.result.0;
-      parent = c.standing_of-standing.result.parent;
-      count = c.standing_of-standing.result.count;
-      reach = c.standing_of-standing.result.reach;
-      joins = c.standing_of-standing.result.joins;
-      deleted = c.args.deleted;
-      body = c.args.body;
-    } in
-    let path = met_brings xs c.self.invariant.0 legal c.args.path c.args.deleted c.args.body ok _ _ _ _ is stem c.kept-run.ensures.run c.standing_of-standing.ensures.parent (c.standing_of-standing.ensures.count ∙ c.len.ensures) c.standing_of-standing.ensures.reach c.standing_of-standing.ensures.joins in
+    let some = some_kept xs c.self.invariant.0 legal c.args.path c.args.deleted c.args.body ok _ _ _ _ is in
+    rw c.kept-run.ensures.run (take_falls c.met_by-met.result.at c.args.path (λ z. omega (arith, z, some)) c.requires.acceptable.history.falls)
+
+pub note_inner-requires-clause-within : goal.note_inner-requires-clause-within
+note_inner-requires-clause-within c =
+    let met = rw c.as_slice-stems.ensures.value at c.met_by-met.ensures in
+    rw c.standing_of-standing.ensures.parent met.within
+
+pub note_inner-requires-clause-fresh : goal.note_inner-requires-clause-fresh
+note_inner-requires-clause-fresh c = λ j.
+    let met = rw c.as_slice-stems.ensures.value at c.met_by-met.ensures in
+    rw c.kept-run.ensures.run (met.fresh (sym c.standing_of-standing.ensures.joins ∙ j))
+
+pub renewed-requires-clause-stems : goal.renewed-requires-clause-stems
+renewed-requires-clause-stems c =
+    let xs = c.self.inside.stems.items in
+    let ys = c.note_inner.new.stems.items in
+    let stem = stem_of c in
+    let legal = rw (sym c.self.view_is) at c.requires.legal in
+    let ok = rw (sym c.self.view_is) at c.requires.acceptable in
     rw (c.as_slice.ensures.value, c.push_reserved.ensures.items, c.new.ensures)
-    (brought_stems xs c.self.invariant.0 legal c.args.path c.args.deleted c.args.body ok stem path)
+    (stems_same (xs ++ stem ∷ []) (ys ++ stem ∷ []) (plain_more xs ys stem c.note_inner.ensures.plain)
+    (brought_stems xs c.self.invariant.0 legal c.args.path c.args.deleted c.args.body ok stem (brings c)))
+
+pub renewed-requires-clause-index : goal.renewed-requires-clause-index
+renewed-requires-clause-index c =
+    let xs = c.self.inside.stems.items in
+    rw (c.as_slice.ensures.value, c.push_reserved.ensures.items)
+    (indexed_front xs c.note_inner.new.stems.items c.new.result _ c.note_inner.ensures.plain (c.without_line-index.ensures xs (rw c.take.ensures.value c.self.invariant.2)))
 
 pub invariant_of-self : goal.invariant_of-self
 invariant_of-self c =
     let xs = c.self.inside.stems.items in
+    let ys = c.note_inner.new.stems.items in
+    let stem = stem_of c in
     let path = brings c in
     let legal = rw (sym c.self.view_is) at c.requires.legal in
     let ok = rw (sym c.self.view_is) at c.requires.acceptable in
-    let more = brought_stems xs c.self.invariant.0 legal c.args.path c.args.deleted c.args.body ok (stem_of c) path in
+    let more = brought_stems xs c.self.invariant.0 legal c.args.path c.args.deleted c.args.body ok stem path in
     let head = newest_of c.args.path c.generation-newest.result c.generation-newest.ensures in
+    let same = plain_more xs ys stem c.note_inner.ensures.plain in
+    let up =
+    up_to_more xs stem c.args.path head.0 c.self.inside.highest c.max-self-inside.result c.self.invariant.0 more c.self.invariant.1 c.requires.acceptable.history.falls head.1 path.whole
+    (c.max-self-inside.ensures ∙ ap (λ n. max n c.self.inside.highest) (sym head.2)) in
     rw (c.push_reserved.ensures.items, c.new.ensures) (
-      more,
-      up_to_more xs (stem_of c) c.args.path head.0 c.self.inside.highest c.max-self-inside.result c.self.invariant.0 more c.self.invariant.1 c.requires.acceptable.history.falls head.1 path.whole
-          (c.max-self-inside.ensures ∙ ap (λ n. max n c.self.inside.highest) (sym head.2)),
-      rw (c.as_slice.ensures.value, c.push_reserved.ensures.items, c.new.ensures) at c.renewed.ensures (line_of c),
+      stems_same (xs ++ stem ∷ []) (ys ++ stem ∷ []) same more,
+      up_to_same (xs ++ stem ∷ []) (ys ++ stem ∷ []) c.max-self-inside.result same up,
+      rw (c.as_slice.ensures.value, c.push_reserved.ensures.items, c.new.ensures) at c.renewed.ensures (line_same (xs ++ stem ∷ []) (ys ++ stem ∷ []) c.if-whole.line2 same (line_of c)),
+      marked_more xs ys stem c.self.invariant.0 more (within_told xs stem.parent path.next.within) c.note_inner.ensures.plain c.self.invariant.3 refl c.note_inner.ensures.noted,
     )
 
 pub returns : goal.returns
 returns c =
+    let xs = c.self.inside.stems.items in
+    let ys = c.note_inner.new.stems.items in
+    let stem = stem_of c in
     let legal = rw (sym c.self.view_is) at c.requires.legal in
     let ok = rw (sym c.self.view_is) at c.requires.acceptable in
+    let same = plain_more xs ys stem c.note_inner.ensures.plain in
     rw (c.push_reserved.ensures.items, c.new.ensures, sym c.self.view_is)
-    (brought_edit c.self.inside.stems.items c.self.invariant.0 legal c.args.path c.args.deleted c.args.body ok (stem_of c) (brings c))
+    (ap edits_in (sym (branches_same (xs ++ stem ∷ []) (ys ++ stem ∷ []) same))
+    ∙ brought_edit xs c.self.invariant.0 legal c.args.path c.args.deleted c.args.body ok stem (brings c))

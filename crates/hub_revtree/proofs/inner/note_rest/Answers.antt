@@ -1,0 +1,29 @@
+use Rattle.std.proofs.Common.{◌≡◌, ◌∙◌, refl, sym, arith}
+use Rattle.hub_revtree.proofs.MarkLemmas.{indexed_same, last_noted, one_noted, stems_same}
+use Rattle.hub_revtree.proofs.StemLooks.{some_path}
+use Rattle.hub_revtree.proofs.inner.note_rest.Goals as goal
+
+pub loop-at-init : goal.loop-at-init
+loop-at-init c = record {
+  low = let some = some_path c.args.run.now c.requires.run in omega (arith, some, c.len-at.ensures);
+  plain = refl;
+  noted = last_noted c.args.stems.now c.args.run.now c.len-at.result (omega (arith, c.len-at.ensures));
+}
+
+pub note_headed-requires-clause-stems : goal.note_headed-requires-clause-stems
+note_headed-requires-clause-stems c = stems_same c.args.stems.now c.loop-at.stems (sym c.loop-at.invariant.plain) c.requires.stems
+
+pub note_headed-requires-clause-index : goal.note_headed-requires-clause-index
+note_headed-requires-clause-index c = indexed_same c.args.stems.now c.loop-at.stems _ (sym c.loop-at.invariant.plain) c.requires.index
+
+pub loop-at-preserved : goal.loop-at-preserved
+loop-at-preserved c = record {
+  low = omega (arith, c.loop-at-test.true);
+  plain = c.note_headed.ensures.plain ∙ c.loop-at.invariant.plain;
+  noted = one_noted c.args.stems.now c.loop-at.stems c.note_headed.new.stems c.args.run.now c.loop-at.at c.at.result (omega (arith, c.loop-at-test.true)) c.at.ensures c.loop-at.invariant.plain c.loop-at.invariant.noted c.note_headed.ensures.noted;
+}
+
+pub returns-clause-noted : goal.returns-clause-noted
+returns-clause-noted c =
+    let end : c.loop-at.at ≡ 1 = omega (arith, c.loop-at-test.false, c.loop-at.invariant.low) in
+    rw end at c.loop-at.invariant.noted

@@ -1,0 +1,63 @@
+-- What is noted of the stems of a tree: whether the newest revision of each stands behind another by now (own).
+-- An example: an edit with the path 2-b 1-a came first, then one with 3-c 2-b 1-a, then one with 3-d 2-e 1-a.
+-- The newest revisions of their stems are 2-b, 3-c and 3-d. 2-b stands behind 3-c, so that the first stem is
+-- noted as inner, and the two others are not.
+use Rattle.std.specs.Prelude.{◌≡◌, ℕ, List, slice_get, Some, Bool, true, false, ◌||◌}
+use Rattle.std.specs.List.{list_any}
+use Rattle.hub_model.specs.Revision.{Revision}
+use Rattle.hub_revtree.specs.declared.mark.Mark.{Mark}
+use Rattle.hub_revtree.specs.declared.mark.Mark.TheVariants.{Leaf, DeletedLeaf, Inner, DeletedInner}
+use Rattle.hub_revtree.specs.Stem.{Stem, is_behind_newest}
+
+-- whether a mark is that of an edit that deletes the document
+abbrev pub deletes : Mark → Bool
+deletes Leaf = false
+deletes DeletedLeaf = true
+deletes Inner = false
+deletes DeletedInner = true
+
+-- whether it is that of an edit whose revision stands behind another
+abbrev pub is_passed : Mark → Bool
+is_passed Leaf = false
+is_passed DeletedLeaf = false
+is_passed Inner = true
+is_passed DeletedInner = true
+
+-- a stem with this noted of it
+abbrev pub with_note : Bool → Stem → Stem
+with_note inner stem =
+    record {
+      revisions = stem.revisions;
+      parent = stem.parent;
+      count = stem.count;
+      reach = stem.reach;
+      joins = stem.joins;
+      deleted = stem.deleted;
+      inner = inner;
+      body = stem.body;
+    }
+
+-- a stem without what is noted of it
+abbrev pub plain : Stem → Stem
+plain stem = with_note false stem
+
+-- r stands behind the newest revision of one of the stems
+abbrev pub is_inner : List Stem → Revision → Bool
+is_inner stems r = list_any (is_behind_newest stems r) stems
+
+-- each stem is noted as inner where its newest revision passes the test
+abbrev pub AreNoted : (Revision → Bool) → List Stem → Type 0
+AreNoted test stems =
+    (k : ℕ) (stem : Stem) (r : Revision) → slice_get stems k ≡ Some stem → slice_get stem.revisions 0 ≡ Some r
+    → stem.inner ≡ test r
+
+-- each stem is noted as inner where its newest revision stands behind another
+abbrev pub AreMarked : List Stem → Type 0
+AreMarked stems = AreNoted (is_inner stems) stems
+
+-- what was noted by any test that all pass that stand behind a newest revision is noted now by the test or
+-- this one
+abbrev pub Notes : List Stem → (Revision → Bool) → List Stem → Type 0
+Notes before this after =
+    (test : Revision → Bool) → ((r : Revision) → is_inner before r ≡ true → test r ≡ true) → AreNoted test before
+    → AreNoted (λ r. this r || test r) after

@@ -1,0 +1,122 @@
+//! Which of the stems' newest revisions stand behind others.
+
+ghost use Rattle.std.specs.Prelude.{◌≡◌, ◌<◌, ◌||◌, Some, drop, false, length, map, option_map, slice_get, slice_set, true, vec_capacity, vec_len, IfSome};
+ghost use Rattle.std.specs.List.{list_any};
+ghost use Rattle.hub_model.specs.Revision.{is_same};
+ghost use Rattle.hub_model.specs.Path.{IsPath, names};
+ghost use Rattle.hub_revtree.specs.Index.{IsIndexed};
+ghost use Rattle.hub_revtree.specs.Mark.{Notes, plain, with_note};
+ghost use Rattle.hub_revtree.specs.Stem.{Stem as StemModel, AreStems, IsWithin, has_revision, is_at};
+
+use crate::index::Index;
+use crate::run::Run;
+use crate::stem::{Place, Standing, Stem};
+use crate::stems::place_of;
+use hub_document::RevId;
+
+// Notes the stem of this number as inner. Constant time.
+fn note(stems: &mut [Stem], number: usize)
+    requires { number < length stems.old }
+    ensures { (s : StemModel) → slice_get stems.old number ≡ Some s → stems.new ≡ slice_set stems.old number (with_note true s) }
+{
+    stems[number].pass();
+}
+
+// Notes the stem of the place as inner, where the revision there is its newest. Constant time.
+fn note_at(stems: &mut [Stem], place: Place)
+    requires stems { AreStems stems.old }
+    requires within { IsWithin stems.old place }
+    ensures plain { map plain stems.new ≡ map plain stems.old }
+    ensures noted { Notes stems.old (λ r. is_at stems.old r (Some place)) stems.new }
+{
+    if place.at == 0 {
+        note(stems, place.stem);
+    }
+}
+
+// The same, where there is a place.
+fn note_parent(stems: &mut [Stem], parent: Option<Place>)
+    requires stems { AreStems stems.old }
+    requires within { IfSome parent (IsWithin stems.old) }
+    ensures plain { map plain stems.new ≡ map plain stems.old }
+    ensures noted { Notes stems.old (λ r. is_at stems.old r parent) stems.new }
+{
+    if let Some(place) = parent {
+        note_at(stems, place);
+    }
+}
+
+// Notes the stem as inner whose newest revision this is, if there is one. One find.
+fn note_headed(stems: &mut [Stem], index: Option<&Index>, rev: &RevId)
+    requires stems { AreStems stems.old }
+    requires index { IsIndexed (option_map (λ i. i.now) index) stems.old }
+    ensures plain { map plain stems.new ≡ map plain stems.old }
+    ensures noted { Notes stems.old (λ r. is_same r rev.now) stems.new }
+{
+    if let Some(place) = place_of(stems, index, rev) {
+        note_at(stems, place);
+    }
+}
+
+// Notes the stems as inner whose newest revisions are among these behind the first. A find for each of these.
+fn note_rest(stems: &mut [Stem], index: Option<&Index>, run: &Run)
+    requires stems { AreStems stems.old }
+    requires index { IsIndexed (option_map (λ i. i.now) index) stems.old }
+    requires run { IsPath run.now }
+    ensures plain { map plain stems.new ≡ map plain stems.old }
+    ensures noted { Notes stems.old (λ r. names (drop 1 run.now) r) stems.new }
+{
+    for at in (1..run.len()).rev() {
+        note_headed(stems, index, &run.at(at));
+    }
+}
+
+// The same, where one of these may be known.
+fn note_joined(stems: &mut [Stem], index: Option<&Index>, run: &Run, joins: bool)
+    requires stems { AreStems stems.old }
+    requires index { IsIndexed (option_map (λ i. i.now) index) stems.old }
+    requires run { IsPath run.now }
+    requires fresh { joins ≡ false → list_any (has_revision stems.old) run.now ≡ false }
+    ensures plain { map plain stems.new ≡ map plain stems.old }
+    ensures noted { Notes stems.old (λ r. names (drop 1 run.now) r) stems.new }
+{
+    if joins {
+        note_rest(stems, index, run);
+    }
+}
+
+// Notes the stems as inner whose newest revisions stand behind that of the stem with these revisions, which is
+// to come behind them.
+fn note_behind(stems: &mut [Stem], index: Option<&Index>, run: &Run, standing: &Standing)
+    requires stems { AreStems stems.old }
+    requires index { IsIndexed (option_map (λ i. i.now) index) stems.old }
+    requires run { IsPath run.now }
+    requires within { IfSome standing.now.parent (IsWithin stems.old) }
+    requires fresh { standing.now.joins ≡ false → list_any (has_revision stems.old) run.now ≡ false }
+    ensures plain { map plain stems.new ≡ map plain stems.old }
+    ensures noted { Notes stems.old (λ r. is_at stems.old r standing.now.parent || names (drop 1 run.now) r) stems.new }
+{
+    note_joined(stems, index, run, standing.joins);
+    note_parent(stems, standing.parent);
+}
+
+/// Notes the stems as inner whose newest revisions stand behind that of the stem with these revisions, which
+/// is to come behind them. Constant time where it joins none; else a find for each of the revisions.
+pub(crate) fn note_inner(
+    stems: &mut Vec<Stem>,
+    index: Option<&Index>,
+    run: &Run,
+    standing: &Standing,
+)
+    requires stems { AreStems stems.old.items }
+    requires index { IsIndexed (option_map (λ i. i.now) index) stems.old.items }
+    requires run { IsPath run.now }
+    requires within { IfSome standing.now.parent (IsWithin stems.old.items) }
+    requires fresh { standing.now.joins ≡ false → list_any (has_revision stems.old.items) run.now ≡ false }
+    ensures plain { map plain stems.new.items ≡ map plain stems.old.items }
+    ensures noted { Notes stems.old.items (λ r. is_at stems.old.items r standing.now.parent || names (drop 1 run.now) r) stems.new.items }
+    ensures len { vec_len stems.new ≡ vec_len stems.old }
+    ensures capacity { vec_capacity stems.new ≡ vec_capacity stems.old }
+{
+    note_behind(stems.as_mut_slice(), index, run, standing);
+}

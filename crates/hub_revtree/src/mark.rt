@@ -1,0 +1,59 @@
+//! What is noted of an edit in one byte.
+
+ghost use Rattle.std.specs.Prelude.{◌≡◌, false, true};
+ghost use Rattle.hub_revtree.specs.Mark.{deletes, is_passed};
+
+/// Whether an edit deletes the document, and whether its revision is inner: it stands behind that of another
+/// edit by now.
+#[derive(Clone, Copy, Debug)]
+pub(crate) enum Mark {
+    Leaf,
+    DeletedLeaf,
+    Inner,
+    DeletedInner,
+}
+
+impl Mark {
+    /// That of an edit whose revision is a leaf.
+    pub(crate) fn of_leaf(deleted: bool) -> Mark
+        ensures deletes { deletes result ≡ deleted }
+        ensures inner { is_passed result ≡ false }
+    {
+        if deleted {
+            Mark::DeletedLeaf
+        } else {
+            Mark::Leaf
+        }
+    }
+
+    /// Whether the edit deletes the document.
+    pub(crate) fn deleted(self) -> bool
+        ensures { result ≡ deletes self }
+    {
+        match self {
+            Mark::Leaf | Mark::Inner => false,
+            Mark::DeletedLeaf | Mark::DeletedInner => true,
+        }
+    }
+
+    /// Whether the revision is inner.
+    pub(crate) fn is_inner(self) -> bool
+        ensures { result ≡ is_passed self }
+    {
+        match self {
+            Mark::Leaf | Mark::DeletedLeaf => false,
+            Mark::Inner | Mark::DeletedInner => true,
+        }
+    }
+
+    /// The mark once the revision is inner.
+    pub(crate) fn passed(self) -> Mark
+        ensures deletes { deletes result ≡ deletes self }
+        ensures inner { is_passed result ≡ true }
+    {
+        match self {
+            Mark::Leaf | Mark::Inner => Mark::Inner,
+            Mark::DeletedLeaf | Mark::DeletedInner => Mark::DeletedInner,
+        }
+    }
+}
