@@ -102,12 +102,24 @@ pub renewed-requires-clause-stems : goal.renewed-requires-clause-stems
 renewed-requires-clause-stems c =
     let xs = c.self.inside.stems.items in
     let ys = c.note_inner.new.stems.items in
-    let stem = stem_of c in
     let legal = rw (sym c.self.view_is) at c.requires.legal in
     let ok = rw (sym c.self.view_is) at c.requires.acceptable in
+    let met = rw c.as_slice-stems.ensures.value at c.met_by-met.ensures in
+    let is : Meets xs c.args.path c.met_by-met.result.at c.met_by-met.result.place c.met_by-met.result.behind c.met_by-met.result.joins = record { kept = met.kept; within = met.within; same = met.same; long = met.behind; rest = met.rest; none = met.none; fresh = met.fresh } in
+    let stem : Stem = record {
+      revisions = c.kept-run.result.0;
+      parent = c.standing_of-standing.result.parent;
+      count = c.standing_of-standing.result.count;
+      reach = c.standing_of-standing.result.reach;
+      joins = c.standing_of-standing.result.joins;
+      deleted = c.args.deleted;
+      inner = false;
+      body = c.args.body;
+    } in
+    let path = met_brings xs c.self.invariant.0 legal c.args.path c.args.deleted c.args.body ok _ _ _ _ is stem c.kept-run.ensures.run c.standing_of-standing.ensures.parent (c.standing_of-standing.ensures.count ∙ c.len.ensures) c.standing_of-standing.ensures.reach c.standing_of-standing.ensures.joins in
     rw (c.as_slice.ensures.value, c.push_reserved.ensures.items, c.new.ensures)
     (stems_same (xs ++ stem ∷ []) (ys ++ stem ∷ []) (plain_more xs ys stem c.note_inner.ensures.plain)
-    (brought_stems xs c.self.invariant.0 legal c.args.path c.args.deleted c.args.body ok stem (brings c)))
+    (brought_stems xs c.self.invariant.0 legal c.args.path c.args.deleted c.args.body ok stem path))
 
 pub renewed-requires-clause-index : goal.renewed-requires-clause-index
 renewed-requires-clause-index c =
