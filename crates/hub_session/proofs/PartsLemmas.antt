@@ -59,17 +59,17 @@ refusal_length refusal =
 pub head_parts : (status len : ℕ) (close : Bool) (number phrase size line : List ℕ) → number ≡ decimal status → phrase ≡ phrase_or_empty (reason_phrase status)
     → size ≡ decimal len → line ≡ close_line close
     → codes "HTTP/1.1 " ++ (number ++ (codes " " ++ (phrase ++ (codes "\r\n" ++ (codes "Content-Type: application/json\r\n"
-        ++ (codes "Content-Length: " ++ (size ++ (codes "\r\n" ++ (line ++ codes "\r\n"))))))))) ≡ head_text status (length_line len) close
+    ++ (codes "Content-Length: " ++ (size ++ (codes "\r\n" ++ (line ++ codes "\r\n"))))))))) ≡ head_text status (length_line len) close
 unfolding head_text status_line length_line type_line
 head_parts status len close number phrase size line n p s l =
     let ending = line ++ codes "\r\n" in
     let framing = codes "Content-Length: " ++ (size ++ codes "\r\n") in
     let behind = codes "Content-Type: application/json\r\n" ++ (framing ++ ending) in
     let of_framing : codes "Content-Length: " ++ (size ++ (codes "\r\n" ++ ending)) ≡ framing ++ ending =
-        ap (λ x. codes "Content-Length: " ++ x) (sym (append_assoc size (codes "\r\n") ending)) in
+    ap (λ x. codes "Content-Length: " ++ x) (sym (append_assoc size (codes "\r\n") ending)) in
     let of_phrase : phrase ++ (codes "\r\n" ++ behind) ≡ (phrase ++ codes "\r\n") ++ behind = sym (append_assoc phrase (codes "\r\n") behind) in
     let of_number : number ++ (codes " " ++ ((phrase ++ codes "\r\n") ++ behind)) ≡ (number ++ (codes " " ++ (phrase ++ codes "\r\n"))) ++ behind =
-        sym (append_assoc number (codes " " ++ (phrase ++ codes "\r\n")) behind) in
+    sym (append_assoc number (codes " " ++ (phrase ++ codes "\r\n")) behind) in
     ap (λ x. codes "HTTP/1.1 " ++ (number ++ (codes " " ++ (phrase ++ (codes "\r\n" ++ (codes "Content-Type: application/json\r\n" ++ x)))))) of_framing
     ∙ ap (λ x. codes "HTTP/1.1 " ++ (number ++ (codes " " ++ x))) of_phrase
     ∙ ap (λ x. codes "HTTP/1.1 " ++ x) of_number
