@@ -16,7 +16,14 @@ use Rattle.hub_model.proofs.Tests.{or_right}
 use Rattle.hub_database.specs.Store.{deleted_in, one_if}
 use Rattle.hub_index.proofs.ListLemmas.{text_same, text_apart}
 use Rattle.hub_database.proofs.ListLemmas.{or_none}
-use Rattle.hub_revtree.proofs.EditLemmas.{and_false, and_true}
+
+and_false : (b : Bool) → (b && false) ≡ false
+and_false true = refl
+and_false false = refl
+
+and_true : (b : Bool) → (b && true) ≡ b
+and_true true = refl
+and_true false = refl
 
 -- whether there is an edit
 abbrev any_of : List Edit → Bool
