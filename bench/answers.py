@@ -1,7 +1,7 @@
 """Reads the hub's answers strictly: each byte has to stand where docs/PROFILE.md says.
 
-An answer is a head and a body of a known length, or chunks. Bytes that are no answer raise `Wrong`. A hub that
-says nothing for too long raises `Late`.
+An answer is a head and a body of a known length, or chunks. Bytes that are no answer raise `Wrong`. A hub
+that says nothing for too long raises `Late`.
 """
 
 import json
@@ -184,8 +184,8 @@ def read_body(source, answer):
 
 
 def read_answer(source, is_head=False):
-    """Reads an answer to its end, or to the end of the bytes. A hub that finds no memory to read a request does not
-    know that it is a HEAD, and closes behind an answer with its body."""
+    """Reads an answer to its end, or to the end of the bytes. A hub that finds no memory to read a request
+    does not know that it is a HEAD, and closes behind an answer with its body."""
     answer = Answer()
     read_head(source, answer)
     if answer.status is None:

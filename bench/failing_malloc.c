@@ -1,10 +1,10 @@
 /* Refuses requests for memory, so that a program's answers to that can be looked at.
  *
  * It is loaded before the C library (LD_PRELOAD). A built program of this repository asks for memory by
- * `malloc` and `realloc` alone, and for threads by `pthread_create`: each call of these is counted, and one that
- * is refused fails as the system's would. Which ones are refused is said by the words of `struct control`, in
- * the file that the variable HUB_GROWTHS names. `growths.py` maps that file too, and may change a word
- * while the program runs. */
+ * `malloc` and `realloc` alone, and for threads by `pthread_create`. Each call of these is counted, and one
+ * that is refused fails as the system's would. The words of `struct control` say which ones are refused. They
+ * stand in the file that the variable HUB_GROWTHS names. `refusals.py` maps that file too, and may change a
+ * word while the program runs. */
 #define _GNU_SOURCE
 #include <dlfcn.h>
 #include <errno.h>
@@ -87,12 +87,12 @@ void *realloc(void *old, size_t size)
     return __libc_realloc(old, size);
 }
 
-int pthread_create(pthread_t *thread, const pthread_attr_t *attributes, void *(*start)(void *), void *argument)
+int pthread_create(pthread_t *thread, const pthread_attr_t *attributes, void *(*start)(void *), void *given)
 {
     static int (*real)(pthread_t *, const pthread_attr_t *, void *(*)(void *), void *);
     if (is_refused())
         return EAGAIN;
     if (!real)
         real = dlsym(RTLD_NEXT, "pthread_create");
-    return real(thread, attributes, start, argument);
+    return real(thread, attributes, start, given);
 }

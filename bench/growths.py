@@ -5,23 +5,30 @@
     python3 bench/growths.py --tests CRATE ..
     python3 bench/growths.py --wrong
 
-runs the proved hub (`./hub stdin < crates/changes_hub/stdin` builds it) under a shim that refuses it memory, and
-checks each answer. It takes a C compiler, `cc`, and Python's standard library. A script of requests is run again
-and again, each time with another request for memory refused: the first, the second, and so on, until a run
-meets no refusal. Threads count as memory. So it goes over standard input and over TCP, each three times:
-refused once, until the next answer, and for ever. Then eight clients work beside one another, while requests for memory
-are refused by chance, and while the address space of the hub is limited (scarce.py).
+runs the proved hub (`./hub stdin < crates/changes_hub/stdin` builds it) under a shim that refuses it memory,
+and checks each answer. It takes a C compiler, `cc`, and Python's standard library. A script of requests is
+run again and again, each time with another request for memory refused: the first, the second, and so on,
+until a run meets no refusal. A thread counts as such a request. So it goes over standard input and over TCP,
+each three times: refused once, until the next answer, and for ever. Then eight clients work beside one
+another, while requests for memory are refused by chance, and while the hub's address space is limited
+(scarce.py).
 
-The rules. Each answer before the refusal is the one with ample memory. The call that meets it answers 503
-`out_of_memory`, or as with ample memory; a feed ends without a last chunk, and its bytes are a front; a new connection
-may be closed unanswered. Further requests, with ample memory, show the state as before, and the same call then has
-the answer with ample memory. Behind a 503 a write may stand: "behind" counts these, "unnoted" those of which the
-log of updates has no note, "stopped" batches of which a front stands. The program ends with its status, and never
-by a signal.
+The rules:
 
-`--tests` runs each test of these crates so (`rt test` builds them); each run has to end with status 0. `--wrong` puts a process
-between that answers wrongly, in two ways, and both have to be seen. A rule that does not hold is printed with its
-script, its growth and the bytes, and the status is 1.
+- Each answer before the refusal is the one with ample memory.
+- The call that meets it is answered 503 `out_of_memory`, or as with ample memory. A feed ends without a last
+  chunk, and its bytes are a front. A new connection may be closed unanswered. Over TCP another thread may meet
+  the refusal: then a feed is cut beside an answer as with ample memory.
+- Further requests, with ample memory, show the state as before, and the same call then has its answer.
+- Behind a 503 a write may stand. The table counts these: "behind", "unnoted" where the log of updates has no
+  note of it, "stopped" where it is a front of a batch.
+- A hub that cannot begin ends with status 1 ("start"). Else the status is 0, and over standard input 1 where
+  the session closed. No signal ends it.
+
+`--tests` runs each test of these crates so (`rt test` builds their programs), and each run has to end with
+status 0. `--wrong` puts a process between that answers wrongly, in two ways, and both have to be seen. A rule
+that does not hold is printed with its script, its growth and the bytes, and the status is 1. `--only` with
+`--growth` runs that again. On four processors the whole takes some four minutes, `--short` less than one.
 """
 
 import argparse
@@ -37,12 +44,12 @@ import time
 
 from answers import Late, Wrong
 from refusals import BENCH, HUB, PLACES, TOP, Stdin, Tools, Violation, build_shim, check_program, ended
-from rows import REMOVE, SCENES, SCRIPTS, Step, bare, batch
+from rows import REMOVE, SCENES, SCRIPTS, bare, batch
 from scarce import try_scarce
 
 HOWS = ["once", "until the answer", "for ever"]
 TEXT = b'{"error":"out_of_memory","reason":"out of memory"}\n'
-LINES = b"HTTP/1.1 503 Service Unavailable\r\nContent-Type: application/json\r\nContent-Length: %d\r\n" % len(TEXT)
+LINES = b"HTTP/1.1 503 Service Unavailable\r\nContent-Type: application/json\r\nContent-Length: 51\r\n"
 REFUSED = [LINES + b"\r\n" + TEXT, LINES + b"Connection: close\r\n\r\n" + TEXT]
 # Of a HEAD: the second is that of a request that could not be read.
 REFUSED_HEADS = [LINES + b"\r\n", REFUSED[1]]
@@ -71,7 +78,7 @@ def requests_of(steps):
 
 
 def behind(script, number):
-    """The requests behind a step: what shows the state, the step again and the rest, and the state at the end."""
+    """The requests behind a step: what shows the state, the step again, the rest, and the state at the end."""
     return [*script.shown, *requests_of(script.steps[number:]), *script.shown]
 
 
@@ -97,7 +104,7 @@ def fronts(data):
 
 
 def alternatives(step, kind):
-    """What may stand behind a step: the column in which it is counted, and the requests in the place of the step."""
+    """What may stand behind a step: its column in the table, and the requests in the place of the step."""
     if step.kind != "ask" or kind in ("cut", "closed"):
         return [("before", ())]
     if kind == "same":
@@ -232,7 +239,8 @@ def try_script(tools, name, place, how, stride, growth):
             is_met = run_refused(hub, name, ample, how, counted)
         except (Violation, Wrong, Late, OSError) as error:
             told = "script '%s' over %s, growth %d refused %s: %s" % (name, place, first, how, error)
-            told += "\n    the last that was asked: %r\n    the script:" % hub.last
+            told += "\n    the last that was asked: %r; the status: %r" % (hub.last, hub.process.poll())
+            told += "\n    the script:"
             violations.append(told + "".join("\n    %r" % it for it in ALL[name].steps))
         finally:
             hub.kill()

@@ -3,17 +3,19 @@
 
     python3 bench/hostile.py [--seconds N] [--short] [--seed S] [--block B]
 
-runs the proved hub (`./hub stdin < crates/changes_hub/stdin` builds it) on scripts of requests (rows.py) whose bytes
-are spoiled: flipped, cut, repeated, spliced, with long fields, deep JSON, bad chunks, wrong lengths, many fields, bare
-line feeds, bytes that are no UTF-8, huge numbers and `%` escapes. A session over standard input has a process of
-its own. Over TCP many sessions, one after the other, share a server. Only Python's standard library is used.
+runs the proved hub (`./hub stdin < crates/changes_hub/stdin` builds it) on scripts of requests (rows.py) whose
+bytes are spoiled: flipped, cut, repeated, spliced, with long fields, deep JSON, bad chunks, wrong lengths, many
+fields, bare line feeds, bytes that are no UTF-8, huge numbers and `%` escapes. A session over standard input
+has a process of its own. Over TCP many sessions, one after the other, share a server. Only Python's standard
+library is used.
 
-Every answer is read strictly: status line, fields, length or chunks, and the body as JSON; a refusal is one of the
-profile's. Nothing may come behind an answer that closes. The program ends with its status, never by a signal, and
-within a limit. An answer that breaks a rule is printed with the session's bytes, and the status is 1.
+Every answer is read strictly: status line, fields, length or chunks, and the body as JSON; a refusal is one of
+the profile's. Nothing may come behind an answer that closes, and no feed is cut. A script that nobody spoiled
+has an answer to each request. The program ends with its status, never by a signal, and within a limit. A rule
+that does not hold is printed with the session's bytes, and the status is 1.
 
-Sessions come in blocks. The bytes of a block follow from the seed and the block's number alone, so `--block` runs one
-again. Without `--seconds` it takes a minute, with `--short` a quarter of one.
+Sessions come in blocks. The bytes of a block follow from the seed and the block's number alone, so `--block`
+runs one again. It takes a minute, or so many seconds, and with `--short` a quarter of a minute.
 """
 
 import argparse
@@ -28,7 +30,8 @@ import sys
 import time
 import urllib.parse
 
-from answers import PATIENCE, Answer, Bytes, Late, Source, Wrong, read_answer, read_body, read_chunks, read_head
+from answers import PATIENCE, Answer, Bytes, Late, Source, Wrong
+from answers import read_answer, read_body, read_chunks, read_head
 from refusals import HUB, Violation, check_program, ended
 from rows import SCENES, SCRIPTS
 
@@ -187,7 +190,7 @@ def value_of(rng, depth):
 
 
 def bodies(rng, data):
-    """Whole requests with bodies that are JSON, but not always what is wanted, behind the script and before it."""
+    """Whole requests whose bodies are JSON, mostly not such as is wanted, behind the script and before it."""
     parts = [data]
     for _ in range(rng.choice([1, 2, 5])):
         docs = ", ".join(value_of(rng, 2) for _ in range(rng.randrange(4)))
@@ -210,13 +213,15 @@ def queries(rng, data):
     return b"".join(parts)
 
 
-def bytes_of(script):
-    return b"".join(it.data for it in script.steps if isinstance(it.data, bytes))
+def requests_of(script):
+    return [it.data for it in script.steps if isinstance(it.data, bytes)]
 
 
 WAYS = [flip, cut, repeat, splice, insert, digits, fields, chunked, bare_feeds, versions, bodies, bodies, queries]
 WAYS += [queries, many_databases]
-SEEDS = [bytes_of(it) for it in [*SCRIPTS.values(), *SCENES.values()]]
+SEEDS = [b"".join(requests_of(it)) for it in [*SCRIPTS.values(), *SCENES.values()]]
+# How many answers a script has that nobody spoiled.
+WHOLE_SCRIPTS = dict(zip(SEEDS, (len(requests_of(it)) for it in [*SCRIPTS.values(), *SCENES.values()])))
 
 
 def session(rng):
@@ -284,19 +289,20 @@ def next_answer(source, may_be_head):
 
 
 def check_all(source, data, counted):
-    """Reads all answers of a session, and counts them by their statuses."""
-    may_be_head = b"HEAD" in data
+    """Reads all answers of a session, and counts them by their statuses; how many there are."""
+    may_be_head, count = b"HEAD" in data, 0
     while True:
         answer = next_answer(source, may_be_head)
         if answer.status is None:
-            return
+            return count
         counted[answer.status] += 1
+        count += 1
         if not answer.is_whole:
             raise Wrong("a feed that is cut: %r" % answer.raw[-2000:])
         if answer.closes:
             if not source.is_at_end():
                 raise Wrong("bytes behind an answer that closes: %r" % bytes(source.held[:2000]))
-            return
+            return count
 
 
 def run_alone(program, data, counted):
@@ -308,7 +314,9 @@ def run_alone(program, data, counted):
     if done.returncode not in (0, 1) or done.stderr:
         raise Violation("status %d, standard error %r" % (done.returncode, done.stderr[:500]))
     counted["ended with %d" % done.returncode] += 1
-    check_all(Bytes(done.stdout), data, counted)
+    count = check_all(Bytes(done.stdout), data, counted)
+    if count != WHOLE_SCRIPTS.get(data, count):
+        raise Violation("a script of %d requests has %d answers" % (WHOLE_SCRIPTS[data], count))
 
 
 def send(rng, client, data, counted):

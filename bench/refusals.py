@@ -9,7 +9,8 @@ import struct
 import subprocess
 import sys
 
-from answers import Answer, PATIENCE, Source, Wrong, read_answer, read_body, read_chunk, read_chunks, read_head
+from answers import PATIENCE, Answer, Source, Wrong
+from answers import read_answer, read_body, read_chunk, read_chunks, read_head
 
 BENCH = os.path.dirname(os.path.abspath(__file__))
 TOP = os.path.dirname(BENCH)
@@ -193,7 +194,7 @@ class Connection:
 
 
 class Tcp:
-    """The hub over TCP: clients by name, each with a connection, and with another one where that is closed."""
+    """The hub over TCP: clients by name, each with a connection, and another one where that is closed."""
 
     is_over_sockets = True
     is_closed = False

@@ -1,9 +1,9 @@
 """Eight clients that work beside one another on a hub for which memory is scarce.
 
-Requests for memory are refused by chance, or the address space of the hub is limited. Each client knows what its
-documents may be: where a write was answered, that is one revision, and behind a 503 the one before and the new one.
-Two clients follow the database, and begin again behind the last row where their feeds are cut. At the end there is
-memory again. Then each document is as its client knows it, and a follower has the current row of each.
+Requests for memory are refused by chance, or the hub's address space is limited. Each client knows what its
+documents may be: where a write was answered, that is one revision, and behind a 503 the one before or the new
+one. Two clients follow the database, and begin again behind the last row where their feeds are cut. At the end
+there is memory again. Then each document is as its client knows it, and each follower gets the current rows.
 """
 
 import collections
@@ -80,7 +80,7 @@ class Client(threading.Thread):
         self.connection = None
 
     def ask(self, data, statuses):
-        """The answer to a request: its status and its value; None where memory was missing, and so nothing is known."""
+        """The status and the value of an answer; None where memory was missing, and so nothing is known."""
         if self.ready() is None:
             return None, None
         answer = self.connection.ask(data)
@@ -311,7 +311,8 @@ def run_clients(hub, seconds):
     for client in [*writers, *followers]:
         client.join()
     hub.tools.allow()
-    resource.prlimit(hub.process.pid, resource.RLIMIT_AS, (resource.RLIM_INFINITY, resource.RLIM_INFINITY))
+    unlimited = (resource.RLIM_INFINITY, resource.RLIM_INFINITY)
+    resource.prlimit(hub.process.pid, resource.RLIMIT_AS, unlimited)
     scarce.count(refused=hub.tools.get("refused"))
     if not scarce.violations:
         audit(scarce, writers, followers)
@@ -325,7 +326,7 @@ def limited(megabytes):
 
 
 def try_scarce(tools, kind, number, seconds):
-    """Has clients work on a hub that is refused one growth in so many, or has so many megabytes of addresses."""
+    """Has clients work on a hub that is refused one growth in so many, or has so many megabytes."""
     how = {"preexec_fn": limited(number)} if kind == "megabytes" else {}
     hub = Tcp(tools, count=CONNECTIONS, **how)
     try:
@@ -339,13 +340,14 @@ def try_scarce(tools, kind, number, seconds):
         scarce = run_clients(hub, seconds)
         if not scarce.violations and hub.end() != 0:
             raise Violation("the status is not 0")
-        return scarce.counted, scarce.violations
+        told = "eight clients, %s %d, the program's status: %r, " % (kind, number, hub.process.poll())
+        return scarce.counted, [told + it for it in scarce.violations]
     finally:
         hub.kill()
 
 
 def starting(hub):
-    """What is counted where the hub had no memory to begin with: it ends with status 1, or serves on unanswered."""
+    """What is counted where the hub had no memory to begin with: it ends with 1, or answers nobody."""
     if hub.process.poll() is None and hub.port is not None:
         status, wanted = hub.end(), 0
     else:

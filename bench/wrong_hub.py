@@ -1,9 +1,9 @@
-"""A process between a client and the hub that answers wrongly, so that `growths.py --wrong` can see that it sees.
+"""A process between a client and the hub that answers wrongly, so that `growths.py --wrong` has faults to see.
 
     wrong_hub.py FAULT PROGRAM stdin
 
-`leaves-out`: once the hub was refused memory, feeds are sent without their last row. `claims`: where a database
-could not be made, for want of memory, the answer says that it was. A client sends one request at a time.
+`leaves-out`: once the hub was refused memory, feeds are sent without their last row. `claims`: where a
+database could not be made, out of memory, the answer says that it was. A client sends one request at a time.
 """
 
 import os
@@ -14,7 +14,8 @@ import sys
 sys.path.insert(0, os.path.dirname(os.path.abspath(__file__)))
 from answers import Source, read_answer
 
-MADE = b"HTTP/1.1 201 Created\r\nContent-Type: application/json\r\nContent-Length: 12\r\n\r\n" + b'{"ok":true}\n'
+MADE = b"HTTP/1.1 201 Created\r\nContent-Type: application/json\r\nContent-Length: 12\r\n\r\n"
+MADE += b'{"ok":true}\n'
 
 
 def is_refused():
