@@ -28,7 +28,7 @@ The rules:
 `--tests` runs each test of these crates so (`rt test` builds their programs), and each run has to end with
 status 0. `--wrong` puts a process between that answers wrongly, in two ways, and both have to be seen. A rule
 that does not hold is printed with its script, its growth and the bytes, and the status is 1. `--only` with
-`--growth` runs that again. On four processors the whole takes some four minutes, `--short` less than one.
+`--growth` runs that again. On four processors beside other work the whole took three minutes.
 """
 
 import argparse
@@ -387,7 +387,7 @@ def try_faults(shim, program):
 
 def main():
     parser = argparse.ArgumentParser(description=__doc__.split("\n\n")[0])
-    parser.add_argument("--short", action="store_true", help="every ninth growth alone: at most a minute")
+    parser.add_argument("--short", action="store_true", help="every ninth growth alone, and less load")
     parser.add_argument("--only", default="", help="lines of the table whose name has this text")
     parser.add_argument("--growth", type=int, default=0, help="this growth alone")
     parser.add_argument("--tests", nargs="+", metavar="CRATE", help="the tests of these crates, and no scripts")
