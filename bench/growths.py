@@ -374,7 +374,7 @@ def try_faults(shim, program):
     """Puts a process that answers wrongly between, and says whether each fault is seen."""
     seen = 0
     for fault, name in FAULTS.items():
-        between = [sys.executable, "-I", "-S", os.path.join(BENCH, "wrong_hub.py"), fault, program]
+        between = [sys.executable, "-B", "-I", "-S", os.path.join(BENCH, "wrong_hub.py"), fault, program]
         tasks = [("script", (name, "stdin", "once", 1, growth)) for growth in range(1, 200)]
         violations = [text for _, _, some in work_all(shim, between, tasks) for text in some]
         print("%s: %d runs of the script '%s' break a rule" % (fault, len(violations), name))
