@@ -86,15 +86,10 @@ def ended(process):
     return status
 
 
-def has_failed_to_start(process):
-    """Whether a program has ended, or ends at once; then its status is 1."""
-    try:
-        process.wait(0.3)
-    except subprocess.TimeoutExpired:
-        return False
+def check_start_failed(process):
+    """Checks that a program which could not begin ends with status 1."""
     if (status := ended(process)) != 1:
         raise Violation("the program did not start, and its status is %d" % status)
-    return True
 
 
 def check_at_end(source):
@@ -135,7 +130,9 @@ class Stdin:
         return self.tools.get("refused") > 0
 
     def has_failed_to_start(self):
-        return has_failed_to_start(self.process)
+        """Whether the hub could not begin, where its first request has no answer: then it ends."""
+        check_start_failed(self.process)
+        return True
 
     def end(self):
         """Ends the input; the status. A session that has closed has status 1."""
@@ -268,7 +265,16 @@ class Tcp:
         return self.tools.get("refused") > 0
 
     def has_failed_to_start(self):
-        return has_failed_to_start(self.process)
+        """Whether the hub could not begin, where its first request has no answer: one that did answers another."""
+        first = self.tools.get("first")
+        self.tools.allow()
+        answered = self.ask("control", b"GET / HTTP/1.1\r\n\r\n").status == 200
+        self.drop("control")
+        if answered:
+            self.tools.set(first=first)
+        else:
+            check_start_failed(self.process)
+        return not answered
 
     def end(self):
         """Lets the server serve the connections that it still has to; its status."""
