@@ -2,6 +2,7 @@
 
 use crate::feed_tests::FeedStep::{Beats, Expire, Finish, Hands, Open};
 use crate::feed_tests::Handed::{Beat, End, Gone, Nothing, Row, Whole};
+use crate::made_again::is_right;
 use crate::read_tests::ReadStep::Descending;
 use crate::tests::Step::{Batch, Feed, Read};
 use crate::tests::{Step, all_are, assert_steps, assert_within};
@@ -64,9 +65,12 @@ pub(crate) const FOURTH: FeedId = FeedId { number: 3 };
 
 pub(crate) const FIFTH: FeedId = FeedId { number: 4 };
 
-/// The parameters that a query gives; None where it is refused.
-pub(crate) fn asked(alloc: Global, query: &str) -> Option<FeedParams> {
-    FeedParams::read(alloc, query.as_bytes(), b"").ok()
+/// The parameters that a query gives; an error where they found no memory, and each time where it is refused.
+pub(crate) fn asked(alloc: Global, query: &str) -> Result<FeedParams, AllocError> {
+    match FeedParams::read(alloc, query.as_bytes(), b"") {
+        Ok(params) => Ok(params),
+        Err(_) => Err(AllocError),
+    }
 }
 
 // Whether a revision is written so.
@@ -141,17 +145,15 @@ fn take(state: &mut DbState, feed: FeedId) -> Result<Next<ChangeRow>, AllocError
 }
 
 // Whether a feed hands this next.
-fn hands(state: &mut DbState, feed: FeedId, handed: &Handed) -> bool {
-    match take(state, feed) {
-        Ok(next) => is_handed(&next, handed),
-        Err(AllocError) => false,
-    }
+fn hands(state: &mut DbState, feed: FeedId, handed: &Handed) -> Result<bool, AllocError> {
+    let next = take(state, feed)?;
+    Ok(is_handed(&next, handed))
 }
 
 // Whether a feed hands these, one after the other.
 fn hands_all(state: &mut DbState, feed: FeedId, all: &[Handed]) -> bool {
     for handed in all {
-        if !hands(state, feed, handed) {
+        if !is_right(state, |state| hands(state, feed, handed)) {
             return false;
         }
     }
@@ -164,17 +166,17 @@ fn opens(
     state: &mut DbState,
     query: &str,
     answer: Result<FeedId, OpenFault>,
-) -> bool {
-    match asked(alloc, query) {
-        Some(params) => state.open_feed(params) == answer,
-        None => false,
+) -> Result<bool, AllocError> {
+    match state.open_feed(asked(alloc, query)?) {
+        Err(OpenFault::NoMemory) => Err(AllocError),
+        opened => Ok(opened == answer),
     }
 }
 
 /// Whether a step has its answer.
 pub(crate) fn feed_holds(alloc: Global, state: &mut DbState, step: &FeedStep) -> bool {
     match step {
-        Open(query, answer) => opens(alloc, state, query, *answer),
+        Open(query, answer) => is_right(state, |state| opens(alloc, state, query, *answer)),
         Hands(feed, handed) => hands_all(state, *feed, handed),
         Beats(feed, answer) => state.beat_due(*feed) == *answer,
         Expire(feed) => {

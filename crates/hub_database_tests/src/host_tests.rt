@@ -3,28 +3,32 @@
 use crate::feed_tests::FeedStep::{Beats, Expire, Finish, Hands, Open};
 use crate::feed_tests::Handed::{End, Gone, Nothing, Row};
 use crate::feed_tests::{FIRST, FeedStep, Handed, SECOND, asked, is_handed};
+use crate::made_again::is_right;
 use crate::tests::Step::{Batch, Delete, Feed, Hosted, Length};
 use crate::tests::{Step, assert_steps};
+use hub_database::DbState;
 use hub_document::ChangeRow;
 use hub_feed::{FeedHost, FeedId, Next, OpenFault};
 use hub_model::Outcome::Stored;
-use std::alloc::Global;
+use std::alloc::{AllocError, Global};
 
 // Whether a feed of a host hands this next.
-fn hands<H: FeedHost<Row = ChangeRow>>(host: &mut H, feed: FeedId, handed: &Handed) -> bool {
-    let Ok(next) = host.next_item(feed) else {
-        return false;
-    };
+fn hands<H: FeedHost<Row = ChangeRow>>(
+    host: &mut H,
+    feed: FeedId,
+    handed: &Handed,
+) -> Result<bool, AllocError> {
+    let next = host.next_item(feed)?;
     if let Next::Give(item) = &next {
         host.accept_item(feed, item);
     }
-    is_handed(&next, handed)
+    Ok(is_handed(&next, handed))
 }
 
-// Whether a feed of a host hands these, one after the other.
-fn hands_all<H: FeedHost<Row = ChangeRow>>(host: &mut H, feed: FeedId, all: &[Handed]) -> bool {
+// Whether a feed hands these, one after the other.
+fn hands_all(state: &mut DbState, feed: FeedId, all: &[Handed]) -> bool {
     for handed in all {
-        if !hands(host, feed, handed) {
+        if !is_right(state, |state| hands(state, feed, handed)) {
             return false;
         }
     }
@@ -37,22 +41,16 @@ fn opens<H: FeedHost<Row = ChangeRow>>(
     host: &mut H,
     query: &str,
     answer: Result<FeedId, OpenFault>,
-) -> bool {
-    match asked(alloc, query) {
-        Some(params) => host.open_feed(params) == answer,
-        None => false,
+) -> Result<bool, AllocError> {
+    match host.open_feed(asked(alloc, query)?) {
+        Err(OpenFault::NoMemory) => Err(AllocError),
+        opened => Ok(opened == answer),
     }
 }
 
-/// Whether a step on the feeds of a host has its answer.
-pub(crate) fn host_holds<H: FeedHost<Row = ChangeRow>>(
-    alloc: Global,
-    host: &mut H,
-    step: &FeedStep,
-) -> bool {
+// Whether a step on the feeds of a host has its answer that takes no memory; another step has none here.
+fn is_done<H: FeedHost>(host: &mut H, step: &FeedStep) -> bool {
     match step {
-        Open(query, answer) => opens(alloc, host, query, *answer),
-        Hands(feed, handed) => hands_all(host, *feed, handed),
         Beats(feed, answer) => host.beat_due(*feed) == *answer,
         Expire(feed) => {
             host.expire(*feed);
@@ -62,6 +60,16 @@ pub(crate) fn host_holds<H: FeedHost<Row = ChangeRow>>(
             host.finish(*feed);
             true
         }
+        _ => false,
+    }
+}
+
+/// Whether a step on the feeds of a database has its answer, where they are driven as those of any host.
+pub(crate) fn host_holds(alloc: Global, state: &mut DbState, step: &FeedStep) -> bool {
+    match step {
+        Open(query, answer) => is_right(state, |state| opens(alloc, state, query, *answer)),
+        Hands(feed, handed) => hands_all(state, *feed, handed),
+        _ => is_done(state, step),
     }
 }
 

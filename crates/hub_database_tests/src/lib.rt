@@ -16,6 +16,8 @@ mod listed_tests;
 #[cfg(test)]
 mod local_tests;
 #[cfg(test)]
+mod made_again;
+#[cfg(test)]
 mod made_tests;
 #[cfg(test)]
 mod model;

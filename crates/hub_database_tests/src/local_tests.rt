@@ -5,7 +5,7 @@ use crate::tests::Step::{Counts, Local, Seq};
 use crate::tests::{Step, assert_steps};
 use hub_database::{DbFault, DbState, Local as Kept};
 use hub_document::LocalDoc;
-use std::alloc::Global;
+use std::alloc::{AllocError, Global};
 
 /// A step on local documents, by their ids, and its answer.
 pub(crate) enum LocalStep {
@@ -22,10 +22,13 @@ fn puts(
     id: &str,
     text: &str,
     answer: Result<u64, DbFault>,
-) -> bool {
-    match LocalDoc::read(alloc, id, text.as_bytes()) {
-        Ok(doc) => state.local_put(doc) == answer,
-        Err(_) => false,
+) -> Result<bool, AllocError> {
+    let Ok(doc) = LocalDoc::read(alloc, id, text.as_bytes()) else {
+        return Err(AllocError);
+    };
+    match state.local_put(doc) {
+        Err(DbFault::NoMemory) => Err(AllocError),
+        put => Ok(put == answer),
     }
 }
 
@@ -49,11 +52,16 @@ fn keeps(state: &DbState, id: &str, answer: Result<Option<(u64, &str)>, DbFault>
     }
 }
 
-/// Whether a step has its answer.
-pub(crate) fn local_holds(alloc: Global, state: &mut DbState, step: &LocalStep) -> bool {
+/// Whether a step has its answer; an error where it found no memory, and each time where the text is no
+/// document.
+pub(crate) fn local_holds(
+    alloc: Global,
+    state: &mut DbState,
+    step: &LocalStep,
+) -> Result<bool, AllocError> {
     match step {
         Put(id, text, answer) => puts(alloc, state, id, text, *answer),
-        Get(id, answer) => keeps(state, id, *answer),
+        Get(id, answer) => Ok(keeps(state, id, *answer)),
     }
 }
 

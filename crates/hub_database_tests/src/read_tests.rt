@@ -64,27 +64,32 @@ fn wins(state: &DbState, id: &str, answer: Option<(&str, bool)>) -> bool {
 }
 
 // Whether a document is written so.
-fn is_written(alloc: Global, doc: &Doc, text: &str) -> bool {
+fn is_written(alloc: Global, doc: &Doc, text: &str) -> Result<bool, AllocError> {
     let mut out = Vec::new(alloc);
-    let written = doc.write(&mut out);
-    written.is_ok() && out.as_slice() == text.as_bytes()
+    doc.write(&mut out)?;
+    Ok(out.as_slice() == text.as_bytes())
 }
 
 // Whether this is shown of a document.
-fn is_shown(alloc: Global, found: &Lookup, shown: &Shown) -> bool {
+fn is_shown(alloc: Global, found: &Lookup, shown: &Shown) -> Result<bool, AllocError> {
     match (found, shown) {
         (Lookup::Found(doc), Found(text)) => is_written(alloc, doc, text),
-        (Lookup::Deleted, Deleted) | (Lookup::Unknown, Unknown) => true,
-        _ => false,
+        (Lookup::Deleted, Deleted) | (Lookup::Unknown, Unknown) => Ok(true),
+        _ => Ok(false),
     }
 }
 
 // Whether an answer to a look for a document is this.
-fn is_got(alloc: Global, found: &Result<Lookup, DbFault>, answer: &Result<Shown, DbFault>) -> bool {
+fn is_got(
+    alloc: Global,
+    found: &Result<Lookup, DbFault>,
+    answer: &Result<Shown, DbFault>,
+) -> Result<bool, AllocError> {
     match (found, answer) {
         (Ok(found), Ok(shown)) => is_shown(alloc, found, shown),
-        (Err(fault), Err(other)) => fault == other,
-        _ => false,
+        (Err(DbFault::NoMemory), _) => Err(AllocError),
+        (Err(fault), Err(other)) => Ok(fault == other),
+        _ => Ok(false),
     }
 }
 
@@ -95,18 +100,33 @@ fn gets(
     id: &str,
     revs: bool,
     answer: &Result<Shown, DbFault>,
-) -> bool {
+) -> Result<bool, AllocError> {
     let found = state.get(id, revs);
     is_got(alloc, &found, answer)
 }
 
 // Whether this is shown of a revision.
-fn is_opened(alloc: Global, found: &OpenRev, shown: &Shown) -> bool {
+fn is_opened(alloc: Global, found: &OpenRev, shown: &Shown) -> Result<bool, AllocError> {
     match (found, shown) {
         (OpenRev::Found(doc), Found(text)) => is_written(alloc, doc, text),
-        (OpenRev::Missing(rev), Absent(text)) => RevId::read(text) == Some(*rev),
-        _ => false,
+        (OpenRev::Missing(rev), Absent(text)) => Ok(RevId::read(text) == Some(*rev)),
+        _ => Ok(false),
     }
+}
+
+// Whether these are shown of revisions.
+fn all_opened(alloc: Global, found: &[OpenRev], shown: &[Shown]) -> Result<bool, AllocError> {
+    let mut at = 0usize;
+    for open in found {
+        let Some(shown) = shown.get(at) else {
+            return Ok(false);
+        };
+        if !is_opened(alloc, open, shown)? {
+            return Ok(false);
+        }
+        at = at.saturating_add(1);
+    }
+    Ok(at == shown.len())
 }
 
 // Whether an answer to a look for revisions is this.
@@ -114,13 +134,12 @@ fn are_opened(
     alloc: Global,
     found: &Result<Vec<OpenRev>, DbFault>,
     answer: Result<&[Shown], DbFault>,
-) -> bool {
+) -> Result<bool, AllocError> {
     match (found, answer) {
-        (Ok(found), Ok(shown)) => all_are(found.as_slice(), shown, |open, shown| {
-            is_opened(alloc, open, shown)
-        }),
-        (Err(fault), Err(other)) => *fault == other,
-        _ => false,
+        (Ok(found), Ok(shown)) => all_opened(alloc, found.as_slice(), shown),
+        (Err(DbFault::NoMemory), _) => Err(AllocError),
+        (Err(fault), Err(other)) => Ok(*fault == other),
+        _ => Ok(false),
     }
 }
 
@@ -132,7 +151,7 @@ fn opens(
     which: &OpenRevs,
     revs: bool,
     answer: Result<&[Shown], DbFault>,
-) -> bool {
+) -> Result<bool, AllocError> {
     let found = state.open_revs(id, which, revs);
     are_opened(alloc, &found, answer)
 }
@@ -144,17 +163,20 @@ fn opens_all(
     id: &str,
     revs: bool,
     answer: Result<&[Shown], DbFault>,
-) -> bool {
+) -> Result<bool, AllocError> {
     opens(alloc, state, id, &OpenRevs::All, revs, answer)
 }
 
-// The revisions that the texts are; None where one is none.
-fn revisions(alloc: Global, texts: &[&str]) -> Option<Revisions> {
+// The revisions that the texts are; an error where they found no memory, and each time where one is none.
+fn revisions(alloc: Global, texts: &[&str]) -> Result<Revisions, AllocError> {
     let mut list = Vec::new(alloc);
     for text in texts {
-        list.push(RevId::read(text)?).ok()?;
+        let Some(rev) = RevId::read(text) else {
+            return Err(AllocError);
+        };
+        list.push(rev)?;
     }
-    Some(Revisions::new(list))
+    Ok(Revisions::new(list))
 }
 
 // Whether these are shown of listed revisions of a document.
@@ -165,27 +187,25 @@ fn lists(
     texts: &[&str],
     revs: bool,
     shown: &[Shown],
-) -> bool {
-    match revisions(alloc, texts) {
-        Some(listed) => opens(alloc, state, id, &OpenRevs::Listed(listed), revs, Ok(shown)),
-        None => false,
-    }
+) -> Result<bool, AllocError> {
+    let listed = OpenRevs::Listed(revisions(alloc, texts)?);
+    opens(alloc, state, id, &listed, revs, Ok(shown))
 }
 
 // What is asked of a document.
-fn asked_of(alloc: Global, wanted: &Wanted) -> Option<Asked> {
+fn asked_of(alloc: Global, wanted: &Wanted) -> Result<Asked, AllocError> {
     let revs = revisions(alloc, wanted.revs)?;
-    let id = String::from_str(alloc, wanted.id).ok()?;
-    Some(Asked { id, revs })
+    let id = String::from_str(alloc, wanted.id)?;
+    Ok(Asked { id, revs })
 }
 
 // What is asked of documents.
-fn all_asked(alloc: Global, wanted: &[Wanted]) -> Option<Vec<Asked>> {
+fn all_asked(alloc: Global, wanted: &[Wanted]) -> Result<Vec<Asked>, AllocError> {
     let mut list = Vec::new(alloc);
     for wanted in wanted {
-        list.push(asked_of(alloc, wanted)?).ok()?;
+        list.push(asked_of(alloc, wanted)?)?;
     }
-    Some(list)
+    Ok(list)
 }
 
 // Whether a document misses this.
@@ -196,11 +216,15 @@ fn misses(diff: &Difference, missed: &Missed) -> bool {
 }
 
 // Whether an answer to what documents miss is this.
-fn all_miss(found: &Result<Vec<Difference>, DbFault>, answer: Result<&[Missed], DbFault>) -> bool {
+fn all_miss(
+    found: &Result<Vec<Difference>, DbFault>,
+    answer: Result<&[Missed], DbFault>,
+) -> Result<bool, AllocError> {
     match (found, answer) {
-        (Ok(found), Ok(missed)) => all_are(found.as_slice(), missed, misses),
-        (Err(fault), Err(other)) => *fault == other,
-        _ => false,
+        (Ok(found), Ok(missed)) => Ok(all_are(found.as_slice(), missed, misses)),
+        (Err(DbFault::NoMemory), _) => Err(AllocError),
+        (Err(fault), Err(other)) => Ok(*fault == other),
+        _ => Ok(false),
     }
 }
 
@@ -210,14 +234,9 @@ fn differs(
     state: &DbState,
     wanted: &[Wanted],
     answer: Result<&[Missed], DbFault>,
-) -> bool {
-    match all_asked(alloc, wanted) {
-        Some(list) => {
-            let found = state.revs_diff(list);
-            all_miss(&found, answer)
-        }
-        None => false,
-    }
+) -> Result<bool, AllocError> {
+    let found = state.revs_diff(all_asked(alloc, wanted)?);
+    all_miss(&found, answer)
 }
 
 // Whether the edit of a sequence is of this document and revision; where there is none, None.
@@ -230,20 +249,23 @@ fn is_named(state: &DbState, seq: u64, name: Option<(&str, &str)>) -> bool {
 }
 
 // Whether the document of an edit is written so; where there is none, None.
-fn is_edit(alloc: Global, found: &Option<Doc>, text: Option<&str>) -> bool {
+fn is_edit(alloc: Global, found: &Option<Doc>, text: Option<&str>) -> Result<bool, AllocError> {
     match (found, text) {
         (Some(doc), Some(text)) => is_written(alloc, doc, text),
-        (None, None) => true,
-        _ => false,
+        (None, None) => Ok(true),
+        _ => Ok(false),
     }
 }
 
 // Whether the edit of a sequence is written so; where there is none, None.
-fn has_edit(alloc: Global, state: &DbState, seq: u64, text: Option<&str>) -> bool {
-    match state.entry_doc(seq) {
-        Ok(found) => is_edit(alloc, &found, text),
-        Err(AllocError) => false,
-    }
+fn has_edit(
+    alloc: Global,
+    state: &DbState,
+    seq: u64,
+    text: Option<&str>,
+) -> Result<bool, AllocError> {
+    let found = state.entry_doc(seq)?;
+    is_edit(alloc, &found, text)
 }
 
 // Whether a row is of this sequence.
@@ -263,11 +285,12 @@ fn is_falling(found: &Falling, (seqs, last_seq, pending): (&[u64], u64, u64)) ->
 fn are_falling(
     found: &Result<Falling, DbFault>,
     answer: Result<(&[u64], u64, u64), DbFault>,
-) -> bool {
+) -> Result<bool, AllocError> {
     match (found, answer) {
-        (Ok(found), Ok(rows)) => is_falling(found, rows),
-        (Err(fault), Err(other)) => *fault == other,
-        _ => false,
+        (Ok(found), Ok(rows)) => Ok(is_falling(found, rows)),
+        (Err(DbFault::NoMemory), _) => Err(AllocError),
+        (Err(fault), Err(other)) => Ok(*fault == other),
+        _ => Ok(false),
     }
 }
 
@@ -277,30 +300,37 @@ fn falls(
     state: &DbState,
     query: &str,
     answer: Result<(&[u64], u64, u64), DbFault>,
-) -> bool {
-    match asked(alloc, query) {
-        Some(params) => {
-            let found = state.changes_descending(&params);
-            are_falling(&found, answer)
-        }
-        None => false,
-    }
+) -> Result<bool, AllocError> {
+    let params = asked(alloc, query)?;
+    let found = state.changes_descending(&params);
+    are_falling(&found, answer)
 }
 
 // Whether the edit of a sequence has this answer.
-fn has_entry(alloc: Global, state: &DbState, seq: u64, answer: Option<(&str, &str, &str)>) -> bool {
+fn has_entry(
+    alloc: Global,
+    state: &DbState,
+    seq: u64,
+    answer: Option<(&str, &str, &str)>,
+) -> Result<bool, AllocError> {
     match answer {
         Some((id, rev, text)) => {
-            is_named(state, seq, Some((id, rev))) && has_edit(alloc, state, seq, Some(text))
+            let is_written = has_edit(alloc, state, seq, Some(text))?;
+            Ok(is_written && is_named(state, seq, Some((id, rev))))
         }
-        None => is_named(state, seq, None) && has_edit(alloc, state, seq, None),
+        None => Ok(has_edit(alloc, state, seq, None)? && is_named(state, seq, None)),
     }
 }
 
-/// Whether a step has its answer.
-pub(crate) fn read_holds(alloc: Global, state: &DbState, step: &ReadStep) -> bool {
+/// Whether a step has its answer; an error where it found no memory, and each time where its question is
+/// none.
+pub(crate) fn read_holds(
+    alloc: Global,
+    state: &DbState,
+    step: &ReadStep,
+) -> Result<bool, AllocError> {
     match step {
-        Winner(id, answer) => wins(state, id, *answer),
+        Winner(id, answer) => Ok(wins(state, id, *answer)),
         Get(id, revs, answer) => gets(alloc, state, id, *revs, answer),
         All(id, revs, answer) => opens_all(alloc, state, id, *revs, *answer),
         Listed(id, texts, revs, shown) => lists(alloc, state, id, texts, *revs, shown),

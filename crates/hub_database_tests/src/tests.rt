@@ -5,6 +5,7 @@ use crate::feed_tests::Handed::{End, Whole};
 use crate::feed_tests::{FIRST, FeedStep, Handed, SECOND, ShownRow, feed_holds};
 use crate::host_tests::host_holds;
 use crate::local_tests::{LocalStep, local_holds};
+use crate::made_again::{TRIES, is_right};
 use crate::read_tests::{ReadStep, read_holds};
 use crate::tests::Step::{Batch, Feed, Seq};
 use hub_database::{Batch as Written, DbFault, DbState, Info};
@@ -73,14 +74,22 @@ pub(crate) fn all_are<T, W, F: Fn(&T, &W) -> bool>(found: &[T], wanted: &[W], is
     at == wanted.len()
 }
 
-// The documents that the texts are; None where one is none.
-fn docs(alloc: Global, texts: &[&str], new_edits: bool) -> Option<Vec<Doc>> {
+// The document that a text is; an error where it found no memory, and each time where it is none.
+fn read(alloc: Global, text: &str, new_edits: bool) -> Result<Doc, AllocError> {
+    match Doc::read(alloc, text.as_bytes(), new_edits) {
+        Ok(doc) => Ok(doc),
+        Err(_) => Err(AllocError),
+    }
+}
+
+// The same of several.
+fn docs(alloc: Global, texts: &[&str], new_edits: bool) -> Result<Vec<Doc>, AllocError> {
     let mut docs = Vec::new(alloc);
     for text in texts {
-        docs.try_reserve(1).ok()?;
-        docs.push_reserved(Doc::read(alloc, text.as_bytes(), new_edits).ok()?);
+        docs.try_reserve(1)?;
+        docs.push_reserved(read(alloc, text, new_edits)?);
     }
-    Some(docs)
+    Ok(docs)
 }
 
 // Whether a document was told so.
@@ -93,12 +102,48 @@ fn is_told(reply: &Outcome<RevId>, told: &Outcome<&str>) -> bool {
     }
 }
 
-// Whether the documents of a whole batch were told so.
-fn are_told(batch: &Written, told: &[Outcome<&str>]) -> bool {
-    !batch.stopped && all_are(batch.replies.as_slice(), told, is_told)
+// How many edits these are.
+fn edit_count(told: &[Outcome<&str>]) -> u64 {
+    let mut count = 0u64;
+    for one in told {
+        if matches!(one, Stored(_)) {
+            count = count.saturating_add(1);
+        }
+    }
+    count
 }
 
-// Whether the documents of a batch are told so.
+// How many documents of a batch were told something, and whether the batch found no memory for the next;
+// None where they were told something else than this.
+fn told_count(batch: &Written, told: &[Outcome<&str>]) -> Option<(usize, bool)> {
+    let replies = batch.replies.as_slice();
+    let count = replies.len();
+    if told.len() < count || !all_are(replies, &told[..count], is_told) {
+        return None;
+    }
+    Some((count, batch.stopped))
+}
+
+// The same of a batch of these documents.
+fn tell(
+    alloc: Global,
+    state: &mut DbState,
+    texts: &[&str],
+    new_edits: bool,
+    told: &[Outcome<&str>],
+) -> Option<(usize, bool)> {
+    let Ok(docs) = docs(alloc, texts, new_edits) else {
+        return Some((0, true));
+    };
+    match state.write_edits(docs, new_edits) {
+        Ok(batch) => told_count(&batch, told),
+        Err(DbFault::NoMemory) => Some((0, true)),
+        Err(DbFault::Refused(_)) => None,
+    }
+}
+
+// Whether the documents of a batch are told so. Where one finds no memory, those before it stand, and it is
+// written again with those behind it.
 fn tells(
     alloc: Global,
     state: &mut DbState,
@@ -106,13 +151,30 @@ fn tells(
     new_edits: bool,
     told: &[Outcome<&str>],
 ) -> bool {
-    let Some(docs) = docs(alloc, texts, new_edits) else {
+    if texts.len() != told.len() {
         return false;
-    };
-    match state.write_edits(docs, new_edits) {
-        Ok(batch) => are_told(&batch, told),
-        Err(_) => false,
     }
+    let mut from = 0usize;
+    for _ in 0..TRIES {
+        let before = state.update_seq();
+        if told.len() < from {
+            return false;
+        }
+        let due = &told[from..];
+        let Some((count, stopped)) = tell(alloc, state, &texts[from..], new_edits, due) else {
+            return false;
+        };
+        if due.len() < count
+            || before.checked_add(edit_count(&due[..count])) != Some(state.update_seq())
+        {
+            return false;
+        }
+        if !stopped {
+            return count == due.len();
+        }
+        from = from.saturating_add(count);
+    }
+    false
 }
 
 // A document `a` whose history has 65,535 revisions `x`.
@@ -130,18 +192,22 @@ fn long_history(alloc: Global) -> Result<String, AllocError> {
 
 // Whether the document with the longest history is told so.
 fn tells_long(alloc: Global, state: &mut DbState, told: Outcome<&str>) -> bool {
-    match long_history(alloc) {
-        Ok(text) => tells(alloc, state, &[text.as_str()], false, &[told]),
-        Err(AllocError) => false,
+    for _ in 0..TRIES {
+        if let Ok(text) = long_history(alloc) {
+            return tells(alloc, state, &[text.as_str()], false, &[told]);
+        }
     }
+    false
 }
 
 // Whether a document with this number as its id is stored.
 fn stores_numbered(alloc: Global, state: &mut DbState, number: u64) -> bool {
-    match format!(in alloc; r#"{{"_id":"{number}","_rev":"1-a"}}"#) {
-        Ok(text) => tells(alloc, state, &[text.as_str()], false, &[Stored("1-a")]),
-        Err(AllocError) => false,
+    for _ in 0..TRIES {
+        if let Ok(text) = format!(in alloc; r#"{{"_id":"{number}","_rev":"1-a"}}"#) {
+            return tells(alloc, state, &[text.as_str()], false, &[Stored("1-a")]);
+        }
     }
+    false
 }
 
 // Whether so many documents are stored, numbered from 1.
@@ -155,14 +221,17 @@ fn stores_many(alloc: Global, state: &mut DbState, count: u64) -> bool {
 }
 
 // Whether an edit is made with this answer.
-fn makes(alloc: Global, state: &mut DbState, text: &str, answer: Result<&str, DbFault>) -> bool {
-    let Ok(doc) = Doc::read(alloc, text.as_bytes(), true) else {
-        return false;
-    };
-    match (state.write_one(doc), answer) {
-        (Ok(rev), Ok(text)) => RevId::read(text) == Some(rev),
-        (Err(fault), Err(other)) => fault == other,
-        _ => false,
+fn makes(
+    alloc: Global,
+    state: &mut DbState,
+    text: &str,
+    answer: Result<&str, DbFault>,
+) -> Result<bool, AllocError> {
+    match (state.write_one(read(alloc, text, true)?), answer) {
+        (Ok(rev), Ok(text)) => Ok(RevId::read(text) == Some(rev)),
+        (Err(DbFault::NoMemory), _) => Err(AllocError),
+        (Err(fault), Err(other)) => Ok(fault == other),
+        _ => Ok(false),
     }
 }
 
@@ -180,14 +249,14 @@ fn has_counts(state: &DbState, answer: Result<(u64, u64, u64), DbFault>) -> bool
     state.info() == counts
 }
 
-// Whether a step has its answer. Want of memory is another answer.
+// Whether a step has its answer, also where a growth of it is refused.
 fn holds(alloc: Global, state: &mut DbState, step: &Step) -> bool {
     match step {
         Step::Batch(texts, told) => tells(alloc, state, texts, false, told),
         Step::Edits(texts, told) => tells(alloc, state, texts, true, told),
         Step::LongHistory(told) => tells_long(alloc, state, *told),
         Step::Many(count) => stores_many(alloc, state, *count),
-        Step::Make(text, answer) => makes(alloc, state, text, *answer),
+        Step::Make(text, answer) => is_right(state, |state| makes(alloc, state, text, *answer)),
         Step::Counts(answer) => has_counts(state, *answer),
         Step::Seq(seq) => state.update_seq() == *seq,
         Step::Length(length) => FeedHost::length(state) == *length,
@@ -196,8 +265,8 @@ fn holds(alloc: Global, state: &mut DbState, step: &Step) -> bool {
         Step::IsDeleted(answer) => state.is_deleted() == *answer,
         Step::Feed(step) => feed_holds(alloc, state, step),
         Step::Hosted(step) => host_holds(alloc, state, step),
-        Step::Local(step) => local_holds(alloc, state, step),
-        Step::Read(step) => read_holds(alloc, state, step),
+        Step::Local(step) => is_right(state, |state| local_holds(alloc, state, step)),
+        Step::Read(step) => is_right(state, |state| read_holds(alloc, state, step)),
     }
 }
 

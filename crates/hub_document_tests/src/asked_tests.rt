@@ -1,12 +1,13 @@
 //! What texts and values ask for, and the faults in them.
 
+use crate::tests::tables::{again, grown};
 use hub_document::DocFault::{BadRev, NotObject};
 use hub_document::{Asked, DocFault, OpenRevs, Revisions, read_value};
-use std::alloc::Global;
+use std::alloc::{AllocError, Global};
 use std::test::Fail;
 
 // The texts of revisions, each with a blank behind it.
-fn add_texts(out: &mut Vec<u8>, revs: &Revisions) -> Result<(), Fail> {
+fn add_texts(out: &mut Vec<u8>, revs: &Revisions) -> Result<(), AllocError> {
     for rev in revs.as_slice() {
         rev.print(out)?;
         out.push(b' ')?;
@@ -15,7 +16,7 @@ fn add_texts(out: &mut Vec<u8>, revs: &Revisions) -> Result<(), Fail> {
 }
 
 // What a text asks for: `all`, the revisions, or `-` for a fault.
-fn open_revs(alloc: Global, text: &str) -> Result<Vec<u8>, Fail> {
+fn open_revs(alloc: Global, text: &str) -> Result<Vec<u8>, AllocError> {
     let mut out = Vec::new(alloc);
     match OpenRevs::read(alloc, text)? {
         None => out.push(b'-')?,
@@ -44,8 +45,9 @@ fn revisions_of_one_document(rt: HostRuntime) -> Result<(), Fail> {
         (r#"["1-a","0-b"]"#, "-"),
         (r#"["x","1-a"]"#, "-"),
     ];
+    let alloc = rt.alloc();
     for (text, expected) in cases {
-        let found = open_revs(rt.alloc(), text)?;
+        let found = grown(|| open_revs(alloc, text))?;
         assert_eq!(rt; found.as_slice(), expected.as_bytes(), "{text}");
     }
     Ok(())
@@ -56,10 +58,10 @@ fn asked(alloc: Global, text: &str) -> Result<Vec<Asked>, DocFault> {
     Asked::read_all(alloc, &value)
 }
 
-// What a text asks for: ids, each with its revisions in brackets.
-fn shown(alloc: Global, text: &str) -> Result<Vec<u8>, Fail> {
+// What is asked for, of a copy: ids, each with its revisions in brackets.
+fn texts_of(alloc: Global, asked: &[Asked]) -> Result<Vec<u8>, AllocError> {
     let mut out = Vec::new(alloc);
-    for one in asked(alloc, text)? {
+    for one in asked {
         let one = one.copy(alloc)?;
         out.extend_from_slice(one.id.as_bytes())?;
         out.push(b'[')?;
@@ -67,6 +69,12 @@ fn shown(alloc: Global, text: &str) -> Result<Vec<u8>, Fail> {
         out.push(b']')?;
     }
     Ok(out)
+}
+
+// What a text asks for.
+fn shown(alloc: Global, text: &str) -> Result<Vec<u8>, DocFault> {
+    let asked = asked(alloc, text)?;
+    Ok(texts_of(alloc, asked.as_slice())?)
 }
 
 #[test]
@@ -79,8 +87,9 @@ fn revisions_of_documents(rt: HostRuntime) -> Result<(), Fail> {
         (r#"{"_local/x":["1-a"],"_y":[]}"#, "_local/x[1-a ]_y[]"),
         (r#"{"a":["2-c","1-a","2-c"]}"#, "a[2-c 1-a 2-c ]"),
     ];
+    let alloc = rt.alloc();
     for (text, expected) in cases {
-        let found = shown(rt.alloc(), text)?;
+        let found = again(|| shown(alloc, text))?;
         assert_eq!(rt; found.as_slice(), expected.as_bytes(), "{text}");
     }
     Ok(())
@@ -103,8 +112,9 @@ fn faults_in_order(rt: HostRuntime) -> Result<(), Fail> {
         (r#"{"a":["x"],"b":["1-a"]}"#, BadRev),
         (r#"{"a":[""]}"#, BadRev),
     ];
+    let alloc = rt.alloc();
     for (text, expected) in cases {
-        let found = asked(rt.alloc(), text).err();
+        let found = again(|| asked(alloc, text)).err();
         assert_eq!(rt; found, Some(expected), "{text}");
     }
     Ok(())

@@ -1,16 +1,35 @@
 //! Filters on ids, and their copies.
+//!
+//! Any one growth of a list or a copy may be refused. The call that met it says so, and is made again; made
+//! again it has the answer that it has with ample memory.
 
 use crate::{DocIds, Filter};
 use std::alloc::{AllocError, Global};
 use std::test::Fail;
 
-// The ids, in this order.
-fn listed(alloc: Global, ids: &[&str]) -> Result<DocIds, AllocError> {
+// The ids, in this order, where memory is found.
+fn list_of(alloc: Global, ids: &[&str]) -> Result<DocIds, AllocError> {
     let mut texts = Vec::new(alloc);
     for id in ids {
         texts.push(String::from_str(alloc, id)?)?;
     }
     Ok(DocIds::new(texts))
+}
+
+// The ids, in this order, made again where no memory is found.
+fn listed(alloc: Global, ids: &[&str]) -> Result<DocIds, AllocError> {
+    match list_of(alloc, ids) {
+        Ok(list) => Ok(list),
+        Err(AllocError) => list_of(alloc, ids),
+    }
+}
+
+// A copy of a filter, made again where no memory is found.
+fn copy_of(alloc: Global, filter: &Filter) -> Result<Filter, AllocError> {
+    match filter.copy(alloc) {
+        Ok(copy) => Ok(copy),
+        Err(AllocError) => filter.copy(alloc),
+    }
 }
 
 #[test]
@@ -45,7 +64,7 @@ fn listed_documents_pass(rt: HostRuntime) -> Result<(), Fail> {
     let alloc = rt.alloc();
     let ids = listed(alloc, &["b", "ab", "_design/x", "a", "é", "b"])?;
     let filter = Filter::DocIds(ids);
-    let copy = filter.copy(alloc)?;
+    let copy = copy_of(alloc, &filter)?;
     for (id, wanted) in [
         ("a", true),
         ("ab", true),
@@ -71,7 +90,8 @@ fn an_empty_list_passes_none(rt: HostRuntime) -> Result<(), Fail> {
     let filter = Filter::DocIds(listed(alloc, &[])?);
     for id in ["", "a", "_design/x"] {
         assert!(rt; !filter.passes(id), "at {id}");
-        assert!(rt; !filter.copy(alloc)?.passes(id), "of the copy at {id}");
+        let copy = copy_of(alloc, &filter)?;
+        assert!(rt; !copy.passes(id), "of the copy at {id}");
     }
     Ok(())
 }

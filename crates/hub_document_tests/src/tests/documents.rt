@@ -1,4 +1,4 @@
-use super::tables::{is_shown, parts};
+use super::tables::{again, grown, is_shown, parts};
 use hub_document::{Doc, DocFault, Limits, Path, RevId, Revisions};
 use std::alloc::{AllocError, Global};
 use std::test::Fail;
@@ -11,7 +11,7 @@ const FULL: &str = concat!(
 
 // Whether a text is read as this document.
 fn is_read(alloc: Global, text: &str, new_edits: bool, expected: &str) -> Result<bool, DocFault> {
-    let doc = Doc::read(alloc, text.as_bytes(), new_edits)?;
+    let doc = again(|| Doc::read(alloc, text.as_bytes(), new_edits))?;
     Ok(is_shown(&doc, expected))
 }
 
@@ -67,7 +67,8 @@ fn is_path(doc: &Doc) -> bool {
 
 #[test]
 fn a_path(rt: HostRuntime) -> Result<(), Fail> {
-    let doc = Doc::read(rt.alloc(), FULL.as_bytes(), false)?;
+    let alloc = rt.alloc();
+    let doc = again(|| Doc::read(alloc, FULL.as_bytes(), false))?;
     assert!(rt; is_path(&doc));
     Ok(())
 }
@@ -94,7 +95,7 @@ fn texts_of(alloc: Global, path: &Path) -> Result<Vec<u8>, AllocError> {
 }
 
 // Whether these are the path of the document that a text is, and the first two of them.
-fn has_path(alloc: Global, text: &str, whole: &str, front: &str) -> Result<bool, Fail> {
+fn has_path(alloc: Global, text: &str, whole: &str, front: &str) -> Result<bool, DocFault> {
     let Doc { path, .. } = Doc::read(alloc, text.as_bytes(), false)?;
     let Some(path) = path else {
         return Ok(false);
@@ -107,28 +108,39 @@ fn has_path(alloc: Global, text: &str, whole: &str, front: &str) -> Result<bool,
 // A history may end above the first generation, and a revision alone is one.
 #[test]
 fn histories(rt: HostRuntime) -> Result<(), Fail> {
+    let alloc = rt.alloc();
     for line in HISTORIES.lines() {
         let (text, rest) = parts(line);
         let (whole, front) = parts(rest);
-        assert!(rt; has_path(rt.alloc(), text, whole, front)?, "{text}");
+        let holds = again(|| has_path(alloc, text, whole, front))?;
+        assert!(rt; holds, "{text}");
     }
     Ok(())
 }
 
+// A list of one revision.
+fn list_of(alloc: Global, rev: RevId) -> Result<Revisions, AllocError> {
+    let mut list = Vec::new(alloc);
+    list.push(rev)?;
+    Ok(Revisions::new(list))
+}
+
 #[test]
 fn a_list_of_revisions(rt: HostRuntime) -> Result<(), Fail> {
-    let mut list = Vec::new(rt.alloc());
-    list.push(RevId::read("1-a").expect(&rt, "a revision"))?;
-    let revisions = Revisions::new(list);
+    let alloc = rt.alloc();
+    let rev = RevId::read("1-a").expect(&rt, "a revision");
+    let revisions = grown(|| list_of(alloc, rev))?;
     assert_eq!(rt; revisions.as_slice().first().copied(), RevId::read("1-a"));
-    let copy = revisions.copy(rt.alloc())?;
+    let copy = grown(|| revisions.copy(alloc))?;
     assert_eq!(rt; copy.as_slice(), revisions.as_slice());
     Ok(())
 }
 
 #[test]
 fn a_copy_of_no_revisions(rt: HostRuntime) -> Result<(), Fail> {
-    let copy = Revisions::new(Vec::new(rt.alloc())).copy(rt.alloc())?;
+    let alloc = rt.alloc();
+    let none = Revisions::new(Vec::new(alloc));
+    let copy = grown(|| none.copy(alloc))?;
     assert!(rt; copy.as_slice().is_empty());
     Ok(())
 }

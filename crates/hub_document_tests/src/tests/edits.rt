@@ -1,5 +1,5 @@
-use super::tables::parts;
-use hub_document::{Doc, RevId, rev_of_edit};
+use super::tables::{again, parts};
+use hub_document::{Doc, DocFault, RevId, rev_of_edit};
 use std::alloc::Global;
 use std::test::Fail;
 
@@ -25,7 +25,7 @@ fn made(
     deleted: bool,
     parent: Option<RevId>,
     text: &str,
-) -> Result<Option<RevId>, Fail> {
+) -> Result<Option<RevId>, DocFault> {
     if let Some(rev) = &parent
         && rev.generation() == 65535
     {
@@ -38,9 +38,11 @@ fn made(
 
 #[test]
 fn a_chain_of_edits(rt: HostRuntime) -> Result<(), Fail> {
+    let alloc = rt.alloc();
     let mut last = None;
     for (edit, expected) in CHAIN.iter().enumerate() {
-        last = made(rt.alloc(), edit == 1, last, r#"{"_id":"a"}"#)?;
+        let parent = last;
+        last = again(|| made(alloc, edit == 1, parent, r#"{"_id":"a"}"#))?;
         assert_eq!(rt; last, RevId::read(expected));
     }
     Ok(())
@@ -48,9 +50,10 @@ fn a_chain_of_edits(rt: HostRuntime) -> Result<(), Fail> {
 
 #[test]
 fn first_edits(rt: HostRuntime) -> Result<(), Fail> {
+    let alloc = rt.alloc();
     for line in FIRST.lines() {
         let (text, expected) = parts(line);
-        let rev = made(rt.alloc(), false, None, text)?;
+        let rev = again(|| made(alloc, false, None, text))?;
         assert_eq!(rt; rev, RevId::read(expected));
     }
     Ok(())

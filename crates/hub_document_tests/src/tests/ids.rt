@@ -1,6 +1,15 @@
+use super::tables::grown;
 use hub_document::{DocId, LocalId};
 use std::alloc::{AllocError, Global};
 use std::test::Fail;
+
+// Whether a text is an id as it stands, or, where none is expected, is none.
+fn is_right(alloc: Global, text: &str, good: bool) -> Result<bool, AllocError> {
+    match DocId::read(alloc, text)? {
+        Some(id) => Ok(good && id.as_str() == text && id.to_text(alloc)?.as_str() == text),
+        None => Ok(!good),
+    }
+}
 
 // The first text of a line that is no id as it stands, or, where none is expected, that is one.
 fn wrong(
@@ -9,11 +18,7 @@ fn wrong(
     good: bool,
 ) -> Result<Option<&'static str>, AllocError> {
     for text in table.split(' ') {
-        let holds = match DocId::read(alloc, text)? {
-            Some(id) => good && id.as_str() == text && id.to_text(alloc)?.as_str() == text,
-            None => !good,
-        };
-        if !holds {
+        if !grown(|| is_right(alloc, text, good))? {
             return Ok(Some(text));
         }
     }
@@ -21,8 +26,8 @@ fn wrong(
 }
 
 fn is_id_of_length(alloc: Global, length: usize) -> Result<bool, AllocError> {
-    let text = "i".repeat(alloc, length)?;
-    Ok(DocId::read(alloc, text.as_str())?.is_some())
+    let text = grown(|| "i".repeat(alloc, length))?;
+    grown(|| is_right(alloc, text.as_str(), true))
 }
 
 #[test]
@@ -52,10 +57,12 @@ fn is_local_id(alloc: Global, length: usize) -> Result<bool, AllocError> {
 fn local_ids(rt: HostRuntime) -> Result<(), Fail> {
     let alloc = rt.alloc();
     for (length, expected) in [(0, false), (1, true), (505, true), (506, false)] {
-        assert_eq!(rt; is_local_id(alloc, length)?, expected, "{length}");
+        let found = grown(|| is_local_id(alloc, length))?;
+        assert_eq!(rt; found, expected, "{length}");
     }
     for text in ["", "x", "_local", "_design/x", "_local_/x", "/_local/x"] {
-        assert!(rt; LocalId::read(alloc, text)?.is_none(), "{text}");
+        let found = grown(|| LocalId::read(alloc, text))?;
+        assert!(rt; found.is_none(), "{text}");
     }
     Ok(())
 }

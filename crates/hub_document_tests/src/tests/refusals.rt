@@ -1,4 +1,4 @@
-use super::tables::{fault_name, parts};
+use super::tables::{again, fault_name, grown, parts};
 use hub_document::{Doc, DocFault};
 use std::alloc::{AllocError, Global};
 use std::test::Fail;
@@ -85,7 +85,7 @@ const TWO: &str = r#"[1.5 | NotJson
 {"_id":"a","_rev":"2-a","_revisions":[],"_x":1} | BadRevisions"#;
 
 fn fault(alloc: Global, text: &str, new_edits: bool) -> &'static str {
-    fault_name(Doc::read(alloc, text.as_bytes(), new_edits).err())
+    fault_name(again(|| Doc::read(alloc, text.as_bytes(), new_edits)).err())
 }
 
 // The first case that is wrong.
@@ -113,23 +113,25 @@ fn faults(rt: HostRuntime) -> Result<(), Fail> {
 
 // The fault of an id and a value of `_attachments`.
 fn with_id(alloc: Global, length: usize, attachments: &str) -> Result<&'static str, AllocError> {
-    let id = "i".repeat(alloc, length)?;
-    let text = format!(in alloc; r#"{{"_id":"{id}","_attachments":{attachments}}}"#)?;
+    let id = grown(|| "i".repeat(alloc, length))?;
+    let text = grown(|| format!(in alloc; r#"{{"_id":"{id}","_attachments":{attachments}}}"#))?;
     Ok(fault(alloc, text.as_str(), true))
 }
 
 // The fault of a value that nests so deep.
 fn with_depth(alloc: Global, depth: usize) -> Result<&'static str, AllocError> {
-    let open = "[".repeat(alloc, depth)?;
-    let close = "]".repeat(alloc, depth)?;
-    let text = format!(in alloc; r#"{{"_id":"a","m":{open}{close}}}"#)?;
+    let open = grown(|| "[".repeat(alloc, depth))?;
+    let close = grown(|| "]".repeat(alloc, depth))?;
+    let text = grown(|| format!(in alloc; r#"{{"_id":"a","m":{open}{close}}}"#))?;
     Ok(fault(alloc, text.as_str(), true))
 }
 
 // The fault of a history of one hash.
 fn with_hash(alloc: Global, length: usize) -> Result<&'static str, AllocError> {
-    let hash = "h".repeat(alloc, length)?;
-    let text = format!(in alloc; r#"{{"_id":"a","_revisions":{{"start":1,"ids":["{hash}"]}}}}"#)?;
+    let hash = grown(|| "h".repeat(alloc, length))?;
+    let text = grown(|| {
+        format!(in alloc; r#"{{"_id":"a","_revisions":{{"start":1,"ids":["{hash}"]}}}}"#)
+    })?;
     Ok(fault(alloc, text.as_str(), false))
 }
 
@@ -160,7 +162,8 @@ fn sizes(rt: HostRuntime) -> Result<(), Fail> {
 
 #[test]
 fn bytes(rt: HostRuntime) -> Result<(), Fail> {
-    let read = Doc::read(rt.alloc(), b"{\"_id\":\"\xff\"}", true);
+    let alloc = rt.alloc();
+    let read = again(|| Doc::read(alloc, b"{\"_id\":\"\xff\"}", true));
     assert_eq!(rt; read.err(), Some(DocFault::NotJson));
     Ok(())
 }
@@ -179,8 +182,10 @@ const REASONS: [(DocFault, &str); 9] = [
 
 #[test]
 fn reasons(rt: HostRuntime) -> Result<(), Fail> {
+    let alloc = rt.alloc();
     for (fault, expected) in &REASONS {
-        assert_eq!(rt; format!(in rt.alloc(); "{fault}")?.as_str(), *expected);
+        let found = grown(|| format!(in alloc; "{fault}"))?;
+        assert_eq!(rt; found.as_str(), *expected);
     }
     Ok(())
 }

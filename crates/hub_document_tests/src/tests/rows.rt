@@ -1,17 +1,28 @@
-use hub_document::{Body, ChangeRow, Changes, Doc, RevId, Revisions, UpdateRow};
+use super::tables::{again, grown};
+use hub_document::{Body, ChangeRow, Changes, Doc, DocFault, RevId, Revisions, UpdateRow};
 use hub_model::UpdateKind;
-use std::alloc::Global;
+use std::alloc::{AllocError, Global};
 use std::test::Fail;
 
-// What a row of a and its revisions 1-x and 1-b writes of the document with these members.
-fn written(alloc: Global, deleted: bool, body: &Body) -> Result<Vec<u8>, Fail> {
-    let doc = Doc::read(alloc, br#"{"_id":"a","_rev":"1-x"}"#, true)?;
+// Two revisions, where they are some.
+fn both(
+    alloc: Global,
+    first: Option<RevId>,
+    second: Option<RevId>,
+) -> Result<Vec<RevId>, AllocError> {
     let mut revisions = Vec::new(alloc);
-    for rev in [doc.rev, RevId::read("1-b")] {
+    for rev in [first, second] {
         if let Some(rev) = rev {
             revisions.push(rev)?;
         }
     }
+    Ok(revisions)
+}
+
+// What a row of a and its revisions 1-x and 1-b writes of the document with these members.
+fn written(alloc: Global, deleted: bool, body: &Body) -> Result<Vec<u8>, DocFault> {
+    let doc = Doc::read(alloc, br#"{"_id":"a","_rev":"1-x"}"#, true)?;
+    let revisions = both(alloc, doc.rev, RevId::read("1-b"))?;
     let row = ChangeRow {
         seq: 1,
         id: doc.id,
@@ -28,7 +39,7 @@ fn written(alloc: Global, deleted: bool, body: &Body) -> Result<Vec<u8>, Fail> {
 #[test]
 fn a_copy_of_a_row(rt: HostRuntime) -> Result<(), Fail> {
     let alloc = rt.alloc();
-    let doc = Doc::read(alloc, br#"{"_id":"a","v":7}"#, true)?;
+    let doc = again(|| Doc::read(alloc, br#"{"_id":"a","v":7}"#, true))?;
     let row = ChangeRow {
         seq: 3,
         id: doc.id,
@@ -37,7 +48,7 @@ fn a_copy_of_a_row(rt: HostRuntime) -> Result<(), Fail> {
         doc: Some(doc.body),
         seen: 4,
     };
-    let copy = row.copy(alloc)?;
+    let copy = grown(|| row.copy(alloc))?;
     assert_eq!(rt;
         (copy.seq, copy.id.as_str(), copy.deleted, copy.seen),
         (3, "a", true, 4)
@@ -56,14 +67,14 @@ fn copies_of_rows_of_updates(rt: HostRuntime) -> Result<(), Fail> {
         ("d", UpdateKind::Updated, 3, 4),
         ("team/mail-1", UpdateKind::Deleted, u64::MAX, u64::MAX),
     ] {
-        let db_name = String::from_str(alloc, name)?;
+        let db_name = grown(|| String::from_str(alloc, name))?;
         let row = UpdateRow {
             db_name,
             kind,
             seq,
             seen,
         };
-        let copy = row.copy(alloc)?;
+        let copy = grown(|| row.copy(alloc))?;
         assert_eq!(rt;
             (copy.db_name.as_str(), copy.kind, copy.seq, copy.seen),
             (name, kind, seq, seen)
@@ -75,9 +86,10 @@ fn copies_of_rows_of_updates(rt: HostRuntime) -> Result<(), Fail> {
 #[test]
 fn documents_of_rows(rt: HostRuntime) -> Result<(), Fail> {
     let alloc = rt.alloc();
-    let doc = Doc::read(alloc, br#"{"_id":"b","v":7}"#, true)?;
-    let here = written(alloc, false, &doc.body)?;
-    let deleted = written(alloc, true, &Body::empty(alloc)?)?;
+    let doc = again(|| Doc::read(alloc, br#"{"_id":"b","v":7}"#, true))?;
+    let here = again(|| written(alloc, false, &doc.body))?;
+    let empty = grown(|| Body::empty(alloc))?;
+    let deleted = again(|| written(alloc, true, &empty))?;
     assert_eq!(rt;
         here.as_slice(),
         br#" {"_id":"a","_rev":"1-x","v":7}"#.as_slice()

@@ -1,6 +1,30 @@
 //! Tables of cases: a case a line, and bars between its parts.
+//!
+//! Any one growth of a case may be refused. The call that met it says so, and is made again; made again it
+//! has the answer that it has with ample memory.
 
 use hub_document::{Doc, DocFault, RevId};
+use std::alloc::AllocError;
+
+/// What a call answers, made again where it finds no memory.
+pub fn again<T: Drop, F: Fn() -> Result<T, DocFault>>(call: F) -> Result<T, DocFault>
+    requires { F.IsAlwaysCallable call }
+{
+    match call() {
+        Err(DocFault::NoMemory) => call(),
+        found => found,
+    }
+}
+
+/// What a call answers that memory alone refuses, made again where it does.
+pub fn grown<T: Drop, F: Fn() -> Result<T, AllocError>>(call: F) -> Result<T, AllocError>
+    requires { F.IsAlwaysCallable call }
+{
+    match call() {
+        Ok(found) => Ok(found),
+        Err(AllocError) => call(),
+    }
+}
 
 /// What stands before the first bar and what stands behind it.
 pub fn parts(line: &str) -> (&str, &str) {
