@@ -3,7 +3,7 @@
 ghost use Rattle.std.specs.Prelude.{◌≡◌, ◌+◌, ◌^◌, ◌<◌, ◌≤◌, ◌∷◌, [], IfOk, OnOk};
 ghost use Rattle.std.specs.List.{All};
 
-use crate::tests::{four_moves, move_both, seq_in};
+use crate::tests::{four_moves, move_again, move_both, room_for, seq_in};
 use hub_index::{PageIndex, SeqIndex, TreeIndex};
 use std::alloc::{AllocError, Global};
 use std::test::Fail;
@@ -13,10 +13,10 @@ fn border_rows(alloc: Global) -> Result<PageIndex, AllocError>
     ensures { IfOk result (λ index. index ≡ (256, 1) ∷ (257, 2) ∷ (512, 3) ∷ (513, 4) ∷ []) }
 {
     let mut index = PageIndex::new(alloc);
-    index.move_to(1, None, 256)?;
-    index.move_to(2, None, 257)?;
-    index.move_to(3, None, 512)?;
-    index.move_to(4, None, 513)?;
+    move_again(&mut index, 1, None, 256)?;
+    move_again(&mut index, 2, None, 257)?;
+    move_again(&mut index, 3, None, 512)?;
+    move_again(&mut index, 4, None, 513)?;
     Ok(index)
 }
 
@@ -69,11 +69,11 @@ fn bounds_end_rows_within_a_page(rt: HostRuntime) -> Result<(), Fail> {
 fn a_page_goes_with_its_last_row(rt: HostRuntime) -> Result<(), Fail> {
     let mut index = border_rows(rt.alloc())?;
     assert_eq!(rt; index.pages(), 3);
-    index.move_to(1, Some(256), 514)?;
+    move_again(&mut index, 1, Some(256), 514)?;
     assert_eq!(rt; index.pages(), 2);
     assert_eq!(rt; index.next_after(0, None), Some((257, 2)));
-    index.move_to(2, Some(257), 515)?;
-    index.move_to(3, Some(512), 516)?;
+    move_again(&mut index, 2, Some(257), 515)?;
+    move_again(&mut index, 3, Some(512), 516)?;
     assert_eq!(rt; index.pages(), 1);
     assert_eq!(rt; index.next_after(0, None), Some((513, 4)));
     Ok(())
@@ -83,12 +83,12 @@ fn a_page_goes_with_its_last_row(rt: HostRuntime) -> Result<(), Fail> {
 fn an_index_may_have_one_row(rt: HostRuntime) -> Result<(), Fail> {
     let mut index = PageIndex::new(rt.alloc());
     assert_eq!(rt; index.pages(), 0);
-    index.move_to(7, None, 256)?;
-    index.move_to(7, Some(256), 257)?;
+    move_again(&mut index, 7, None, 256)?;
+    move_again(&mut index, 7, Some(256), 257)?;
     assert_eq!(rt; index.last_before(257), None);
-    index.move_to(7, Some(257), 258)?;
+    move_again(&mut index, 7, Some(257), 258)?;
     assert_eq!(rt; index.pages(), 1);
-    index.move_to(7, Some(258), u64::MAX)?;
+    move_again(&mut index, 7, Some(258), u64::MAX)?;
     assert_eq!(rt; index.pages(), 1);
     assert_eq!(rt; index.next_after(u64::MAX - 1, None), Some((u64::MAX, 7)));
     assert_eq!(rt; index.next_after(u64::MAX, None), None);
@@ -120,7 +120,7 @@ fn move_in_order(
 fn pages_without_a_row_are_given_back(rt: HostRuntime) -> Result<(), Fail> {
     let alloc = rt.alloc();
     let mut index = PageIndex::new(alloc);
-    let mut plain = Vec::new(alloc);
+    let mut plain = room_for(alloc, 600)?;
     move_in_order(&mut index, &mut plain, 0, 600)?;
     assert_eq!(rt; index.pages(), 3);
     move_in_order(&mut index, &mut plain, 600, 256)?;
@@ -156,7 +156,7 @@ fn move_in_both(
     ensures upto { OnOk result (All (λ r. r.0 ≤ new) plain.new.items) }
 {
     let old = seq_in(plain.as_slice(), document);
-    pages.move_to(document, old, new)?;
+    move_again(pages, document, old, new)?;
     move_both(tree, plain, document, new)?;
     Ok(())
 }
@@ -183,7 +183,7 @@ fn random_moves_agree_with_a_tree(rt: HostRuntime) -> Result<(), Fail> {
     let alloc = rt.alloc();
     let mut tree = TreeIndex::new(alloc);
     let mut pages = PageIndex::new(alloc);
-    let mut plain = Vec::new(alloc);
+    let mut plain = room_for(alloc, 97)?;
     let mut random = 20_261_124u64;
     for step in 1u64..2001 {
         random = random

@@ -1,11 +1,14 @@
 //! Rows that move, and what is read of them.
+//!
+//! Any one growth of a move may be refused. The move says so, the index shows the same as before, and the
+//! move is made again; made again it comes.
 
-ghost use Rattle.std.specs.Prelude.{◌≡◌, ◌<◌, ◌≤◌, [], OnOk};
+ghost use Rattle.std.specs.Prelude.{◌≡◌, ◌<◌, ◌≤◌, [], IfOk, OnOk};
 ghost use Rattle.std.specs.List.{All};
 ghost use Rattle.hub_index.specs.Rows.{seq_of, moved};
 
 use hub_index::{SeqIndex, TreeIndex};
-use std::alloc::AllocError;
+use std::alloc::{AllocError, Global};
 use std::test::Fail;
 
 // The first row of any index, and the last.
@@ -17,14 +20,48 @@ fn last_row<I: SeqIndex>(index: &I) -> Option<(u64, u32)> {
     index.last_before(u64::MAX)
 }
 
+// What an index shows: its first row, its last, and how many there are.
+fn shown<I: SeqIndex>(index: &I) -> (Option<(u64, u32)>, Option<(u64, u32)>, u64) {
+    (first_row(index), last_row(index), index.count_after(0))
+}
+
+// Moves a document, and moves it again where no memory is found and the index shows the same as before.
+pub(crate) fn move_again<I: SeqIndex>(
+    index: &mut I,
+    document: u32,
+    old: Option<u64>,
+    new: u64,
+) -> Result<(), AllocError>
+    requires own { seq_of document (I.rows index.old) ≡ old }
+    requires positive { 0 < new }
+    requires above { All (λ r. r.0 < new) (I.rows index.old) }
+    ensures { OnOk result (I.rows index.new ≡ moved (I.rows index.old) document new) }
+{
+    let before = shown(index);
+    match index.move_to(document, old, new) {
+        Err(AllocError) if shown(index) == before => index.move_to(document, old, new),
+        made => made,
+    }
+}
+
+// A plain list of no rows that has room for so many, asked for again where no memory is found.
+pub(crate) fn room_for(alloc: Global, count: usize) -> Result<Vec<(u64, u32)>, AllocError>
+    ensures { IfOk result (λ plain. plain.items ≡ []) }
+{
+    match Vec::with_capacity(alloc, count) {
+        Ok(plain) => Ok(plain),
+        Err(AllocError) => Vec::with_capacity(alloc, count),
+    }
+}
+
 // Documents 7, 8 and 9 at the sequences 1, 2 and 3, of which the first is then moved to 4.
 pub(crate) fn four_moves<I: SeqIndex>(index: &mut I) -> Result<(), AllocError>
     requires { I.rows index.old ≡ [] }
 {
-    index.move_to(7, None, 1)?;
-    index.move_to(8, None, 2)?;
-    index.move_to(9, None, 3)?;
-    index.move_to(7, Some(1), 4)?;
+    move_again(index, 7, None, 1)?;
+    move_again(index, 8, None, 2)?;
+    move_again(index, 9, None, 3)?;
+    move_again(index, 7, Some(1), 4)?;
     Ok(())
 }
 
@@ -142,7 +179,7 @@ pub(crate) fn move_both<I: SeqIndex>(
     ensures upto { OnOk result (All (λ r. r.0 ≤ new) plain.new.items) }
 {
     let old = seq_in(plain.as_slice(), document);
-    index.move_to(document, old, new)?;
+    move_again(index, document, old, new)?;
     move_in(plain, document, new)?;
     Ok(())
 }
@@ -161,7 +198,7 @@ fn answers_as<I: SeqIndex>(index: &I, plain: &[(u64, u32)], place: u64, bound: u
 fn random_moves_agree_with_a_list(rt: HostRuntime) -> Result<(), Fail> {
     let alloc = rt.alloc();
     let mut index = TreeIndex::new(alloc);
-    let mut plain = Vec::new(alloc);
+    let mut plain = room_for(alloc, 97)?;
     let mut random = 20_260_101u64;
     for new in 1u64..2001 {
         random = random

@@ -1,6 +1,7 @@
 //! Parameters against tables of queries.
 
 use hub_params::DocParams;
+use std::alloc::{AllocError, Global};
 use std::process::Abort;
 use std::test::Fail;
 
@@ -21,10 +22,18 @@ fn is_text(found: &Option<String>, wanted: Option<&str>) -> bool {
     }
 }
 
+// What a query gives, read again where no memory is found.
+fn read(alloc: Global, query: &[u8]) -> Result<DocParams, AllocError> {
+    match DocParams::read(alloc, query) {
+        Ok(found) => Ok(found),
+        Err(AllocError) => DocParams::read(alloc, query),
+    }
+}
+
 // Tries one query.
 fn try_row<R: Abort + AllocGlobal>(rt: &R, row: DocRow) -> Result<(), Fail> {
     let (query, rev, open_revs, revs, new_edits) = row;
-    let found = DocParams::read(rt.alloc(), query.as_bytes())?;
+    let found = read(rt.alloc(), query.as_bytes())?;
     assert!(rt; is_text(&found.rev, rev), "rev at {query}");
     assert!(rt;
         is_text(&found.open_revs, open_revs),

@@ -3,7 +3,7 @@
 use hub_filter::Filter;
 use hub_model::{Mode, Since, Style};
 use hub_params::{FeedParams, ParamFault};
-use std::alloc::Global;
+use std::alloc::{AllocError, Global};
 use std::process::Abort;
 use std::test::Fail;
 
@@ -77,11 +77,27 @@ fn is_same(found: &FeedParams, wanted: Wanted) -> bool {
         && agrees(&found.filter, wanted.shows)
 }
 
+// What a query and a body give, read again where no memory is found.
+fn read(alloc: Global, query: &[u8], body: &[u8]) -> Result<FeedParams, ParamFault> {
+    match FeedParams::read(alloc, query, body) {
+        Err(ParamFault::NoMemory) => FeedParams::read(alloc, query, body),
+        found => found,
+    }
+}
+
+// A copy of these parameters, made again where no memory is found.
+fn copy_of(alloc: Global, params: &FeedParams) -> Result<FeedParams, AllocError> {
+    match params.copy(alloc) {
+        Ok(copy) => Ok(copy),
+        Err(AllocError) => params.copy(alloc),
+    }
+}
+
 // Whether the query and the body give these parameters, and so does a copy.
-fn gives(alloc: Global, query: &str, body: &str, wanted: Wanted) -> Result<bool, Fail> {
-    match FeedParams::read(alloc, query.as_bytes(), body.as_bytes()) {
+fn gives(alloc: Global, query: &str, body: &str, wanted: Wanted) -> Result<bool, AllocError> {
+    match read(alloc, query.as_bytes(), body.as_bytes()) {
         Ok(found) => {
-            let copy = found.copy(alloc)?;
+            let copy = copy_of(alloc, &found)?;
             Ok(is_same(&found, wanted) && is_same(&copy, wanted))
         }
         Err(_) => Ok(false),
@@ -89,7 +105,7 @@ fn gives(alloc: Global, query: &str, body: &str, wanted: Wanted) -> Result<bool,
 }
 
 fn fails(alloc: Global, query: &str, body: &str, wanted: ParamFault) -> bool {
-    match FeedParams::read(alloc, query.as_bytes(), body.as_bytes()) {
+    match read(alloc, query.as_bytes(), body.as_bytes()) {
         Ok(_) => false,
         Err(fault) => fault == wanted,
     }
@@ -514,7 +530,7 @@ fn bad_ids_in_the_body(rt: HostRuntime) {
 fn a_body_that_is_no_text(rt: HostRuntime) {
     assert!(rt;
         matches!(
-            FeedParams::read(rt.alloc(), br#"filter=_doc_ids&doc_ids=["a"]"#, b"\xff"),
+            read(rt.alloc(), br#"filter=_doc_ids&doc_ids=["a"]"#, b"\xff"),
             Err(ParamFault::BadDocIds)
         )
     );
@@ -538,6 +554,14 @@ const FAULTS: [(&str, &str, ParamFault); 10] = [
     ("include_docs", "include_docs=x", ParamFault::BadFlag),
 ];
 
+// Two queries in one, made again where no memory is found.
+fn joined(alloc: Global, one: &str, other: &str) -> Result<String, AllocError> {
+    match format!(in alloc; "{one}&{other}") {
+        Ok(both) => Ok(both),
+        Err(AllocError) => format!(in alloc; "{one}&{other}"),
+    }
+}
+
 // Tries a fault with each other that stands behind it and is of another name.
 fn try_before_later<R: Abort + AllocGlobal>(
     rt: &R,
@@ -549,7 +573,7 @@ fn try_before_later<R: Abort + AllocGlobal>(
         if name == *other_name {
             continue;
         }
-        let both = format!(in rt.alloc(); "{other}&{query}")?;
+        let both = joined(rt.alloc(), other, query)?;
         try_bad(rt, both.as_str(), "", fault);
     }
     Ok(())
