@@ -90,3 +90,60 @@ fn revisions_among_many(rt: HostRuntime) -> Result<(), Fail> {
     assert_eq!(rt; first_wrong(rt.alloc(), &mut tree, AMONG_MANY)?, None);
     Ok(())
 }
+
+// A tree of so many edits of a revision alone, whose hashes are the texts of no digests, and then of an edit
+// on each, which tells its parent.
+fn tree_of_texts(alloc: Global, count: usize) -> Result<RevTree, AllocError> {
+    let mut tree = RevTree::new(alloc);
+    for number in 0..count {
+        let text = format!(in alloc; r#"{{"_id":"a","_rev":"2-x{number}"}}"#)?;
+        let _ = merge(alloc, &mut tree, &text);
+    }
+    for number in 0..count {
+        let text = format!(in alloc;
+            r#"{{"_id":"a","_revisions":{{"start":3,"ids":["y{number}","x{number}","z{number}"]}}}}"#
+        )?;
+        let _ = merge(alloc, &mut tree, &text);
+    }
+    Ok(tree)
+}
+
+// The numbers from 0 to 399 are those of edits.
+const AMONG_TEXTS: &[Step] = &[
+    Len(800),
+    Nodes(1200),
+    Knows("2-x0", true),
+    Knows("2-x399", true),
+    Knows("3-y7", true),
+    Knows("1-z300", true),
+    Knows("2-x400", false),
+    Knows("1-x5", false),
+    Knows("2-00000000000000000000000000000000", false),
+    Deleted("2-x0", Some(false)),
+    Deleted("3-y399", Some(false)),
+    Deleted("1-z7", None),
+    Deleted("3-y400", None),
+    Path("2-x7", Some("2-x7 1-z7 ")),
+    Path("3-y300", Some("3-y300 2-x300 1-z300 ")),
+    Merge(
+        r#"{"_id":"a","_revisions":{"start":2,"ids":["x5","z5"]}}"#,
+        KNOWN,
+    ),
+    Merge(
+        r#"{"_id":"a","_revisions":{"start":3,"ids":["w","x5","q"]}}"#,
+        Err(MergeFault::Contradicts),
+    ),
+    Merge(
+        r#"{"_id":"a","_revisions":{"start":3,"ids":["w","x5","z5"]}}"#,
+        ADDED,
+    ),
+    Path("3-w", Some("3-w 2-x5 1-z5 ")),
+    Missing(&["2-x5", "2-x400", "1-z399", "3-w"], "2-x400 "),
+];
+
+#[test]
+fn revisions_that_are_no_digests(rt: HostRuntime) -> Result<(), Fail> {
+    let mut tree = tree_of_texts(rt.alloc(), 400)?;
+    assert_eq!(rt; first_wrong(rt.alloc(), &mut tree, AMONG_TEXTS)?, None);
+    Ok(())
+}
