@@ -57,7 +57,16 @@ COLUMNS = ["growths", "runs", "refused", "start", "closed", "503", "cut", "same"
 COLUMNS += ["before", "behind", "unnoted", "stopped"]
 ALL = {**SCRIPTS, **SCENES}
 # Tests that end where one of their own growths is refused, which they do not make again: how their names begin.
-OWN_GROWTHS = ("hint_tests::", "id_tests::", "random_tests::", "tests::long_lists_are_searched")
+OWN_GROWTHS = (
+    "hint_tests::",
+    "id_tests::",
+    "random_tests::",
+    "tests::long_lists_are_searched",
+    # Their threads wait for one another: where one finds no memory and ends, another waits for ever.
+    "tests::locks::a_held_database_holds_no_other_call",
+    # Two threads and 2,000 edits: no run is like another.
+    "tests::threads::a_follower_beside_a_writer",
+)
 
 
 class Ample:

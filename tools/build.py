@@ -19,6 +19,8 @@ import time
 PARTS = ("src", "specs", "proofs")
 # The most processors that one proof gains from.
 MOST_JOBS = 4
+# How much nicer a proof is for each crate with a longer chain above it.
+STEP = 5
 
 
 class Crate:
@@ -157,7 +159,9 @@ class Proof:
         folder = crate.folder if crate.is_program else f"{lane}/crates/{crate.name}"
         with open(self.log, "wb") as out:
             how = {"stdin": subprocess.DEVNULL, "stdout": out, "stderr": subprocess.STDOUT}
-            self.process = subprocess.Popen(words, cwd=folder, start_new_session=True, **how)
+            # A group of processes for each proof, in one session: Linux shares processors among sessions whatever
+            # their niceness is (sched_autogroup).
+            self.process = subprocess.Popen(words, cwd=folder, preexec_fn=os.setpgrp, **how)
 
     def read(self):
         """Takes in what the proof has written since the last look."""
@@ -251,8 +255,8 @@ class Build:
                     link_folder(f"{self.crates[it].folder}/out/rlib", f"{lane}/crates/{it}/out/rlib")
             for part in ("incremental", "rlib"):
                 move_folder(f"{crate.folder}/out/{part}", f"{lane}/crates/{name}/out/{part}")
-        by_chain = sorted(self.crates, key=lambda it: -self.chain[it])
-        self.running.append(Proof(crate, lane, jobs, min(by_chain.index(name), 19)))
+        left = sorted((it for it in self.crates if it not in self.done), key=lambda it: -self.chain[it])
+        self.running.append(Proof(crate, lane, jobs, min(STEP * left.index(name), 19)))
 
     def linked(self, lane):
         """The libraries that the lane has of this build."""

@@ -28,7 +28,7 @@ not_full full l e h = grind (arith, common_steps)
 needs : (id : List ℕ) (edits : List Edit) (full : Bool) (edit : Incoming) (e : Edit) → IsStorable edits (Ready e) → Ready e ≡ unless_full full (look_at id edits edit) → NeedsRoomFor edits [] edit
 needs id edits full edit e storable h = grind (arith, nat_tests, common_steps, by_is, made_has)
 
--- so an error behind such a look is want of memory where some is needed
+-- so an error behind such a look is out of memory, where memory is needed
 pub ready_needs : {A E : Type 0} (r : Result A E) (id : List ℕ) (edits : List Edit) (full : Bool) (edit : Incoming) (l : Looked) (e : Edit)
     → l ≡ Ready e → IsStorable edits l → l ≡ unless_full full (look_at id edits edit) → OnErr r (NeedsRoomFor edits [] edit)
 ready_needs (Ok a) id edits full edit l e is storable looked = tt

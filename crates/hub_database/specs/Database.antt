@@ -46,8 +46,8 @@ abbrev pub reading_fault : Database → DbFault
 reading_fault db = if db.deleted then Refused fault.Deleted else NoMemory
 
 -- Why a call that reads gives up, where `needs` says that its answer takes memory: a deleted database is
--- always told, and want of memory only by one that stands and whose answer takes memory. So an unknown
--- document is never want of memory.
+-- always told, and out of memory only by one that stands and whose answer takes memory. So an unknown
+-- document is never answered as out of memory.
 abbrev pub GivesUp : Database → Type 0 → DbFault → Type 0
 GivesUp db needs e =
     ((db.deleted ≡ true) × (e ≡ Refused fault.Deleted)) ⊎ ((db.deleted ≡ false) × (e ≡ NoMemory) × needs)

@@ -33,7 +33,7 @@ use std::alloc::{AllocError, Global};
 use std::marker::Model;
 
 /// The state of one database: what it keeps, whether it was deleted, and its feeds.
-#[derive(Debug, Drop)]
+#[derive(Debug)]
 pub struct DbState {
     pub(crate) contents: Contents,
     /// Whether it was deleted: then it takes and shows nothing, and its feeds come to their ends.
@@ -42,6 +42,17 @@ pub struct DbState {
     pub(crate) feeds: Feeds,
     /// The rows of one feed of listed documents, kept in order until the next write.
     pub(crate) listing: Listing,
+}
+
+impl Drop for DbState {
+    fn drop(self) {
+        let Self {
+            contents,
+            deleted,
+            feeds,
+            listing,
+        } = self;
+    }
 }
 
 impl Model for DbState {

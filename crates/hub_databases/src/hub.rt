@@ -39,7 +39,6 @@ pub struct Written {
 
 /// The databases of a hub by their names, and the log of what happens to them. Threads share it, by
 /// reference or by an `Arc`.
-#[derive(Drop)]
 pub struct Hub {
     alloc: Global,
     limits: Limits,
@@ -50,6 +49,17 @@ pub struct Hub {
     names: RwLock<Names<Arc<Named, Global>>>,
     /// What happened to them. Its lock is taken alone, or under that of the names.
     updates: Updates,
+}
+
+impl Drop for Hub {
+    fn drop(self) {
+        let Self {
+            alloc,
+            limits,
+            names,
+            updates,
+        } = self;
+    }
 }
 
 impl Hub {

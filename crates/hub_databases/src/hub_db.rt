@@ -25,9 +25,14 @@ impl HasName for Arc<Named, Global> {
 
 /// A database that was found in a hub. It stays when it is removed from there, for those that have
 /// it: what they write is then refused. Contracts see its name.
-#[derive(Drop)]
 pub struct HubDb {
     named: Arc<Named, Global>,
+}
+
+impl Drop for HubDb {
+    fn drop(self) {
+        let Self { named } = self;
+    }
 }
 
 impl Model for HubDb {

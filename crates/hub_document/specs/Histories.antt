@@ -19,7 +19,8 @@ read_or missing read None = missing
 read_or missing read (Some d) = read d
 
 -- the revision of `_rev`; None is a fault. It may be absent where edits are new, or a history stands beside
--- it.
+-- it. So where edits are new a document without `_rev` names no revision. Where they are not, it is a fault
+-- unless `_revisions` stands there.
 abbrev pub rev_of : Bool → Data → Option (Option Revision)
 rev_of new_edits d =
     read_or (if new_edits || is_some (get (codes "_revisions") d)
@@ -29,7 +30,8 @@ rev_of new_edits d =
 abbrev pub hashed_at : ℕ → Data → Option Revision
 hashed_at n d = if n == 0 then None else option_and_then (with_hash n) (as_str d)
 
--- the hashes of generations n, n - 1 and so on; there is no generation 0
+-- The revisions that hashes of generations n, n - 1 and so on name; there is no generation 0. From 3 on "c"
+-- and "b" name 3-c 2-b; from 1 on it is None, since b would be of generation 0.
 abbrev pub falling : ℕ → Items → Option (List Revision)
 falling n no_items = Some []
 falling n (item d ds) =
@@ -44,7 +46,8 @@ starting start no_items = None
 starting start (item d ds) =
     if nat_lt 0 start && nat_lt start (2 ^ 16) then falling start (item d ds) else None
 
--- the history that `_revisions` writes by `start` and `ids`
+-- the history that `_revisions` writes by `start` and `ids`. {"start":3,"ids":["c","b"]} writes 3-c 2-b.
+-- {"start":1,"ids":["c","b"]} writes none, and neither does {"start":3,"ids":[]}.
 abbrev pub history_in : Data → Option (List Revision)
 history_in d =
     option_and_then
@@ -56,7 +59,8 @@ abbrev pub is_head : Option Revision → List Revision → Bool
 is_head None path = true
 is_head (Some r) path = is_first r path
 
--- the history, where that holds
+-- the history, where that holds. For 3-c 2-b it holds where 3-c is named, or nothing; where 2-b is named it
+-- does not.
 abbrev pub if_head : Option Revision → List Revision → Option (List Revision)
 if_head rev path = if is_head rev path then Some path else None
 
@@ -65,7 +69,8 @@ abbrev pub alone : Option Revision → Option (List Revision)
 alone None = None
 alone (Some r) = Some (r ∷ [])
 
--- the history of a document that names this revision
+-- the history of a document that names this revision. Where 3-c is named it is 3-c 2-b if `_revisions`
+-- writes that, 3-c alone if there is no such member, and none if `_revisions` writes 4-d 3-c.
 abbrev pub path_of : Option Revision → Data → Option (List Revision)
 path_of rev d =
     read_or (alone rev) (λ v. option_and_then (if_head rev) (history_in v)) (get (codes "_revisions") d)

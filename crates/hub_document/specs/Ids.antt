@@ -5,7 +5,8 @@ use Rattle.std.specs.List.{starts_with}
 use Rattle.serde_json.specs.Data.{Data}
 use Rattle.serde_json.specs.Find.{get, as_str}
 
--- 1 byte or more; after `_` only `design/` and a name, since `_local` documents have calls of their own
+-- 1 byte or more; after `_` only `design/` and a name, since `_local` documents have calls of their own. a,
+-- a_b and _design/x are ids; the empty text, _a, _design/ and _local/x are none.
 abbrev pub is_id : List ℕ → Bool
 is_id [] = false
 is_id (b ∷ rest) =

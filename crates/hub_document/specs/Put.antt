@@ -23,13 +23,16 @@ abbrev pub unless_other : Revision → Option Revision → Option (Option Revisi
 unless_other r None = Some (Some r)
 unless_other r (Some s) = if is_same r s then Some (Some r) else None
 
--- the leaf that is named, by the request, by the document, by neither, or by both alike; None is a fault
+-- the leaf that is named, by the request, by the document, by neither, or by both alike; None is a fault.
+-- Where the request names 2-b and the document has no `_rev` it is 2-b, and with a `_rev` of 1-a it is a
+-- fault.
 abbrev pub rev_put : Option (List ℕ) → Data → Option (Option Revision)
 rev_put None d = rev_of true d
 rev_put (Some text) d =
     option_and_then (λ r. option_and_then (unless_other r) (rev_of true d)) (revision_of text)
 
--- the document that an object of these members is under the id, or the first fault
+-- the document that an object of these members is under the id, or the first fault. Under the id _a a
+-- document with a `_rev` of x is BadId, since that fault comes before BadRev.
 abbrev pub put_of : List ℕ → Option (List ℕ) → Bool → Data → Members → Result Doc DocFault
 put_of id rev new_edits d ms =
     or_fault (if_holds (not (members_have_float ms))) BadNumber (λ _.

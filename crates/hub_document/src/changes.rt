@@ -19,9 +19,15 @@ enum Kept {
 
 /// The revisions that a row lists (CouchDB API reference, `_changes`). One alone whose hash is a digest's
 /// text, as most rows have it, takes no memory of its own.
-#[derive(Debug, Drop)]
+#[derive(Debug)]
 pub struct Changes {
     kept: Kept,
+}
+
+impl Drop for Changes {
+    fn drop(self) {
+        let Self { kept } = self;
+    }
 }
 
 /// The revisions that a row lists, lent as they are kept.
@@ -128,7 +134,8 @@ impl Changes {
         ensures ok { IfOk result (λ revs. revs ≡ self) }
         ensures memory { OnErr result (length self ≡ 1) }
     {
-        match self.kept {
+        let Self { kept } = self;
+        match kept {
             Kept::One(rev) => list_of_one(alloc, rev.rev()),
             Kept::Many(revs) => Ok(revs),
         }

@@ -12,19 +12,20 @@ pub struct Limits {
     pub head: u64,
     /// The header fields of a request: 64. As `body`.
     pub headers: u64,
-    /// The databases of a hub: 256. Read where one is made (`changes_hub`).
+    /// The databases of a hub: 256. Read where one is made (`hub_databases`).
     pub databases: u64,
     /// The feeds of a database that are not finished: 1,024. Read where one is opened
     /// (`DbState::open_feed`).
     pub feeds: u64,
-    /// The items that wait for a feed's subscriber: 64. Read where one is handed (`World::apply`).
+    /// The items that wait for a feed's subscriber: 64. Read where its lane is made (`Locked::begin`,
+    /// `World::apply`).
     pub lane: u64,
-    /// The items that a feed is handed in one holding of the lock: 64. No code reads it yet.
+    /// The items that a feed is handed in one holding of the lock: 64. Read where it is handed (`hub_shared`).
     pub hold: u64,
     /// The edits of a database: 4,294,967,295. Read where one is stored (`DbState::write_edits` and
     /// `write_one`).
     pub journal: u64,
-    /// The entries of a replication log's history: 50. No code reads it yet.
+    /// The entries of a replication log's history: 50. A follower keeps this number itself (`hub_follower`).
     pub history: u64,
     ghost limited: { IsLimited body head headers databases feeds lane hold journal history },
 }

@@ -88,7 +88,7 @@ pub(crate) fn with_path(
     })
 }
 
-// The first fault of an edit that came whose path has no room; else it is want of memory. It takes
+// The first fault of an edit that came whose path has no room; else it is out of memory. It takes
 // no memory.
 fn without_path(
     value: &Value,

@@ -13,16 +13,18 @@ pub record FeedList : Type 0 where
   pub feeds : List (ℕ × Feed)
   pub next : ℕ
 
--- their numbers rise, and were given: the next one is new
+-- their numbers rise, and were given: the next one is new. Feeds 3 and 5 with 6 as the next number are so;
+-- with 5 as the next number they are not, since 5 was given.
 pub record AreNumbered (next : ℕ) (feeds : List (ℕ × Feed)) : Type 0 where
   pub rising : AreRising feeds
   pub given : All (λ (p : ℕ × Feed). p.0 < next) feeds
 
--- a feed has come, and goes, no further than the last of so many edits
+-- a feed has come, and goes, no further than the last of so many edits. Of 5 edits a feed with place 3 and
+-- bound 5 is so; one with place 3 and bound 8 is not.
 abbrev pub IsBehind : ℕ → Feed → Type 0
 IsBehind length f = (f.place ≤ length) × IfSome f.bound (λ bound. bound ≤ length)
 
--- each of them has
+-- each of the feeds has come, and goes, no further than the last of so many edits
 abbrev pub AreBehind : ℕ → List (ℕ × Feed) → Type 0
 AreBehind length feeds = All (λ (p : ℕ × Feed). IsBehind length p.1) feeds
 

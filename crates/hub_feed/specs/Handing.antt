@@ -14,8 +14,9 @@ module _ {R : Type 0} (kind : RowKind R) (allowed : List Edit → Type 0) where
     pub legal : allowed J
     pub fits : Fits kind J f items
 
-  -- the list is rightly handed, by these parameters and above this sequence, for some edits that there may
-  -- be, some place and some bound
+  -- The list is rightly handed, by these parameters and above this sequence, for some edits that there may
+  -- be, some place and some bound. For a normal feed above 0 the rows of b at 2 and a at 3 are: they are
+  -- right for edits of a, b and then a again. The row at 3 and then that at 2 are right for no edits.
   pub record IsRightFor (params : Params) (since : ℕ) (items : List (Item R)) : Type 0 where
     pub edits : List Edit
     pub legal : allowed edits

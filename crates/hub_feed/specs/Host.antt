@@ -26,7 +26,7 @@ pub record Hosted (R : Type 0) : Type 0 where
   pub deleted : Bool  -- whether what they follow was deleted
   pub limit : ℕ  -- how many feeds there may be at most
 
--- the same with these feeds, and this number for the next one
+-- the host with these feeds, and this number for the next one
 abbrev pub with_feeds : {R : Type 0} → Hosted R → List (ℕ × Feed) → ℕ → Hosted R
 with_feeds h feeds next_feed = record h { feeds = feeds; next_feed = next_feed }
 
@@ -38,7 +38,7 @@ is_full h = nat_le h.limit (length h.feeds) || nat_le (2 ^ 64 - 1) h.next_feed
 abbrev pub refuses : {R : Type 0} → Hosted R → Option OpenFault
 refuses h = if h.deleted then Some Deleted else if is_full h then Some TooManyFeeds else None
 
--- why an opening fails: for want of memory only where nothing refuses it
+-- why an opening fails: out of memory is told only where nothing refuses it
 abbrev pub opening_fault : {R : Type 0} → Hosted R → OpenFault
 opening_fault h = unwrap_or (refuses h) NoMemory
 
@@ -77,13 +77,15 @@ item_for h f = item_of (h.shown f.params.style f.params.include_docs) h.current 
 abbrev pub item_due : {R : Type 0} → Hosted R → ℕ → Option (Item R)
 item_due h id = option_and_then (item_for h) (entry_in id h.feeds)
 
--- the feeds once that of this number answered so: only where it had nothing to hand it moves, to the length
+-- the feeds once that of this number answered so: only where it had nothing to hand it moves, to the length.
+-- While there are 9 edits, and feed 3 of the feeds 3 and 5 had nothing to hand, feed 3 has place 9 then, and
+-- feed 5 stays as it is. Where feed 3 gave an item both stay as they are.
 abbrev pub feeds_behind : {R : Type 0} → ℕ → ℕ → Next R → List (ℕ × Feed) → List (ℕ × Feed)
 feeds_behind id len (Give item) feeds = feeds
 feeds_behind id len Nothing feeds = changed id (λ f. after_nothing f len) feeds
 feeds_behind id len Gone feeds = feeds
 
--- once the feed of this number answered so
+-- the host once the feed of this number answered so
 abbrev pub behind_answer : {R : Type 0} → Hosted R → ℕ → Next R → Hosted R
 behind_answer h id next = record h { feeds = feeds_behind id h.length next h.feeds }
 
@@ -91,7 +93,8 @@ behind_answer h id next = record h { feeds = feeds_behind id h.length next h.fee
 abbrev pub behind_due : {R : Type 0} → Hosted R → Feed → Feed
 behind_due h f = after_due f (due h.current f) h.length
 
--- once the feed of this number handed the item that was due to it
+-- The host once the feed of this number handed the item that was due to it. Where that was the row at 6, the
+-- feed's place is 6 then, and it has one row more.
 abbrev pub handed : {R : Type 0} → Hosted R → ℕ → Hosted R
 handed h id = record h { feeds = changed id (behind_due h) h.feeds }
 
@@ -100,10 +103,11 @@ abbrev pub is_beat_due : Option Feed → Bool
 is_beat_due None = false
 is_beat_due (Some f) = beat_due f
 
--- once the time of the feed of this number is over
+-- the host once the time of the feed of this number is over
 abbrev pub expired : {R : Type 0} → Hosted R → ℕ → Hosted R
 expired h id = record h { feeds = changed id expire h.feeds }
 
--- once the feed of this number is finished: its number stays given
+-- The host once the feed of this number is finished: its number stays given. Where feed 5 of the feeds 3 and
+-- 5 is finished, feed 3 stays, and the next one still gets 6.
 abbrev pub finished : {R : Type 0} → Hosted R → ℕ → Hosted R
 finished h id = record h { feeds = without id h.feeds }

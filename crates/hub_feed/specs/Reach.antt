@@ -7,7 +7,8 @@ use Rattle.hub_model.specs.Current.{Current}
 use Rattle.hub_model.specs.Feed.{Feed, Open, is_in_reach, is_within}
 use Rattle.hub_model.specs.Filter.{Filter, Everything, DocIds, Design}
 
--- the first row above a place and not above the bound, if there is one
+-- the first row above a place and not above the bound, if there is one. Of rows at 2, 6 and 9, place 3 and
+-- bound 8 it is that at 6; with bound 5 there is none, and above place 6 without a bound it is that at 9.
 abbrev pub first_within : ℕ → Option ℕ → List Current → Option Current
 first_within place bound rows = find (λ (c : Current). nat_lt place c.seq && is_within bound c.seq) rows
 
@@ -16,7 +17,8 @@ abbrev pub is_listed_within : ℕ → Option ℕ → List (List ℕ) → Current
 is_listed_within place bound ids c =
     nat_lt place c.seq && (is_within bound c.seq && list_any (bytes_eq c.id) ids)
 
--- the first of these, if there is one
+-- the first row above a place and not above the bound that is of one of the documents with these ids, if
+-- there is one
 abbrev pub first_listed : ℕ → Option ℕ → List (List ℕ) → List Current → Option Current
 first_listed place bound ids rows = find (is_listed_within place bound ids) rows
 
@@ -32,8 +34,9 @@ listed_in Everything = None
 listed_in (DocIds ids) = Some ids
 listed_in Design = None
 
--- of these rows the first in reach of a feed, if the feed is there and open, has this sequence, if there is
--- one
+-- `first` is the sequence of the first of these rows that is in reach of the feed, or None where no row is;
+-- this counts only where the feed is there and open. Of rows at 2, 6 and 9 and an open feed at place 3
+-- without a bound or a filter it is 6.
 abbrev pub IsFirst : Option ℕ → List Current → Option Feed → Type 0
 IsFirst first rows feed =
     IfSome feed (λ f. f.status ≡ Open → first ≡ option_map (λ c. c.seq) (find (is_in_reach f) rows))

@@ -32,7 +32,7 @@ pub(crate) enum Status {
 }
 
 /// A feed that was opened, over whatever it follows (CouchDB API reference, `_changes`).
-#[derive(Debug, Drop)]
+#[derive(Debug)]
 pub struct FeedState {
     params: FeedParams,
     /// It shows what lies above this sequence.
@@ -44,6 +44,19 @@ pub struct FeedState {
     /// How many rows it has handed.
     rows: u64,
     status: Status,
+}
+
+impl Drop for FeedState {
+    fn drop(self) {
+        let Self {
+            params,
+            since,
+            bound,
+            place,
+            rows,
+            status,
+        } = self;
+    }
 }
 
 impl Model for FeedState {

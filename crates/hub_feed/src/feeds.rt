@@ -21,7 +21,7 @@ use std::alloc::{AllocError, Global};
 use std::marker::Model;
 
 /// The feeds of what keeps them that are not finished. A feed is found by its number, by binary search.
-#[derive(Debug, Drop)]
+#[derive(Debug)]
 pub struct Feeds {
     /// By their numbers, which rise.
     list: Vec<(u64, FeedState)>,
@@ -29,6 +29,12 @@ pub struct Feeds {
     next: u64,
     /// Where the feed that was asked last for its next item stood. A feed is looked for there first.
     near: usize,
+}
+
+impl Drop for Feeds {
+    fn drop(self) {
+        let Self { list, next, near } = self;
+    }
 }
 
 impl Model for Feeds {

@@ -1,4 +1,6 @@
 //! Feeds over a plain list of edits.
+//!
+//! The rows of these edits take no memory. A list of ids takes some: where it finds none it is made again.
 
 ghost use Rattle.std.specs.Prelude.{length};
 ghost use Rattle.hub_feed_tests.specs.Edits.{IsWithin};
@@ -10,7 +12,7 @@ use hub_feed::{FeedState, Next, Source};
 use hub_filter::{DocIds, Filter};
 use hub_model::{Item, Mode, Since, Style};
 use hub_params::FeedParams;
-use std::alloc::AllocError;
+use std::alloc::{AllocError, Global};
 use std::process::Abort;
 use std::test::Fail;
 
@@ -152,6 +154,23 @@ fn since_and_limit_cut_a_feed(rt: HostRuntime) -> Result<(), Fail> {
     Ok(())
 }
 
+// The ids, in this order, where memory is found.
+fn list_of(alloc: Global, ids: &[&str]) -> Result<DocIds, AllocError> {
+    let mut texts = Vec::new(alloc);
+    for id in ids {
+        texts.push(String::from_str(alloc, id)?)?;
+    }
+    Ok(DocIds::new(texts))
+}
+
+// The ids, in this order, made again where no memory is found.
+fn listed(alloc: Global, ids: &[&str]) -> Result<DocIds, AllocError> {
+    match list_of(alloc, ids) {
+        Ok(list) => Ok(list),
+        Err(AllocError) => list_of(alloc, ids),
+    }
+}
+
 #[test]
 fn a_limit_counts_rows_that_pass(rt: HostRuntime) -> Result<(), Fail> {
     let mut asked = params(Mode::Normal, Since::Plain(0), Some(1));
@@ -164,12 +183,8 @@ fn a_limit_counts_rows_that_pass(rt: HostRuntime) -> Result<(), Fail> {
         &[row(3), Step::End(3, 1), Step::Gone],
     )?;
 
-    let alloc = rt.alloc();
-    let mut ids = Vec::new(alloc);
-    ids.push(String::from_str(alloc, "c")?)?;
-    ids.push(String::from_str(alloc, "x")?)?;
     let mut asked = params(Mode::Normal, Since::Plain(0), Some(2));
-    asked.filter = Filter::DocIds(DocIds::new(ids));
+    asked.filter = Filter::DocIds(listed(rt.alloc(), &["c", "x"])?);
     let mut feed = begin(asked, &THREE);
     walk(
         &rt,

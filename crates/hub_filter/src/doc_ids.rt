@@ -8,9 +8,15 @@ use std::marker::Model;
 
 /// The ids that a subscriber lists (`doc_ids` of `_changes`), seen as the list of their bytes, in
 /// byte order. An id may be there twice.
-#[derive(Debug, Drop)]
+#[derive(Debug)]
 pub struct DocIds {
     sorted: Vec<String>,
+}
+
+impl Drop for DocIds {
+    fn drop(self) {
+        let Self { sorted } = self;
+    }
 }
 
 impl Model for DocIds {

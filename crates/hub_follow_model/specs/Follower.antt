@@ -76,7 +76,8 @@ pub data Fault : Type 0 where
   MissingRevision : (id : List ℕ) (r : Revision) → Fault  -- the source says that it misses this revision
 
 -- The log that a checkpoint writes before these older entries: it records the place, and holds 50 entries at
--- most (the number is own).
+-- most (the number is own). Session s1, which began at the beginning and is at place 4, writes
+-- source_last_seq 4 and one entry from the beginning to 4 before no older ones (proved: `CheckpointCalls`).
 abbrev pub checkpoint_log : Session → List HistoryEntry → ReplicationLog
 checkpoint_log s history =
     record {
@@ -100,7 +101,8 @@ revisions_of_row row = record { id = row.id; revs = row.changes }
 abbrev pub missing_revisions : Diff → Asked
 missing_revisions d = record { id = d.id; revs = d.missing }
 
--- the call that a phase makes
+-- the call that a phase makes. With the changes after 3 read, of which a has 2-d, it is RevsDiff of a with
+-- 2-d, then OpenRevs of the same, then Merge of what came (proved: `SecondRoundCalls`).
 abbrev pub phase_call : Session → Phase → Call
 phase_call s Listing = Changes s.place
 phase_call s (Comparison asked last) = RevsDiff asked
@@ -117,7 +119,8 @@ next_call (TargetStart session_id source) = Some (LocalGet Target)
 next_call (Ready s) = None
 next_call (Busy s phase) = Some (phase_call s phase)
 
--- the session that begins after the sequence up to which the two logs agree
+-- the session that begins after the sequence up to which the two logs agree. Where both logs record 4 it
+-- begins after 4, is at place 4, and keeps both histories (proved: `ResumesAtCheckpoint`).
 abbrev pub new_session : List ℕ → Option ReplicationLog → Option ReplicationLog → Session
 new_session session_id source target =
     record {
@@ -142,7 +145,8 @@ abbrev pub storage_or_ready : Session → List Edit → Seq → Follower
 storage_or_ready s [] last = ready_at s last
 storage_or_ready s (e ∷ got) last = Busy s (Storage (e ∷ got) last)
 
--- the next document that the target misses is fetched, or all are stored where there is none
+-- the next document that the target misses is fetched, or all are stored where there is none. Where a, b and
+-- c are missing each has an OpenRevs of its own, and one Merge stores all three (proved: `FirstRoundCalls`).
 abbrev pub retrieval_or_storage : Session → List Asked → List Edit → Seq → Follower
 retrieval_or_storage s [] got last = storage_or_ready s got last
 retrieval_or_storage s (next ∷ later) got last = Busy s (Retrieval next later got last)
@@ -154,14 +158,17 @@ with_document id r None docs = Err (MissingRevision id r)
 with_document id r (Some e) (Ok es) = Ok (e ∷ es)
 with_document id r (Some e) (Err fault) = Err fault
 
--- the documents of these revisions, in their order, or the first revision that is missing
+-- the documents of these revisions, in their order, or the first revision that is missing. Of 2-d of a,
+-- which the source misses, it is MissingRevision a 2-d (proved: `MissingLeavesPlace`).
 abbrev pub all_documents : List ℕ → List Revision → List (Option Edit) → Result (List Edit) Fault
 all_documents id [] [] = Ok []
 all_documents id [] (doc ∷ docs) = Err PeerFault
 all_documents id (r ∷ revs) [] = Err PeerFault
 all_documents id (r ∷ revs) (doc ∷ docs) = with_document id r doc (all_documents id revs docs)
 
--- the first document that the target refused; one that it knew is no refusal
+-- the first document that the target refused; one that it knew is no refusal. Where a full target refuses
+-- the only document, it is that one as SequenceFull (proved: `RefusalLeavesPlace`); where the outcomes are
+-- Stored and Known there is none.
 abbrev pub first_refusal : List Edit → List (Outcome Revision) → Option Fault
 first_refusal [] [] = None
 first_refusal [] (o ∷ outcomes) = Some PeerFault
@@ -196,7 +203,8 @@ abbrev pub after_storage : Session → Seq → Option Fault → Result Follower 
 after_storage s last None = Ok (ready_at s last)
 after_storage s last (Some fault) = Err fault
 
--- the follower behind an answer to the call of its phase, or why the round or the checkpoint fails
+-- The follower behind an answer to the call of its phase, or why the round or the checkpoint fails. A round
+-- whose changes end at 4 leads to Ready at place 4 behind its Merge (proved: `SecondRoundEnds`).
 abbrev pub phase_result : Session → Phase → Answer → Result Follower Fault
 phase_result s Listing (ChangesAnswer rows last life) =
     Ok (comparison_or_ready s (map revisions_of_row rows) (seq_of life last))
@@ -216,7 +224,9 @@ answer_result (TargetStart session_id source) (LogAnswer log) = Ok (Ready (new_s
 answer_result (Busy s phase) answer = phase_result s phase answer
 answer_result follower answer = Err PeerFault
 
--- the follower behind a failure: what the phase held is dropped, and the place stays
+-- the follower behind a failure: what the phase held is dropped, and the place stays. A round from place 3
+-- on whose OpenRevs or Merge fails leaves Ready at place 3 (proved: `MissingLeavesPlace`,
+-- `RefusalLeavesPlace`).
 abbrev pub after_failure : Follower → Follower
 after_failure Down = Down
 after_failure (SourceStart session_id) = Down

@@ -28,8 +28,9 @@ abbrev pub lesser_sequence : Seq → Option Seq → Seq → Seq
 lesser_sequence s None otherwise = otherwise
 lesser_sequence s (Some t) otherwise = lesser_seq t s
 
--- of the newest session of the target's history that the source's has too, the lesser of what the two record;
--- the beginning where there is none
+-- of the newest session of the target's history that the source's has too, the lesser of what the two
+-- record; the beginning where there is none. Where s1 is the newest common session, and recorded 5 at the
+-- source and 4 at the target, it is 4 (proved: `ByTheLesser`).
 abbrev pub common_session_sequence : List HistoryEntry → List HistoryEntry → Seq
 common_session_sequence source [] = beginning
 common_session_sequence source (entry ∷ target) =
@@ -38,7 +39,8 @@ common_session_sequence source (entry ∷ target) =
 
 -- The sequence that a session begins after: the lesser of the two logs' last ones where both are of one
 -- session, else by a session that both histories have, else the beginning; so it is where a log is absent.
--- Worked in WorkedLogs.antt.
+-- Where both logs are of s3, with 9 at the source and 7 at the target, it is 7 (proved: `ByTheLastSession`).
+-- Where they are of s3 and s2, and both have recorded 4 by s1, it is 4 (proved: `ByAnOlderSession`).
 abbrev pub common_sequence : Option ReplicationLog → Option ReplicationLog → Seq
 common_sequence None target = beginning
 common_sequence (Some source) None = beginning
@@ -52,8 +54,9 @@ abbrev pub history_of : Option ReplicationLog → List HistoryEntry
 history_of None = []
 history_of (Some log) = log.history
 
--- c stands in the log as the number of a sequence up to which all was copied: of its last one, or of one that
--- an entry records
+-- c stands in the log as the number of a sequence up to which all was copied: of its last one, or of one
+-- that an entry records. In a log whose last sequence is 9, and whose entries record 9 and 4, both 9 and 4
+-- stand so.
 abbrev pub IsRecordedIn : Option ReplicationLog → ℕ → Type 0
 IsRecordedIn None c = ⊥
 IsRecordedIn (Some log) c =

@@ -245,12 +245,22 @@ fn keep_log<R: Wait>(
 /// A database that threads share, as a follower's peer, by a handle of its own. A call that the database
 /// refuses as a whole, because it was deleted, a local document was written too often or there are too
 /// many feeds, is a fault of the peer, and counted.
-#[derive(Drop)]
 pub struct DbPeer<'a, R: Wait> {
     rt: &'a R,
     alloc: Global,
     handle: Handle<Plain>,
     faults: u64,
+}
+
+impl<R: Wait> Drop for DbPeer<'_, R> {
+    fn drop(self) {
+        let Self {
+            rt,
+            alloc,
+            handle,
+            faults,
+        } = self;
+    }
 }
 
 impl<'a, R: Wait> DbPeer<'a, R> {

@@ -37,9 +37,15 @@ pub(crate) enum State {
 }
 
 /// A follower as a machine: it says which call it owes, and takes the answer.
-#[derive(Debug, Drop)]
+#[derive(Debug)]
 pub struct FollowCore {
     state: State,
+}
+
+impl Drop for FollowCore {
+    fn drop(self) {
+        let Self { state } = self;
+    }
 }
 
 impl Model for FollowCore {

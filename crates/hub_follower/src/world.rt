@@ -45,13 +45,24 @@ pub enum FollowEvent {
 }
 
 /// Two databases, the replication log at each, and a follower that copies one into the other.
-#[derive(Debug, Drop)]
+#[derive(Debug)]
 pub struct FollowWorld {
     alloc: Global,
     pair: Pair,
     /// The sessions that have begun, the latest first.
     sessions: Vec<String>,
     core: FollowCore,
+}
+
+impl Drop for FollowWorld {
+    fn drop(self) {
+        let Self {
+            alloc,
+            pair,
+            sessions,
+            core,
+        } = self;
+    }
 }
 
 impl Model for FollowWorld {
@@ -196,7 +207,7 @@ impl FollowWorld {
         Ok(())
     }
 
-    /// An event happens. Want of memory may leave its effect or a part of it.
+    /// An event happens. Out of memory, it may leave its effect or a part of it.
     pub fn step(&mut self, event: FollowEvent) -> Result<(), AllocError>
         requires { HasPlace self.old }
         ensures { OnOk result (world.Step self.old (event_of event) self.new) }

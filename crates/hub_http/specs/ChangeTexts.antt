@@ -37,11 +37,14 @@ id_member id = codes ",\"id\":" ++ (quoted id ++ codes ",\"changes\":[")
 unfoldable pub row_head : (life seq : ℕ) → List ℕ → List ℕ
 row_head life seq id = codes "{\"seq\":" ++ (sequence_text seq life ++ id_member id)
 
--- a row as a JSON object, in a feed of this life: its sequence is written with the number of the life
+-- a row as a JSON object, in a feed of this life: its sequence is written with the number of the life. In
+-- life 1 the row of a at 3 with 2-b is `{"seq":"3-1","id":"a","changes":[{"rev":"2-b"}]}`, and where it is
+-- deleted `],"deleted":true}` stands at its end.
 unfoldable pub change_row_text : (life : ℕ) → ChangeRow → List ℕ
 change_row_text life row = row_head life row.seq row.id ++ (revisions_text row.changes ++ row_end row)
 
--- the members that end a feed, and the brace that closes it
+-- the members that end a feed, and the brace that closes it. In life 1 an End at 3 with 2 pending is
+-- `"last_seq":"3-1","pending":2}` and a line feed.
 unfoldable pub change_end_text : (life last_seq pending : ℕ) → List ℕ
 change_end_text life last_seq pending =
     codes "\"last_seq\":"

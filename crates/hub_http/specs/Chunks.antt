@@ -6,7 +6,8 @@ use Rattle.hub_http.specs.Texts.{chunk_text}
 use Rattle.hub_http.specs.declared.chunk.ChunkFault.{ChunkFault}
 use Rattle.hub_http.specs.declared.chunk.ChunkFault.TheVariants.{NoMemory, IoFault}
 
--- one chunk for a text that isn't empty
+-- one chunk for a text that isn't empty. For abc it is `3`, CR LF, `abc`, CR LF, and for the empty text
+-- nothing.
 abbrev pub text_chunks : List ℕ → List ℕ
 text_chunks [] = []
 text_chunks (b ∷ bs) = chunk_text (b ∷ bs)
@@ -16,7 +17,8 @@ text_chunks (b ∷ bs) = chunk_text (b ∷ bs)
 abbrev pub head_room : ℕ
 head_room = 18
 
--- the bytes were written, or after a fault a front of them
+-- The bytes were written, or after a fault a front of them. So out of memory nothing of abc was written, and
+-- after IoFault nothing, a, ab or all of it.
 abbrev pub Writes : List ℕ → Result (Unit {0}) ChunkFault → Option (List ℕ) → Option (List ℕ) → Type 0
 Writes bytes (Ok u) old new = Appends old new bytes
 Writes bytes (Err NoMemory) old new = Keeps old new

@@ -30,8 +30,8 @@ SpelledHasNoFault =
 abbrev pub NothingSpellsNothing : Type 0
 NothingSpellsNothing = (a : Asked) (rest : List ℕ) → ¬ (Spells [] a rest)
 
--- and have no fault, nor want of memory: an end of the input between requests is clean, unless the reader
--- failed
+-- and have no fault, nor are they answered as out of memory: an end of the input between requests is clean,
+-- unless the reader failed
 abbrev pub NothingHasNoFault : Type 0
 NothingHasNoFault = (e : HttpFault) → Faults [] e → e ≡ IoFault
 

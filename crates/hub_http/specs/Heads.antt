@@ -41,8 +41,8 @@ is_named name p = same_word p.0 name
 abbrev pub comma : ℕ
 comma = 44
 
--- the options that a Connection field lists: the parts between its commas, without the spaces and tabs around
--- each
+-- the options that a Connection field lists: the parts between its commas, without the spaces and tabs
+-- around each. Of `keep-alive, Close` they are keep-alive and Close.
 abbrev pub options : List ℕ → List (List ℕ)
 options value = map trim_ows (slice_split (λ b. b == comma) value)
 
@@ -64,7 +64,8 @@ abbrev pub is_digits : List ℕ → Bool
 is_digits v = nat_lt 0 (length v) && list_all is_ascii_digit v
 
 -- the length that the values of Content-Length give: they are one text, of digits, and the number is within
--- the limit
+-- the limit. 3 and 3 give 3, and no value gives none. 3 and 03 are BadHead, as -1 is, and 8388609 is
+-- BodyTooLong.
 unfoldable pub length_of : List (List ℕ) → Result (Option ℕ) HttpFault
 length_of [] = Ok None
 length_of (v ∷ vs) =
@@ -87,7 +88,7 @@ length_asked target pairs =
     if target then length_of (values_named (codes "content-length") pairs) else Err BadHead
 
 -- the length that a head asks for, or the first of its faults: the version, a transfer coding, its target or
--- length
+-- length. So with a version of 1.0 and a transfer coding the fault is Version.
 unfoldable pub asked : ℕ → List ℕ → List Pair → Result (Option ℕ) HttpFault
 asked minor target pairs =
     if minor == 1
@@ -118,7 +119,8 @@ pub record Begins (bytes : List ℕ) (h : RequestHead) (rest : List ℕ) : Type 
 abbrev pub HasNoHead : List ℕ → Type 0
 HasNoHead bytes = (h : RequestHead) (rest : List ℕ) → ¬ (Begins bytes h rest)
 
--- no head ends in the bytes, and more bytes can end one
+-- no head ends in the bytes, and more bytes can end one. `GET / HT` does so; `GET / XX` does not, and
+-- neither does a whole head.
 abbrev pub GoesOn : List ℕ → Type 0
 GoesOn bytes = HasNoRequest bytes × MayBecomeRequest bytes
 
@@ -140,7 +142,8 @@ BeginsTooLong bytes = RequestExceeds field_limit bytes ⊎ (BeginsLong bytes ⊎
 abbrev pub NeverHasHead : List ℕ → Type 0
 NeverHasHead bytes = (more : List ℕ) → HasNoHead (bytes ++ more)
 
--- the bytes begin with a head that has this fault
+-- The bytes begin with a head that has this fault. A head whose Content-Length is x has BadHead, and one
+-- whose Content-Length is 8388609 has BodyTooLong.
 abbrev pub BeginsFaulty : List ℕ → HttpFault → Type 0
 BeginsFaulty bytes e = (h : RequestHead) × (rest : List ℕ) × Begins bytes h rest × (length_by h ≡ Err e)
 

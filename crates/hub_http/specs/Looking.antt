@@ -33,7 +33,7 @@ pub record IsHeadAt (buf : List ℕ) (f : Head) (h : RequestHead) : Type 0 where
   pub length : length_by h ≡ Ok f.length
   pub close : f.close ≡ close_by h
 
--- what a fault says of the bytes in which a head was looked for: that of the table, or want of memory
+-- what a fault says of the bytes in which a head was looked for: that of the table, or out of memory
 abbrev pub LookFaults : List ℕ → HttpFault → Type 0
 LookFaults buf NoMemory = 0 < length buf
 LookFaults buf e = HasHeadFault buf e
@@ -45,7 +45,7 @@ Looks buf (Ok (Some f)) = (h : RequestHead) × IsHeadAt buf f h
 Looks buf (Err e) = LookFaults buf e
 
 -- what a fault of looking for a head says of the bytes that are held and those that are left: that of the
--- table, or want of memory, an end in the middle or the reader's failure
+-- table, or out of memory, an end in the middle or the reader's failure
 abbrev pub FindFaults : List ℕ → Option (List ℕ) → HttpFault → Type 0
 FindFaults held left NoMemory = IfSome left (λ more. 0 < length (held ++ more))
 FindFaults held left Ended = IsPartOfHead held × IsAtEnd left

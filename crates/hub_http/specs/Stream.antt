@@ -26,7 +26,8 @@ asked_by q = record {
   body = q.body.items;
 }
 
--- bytes are the head h, the body that it asks for, and then rest; a says what was asked
+-- bytes are the head h, the body that it asks for, and then rest; a says what was asked. The head of a POST
+-- with a Content-Length of 2, and then abc, are that request with the body ab, and then c.
 pub record SpelledBy (bytes : List ℕ) (a : Asked) (rest : List ℕ) (h : RequestHead) : Type 0 where
   pub begins : Begins bytes h (a.body ++ rest)
   pub length : Option ℕ
@@ -41,7 +42,8 @@ pub record SpelledBy (bytes : List ℕ) (a : Asked) (rest : List ℕ) (h : Reque
 abbrev pub Spells : List ℕ → Asked → List ℕ → Type 0
 Spells bytes a rest = (h : RequestHead) × SpelledBy bytes a rest h
 
--- the bytes end in the body that their head asks for
+-- the bytes end in the body that their head asks for. They are so where a head asks for 3 bytes, and ab
+-- stands behind it.
 abbrev pub IsCut : List ℕ → Type 0
 IsCut bytes =
     (h : RequestHead) × (part : List ℕ) × (n : ℕ) × Begins bytes h part × (length_by h ≡ Ok (Some n))
@@ -55,15 +57,17 @@ to_read block left = prepend_known block left
 abbrev pub known : List ℕ → Option (List ℕ) → Option (List ℕ)
 known held left = prepend_known held left
 
--- the bytes spell no request, and may be refused so: they have the head fault of the table, or they end in the
--- middle of a head or of a body; for want of memory only where there are some; and a reader may always fail
+-- The bytes spell no request, and may be refused so: they have the head fault of the table, or they end in
+-- the middle of a head or of a body. Out of memory is told only where there are some, and a reader may
+-- always fail. So an empty text has no fault but IoFault, and a head whose version is 1.0 has Version.
 abbrev pub Faults : List ℕ → HttpFault → Type 0
 Faults bytes NoMemory = 0 < length bytes
 Faults bytes Ended = IsPartOfHead bytes ⊎ IsCut bytes
 Faults bytes IoFault = ⊤
 Faults bytes e = HasHeadFault bytes e
 
--- what is left after a call of `next` over these bytes
+-- what is left after a call of `next` over these bytes. Where the bytes are one request and then c, and it
+-- was read, c is left; where memory was missing, all is left.
 abbrev pub Leaves : List ℕ → Result (Option Request) HttpFault → Option (List ℕ) → Type 0
 Leaves bytes r None = ⊥
 Leaves bytes (Ok (Some q)) (Some rest) = Spells bytes (asked_by q) rest

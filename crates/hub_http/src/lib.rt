@@ -13,6 +13,8 @@ mod input;
 mod interruption_tests;
 mod item;
 mod length;
+#[cfg(test)]
+mod made_again;
 mod output;
 mod read;
 mod refusal;

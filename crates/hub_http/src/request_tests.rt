@@ -1,7 +1,8 @@
 use crate::block::Block;
+use crate::made_again::{again, next_of};
 use crate::requests::fill;
 use crate::{HttpFault, Input, Request, Requests, Tally};
-use std::alloc::Global;
+use std::alloc::{AllocError, Global};
 use std::io;
 use std::io::{ErrorKind, Read};
 use std::process::Abort;
@@ -40,12 +41,17 @@ impl Read for Failing<'_> {
     }
 }
 
-/// The requests of a text, and why no more came. No text of these tests has more than a hundred.
+/// How many requests a text of these tests has at most.
+const MOST: usize = 8;
+
+/// The requests of a text, and why no more came.
 fn read_all(alloc: Global, text: &[u8]) -> (Vec<Request>, Option<HttpFault>) {
     let mut requests = Requests::new(alloc, Tally::new(text));
-    let mut out = Vec::new(alloc);
-    for _ in 0..100 {
-        match requests.next() {
+    let Ok(mut out) = again(|| Vec::with_capacity(alloc, MOST)) else {
+        return (Vec::new(alloc), Some(HttpFault::NoMemory));
+    };
+    for _ in 0..MOST {
+        match next_of(&mut requests) {
             Ok(Some(request)) => {
                 if out.push(request).is_err() {
                     return (out, Some(HttpFault::NoMemory));
@@ -74,7 +80,7 @@ fn closes(alloc: Global, text: &[u8]) -> Option<bool> {
 }
 
 /// A head with so many fields, each of a name and a value of so many bytes.
-fn head_of(alloc: Global, fields: usize, len: usize) -> Result<Vec<u8>, Fail> {
+fn head_of(alloc: Global, fields: usize, len: usize) -> Result<Vec<u8>, AllocError> {
     let mut text = Vec::new(alloc);
     text.extend_from_slice(b"GET / HTTP/1.1\r\n")?;
     for _ in 0..fields {
@@ -111,9 +117,9 @@ fn pipelined() -> Slow<'static> {
     Slow(PIPELINED.as_bytes())
 }
 
-/// The next request of a reader.
-fn next_of(requests: &mut Requests<Tally<Slow<'_>>>) -> Result<Request, Fail> {
-    match requests.next()? {
+/// The request that comes next.
+fn some_of(requests: &mut Requests<Tally<Slow<'_>>>) -> Result<Request, Fail> {
+    match next_of(requests)? {
         Some(request) => Ok(request),
         None => Err(Fail::new("no request")),
     }
@@ -121,7 +127,7 @@ fn next_of(requests: &mut Requests<Tally<Slow<'_>>>) -> Result<Request, Fail> {
 
 /// Why no request comes.
 fn fault_of<R: Read>(requests: &mut Requests<Tally<R>>) -> Option<HttpFault> {
-    requests.next().err()
+    next_of(requests).err()
 }
 
 fn same_bytes(rt: &impl Abort, found: &[u8], wanted: &[u8]) {
@@ -144,8 +150,8 @@ fn is_get(rt: &impl Abort, request: &Request) {
 #[test]
 fn pipelined_requests(rt: HostRuntime) -> Result<(), Fail> {
     let mut requests = Requests::new(rt.alloc(), Tally::new(pipelined()));
-    is_put(&rt, &next_of(&mut requests)?);
-    is_get(&rt, &next_of(&mut requests)?);
+    is_put(&rt, &some_of(&mut requests)?);
+    is_get(&rt, &some_of(&mut requests)?);
     let faults = (fault_of(&mut requests), fault_of(&mut requests));
     assert_eq!(rt; faults, (Some(HttpFault::Version), Some(HttpFault::Ended)));
     Ok(())
@@ -293,9 +299,10 @@ const LIMITS: &[(usize, usize, usize, Option<HttpFault>)] = &[
 
 #[test]
 fn limits_of_heads(rt: HostRuntime) -> Result<(), Fail> {
+    let alloc = rt.alloc();
     for (fields, len, count, end) in LIMITS {
-        let text = head_of(rt.alloc(), *fields, *len)?;
-        has_outcome(&rt, rt.alloc(), text.as_slice(), *count, *end);
+        let text = again(|| head_of(alloc, *fields, *len))?;
+        has_outcome(&rt, alloc, text.as_slice(), *count, *end);
     }
     Ok(())
 }
@@ -309,10 +316,11 @@ const PARTS: &[(usize, HttpFault)] = &[
 
 #[test]
 fn parts_of_a_long_head(rt: HostRuntime) -> Result<(), Fail> {
+    let alloc = rt.alloc();
     for (len, fault) in PARTS {
-        let mut text = head_of(rt.alloc(), 1, 20_000)?;
+        let mut text = again(|| head_of(alloc, 1, 20_000))?;
         text.truncate(*len);
-        has_outcome(&rt, rt.alloc(), text.as_slice(), 0, Some(*fault));
+        has_outcome(&rt, alloc, text.as_slice(), 0, Some(*fault));
     }
     Ok(())
 }
@@ -378,7 +386,7 @@ fn a_failing_reader(rt: HostRuntime) {
 }
 
 /// A body of so many bytes.
-fn body_of(alloc: Global, len: usize) -> Result<Vec<u8>, Fail> {
+fn body_of(alloc: Global, len: usize) -> Result<Vec<u8>, AllocError> {
     let mut body = Vec::new(alloc);
     for i in 0..len {
         body.push((i % 251) as u8)?;
@@ -387,7 +395,7 @@ fn body_of(alloc: Global, len: usize) -> Result<Vec<u8>, Fail> {
 }
 
 /// A request with this body, and one with a short body behind it.
-fn with_body(alloc: Global, body: &[u8]) -> Result<Vec<u8>, Fail> {
+fn with_body(alloc: Global, body: &[u8]) -> Result<Vec<u8>, AllocError> {
     let len = body.len();
     let head = format!(in alloc; "PUT / HTTP/1.1\r\nContent-Length: {len}\r\n\r\n")?;
     let mut text = Vec::new(alloc);
@@ -407,10 +415,11 @@ fn reads_both(rt: &impl Abort, alloc: Global, text: &[u8], body: &[u8]) {
 
 #[test]
 fn long_bodies(rt: HostRuntime) -> Result<(), Fail> {
+    let alloc = rt.alloc();
     for len in [4095, 4096, 4097, 10_000] {
-        let body = body_of(rt.alloc(), len)?;
-        let text = with_body(rt.alloc(), body.as_slice())?;
-        reads_both(&rt, rt.alloc(), text.as_slice(), body.as_slice());
+        let body = again(|| body_of(alloc, len))?;
+        let text = again(|| with_body(alloc, body.as_slice()))?;
+        reads_both(&rt, alloc, text.as_slice(), body.as_slice());
     }
     Ok(())
 }
@@ -435,8 +444,12 @@ fn has_room(
     room: usize,
 ) -> Result<(), Fail> {
     let mut reader = Tally::new(come);
+    let mut block = Block::new();
     let mut held = Vec::new(alloc);
-    let full = fill(&mut reader, &mut Block::new(), &mut held, wanted)?;
+    let full = match fill(&mut reader, &mut block, &mut held, wanted) {
+        Err(HttpFault::NoMemory) => fill(&mut reader, &mut block, &mut held, wanted)?,
+        full => full?,
+    };
     assert_eq!(rt;
         (full, held.len(), held.capacity()),
         (come.len() == wanted, come.len(), room)
@@ -446,9 +459,10 @@ fn has_room(
 
 #[test]
 fn room_for_what_came(rt: HostRuntime) -> Result<(), Fail> {
+    let alloc = rt.alloc();
     for (wanted, come, room) in ROOM {
-        let text = body_of(rt.alloc(), *come)?;
-        has_room(&rt, rt.alloc(), *wanted, text.as_slice(), *room)?;
+        let text = again(|| body_of(alloc, *come))?;
+        has_room(&rt, alloc, *wanted, text.as_slice(), *room)?;
     }
     Ok(())
 }

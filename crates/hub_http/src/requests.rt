@@ -303,8 +303,8 @@ impl<R: Input> Requests<R> {
         &self.reader
     }
 
-    /// The next request, `None` at the end of the input. After a fault but want of memory each
-    /// call answers `Ended`, and reads nothing. After want of memory the same call reads on where
+    /// The next request, `None` at the end of the input. After a fault but out of memory each
+    /// call answers `Ended`, and reads nothing. After out of memory the same call reads on where
     /// it stood. Only bytes that came take memory: an end of the input between two requests is
     /// `None` in spite of want of it.
     ///

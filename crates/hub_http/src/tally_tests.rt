@@ -1,5 +1,7 @@
+use crate::made_again::again;
 use crate::{Input, Output, Tally};
 use std::alloc::Global;
+use std::io;
 use std::process::Abort;
 use std::test::Fail;
 
@@ -26,18 +28,19 @@ fn reads_memory(rt: HostRuntime) -> Result<(), Fail> {
     Ok(())
 }
 
-/// Memory that took three bytes and was flushed.
-fn written(rt: &impl Abort, alloc: Global) -> Result<Tally<Vec<u8>>, Fail> {
+/// How many of three bytes memory took, which was flushed, and what it is then.
+fn written(alloc: Global) -> io::Result<(usize, Tally<Vec<u8>>)> {
     let mut output = Tally::new(Vec::new(alloc));
-    assert_eq!(rt; Output::write(&mut output, b"abc")?, 3);
+    let count = Output::write(&mut output, b"abc")?;
     Output::flush(&mut output)?;
-    Ok(output)
+    Ok((count, output))
 }
 
 #[test]
 fn writes_memory(rt: HostRuntime) -> Result<(), Fail> {
-    let output = written(&rt, rt.alloc())?;
-    assert_eq!(rt; Output::faults(&output), 0);
+    let alloc = rt.alloc();
+    let (count, output) = again(|| written(alloc))?;
+    assert_eq!(rt; (count, Output::faults(&output)), (3, 0));
     let held = output.into_inner();
     assert_eq!(rt; held.as_slice(), b"abc".as_slice());
     Ok(())

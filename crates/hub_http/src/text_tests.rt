@@ -1,6 +1,7 @@
+use crate::made_again::again;
 use crate::{
-    ChunkWriter, Refusal, Reply, Tally, feed_head, item_text, no_memory_text, reply_bytes,
-    stream_head_text,
+    ChunkFault, ChunkWriter, Refusal, Reply, Tally, feed_head, item_text, no_memory_text,
+    reply_bytes, stream_head_text,
 };
 use http::StatusCode;
 use hub_document::{ChangeRow, Changes, Doc, DocFault, RevId, Revisions};
@@ -222,7 +223,7 @@ fn is_sent(
     (head_only, close): (bool, bool),
     expected: &str,
 ) -> Result<(), Fail> {
-    let bytes = reply_bytes(alloc, reply, head_only, close)?;
+    let bytes = again(|| reply_bytes(alloc, reply, head_only, close))?;
     assert_eq!(rt; bytes.as_slice(), expected.as_bytes());
     Ok(())
 }
@@ -242,10 +243,11 @@ fn refusal_text(
 
 #[test]
 fn refusals(rt: HostRuntime) -> Result<(), Fail> {
+    let alloc = rt.alloc();
     for (refusal, status, error, reason) in REFUSALS {
-        let text = refusal_text(rt.alloc(), status, error, reason)?;
+        let text = again(|| refusal_text(alloc, status, error, reason))?;
         let reply = Reply::Refused(*refusal);
-        is_sent(&rt, rt.alloc(), &reply, (false, false), text.as_str())?;
+        is_sent(&rt, alloc, &reply, (false, false), text.as_str())?;
     }
     Ok(())
 }
@@ -271,8 +273,9 @@ fn a_whole_reply(rt: HostRuntime) -> Result<(), Fail> {
         r#"{"ok":true}"#,
         "\n"
     );
-    let done = done(rt.alloc())?;
-    is_sent(&rt, rt.alloc(), &done, (false, false), expected)
+    let alloc = rt.alloc();
+    let done = again(|| done(alloc))?;
+    is_sent(&rt, alloc, &done, (false, false), expected)
 }
 
 #[test]
@@ -281,8 +284,9 @@ fn a_head_alone_before_the_end(rt: HostRuntime) -> Result<(), Fail> {
         "HTTP/1.1 201 Created\r\nContent-Type: application/json\r\nContent-Length: 12\r\n",
         "Connection: close\r\n\r\n"
     );
-    let done = done(rt.alloc())?;
-    is_sent(&rt, rt.alloc(), &done, (true, true), expected)
+    let alloc = rt.alloc();
+    let done = again(|| done(alloc))?;
+    is_sent(&rt, alloc, &done, (true, true), expected)
 }
 
 #[test]
@@ -344,7 +348,7 @@ fn row(
     text: &str,
     more: Option<RevId>,
     deleted: bool,
-) -> Result<Item<ChangeRow>, Fail> {
+) -> Result<Item<ChangeRow>, DocFault> {
     let doc = Doc::read(alloc, text.as_bytes(), false)?;
     let changes = changes(alloc, doc.rev, more)?;
     Ok(Item::Row(ChangeRow {
@@ -358,7 +362,7 @@ fn row(
 }
 
 // The row of a document that it brings.
-fn row_with_doc(alloc: Global, text: &str, deleted: bool) -> Result<Item<ChangeRow>, Fail> {
+fn row_with_doc(alloc: Global, text: &str, deleted: bool) -> Result<Item<ChangeRow>, DocFault> {
     let doc = Doc::read(alloc, text.as_bytes(), true)?;
     let changes = changes(alloc, doc.rev, None)?;
     Ok(Item::Row(ChangeRow {
@@ -392,25 +396,36 @@ fn is_shown(
     item: &Item<ChangeRow>,
     expected: &str,
 ) -> Result<(), Fail> {
-    let text = text_of(alloc, mode, rows_before, item)?;
+    let text = again(|| text_of(alloc, mode, rows_before, item))?;
     assert_eq!(rt; text.as_slice(), expected.as_bytes());
     Ok(())
 }
 
 // The row of this text, behind the rows of the sequences before it in a normal feed.
 fn row_text(alloc: Global, seq: u64, text: &str) -> Result<Vec<u8>, Fail> {
-    let item = row(alloc, seq, text, None, false)?;
-    Ok(text_of(alloc, Mode::Normal, seq.saturating_sub(1), &item)?)
+    let item = again(|| row(alloc, seq, text, None, false))?;
+    Ok(again(|| text_of(alloc, Mode::Normal, seq.saturating_sub(1), &item))?)
 }
 
 // Each text as a chunk.
-fn chunked(alloc: Global, texts: &[&[u8]]) -> Result<Vec<u8>, Fail> {
+fn chunked(alloc: Global, texts: &[&[u8]]) -> Result<Vec<u8>, ChunkFault> {
     let mut chunks = ChunkWriter::new(alloc);
     let mut writer = Tally::new(Vec::new(alloc));
     for text in texts {
         chunks.write(&mut writer, text)?;
     }
     Ok(writer.into_inner())
+}
+
+// Four texts as chunks, and an empty text before the last one.
+fn four_chunks(
+    alloc: Global,
+    head: &[u8],
+    first: &[u8],
+    second: &[u8],
+    end: &[u8],
+) -> Result<Vec<u8>, ChunkFault> {
+    chunked(alloc, &[head, first, second, b"", end])
 }
 
 // A feed of two rows in chunks, and an empty text between.
@@ -422,17 +437,12 @@ fn two_rows_in_chunks(alloc: Global) -> Result<Vec<u8>, Fail> {
         last_seq: 2,
         pending: 0,
     };
-    let end = text_of(alloc, Mode::Normal, 2, &end)?;
-    chunked(
-        alloc,
-        &[
-            head,
-            first.as_slice(),
-            second.as_slice(),
-            b"",
-            end.as_slice(),
-        ],
-    )
+    let end = again(|| text_of(alloc, Mode::Normal, 2, &end))?;
+    let (first, second, end) = (first.as_slice(), second.as_slice(), end.as_slice());
+    match four_chunks(alloc, head, first, second, end) {
+        Ok(sent) => Ok(sent),
+        Err(_) => Ok(four_chunks(alloc, head, first, second, end)?),
+    }
 }
 
 #[test]
@@ -456,46 +466,62 @@ fn a_feed_of_two_rows_in_chunks(rt: HostRuntime) -> Result<(), Fail> {
     Ok(())
 }
 
+// A chunk of three letters, and one of this text, which has 300.
+fn two_chunks(alloc: Global, long: &[u8]) -> Result<Vec<u8>, AllocError> {
+    let mut chunks = Vec::from_slice(alloc, b"3\r\nabc\r\n12c\r\n")?;
+    chunks.extend_from_slice(long)?;
+    chunks.extend_from_slice(b"\r\n")?;
+    Ok(chunks)
+}
+
 #[test]
 fn chunks_of_one_digit_and_three(rt: HostRuntime) -> Result<(), Fail> {
-    let long = vec![in rt.alloc(); b'x'; 300]?;
-    let sent = chunked(rt.alloc(), &[b"abc", long.as_slice()])?;
-    let mut expected = Vec::from_slice(rt.alloc(), b"3\r\nabc\r\n12c\r\n")?;
-    expected.extend_from_slice(long.as_slice())?;
-    expected.extend_from_slice(b"\r\n")?;
+    let alloc = rt.alloc();
+    let long = again(|| vec![in alloc; b'x'; 300])?;
+    let sent = again(|| chunked(alloc, &[b"abc", long.as_slice()]))?;
+    let expected = again(|| two_chunks(alloc, long.as_slice()))?;
     assert_eq!(rt; sent.as_slice(), expected.as_slice());
     Ok(())
 }
 
 #[test]
 fn a_row_with_an_odd_id_and_two_revisions(rt: HostRuntime) -> Result<(), Fail> {
-    let odd = row(
-        rt.alloc(),
-        18446744073709551615,
-        r#"{"_id":"a\"\\\u0001\n\u00e9/","_rev":"1-Z9z"}"#,
-        RevId::read("65535-0"),
-        true,
-    )?;
+    let alloc = rt.alloc();
+    let text = r#"{"_id":"a\"\\\u0001\n\u00e9/","_rev":"1-Z9z"}"#;
+    let more = RevId::read("65535-0");
+    let odd = again(|| row(alloc, 18446744073709551615, text, more, true))?;
     let expected = concat!(
         r#"{"seq":"18446744073709551615-1","id":"a\"\\\u0001\n"#,
         "\u{e9}",
         r#"/","changes":[{"rev":"1-Z9z"},{"rev":"65535-0"}],"deleted":true}"#,
         "\n"
     );
-    is_shown(&rt, rt.alloc(), Mode::Continuous, 3, &odd, expected)
+    is_shown(&rt, alloc, Mode::Continuous, 3, &odd, expected)
+}
+
+// The texts of two items of a continuous feed of this life, of which the first is a row.
+fn two_texts(
+    alloc: Global,
+    life: u64,
+    first: &Item<ChangeRow>,
+    second: &Item<ChangeRow>,
+) -> Result<Vec<u8>, AllocError> {
+    let mut out = Vec::new(alloc);
+    item_text(&mut out, Mode::Continuous, 0, life, first)?;
+    item_text(&mut out, Mode::Continuous, 1, life, second)?;
+    Ok(out)
 }
 
 #[test]
 fn the_greatest_sequence_of_the_greatest_life(rt: HostRuntime) -> Result<(), Fail> {
+    let alloc = rt.alloc();
     let most = 18446744073709551615;
-    let greatest = row(rt.alloc(), most, r#"{"_id":"a","_rev":"1-a"}"#, None, false)?;
+    let greatest = again(|| row(alloc, most, r#"{"_id":"a","_rev":"1-a"}"#, None, false))?;
     let end: Item<ChangeRow> = Item::End {
         last_seq: most,
         pending: 0,
     };
-    let mut out = Vec::new(rt.alloc());
-    item_text(&mut out, Mode::Continuous, 0, most, &greatest)?;
-    item_text(&mut out, Mode::Continuous, 1, most, &end)?;
+    let out = again(|| two_texts(alloc, most, &greatest, &end))?;
     let expected = concat!(
         r#"{"seq":"18446744073709551615-18446744073709551615","id":"a","changes":[{"rev":"1-a"}]}"#,
         "\n",
@@ -548,9 +574,9 @@ fn is_row_with_doc(
     deleted: bool,
     expected: &str,
 ) -> Result<(), Fail> {
-    let item = row_with_doc(alloc, doc, deleted)?;
+    let item = again(|| row_with_doc(alloc, doc, deleted))?;
     is_shown(rt, alloc, Mode::Normal, 0, &item, expected)?;
-    let line = format!(in alloc; "{expected}\n")?;
+    let line = again(|| format!(in alloc; "{expected}\n"))?;
     is_shown(rt, alloc, Mode::Continuous, 4, &item, line.as_str())
 }
 

@@ -13,7 +13,8 @@ abbrev pub id_at : List (List ℕ) → ℕ → List ℕ
 id_at ids number = get_or ids number []
 
 -- how the id of a number stands to an id: a text lies below another where its first byte that differs is
--- lower, or where it ends first
+-- lower, or where it ends first. Where the number 2 has the id ab, it is Less to the id b, and Greater to
+-- the id a.
 abbrev pub id_cmp : List (List ℕ) → List ℕ → ℕ → Ordering
 id_cmp ids id number = slice_cmp nat_cmp (id_at ids number) id
 
@@ -35,7 +36,8 @@ number_in ids numbers id = find (has_id ids id) numbers
 abbrev pub lies_below : List (List ℕ) → List ℕ → ℕ → Bool
 lies_below ids id number = is_lt (id_cmp ids id number)
 
--- the numbers, and one more, of this id: behind those whose ids lie below it, and before the others
+-- the numbers, and one more, of this id: behind those whose ids lie below it, and before the others. Where 0
+-- is b, 1 is a and 2 is ab, the numbers 1, 0 and one more, 2 of the id ab, are 1, 2, 0.
 abbrev pub with_number : List (List ℕ) → List ℕ → List ℕ → ℕ → List ℕ
 with_number ids numbers id number =
     filter (lies_below ids id) numbers ++ number ∷ filter (λ n. not (lies_below ids id n)) numbers
@@ -54,7 +56,8 @@ pub record IsNumberPage {Y : Type 0} (page : Vec ℕ Y) : Type 0 where
 abbrev pub place_of : {Y : Type 0} → List (Vec ℕ Y) → ℕ → ℕ → ℕ
 place_of pages page at = length (numbers_of (take page pages)) + at
 
--- whether the first number's id is this one or lies below it
+-- whether the first number's id is this one or lies below it. Where the first number has the id b it is true
+-- for b and for c, and false for a; without a number it is false.
 abbrev pub begins_up_to : List (List ℕ) → List ℕ → List ℕ → Bool
 begins_up_to ids id [] = false
 begins_up_to ids id (first ∷ rest) = is_le (id_cmp ids id first)

@@ -4,7 +4,8 @@ use Rattle.std.specs.Prelude.{◌≢◌, ℕ, ◌<◌, List, [], ◌∷◌, ◌+
 use Rattle.std.specs.Prelude.{Option, Some, None, option_map, find, filter, reverse, count_by}
 use Rattle.std.specs.List.{All, AllPairs}
 
--- of two rows the earlier has the lower sequence, and another document; sequences begin at 1
+-- of two rows the earlier has the lower sequence, and another document; sequences begin at 1. (2, 1), (3, 0)
+-- are such rows. (3, 0), (2, 1) are not, and neither are (2, 1), (3, 1).
 pub record IsIndex (rows : List (ℕ × ℕ)) : Type 0 where
   pub rising : AllPairs (λ (a b : ℕ × ℕ). a.0 < b.0) rows
   pub once : AllPairs (λ (a b : ℕ × ℕ). a.1 ≢ b.1) rows
@@ -14,7 +15,8 @@ pub record IsIndex (rows : List (ℕ × ℕ)) : Type 0 where
 abbrev pub seq_of : ℕ → List (ℕ × ℕ) → Option ℕ
 seq_of document rows = option_map (λ (r : ℕ × ℕ). r.0) (find (λ (r : ℕ × ℕ). nat_eq r.1 document) rows)
 
--- the rows of the other documents, and then one of this document
+-- the rows of the other documents, and then one of this document. From (1, 0), (2, 1) and with document 0
+-- at 3 they are (2, 1), (3, 0).
 abbrev pub moved : List (ℕ × ℕ) → ℕ → ℕ → List (ℕ × ℕ)
 moved rows document seq = filter (λ (r : ℕ × ℕ). not (nat_eq r.1 document)) rows ++ (seq, document) ∷ []
 
@@ -23,7 +25,8 @@ abbrev pub is_within : ℕ → Option ℕ → ℕ → Bool
 is_within place None seq = nat_lt place seq
 is_within place (Some bound) seq = nat_lt place seq && nat_le seq bound
 
--- the first row that does
+-- the first row above the place and not above the bound: of rows at 2, 6 and 9, place 3 and bound 8 it is
+-- that at 6, and with bound 5 there is none
 abbrev pub next_after : List (ℕ × ℕ) → ℕ → Option ℕ → Option (ℕ × ℕ)
 next_after rows place bound = find (λ (r : ℕ × ℕ). is_within place bound r.0) rows
 

@@ -18,7 +18,7 @@ const FIRST_MASK: u32 = 15;
 /// Numbers in slots by a hash of their ids (FNV-1a). Nothing rests on what stands there: a number is
 /// given only after a look at its id, and one that is missing has to be found in another way, such
 /// as by `IdOrder`. So ids that are made to collide cost that other way, and the hash has no secret.
-#[derive(Debug, Drop)]
+#[derive(Debug)]
 pub struct IdHints {
     alloc: Global,
     /// Zeros, and numbers plus one. The bits above the mask are those of the id's hash there: so few
@@ -26,6 +26,12 @@ pub struct IdHints {
     slots: Vec<u32>,
     /// One less than a power of two: the number of slots.
     mask: u32,
+}
+
+impl Drop for IdHints {
+    fn drop(self) {
+        let Self { alloc, slots, mask } = self;
+    }
 }
 
 // The hash of an id, of 32 bits.

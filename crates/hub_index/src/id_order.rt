@@ -19,11 +19,17 @@ pub trait Named {
 
 /// Numbers in the byte order of their ids, seen as the list of them. The ids stand elsewhere: each
 /// call is given them. A number takes four bytes, and pages that are not full some two more.
-#[derive(Debug, Drop)]
+#[derive(Debug)]
 pub struct IdOrder {
     alloc: Global,
     /// Pages of numbers, none of them empty.
     pages: Vec<Vec<u32>>,
+}
+
+impl Drop for IdOrder {
+    fn drop(self) {
+        let Self { alloc, pages } = self;
+    }
 }
 
 impl Model for IdOrder {

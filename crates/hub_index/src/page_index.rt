@@ -17,11 +17,17 @@ use std::marker::Model;
 /// sequence, and is given back once it has no row left: then the pages behind it move up, of which
 /// some forty bytes each stand in one list. A search for a page takes constant time where no number
 /// from its own to the last lacks a page, and else time that is logarithmic in the number of pages.
-#[derive(Debug, Drop)]
+#[derive(Debug)]
 pub struct PageIndex {
     alloc: Global,
     /// With their numbers, which rise.
     pages: Vec<(u64, Page)>,
+}
+
+impl Drop for PageIndex {
+    fn drop(self) {
+        let Self { alloc, pages } = self;
+    }
 }
 
 impl Model for PageIndex {

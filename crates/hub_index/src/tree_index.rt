@@ -9,9 +9,15 @@ use std::marker::Model;
 use std::ops::Bound;
 
 /// Rows in a tree by sequence, seen as the list of them.
-#[derive(Debug, Drop)]
+#[derive(Debug)]
 pub struct TreeIndex {
     documents: BTreeMap<u64, u32>,
+}
+
+impl Drop for TreeIndex {
+    fn drop(self) {
+        let Self { documents } = self;
+    }
 }
 
 impl Model for TreeIndex {

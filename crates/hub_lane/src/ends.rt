@@ -32,12 +32,17 @@ pub struct Full<I>(
 
 /// The end that sends. There is one of a lane. Contracts see which lane it is of, its label, all that
 /// was sent, and how many items the lane holds at most.
-#[derive(Drop)]
 pub struct Sender<L: Kept<I>, I> {
     // The receiver has the other handle on it.
     lane: Arc<Lane<L, I>, Global>,
     // What this end sent. It has no bytes, and stays with the end.
     pass: Pass<I, View<L, I>>,
+}
+
+impl<L: Kept<I> + Drop, I: Drop> Drop for Sender<L, I> {
+    fn drop(self) {
+        let Self { lane, pass } = self;
+    }
 }
 
 impl<L: Kept<I>, I> Model for Sender<L, I> {
@@ -62,12 +67,17 @@ impl<L: Kept<I>, I> Model for Sender<L, I> {
 
 /// The end that takes. There is one of a lane. Contracts see which lane it is of, its label, and all
 /// that was taken.
-#[derive(Drop)]
 pub struct Receiver<L: Kept<I>, I> {
     // The sender has the other handle on it.
     lane: Arc<Lane<L, I>, Global>,
     // What this end took. It has no bytes, and stays with the end.
     pass: Pass<I, View<L, I>>,
+}
+
+impl<L: Kept<I> + Drop, I: Drop> Drop for Receiver<L, I> {
+    fn drop(self) {
+        let Self { lane, pass } = self;
+    }
 }
 
 impl<L: Kept<I>, I> Model for Receiver<L, I> {

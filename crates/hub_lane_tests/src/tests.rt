@@ -1,8 +1,11 @@
 //! What the two ends of a lane answer, in one thread and in two.
+//!
+//! Any one growth may be refused, that of a thread among them: what met it says so, and is made again.
 
 ghost use Rattle.std.specs.Prelude.{◌≡◌, ◌<◌, ◌≤◌};
 
 use hub_lane::{Asks, Full, Kept, Lane, Receiver, Sender};
+use std::alloc::{AllocError, Global};
 use std::sync::Wait;
 use std::test::Fail;
 use std::thread;
@@ -17,6 +20,21 @@ impl Kept<u64> for Below {
     ghost use Rattle.std.specs.Prelude.{◌<◌, All};
 
     ghost allows = { λ l numbers. All (λ n. n < l.limit) numbers };
+}
+
+// The two ends of an empty lane for so many numbers below a limit, which is made again where it finds no
+// memory.
+fn lane(
+    alloc: Global,
+    capacity: usize,
+    limit: u64,
+) -> Result<(Sender<Below, u64>, Receiver<Below, u64>), AllocError>
+    requires { 0 < capacity }
+{
+    match Lane::new(alloc, capacity, Below { limit }) {
+        Ok(ends) => Ok(ends),
+        Err(AllocError) => Lane::new(alloc, capacity, Below { limit }),
+    }
 }
 
 // What comes back of a number: none where it was sent. One that the label does not allow is not
@@ -83,7 +101,7 @@ const LANE_OF_ONE: [Step; 7] = [
 
 #[test]
 fn items_come_in_order(rt: HostRuntime) -> Result<(), Fail> {
-    let (mut sender, mut receiver) = Lane::new(rt.alloc(), 2, Below { limit: 9 })?;
+    let (mut sender, mut receiver) = lane(rt.alloc(), 2, 9)?;
     let wrong = first_wrong(&rt, &mut sender, &mut receiver, &LANE_OF_TWO);
     assert_eq!(rt; wrong, None);
     assert_eq!(rt; sender.label().limit, 9);
@@ -93,7 +111,7 @@ fn items_come_in_order(rt: HostRuntime) -> Result<(), Fail> {
 
 #[test]
 fn one_item_fills_a_lane_of_one(rt: HostRuntime) -> Result<(), Fail> {
-    let (mut sender, mut receiver) = Lane::new(rt.alloc(), 1, Below { limit: 8 })?;
+    let (mut sender, mut receiver) = lane(rt.alloc(), 1, 8)?;
     let wrong = first_wrong(&rt, &mut sender, &mut receiver, &LANE_OF_ONE);
     assert_eq!(rt; wrong, None);
     Ok(())
@@ -131,8 +149,11 @@ fn take_all<R: Wait>(rt: &R, receiver: &mut Receiver<Below, u64>, count: u64) ->
 
 #[test]
 fn items_come_in_order_between_threads(rt: HostRuntime) -> Result<(), Fail> {
-    let (sender, mut receiver) = Lane::new(rt.alloc(), 2, Below { limit: 1000 })?;
-    let child = thread::spawn(&rt, move || send_all(&rt, sender, 1000))?;
+    let (sender, mut receiver) = lane(rt.alloc(), 2, 1000)?;
+    let child = match thread::spawn(&rt, move || send_all(&rt, sender, 1000)) {
+        Ok(child) => child,
+        Err(refused) => thread::spawn(&rt, refused.value)?,
+    };
     assert_eq!(rt; take_all(&rt, &mut receiver, 1000), 1000);
     child.join(&rt);
     assert_eq!(rt; receiver.take(&rt), None);

@@ -23,7 +23,9 @@ pub record Draft : Type 0 where
   pub body : List ℕ
 
 -- The path that a draft extends, if there is one: the named leaf's; without a name none for an unknown
--- document, and else a deleted winner's.
+-- document, and else a deleted winner's. Where the leaves are 2-a, with 1-q behind it, and 1-z, it is
+-- 2-a 1-q for the name 2-a. There is no path for the name 1-q, and none without a name, since the winner 2-a
+-- is not deleted.
 abbrev pub extended : List Edit → List ℕ → List Leaf → Option Revision → Option (List Revision)
 extended J id leaves (Some rev) = if names (revisions_of leaves) rev then Some (line_of J id rev) else None
 extended J id [] None = Some []
@@ -43,7 +45,8 @@ abbrev pub parent_text : Option Revision → List ℕ
 parent_text None = codes "null"
 parent_text (Some r) = quoted (text_of r)
 
--- `[deleted,parent,id,body]`, which this project hashes
+-- `[deleted,parent,id,body]`, which this project hashes. For a new document x with the body {} it is
+-- `[false,null,"x",{}]`, and behind 1-a it is `[false,"1-a","x",{}]`.
 abbrev pub draft_text : Draft → Option Revision → List ℕ
 draft_text d parent =
     codes "["
@@ -56,7 +59,8 @@ abbrev pub generation_of : Option Revision → ℕ
 generation_of None = 0
 generation_of (Some r) = r.generation
 
--- the draft's revision where it extends this one
+-- the draft's revision where it extends this one. A new document x with the body {} gets
+-- 1-6bb47d1c10868be9dedaf96db9579d8b, and behind 1-a it gets 2-7c379ea93cbd7dfe02fff7e52e3793f7.
 abbrev pub made : Draft → Option Revision → Revision
 made d parent =
     record { generation = generation_of parent + 1; hash = encode_lower (md5 (draft_text d parent)) }
@@ -74,7 +78,9 @@ makes_on limit J d (Some path) =
     else if is_known J d.id (made d (parent_of path)) then refuses J Conflict
     else adds limit J (edit_of d path)
 
--- what storing it answers, and the journal after it
+-- what storing it answers, and the journal after it. After an edit with the path 2-b 1-a a draft that names
+-- 1-a is refused as a Conflict (proved: `WritesAnswer`); one that names 2-b is stored, with a revision of
+-- generation 3.
 abbrev pub makes : ℕ → List Edit → Draft → Stores
 makes limit J d = makes_on limit J d (extended J d.id (leaves_of J d.id) d.rev)
 
@@ -86,7 +92,9 @@ HasNextRevision J d =
     (path : List Revision) × (extended J d.id (leaves_of J d.id) d.rev ≡ Some path)
     × (generation_of (parent_of path) < 65535)
 
--- path is what a draft that names this revision extends, or one that names none
+-- path is what a draft that names this revision extends, or one that names none. After an edit with the path
+-- 2-b 1-a it is 2-b 1-a for the name 2-b, and there is none for the name 1-a, which is no leaf. Without a
+-- name it is 2-b 1-a where that edit deletes, and there is none where it does not.
 abbrev pub Extends : List Edit → List ℕ → Option Revision → List Revision → Type 0
 Extends J id (Some r) path = IsLeaf J id r × IsFirst path r × IsWalk J id path
 Extends J id None path =

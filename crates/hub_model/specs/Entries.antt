@@ -15,7 +15,8 @@ is_of number p = nat_eq p.0 number
 abbrev pub entry_in : {A : Type 0} → ℕ → List (ℕ × A) → Option A
 entry_in number entries = option_map (λ p. p.1) (find (is_of number) entries)
 
--- the entries, that of this number changed so
+-- the entries, where the change is made to that of this number. Of (3, x) and (5, y), changed at 5, it is
+-- (3, x) and (5, y) changed; changed at 4 it is the entries as they are.
 abbrev pub changed : {A : Type 0} → ℕ → (A → A) → List (ℕ × A) → List (ℕ × A)
 changed number change entries = map (λ p. if is_of number p then (p.0, change p.1) else p) entries
 

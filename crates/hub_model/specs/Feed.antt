@@ -27,7 +27,8 @@ pub data Status : Type 0 where
   Ended : Status
   Finished : Status
 
--- a feed that was opened
+-- a feed that was opened. For example a normal feed with no limit was opened after 2 while there were 5
+-- edits, and handed the row at 3. It has since 2, bound 5, place 3, rows 1 and status Open.
 pub record Feed : Type 0 where
   pub params : Params
   pub since : ℕ  -- it shows what lies above
@@ -36,17 +37,21 @@ pub record Feed : Type 0 where
   pub rows : ℕ  -- how many rows it has handed
   pub status : Status
 
--- a sequence of one life as it counts in this one: as 0, where they are not the same
+-- a sequence of one life as it counts in this one: as 0, where they are not the same. Sequence 2 of life 1
+-- counts in life 1 as 2, and in life 7 as 0 (proved: `LivesCount`).
 abbrev pub counted_in : (life seq of : ℕ) → ℕ
 counted_in life seq of = if nat_eq of life then seq else 0
 
--- what a feed begins after, while there are len edits of this life: never above them
+-- what a feed begins after, while there are len edits of this life: never above them. While there are 5
+-- edits of life 1 it is 5 for Now, 2 for Plain 2, 5 for Plain 9, 2 for Tagged 2 1 and 0 for Tagged 2 7
+-- (proved: `FallsAfterAll`, `FallsByLife`).
 abbrev pub since_of : Since → (len life : ℕ) → ℕ
 since_of Now len life = len
 since_of (Plain seq) len life = min seq len
 since_of (Tagged seq of) len life = min (counted_in life seq of) len
 
--- where a feed stops, while there are len edits
+-- where a feed stops, while there are len edits. A normal feed that is opened while there are 8 edits stops
+-- at 8, whatever is written later (proved: `BoundHolds`).
 abbrev pub bound_of : Mode → ℕ → Option ℕ
 bound_of Normal len = Some len
 bound_of Longpoll len = None
@@ -68,7 +73,8 @@ abbrev pub is_within : Option ℕ → ℕ → Bool
 is_within None n = true
 is_within (Some bound) n = nat_le n bound
 
--- whether the row passes, and lies above the place and not above the bound
+-- whether the row passes, and lies above the place and not above the bound. With place 3, bound 8 and no
+-- filter the rows at 4 and 8 are in reach, those at 3 and 9 are not.
 abbrev pub is_in_reach : Feed → Current → Bool
 is_in_reach f c = nat_lt f.place c.seq && (is_within f.bound c.seq && passes f.params.filter c.id)
 
@@ -93,23 +99,28 @@ due_at Ending rows f = DueEnd f.place
 due_at Ended rows f = DueGone
 due_at Finished rows f = DueGone
 
--- what a feed has to hand next, of these current rows
+-- what a feed has to hand next, of these current rows. For an open feed at place 3 with bound 8, of rows
+-- at 2, 6 and 9: the row at 6. Of rows at 2 and 9: an End at 8. Without the bound it is the row at 9, and of
+-- the row at 2 alone nothing is due.
 abbrev pub due : List Current → Feed → Due
 due rows f = due_at f.status rows f
 
--- a longpoll feed takes its bound at its first row
+-- a longpoll feed takes its bound at its first row. Where it hands that row while there are 4 edits, its
+-- bound is 4 from then on (proved: `LongpollWaits`).
 abbrev pub bound_after : Mode → Option ℕ → ℕ → Option ℕ
 bound_after Normal bound len = bound
 bound_after Longpoll None len = Some len
 bound_after Longpoll (Some bound) len = Some bound
 bound_after Continuous bound len = bound
 
--- a feed that has handed its last row is ending; a limit of 0 acts as 1
+-- a feed that has handed its last row is ending; a limit of 0 acts as 1. With a limit of 3 a feed is open
+-- after 2 rows, and ending after 3; with a limit of 0 it is ending after 1.
 abbrev pub status_after : Option ℕ → ℕ → Status
 status_after None rows = Open
 status_after (Some limit) rows = if nat_le limit rows then Ending else Open
 
--- the feed once the row at seq is handed, while there are len edits
+-- the feed once the row at seq is handed, while there are len edits. A normal feed with place 3, rows 1 and
+-- a limit of 2 that hands the row at 6 has place 6, rows 2, and is ending.
 abbrev pub after_row : Feed → ℕ → ℕ → Feed
 after_row f seq len = record f {
   bound = bound_after f.params.mode f.bound len;
@@ -122,7 +133,8 @@ after_row f seq len = record f {
 abbrev pub after_end : Feed → ℕ → Feed
 after_end f last_seq = record f { place = last_seq; status = Ended }
 
--- the feed once it was found to have nothing to hand
+-- the feed once it was found to have nothing to hand. A longpoll feed after 0 that finds nothing that passes
+-- among 3 edits has place 3 (proved: `TimeEnds`).
 abbrev pub after_nothing : Feed → ℕ → Feed
 after_nothing f len = record f { place = len }
 
@@ -153,18 +165,21 @@ waits Normal = false
 waits Longpoll = true
 waits Continuous = true
 
--- whether a heartbeat may be handed
+-- whether a heartbeat may be handed. For an open continuous feed that asks for heartbeats it may; for a
+-- normal feed it never may, and for one that does not ask neither (proved: `BeatsAreAsked`).
 abbrev pub beat_due : Feed → Bool
 beat_due f = is_open f.status && (waits f.params.mode && f.params.heartbeat)
 
--- its time is over
+-- The feed once its time is over: an open feed that waits is ending, another stays as it is. So a longpoll
+-- feed at place 3 has an End at 3 left, and a normal feed goes on with its rows (proved: `TimeEnds`).
 abbrev pub expire : Feed → Feed
 expire f = if is_open f.status && waits f.params.mode then record f { status = Ending } else f
 
--- its database is deleted
+-- The feed once its database is deleted: an open feed is ending. So one that handed the row at 2 of three
+-- has an End at 2 left, with 1 pending (proved: `DeletionEnds`).
 abbrev pub end : Feed → Feed
 end f = if is_open f.status then record f { status = Ending } else f
 
--- its subscriber is gone
+-- the feed once its subscriber is gone: nothing more is due to it
 abbrev pub finish : Feed → Feed
 finish f = record f { status = Finished }

@@ -20,10 +20,12 @@ item_of show rows DueGone = None
 abbrev pub due_in : List Edit → Feed → Due
 due_in J f = due (current J) f
 
--- the item that a feed of these edits has to hand, if there is one
+-- the item that a feed of these edits has to hand, if there is one. After edits of a, b and then a again it
+-- is the row of b at 2 for a new normal feed after 0, and an End at 3 with 0 pending once the row of a at 3
+-- was handed (proved: `AgainIsLater`).
 abbrev pub due_item : {R : Type 0} → RowKind R → List Edit → Feed → Option (Item R)
 due_item kind J f = item_of (kind.shown J f.params.style f.params.include_docs) (current J) (due_in J f)
 
--- of a database's changes
+-- the item that a feed of a database's changes has to hand, if there is one
 abbrev pub change_due : List Edit → Feed → Option (Item ChangeRow)
 change_due J f = due_item change_rows J f

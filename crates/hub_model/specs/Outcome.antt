@@ -28,14 +28,17 @@ adds limit J e =
       journal = J ++ e ∷ [];
     }
 
--- an edit with its history, as a replicator sends it (new_edits=false)
+-- an edit with its history, as a replicator sends it (new_edits=false). After an edit with the path 2-b 1-a
+-- the same one is Known, and one with 3-w 2-b 1-q Contradicts (proved: `WritesAnswer`).
 abbrev pub merges : ℕ → List Edit → Edit → Stores
 merges limit J e =
     if is_head_known J e.id e.path then record { outcome = Known; journal = J }
     else if is_acceptable J e then adds limit J e
     else refuses J Contradicts
 
--- the same as a relation: after J the edit may come out so and leave the journal so
+-- The same as a relation: after J the edit may come out so and leave the journal so. After an edit with the
+-- path 2-b 1-a one with 3-w 2-b 1-a may come out as Stored 3-w, and where there is no room as SequenceFull;
+-- one with 3-w 2-b 1-q may come out as Contradicts alone, and leaves J.
 abbrev pub Takes : ℕ → List Edit → Edit → Outcome Revision → List Edit → Type 0
 Takes limit J e (Stored r) new = IsAcceptable J e × (length J < limit) × (new ≡ J ++ e ∷ []) × IsHead e r
 Takes limit J e Known new = (r : Revision) × IsHead e r × IsKnown J e.id r × (new ≡ J)
@@ -57,7 +60,9 @@ pub record StoresAll : Type 0 where
   pub outcomes : List (Outcome Revision)
   pub journal : List Edit
 
--- documents one after the other, by this way of storing one, on a database that stands or was deleted
+-- documents one after the other, by this way of storing one, on a database that stands or was deleted. On
+-- one that was deleted each of two documents is refused as Deleted, and the journal stays (proved for one:
+-- `DeletionEnds`).
 abbrev pub stores_all : {A : Type 0} → (List Edit → A → Stores) → Bool → List Edit → List A → StoresAll
 stores_all store deleted J [] = record { outcomes = []; journal = J }
 stores_all store true J (x ∷ xs) =
@@ -67,6 +72,7 @@ stores_all store false J (x ∷ xs) =
     let rest = stores_all store false here.journal xs in
     record { outcomes = here.outcome ∷ rest.outcomes; journal = rest.journal }
 
--- edits with their histories, one after the other
+-- edits with their histories, one after the other. Of the paths 2-b, 3-c, 3-c 2-b and 4-d 3-c 2-b of one
+-- document it stores all but the third, which is Known (proved: `LateIsStored`).
 abbrev pub merges_all : ℕ → List Edit → List Edit → StoresAll
 merges_all limit J edits = stores_all (merges limit) false J edits

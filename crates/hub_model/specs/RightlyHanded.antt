@@ -29,7 +29,8 @@ rows_of (Row row ∷ items) = row ∷ rows_of items
 rows_of (Beat ∷ items) = rows_of items
 rows_of (End last_seq pending ∷ items) = rows_of items
 
--- an End stands last, and names the place
+-- an End stands last, and names the place. A row and then an End at 8 end at place 8; an End at 8 and then a
+-- row do not, nor does an End at 7. A list without an End ends at each place.
 abbrev pub EndsAt : {R : Type 0} → ℕ → List (Item R) → Type 0
 EndsAt place [] = ⊤
 EndsAt place (Row row ∷ items) = EndsAt place items
@@ -48,7 +49,8 @@ module _ {R : Type 0} (kind : RowKind R) where
   abbrev pub seqs_of : List (Item R) → List ℕ
   seqs_of items = map kind.seq (rows_of items)
 
-  -- s may be handed after r
+  -- Row s may be handed after row r. The row at 4 seen at 10 may follow the row at 3 seen at 8
+  -- (proved: `BoundHolds`); the row at 2, or the row at 4 seen at 7, may not.
   pub record Follows (r s : R) : Type 0 where
     pub rises : kind.seq r < kind.seq s
     pub later : kind.seen r ≤ kind.seen s
@@ -58,14 +60,19 @@ module _ {R : Type 0} (kind : RowKind R) where
   IsPassingRow J f row = (c : Current) × Contains (current J) c
       × (row ≡ kind.shown J f.params.style f.params.include_docs c) × IsTrue (passes f.params.filter c.id)
 
-  -- the row is one of the feed's, and was current when there were `seen` edits
+  -- the row is one of the feed's, and was current when there were `seen` edits. After edits of a, b and then
+  -- a again, a row of a at 1 seen at 1 is one for a feed after 0 with place 1. With seen 3 it is none, since
+  -- the row of a is at 3 by then.
   pub record IsRowOf (J : List Edit) (f : Feed) (row : R) : Type 0 where
     pub shown : IsPassingRow (take (kind.seen row) J) f row
     pub above : f.since < kind.seq row
     pub reached : kind.seq row ≤ f.place
     pub bounded : IfSome f.bound (λ bound. kind.seq row ≤ bound)
 
-  -- the whole list is right for the feed: nothing wrong in it, and nothing left out up to the place
+  -- the whole list is right for the feed: nothing wrong in it, and nothing left out up to the place. After
+  -- edits of a, b and then a again, and for a feed after 0 with place 3, the rows of b at 2 and of a at 3
+  -- are right (proved: `AgainIsLater`). The row at 3 alone is not, since that at 2 is left out; with place 1
+  -- the empty list is right.
   pub record RightlyHanded (J : List Edit) (f : Feed) (items : List (Item R)) : Type 0 where
     pub rising : AllPairs Follows (rows_of items)
     pub rows : All (IsRowOf J f) (rows_of items)
@@ -78,7 +85,9 @@ module _ {R : Type 0} (kind : RowKind R) where
     pub limited : IfSome f.params.limit (λ limit. length (rows_of items) ≤ max 1 limit)
     pub beats : All (IsAsked f.params.heartbeat) items
 
-  -- the list fits the feed: it is rightly handed, and the feed's own numbers agree with it
+  -- the list fits the feed: it is rightly handed, and the feed's own numbers agree with it. So two rows fit
+  -- a feed with rows 2 and a limit of 2 that is ending. They fit none with rows 1, and none that is still
+  -- open.
   pub record Fits (J : List Edit) (f : Feed) (items : List (Item R)) : Type 0 where
     pub right : RightlyHanded J f items
     pub counted : length (rows_of items) ≡ f.rows

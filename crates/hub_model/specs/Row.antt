@@ -17,7 +17,8 @@ pub record ChangeRow : Type 0 where
   pub doc : Option (List ℕ)  -- the members of the winner's document: its id, revision and mark are the row's
   pub seen : ℕ
 
--- of leaves best first, the revisions that a row lists
+-- of leaves best first, the revisions that a row lists. Of the leaves 2-a, 1-z and 2-b, which is deleted,
+-- MainOnly lists 2-a, and AllDocs lists all three in this order (proved: `StylesList`).
 abbrev pub changes_of : Style → List Leaf → List Revision
 changes_of MainOnly leaves = take 1 (revisions_of leaves)
 changes_of AllDocs leaves = revisions_of leaves
@@ -33,7 +34,8 @@ doc_of false leaves = None
 doc_of true [] = None
 doc_of true (winner ∷ others) = Some winner.edit.body
 
--- a current row as it is shown while J is the journal
+-- a current row as it is shown while J is the journal. After edits of a, b and then a again, with 2-b as its
+-- newest revision, the row of a has seq 3, changes 2-b, and seen 3 (proved: `AgainIsLater`).
 abbrev pub row_of : List Edit → Style → Bool → Current → ChangeRow
 row_of J style include_docs c = record {
   seq = c.seq;

@@ -26,7 +26,9 @@ id_of n = letter_of n.kind ∷ n.name
 abbrev pub edit_of : Note → Edit
 edit_of n = record { id = id_of n; path = []; deleted = false; body = [] }
 
--- the notes of a log as edits: their current rows are the log's
+-- the notes of a log as edits: their current rows are the log's. Where d was created, updated, deleted and
+-- created again, they are updated at 2, deleted at 3 and created at 4: the first creation has no row any
+-- more (proved: `UpdatesAgain`).
 abbrev pub edits_of_log : List Note → List Edit
 edits_of_log notes = map edit_of notes
 
@@ -46,7 +48,9 @@ pub record UpdateRow : Type 0 where
   pub seq : ℕ
   pub seen : ℕ
 
--- a current row as it is shown while these are the edits of the log: there are no styles and no documents
+-- a current row as it is shown while these are the edits of the log: there are no styles and no documents.
+-- Of four notes the one at 3 with the id dd is shown as Deleted of d, with seq 3 and seen 4
+-- (proved: `UpdatesAgain`).
 abbrev pub update_row_of : List Edit → Style → Bool → Current → UpdateRow
 update_row_of edits style include_docs c = record {
   db_name = (note_of c.id).name;

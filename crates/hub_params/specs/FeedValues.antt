@@ -23,7 +23,8 @@ is_digit b = nat_le 48 b && nat_le b 57
 abbrev pub is_numeral : List ℕ → Bool
 is_numeral text = nat_lt 0 (length text) && list_all is_digit text
 
--- the number below 2^64 that a text of digits writes
+-- the number below 2^64 that a text of digits writes. 007 is 7; the empty text, -1 and 18446744073709551616
+-- are none.
 abbrev pub number_in : List ℕ → Option ℕ
 number_in text =
     if is_numeral text && nat_lt (digits_value 10 text) (2 ^ 64) then Some (digits_value 10 text) else None
@@ -34,7 +35,8 @@ before_last_quote [] = None
 before_last_quote (b ∷ []) = if nat_eq b 34 then Some [] else None
 before_last_quote (b ∷ c ∷ text) = option_map (λ inner. b ∷ inner) (before_last_quote (c ∷ text))
 
--- what stands within the double quotes round a text, where it has some
+-- what stands within the double quotes round a text, where it has them: of `"3-1"` it is 3-1, and of `"3-1`
+-- there is none
 abbrev pub within_quotes : List ℕ → Option (List ℕ)
 within_quotes [] = None
 within_quotes (b ∷ text) = if nat_eq b 34 then before_last_quote text else None
@@ -43,13 +45,14 @@ within_quotes (b ∷ text) = if nat_eq b 34 then before_last_quote text else Non
 abbrev pub is_hyphen : ℕ → Bool
 is_hyphen b = eqb b 45
 
--- a sequence, a hyphen, and the number of its life
+-- a sequence, a hyphen, and the number of its life. 3-1 is sequence 3 of life 1; 3 and 3- are none.
 abbrev pub tagged_in : List ℕ → Option (ℕ × ℕ)
 tagged_in text =
     option_and_then (λ seq. option_map (λ life. (seq, life)) (number_in (after_first is_hyphen text)))
     (number_in (before_first is_hyphen text))
 
--- where the feed begins that is asked for so: `now`, a sequence, or a sequence with its life
+-- where the feed begins that is asked for so: `now`, a sequence, or a sequence with its life. So now, 3 and
+-- 3-1 are good; 3-, -1 and the empty text are faults.
 abbrev pub since_text : List ℕ → Option Since
 since_text text =
     if bytes_eq text (codes "now") then Some Now
@@ -61,7 +64,8 @@ abbrev pub since_in : Option (List ℕ) → Option Since
 since_in None = Some (Plain 0)
 since_in (Some text) = since_text (unwrap_or (within_quotes text) text)
 
--- how many rows at most: 0 acts as 1
+-- how many rows at most: 0 acts as 1. 0 and 1 give 1, -1 is a fault, and where nothing is said there is no
+-- limit.
 abbrev pub limit_in : Option (List ℕ) → Option (Option ℕ)
 limit_in None = Some None
 limit_in (Some text) = option_map (λ n. Some (max n 1)) (number_in text)
@@ -92,7 +96,8 @@ shown_in (Some text) =
 abbrev pub positive : ℕ → Option (Option ℕ)
 positive n = if nat_lt 0 n then Some (Some n) else None
 
--- the milliseconds between heartbeats, if there are any
+-- the milliseconds between heartbeats, if there are any. true gives 60,000, and 5 gives 5; false gives none,
+-- and 0 is a fault.
 abbrev pub heartbeat_in : Option (List ℕ) → Option (Option ℕ)
 heartbeat_in None = Some None
 heartbeat_in (Some text) =
@@ -104,7 +109,7 @@ abbrev pub timeout_in : Option (List ℕ) → Option ℕ
 timeout_in None = Some 60000
 timeout_in (Some text) = option_map (λ n. min n 60000) (number_in text)
 
--- a flag
+-- whether a flag is set: true sets it, false and nothing do not, and another text, as 1, is a fault
 abbrev pub flag_in : Option (List ℕ) → Option Bool
 flag_in None = Some false
 flag_in (Some text) =

@@ -1,4 +1,4 @@
--- What may fail for want of memory as a query is read: decoding what is not written as it reads, and keeping
+-- What may run out of memory as a query is read: decoding what is not written as it reads, and keeping
 -- a text that is not empty (own).
 use Rattle.std.specs.Prelude.{◌⊎◌, ℕ, ◌<◌, All, List, length, codes, Option, None, option_map}
 use Rattle.std.specs.Prelude.{IsSomeAnd, Result, IsOkAnd}
@@ -12,7 +12,8 @@ use Rattle.hub_params.specs.declared.feed_fault.ParamFault.{ParamFault}
 use Rattle.hub_params.specs.declared.feed_values.Shown.{Shown}
 use Rattle.hub_params.specs.declared.feed_values.Shown.TheVariants.{All as Every, Listed, Designs}
 
--- a name is not written as it reads: a `%` or a `+` stands in it, or it is no UTF-8
+-- a name is not written as it reads: a `%` or a `+` stands in it, or it is no UTF-8. %61=1 has such a name,
+-- and a=%31 has none.
 abbrev pub HasEscapedName : List ℕ → Type 0
 HasEscapedName query = ¬ All (λ p. IsPlainText p.0) (raw_pairs query)
 
@@ -24,7 +25,8 @@ IsEscaped value = IsSomeAnd value (λ written. ¬ IsPlainText written)
 abbrev pub HasBytes : Option (List ℕ) → Type 0
 HasBytes value = IsSomeAnd value (λ written. 0 < length written)
 
--- the parameters of a document's routes: what is kept is `rev` and `open_revs`
+-- the parameters of a document's routes: what is kept is `rev` and `open_revs`. rev=1-a needs room, and so
+-- does revs=%74rue; revs=true and rev= need none.
 pub data DocNeedsRoom (query : List ℕ) : Type 0 where
   name : HasEscapedName query → DocNeedsRoom query
   rev : HasBytes (written_of (codes "rev") query) → DocNeedsRoom query
@@ -42,14 +44,15 @@ or_behind written read behind = IsEscaped written ⊎ IsSomeAnd read (λ _. behi
 abbrev pub or_next : {A : Type 0} → Type 0 → Result A ParamFault → (A → Type 0) → Type 0
 or_next needs part next = needs ⊎ IsOkAnd part next
 
--- `since`, `limit`, `style`
+-- `since`, `limit` and `style` need room. Of since=1&style=%61 they do; of since=x&style=%61 they do not,
+-- since nothing is read behind the fault x.
 abbrev pub RowsNeedRoom : Option (List ℕ) → Option (List ℕ) → Option (List ℕ) → Type 0
 RowsNeedRoom since limit style =
     or_behind since (since_in (option_map decoded since)) (
     or_behind limit (limit_in (option_map decoded limit)) (
     IsEscaped style))
 
--- `feed`, `filter`
+-- `feed` and `filter` need room: one of them is escaped, and no fault stands before it
 abbrev pub KindNeedsRoom : Option (List ℕ) → Option (List ℕ) → Type 0
 KindNeedsRoom feed filter = or_behind feed (mode_in (option_map decoded feed)) (IsEscaped filter)
 
@@ -59,18 +62,20 @@ IdsNeedRoom ids body Every = ⊥
 IdsNeedRoom ids body Listed = HasBytes ids ⊎ (0 < length body)
 IdsNeedRoom ids body Designs = ⊥
 
--- `heartbeat`, `timeout`
+-- `heartbeat` and `timeout` need room: one of them is escaped, and no fault stands before it
 abbrev pub WaitsNeedRoom : Option (List ℕ) → Option (List ℕ) → Type 0
 WaitsNeedRoom heartbeat timeout =
     or_behind heartbeat (heartbeat_in (option_map decoded heartbeat)) (IsEscaped timeout)
 
--- `descending`, `include_docs`: the first is good where it is with nothing said of the second
+-- `descending` and `include_docs` need room. The second is read where the first is good by itself: in a
+-- continuous feed descending=true is a fault, and include_docs=%31 behind it is not read.
 abbrev pub FlagsNeedRoom : Mode → Option (List ℕ) → Option (List ℕ) → Type 0
 FlagsNeedRoom mode descending include_docs =
     or_next (IsEscaped descending) (flags_in mode (option_map decoded descending) None) (λ _.
     IsEscaped include_docs)
 
--- the parameters of a feed
+-- The parameters of a feed need room. Those of since=1&limit=2 need none; those of
+-- filter=_doc_ids&doc_ids=["a"] do, for the list of ids.
 abbrev pub FeedNeedsRoom : List ℕ → List ℕ → Type 0
 FeedNeedsRoom query body =
     HasEscapedName query ⊎ (

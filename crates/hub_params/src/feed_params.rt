@@ -14,7 +14,7 @@ use hub_model::{Mode, Since, Style};
 use std::alloc::{AllocError, Global};
 
 /// What the query and the body of a changes feed ask for (CouchDB API reference, `_changes`).
-#[derive(Debug, Drop)]
+#[derive(Debug)]
 pub struct FeedParams {
     /// How long the feed lasts (`feed`).
     pub mode: Mode,
@@ -34,6 +34,22 @@ pub struct FeedParams {
     pub heartbeat: Option<u64>,
     /// The milliseconds that it waits for a row, 60,000 at most.
     pub timeout: u64,
+}
+
+impl Drop for FeedParams {
+    fn drop(self) {
+        let Self {
+            mode,
+            since,
+            limit,
+            descending,
+            style,
+            include_docs,
+            filter,
+            heartbeat,
+            timeout,
+        } = self;
+    }
 }
 
 impl FeedParams {

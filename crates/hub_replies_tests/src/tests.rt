@@ -1,4 +1,7 @@
 //! Each body, byte for byte.
+//!
+//! Any one growth of a body may be refused, or of what it is made of. The call that met it says so, and made
+//! again it has the answer that it has with ample memory.
 
 use hub_database::{Diff, Info, Local, OpenRev};
 use hub_document::{Doc, RevId, Revisions};
@@ -17,6 +20,16 @@ const ODD: &str = "\"\\\n\u{1}é😀";
 
 // Its JSON string.
 const ODD_TEXT: &str = r#""\"\\\n\u0001é😀""#;
+
+// What a call gives, made again where it fails.
+fn again<T: Drop, E: Drop, F: Fn() -> Result<T, E>>(call: F) -> Result<T, E>
+    requires { F.IsAlwaysCallable call }
+{
+    match call() {
+        Ok(found) => Ok(found),
+        Err(_) => call(),
+    }
+}
 
 // A body is this text and a line feed.
 fn is_line(rt: &impl Abort, body: &[u8], text: &str) {
@@ -59,21 +72,26 @@ fn fixed_bodies(rt: HostRuntime) -> Result<(), Fail> {
     Ok(())
 }
 
+// The body that lists these names.
+fn listed(alloc: Global, names: &[&str]) -> Result<Vec<u8>, AllocError> {
+    let mut list = Vec::new(alloc);
+    for name in names {
+        list.push(String::from_str(alloc, name)?)?;
+    }
+    names_body(alloc, list.as_slice())
+}
+
 #[test]
 fn names_are_listed(rt: HostRuntime) -> Result<(), Fail> {
     let alloc = rt.alloc();
-    let mut names = Vec::new(alloc);
-    let body = names_body(alloc, names.as_slice())?;
+    let body = again(|| listed(alloc, &[]))?;
     is_line(&rt, body.as_slice(), "[]");
-    names.push(String::from_str(alloc, "b/c")?)?;
-    let body = names_body(alloc, names.as_slice())?;
+    let body = again(|| listed(alloc, &["b/c"]))?;
     is_line(&rt, body.as_slice(), r#"["b/c"]"#);
-    names.push(String::from_str(alloc, "a")?)?;
-    let body = names_body(alloc, names.as_slice())?;
+    let body = again(|| listed(alloc, &["b/c", "a"]))?;
     is_line(&rt, body.as_slice(), r#"["b/c","a"]"#);
-    names.push(String::from_str(alloc, ODD)?)?;
-    let body = names_body(alloc, names.as_slice())?;
-    let expected = format!(in alloc; r#"["b/c","a",{ODD_TEXT}]"#)?;
+    let body = again(|| listed(alloc, &["b/c", "a", ODD]))?;
+    let expected = again(|| format!(in alloc; r#"["b/c","a",{ODD_TEXT}]"#))?;
     is_line(&rt, body.as_slice(), expected.as_str());
     Ok(())
 }
@@ -87,7 +105,7 @@ fn databases_say_of_themselves(rt: HostRuntime) -> Result<(), Fail> {
         update_seq: 3,
         life: 1,
     };
-    let body = info_body(alloc, "d", &info)?;
+    let body = again(|| info_body(alloc, "d", &info))?;
     let expected =
         r#"{"db_name":"d","doc_count":2,"doc_del_count":0,"update_seq":"3-1","instance_start_time":"0"}"#;
     is_line(&rt, body.as_slice(), expected);
@@ -97,44 +115,56 @@ fn databases_say_of_themselves(rt: HostRuntime) -> Result<(), Fail> {
         update_seq: 18446744073709551615,
         life: 18446744073709551615,
     };
-    let body = info_body(alloc, ODD, &info)?;
+    let body = again(|| info_body(alloc, ODD, &info))?;
     let counts = concat!(
         r#""doc_count":10,"doc_del_count":4294967295,"#,
         r#""update_seq":"18446744073709551615-18446744073709551615""#
     );
-    let expected = format!(in alloc;
-        r#"{{"db_name":{ODD_TEXT},{counts},"instance_start_time":"0"}}"#
-    )?;
+    let expected = again(|| {
+        format!(in alloc; r#"{{"db_name":{ODD_TEXT},{counts},"instance_start_time":"0"}}"#)
+    })?;
     is_line(&rt, body.as_slice(), expected.as_str());
     Ok(())
+}
+
+// The answer to an edit of this document, which made this revision.
+fn edited(alloc: Global, id: &str, rev: &RevId) -> Result<Vec<u8>, AllocError> {
+    edit_body(edit_front(alloc, id)?, rev)
 }
 
 #[test]
 fn edits_are_answered(rt: HostRuntime) -> Result<(), Fail> {
     let alloc = rt.alloc();
     let rev = RevId::read("1-a").expect(&rt, "a revision");
-    let body = edit_body(edit_front(alloc, "a")?, &rev)?;
+    let body = again(|| edited(alloc, "a", &rev))?;
     is_line(&rt, body.as_slice(), r#"{"ok":true,"id":"a","rev":"1-a"}"#);
     let rev = RevId::read("65535-0Zz9").expect(&rt, "a revision");
-    let body = edit_body(edit_front(alloc, ODD)?, &rev)?;
-    let expected = format!(in alloc; r#"{{"ok":true,"id":{ODD_TEXT},"rev":"65535-0Zz9"}}"#)?;
+    let body = again(|| edited(alloc, ODD, &rev))?;
+    let expected = again(|| {
+        format!(in alloc; r#"{{"ok":true,"id":{ODD_TEXT},"rev":"65535-0Zz9"}}"#)
+    })?;
     is_line(&rt, body.as_slice(), expected.as_str());
     Ok(())
+}
+
+// The answer to an edit of this local document, which has so many edits.
+fn locally_edited(alloc: Global, id: &str, count: u64) -> Result<Vec<u8>, AllocError> {
+    local_edit_body(edit_front(alloc, id)?, count)
 }
 
 #[test]
 fn local_edits_are_answered(rt: HostRuntime) -> Result<(), Fail> {
     let alloc = rt.alloc();
-    let body = local_edit_body(edit_front(alloc, "_local/k")?, 2)?;
+    let body = again(|| locally_edited(alloc, "_local/k", 2))?;
     is_line(
         &rt,
         body.as_slice(),
         r#"{"ok":true,"id":"_local/k","rev":"0-2"}"#,
     );
-    let body = local_edit_body(edit_front(alloc, ODD)?, 18446744073709551615)?;
-    let expected = format!(in alloc;
-        r#"{{"ok":true,"id":{ODD_TEXT},"rev":"0-18446744073709551615"}}"#
-    )?;
+    let body = again(|| locally_edited(alloc, ODD, 18446744073709551615))?;
+    let expected = again(|| {
+        format!(in alloc; r#"{{"ok":true,"id":{ODD_TEXT},"rev":"0-18446744073709551615"}}"#)
+    })?;
     is_line(&rt, body.as_slice(), expected.as_str());
     Ok(())
 }
@@ -143,8 +173,8 @@ fn local_edits_are_answered(rt: HostRuntime) -> Result<(), Fail> {
 fn documents_are_shown(rt: HostRuntime) -> Result<(), Fail> {
     let alloc = rt.alloc();
     let text = r#"{"_id":"d","_rev":"2-b","_revisions":{"start":2,"ids":["b","a"]},"k":"\u0001é"}"#;
-    let doc = Doc::read(alloc, text.as_bytes(), false)?;
-    let body = doc_body(alloc, &doc)?;
+    let doc = again(|| Doc::read(alloc, text.as_bytes(), false))?;
+    let body = again(|| doc_body(alloc, &doc))?;
     is_line(&rt, body.as_slice(), text);
     Ok(())
 }
@@ -153,19 +183,21 @@ fn documents_are_shown(rt: HostRuntime) -> Result<(), Fail> {
 fn local_documents_are_shown(rt: HostRuntime) -> Result<(), Fail> {
     let alloc = rt.alloc();
     let text = r#"{"_id":"d","_rev":"1-a","k":[1,null]}"#;
-    let doc = Doc::read(alloc, text.as_bytes(), false)?;
+    let doc = again(|| Doc::read(alloc, text.as_bytes(), false))?;
     let local = Local {
         count: 12,
         body: doc.body,
     };
-    let body = local_doc_body(alloc, "_local/k", &local)?;
+    let body = again(|| local_doc_body(alloc, "_local/k", &local))?;
     is_line(
         &rt,
         body.as_slice(),
         r#"{"_id":"_local/k","_rev":"0-12","k":[1,null]}"#,
     );
-    let body = local_doc_body(alloc, ODD, &local)?;
-    let expected = format!(in alloc; r#"{{"_id":{ODD_TEXT},"_rev":"0-12","k":[1,null]}}"#)?;
+    let body = again(|| local_doc_body(alloc, ODD, &local))?;
+    let expected = again(|| {
+        format!(in alloc; r#"{{"_id":{ODD_TEXT},"_rev":"0-12","k":[1,null]}}"#)
+    })?;
     is_line(&rt, body.as_slice(), expected.as_str());
     Ok(())
 }
@@ -173,23 +205,25 @@ fn local_documents_are_shown(rt: HostRuntime) -> Result<(), Fail> {
 #[test]
 fn revisions_that_were_asked_for(rt: HostRuntime) -> Result<(), Fail> {
     let alloc = rt.alloc();
-    let body = open_revs_body(alloc, &[])?;
+    let body = again(|| open_revs_body(alloc, &[]))?;
     is_line(&rt, body.as_slice(), "[]");
     let text = r#"{"_id":"d","_rev":"1-a","_deleted":true,"k":1}"#;
     let shown =
         r#"{"_id":"d","_rev":"1-a","_deleted":true,"_revisions":{"start":1,"ids":["a"]},"k":1}"#;
-    let doc = Doc::read(alloc, text.as_bytes(), false)?;
+    let doc = again(|| Doc::read(alloc, text.as_bytes(), false))?;
     let missing = RevId::read("9-z").expect(&rt, "a revision");
-    let mut revs = Vec::new(alloc);
-    revs.push(OpenRev::Missing(missing))?;
-    let body = open_revs_body(alloc, revs.as_slice())?;
+    let revs = [OpenRev::Missing(missing)];
+    let body = again(|| open_revs_body(alloc, &revs))?;
     is_line(&rt, body.as_slice(), r#"[{"missing":"9-z"}]"#);
-    revs.push(OpenRev::Found(doc))?;
-    revs.push(OpenRev::Missing(missing))?;
-    let body = open_revs_body(alloc, revs.as_slice())?;
-    let expected = format!(in alloc;
-        r#"[{{"missing":"9-z"}},{{"ok":{shown}}},{{"missing":"9-z"}}]"#
-    )?;
+    let revs = [
+        OpenRev::Missing(missing),
+        OpenRev::Found(doc),
+        OpenRev::Missing(missing),
+    ];
+    let body = again(|| open_revs_body(alloc, &revs))?;
+    let expected = again(|| {
+        format!(in alloc; r#"[{{"missing":"9-z"}},{{"ok":{shown}}},{{"missing":"9-z"}}]"#)
+    })?;
     is_line(&rt, body.as_slice(), expected.as_str());
     Ok(())
 }
@@ -197,20 +231,24 @@ fn revisions_that_were_asked_for(rt: HostRuntime) -> Result<(), Fail> {
 #[test]
 fn revisions_that_are_missing(rt: HostRuntime) -> Result<(), Fail> {
     let alloc = rt.alloc();
-    let body = diffs_body(alloc, &[])?;
+    let body = again(|| diffs_body(alloc, &[]))?;
     is_line(&rt, body.as_slice(), "{}");
-    let mut diffs = Vec::new(alloc);
-    diffs.push(diff(alloc, "a", &["2-d", "3-e"], &["2-c"])?)?;
-    let body = diffs_body(alloc, diffs.as_slice())?;
     let of_a = r#"{"missing":["2-d","3-e"],"possible_ancestors":["2-c"]}"#;
-    let expected = format!(in alloc; r#"{{"a":{of_a}}}"#)?;
+    let diffs = [again(|| diff(alloc, "a", &["2-d", "3-e"], &["2-c"]))?];
+    let body = again(|| diffs_body(alloc, &diffs))?;
+    let expected = again(|| format!(in alloc; r#"{{"a":{of_a}}}"#))?;
     is_line(&rt, body.as_slice(), expected.as_str());
-    diffs.push(diff(alloc, "z", &["1-q"], &[])?)?;
-    diffs.push(diff(alloc, ODD, &["4-w"], &["3-y", "3-x"])?)?;
-    let body = diffs_body(alloc, diffs.as_slice())?;
+    let diffs = [
+        again(|| diff(alloc, "a", &["2-d", "3-e"], &["2-c"]))?,
+        again(|| diff(alloc, "z", &["1-q"], &[]))?,
+        again(|| diff(alloc, ODD, &["4-w"], &["3-y", "3-x"]))?,
+    ];
+    let body = again(|| diffs_body(alloc, &diffs))?;
     let of_z = r#"{"missing":["1-q"]}"#;
     let of_odd = r#"{"missing":["4-w"],"possible_ancestors":["3-y","3-x"]}"#;
-    let expected = format!(in alloc; r#"{{"a":{of_a},"z":{of_z},{ODD_TEXT}:{of_odd}}}"#)?;
+    let expected = again(|| {
+        format!(in alloc; r#"{{"a":{of_a},"z":{of_z},{ODD_TEXT}:{of_odd}}}"#)
+    })?;
     is_line(&rt, body.as_slice(), expected.as_str());
     Ok(())
 }
@@ -232,7 +270,7 @@ const BATCH_REPLIES: &str = concat!(
 #[test]
 fn batches_are_answered(rt: HostRuntime) -> Result<(), Fail> {
     let alloc = rt.alloc();
-    let list = Value::from_str(alloc, BATCH)?;
+    let list = again(|| Value::from_str(alloc, BATCH))?;
     let elements = list.as_array().expect(&rt, "a list");
     let one = RevId::read("1-a").expect(&rt, "a revision");
     let two = RevId::read("2-b").expect(&rt, "a revision");
@@ -245,11 +283,11 @@ fn batches_are_answered(rt: HostRuntime) -> Result<(), Fail> {
         Some(BatchReply::Refused(Refusal::BadId)),
         Some(BatchReply::Refused(Refusal::Conflict)),
     ];
-    let body = batch_body(alloc, elements.as_slice(), &replies)?;
+    let body = again(|| batch_body(alloc, elements.as_slice(), &replies))?;
     is_line(&rt, body.as_slice(), BATCH_REPLIES);
-    let body = batch_body(alloc, elements.as_slice(), &[None, None])?;
+    let body = again(|| batch_body(alloc, elements.as_slice(), &[None, None]))?;
     is_line(&rt, body.as_slice(), "[]");
-    let body = batch_body(alloc, &[], &replies)?;
+    let body = again(|| batch_body(alloc, &[], &replies))?;
     is_line(&rt, body.as_slice(), "[]");
     Ok(())
 }

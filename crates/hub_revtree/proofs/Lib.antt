@@ -24,3 +24,4 @@ pub mod MeetLemmas
 pub mod BringLemmas
 pub mod StepLemmas
 pub mod CommonLemmas
+pub mod CandidateLemmas

@@ -47,7 +47,7 @@ knows_of bs r = (λ h. known_is (edits_in bs) [] r (known_by bs r ∙ h), λ k. 
 pub knows : (bs : List Branch) (r : Revision) (b : Bool) → b ≡ list_any (λ c. names c.path r) bs → IsTrue b ↔ IsKnown (edits_in bs) [] r
 knows bs r b is = rw is (knows_of bs r)
 
-first_of : (p : List Revision) (x : Revision) → slice_get p 0 ≡ Some x → IsFirst p x
+pub first_of : (p : List Revision) (x : Revision) → slice_get p 0 ≡ Some x → IsFirst p x
 first_of [] x e = absurd (cc)
 first_of (y ∷ p) x e = same_Some y x e
 
@@ -103,7 +103,7 @@ module _ (bs : List Branch) (r : Revision) where
   in_tree (x ∷ bs) b c =
       ⊎_elim (λ v. subst (λ z. Contains (edits_in (x ∷ bs)) (edit_of z)) v (contains_here (edit_of x) (edits_in bs))) (λ d. contains_there (edit_of x) (edit_of b) (edits_in bs) (in_tree bs b d)) (contains_cases x b bs c)
 
-  from_tree : (bs : List Branch) (e : Edit) → Contains (edits_in bs) e → (b : Branch) × Contains bs b × (edit_of b ≡ e)
+  pub from_tree : (bs : List Branch) (e : Edit) → Contains (edits_in bs) e → (b : Branch) × Contains bs b × (edit_of b ≡ e)
   from_tree [] e c = absurd (contains_none e c)
   from_tree (b ∷ bs) e c = ⊎_elim (λ v. (b, contains_here b bs, v)) (λ d. let i = from_tree bs e d in (i.0, contains_there b i.0 bs i.1, i.2)) (contains_cases (edit_of b) e (edits_in bs) c)
 

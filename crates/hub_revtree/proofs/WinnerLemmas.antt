@@ -191,7 +191,7 @@ module _ (bs : List Branch) (legal : IsLegal (edits_in bs)) (best : ℕ) (before
         ]
 
 -- a branch by its edit
-abbrev branch_in : Edit → Branch
+abbrev pub branch_in : Edit → Branch
 branch_in e = record { path = e.path; deleted = e.deleted; body = e.body }
 
 branches_back : (bs : List Branch) → map branch_in (edits_in bs) ≡ bs
@@ -200,7 +200,7 @@ branches_back (b ∷ bs) = ap (λ z. b ∷ z) (branches_back bs)
 
 -- one edit more
 module _ (xs ys : List Branch) (e : Edit) (same : edits_in ys ≡ edits_in xs ++ e ∷ []) where
-  whole : ys ≡ xs ++ branch_in e ∷ []
+  pub whole : ys ≡ xs ++ branch_in e ∷ []
   whole = sym (branches_back ys) ∙ (ap (map branch_in) same ∙ (map-append branch_in (edits_in xs) (e ∷ []) ∙ ap (λ z. z ++ branch_in e ∷ []) (branches_back xs)))
 
   pub earlier_taken : earlier_branches ys ≡ xs

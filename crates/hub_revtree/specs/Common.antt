@@ -3,7 +3,9 @@
 use Rattle.std.specs.Prelude.{ℕ, suc, List, [], ◌∷◌, Option, Some, None, option_map, if◌then◌else◌}
 use Rattle.hub_model.specs.Revision.{Revision, is_same}
 
--- for how many they are one, where that is as far as both go; None where one of them differs before
+-- How many revisions from the front on are one in both lists, where one list goes on where the other ends;
+-- None where a revision differs before that. It is 2 for 5-e 4-d and 5-e 4-d 3-c, None for 5-e 4-d and
+-- 5-e 4-q, and 0 for an empty list.
 abbrev pub common : List Revision → List Revision → Option ℕ
 common [] q = Some 0
 common (x ∷ p) [] = Some 0

@@ -5,7 +5,8 @@ use Rattle.hub_model.specs.Journal.{Edit}
 use Rattle.hub_model.specs.Missing.{missing}
 
 -- how many revisions these edits of the document whose id is left out name that none of the earlier ones
--- names, each counted once
+-- names, each counted once. In the example above, with the first of the three as the earlier one, it is 3
+-- for the others: 3-c, and 3-d with 2-e.
 abbrev pub count_after : List Edit → List Edit → ℕ
 count_after earlier [] = 0
 count_after earlier (e ∷ later) = length (missing earlier [] e.path) + count_after (earlier ++ e ∷ []) later

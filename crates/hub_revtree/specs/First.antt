@@ -2,7 +2,8 @@
 -- is none leaves 7 at a; 9 put there afterwards leaves 7.
 use Rattle.std.specs.Prelude.{ℕ, Bool, Option, Some, if◌then◌else◌, unwrap_or}
 
--- the function with the number at this argument, where it has none there
+-- The function once this number is put at an argument: where it has a number there, it keeps that. In the
+-- example above it gives 7 at a after both, and at b what it gave before.
 abbrev pub first_put : {K : Type 0} → (K → K → Bool) → (K → Option ℕ) → K → ℕ → K → Option ℕ
 first_put same f argument number x =
     if same argument x then Some (unwrap_or (f argument) number) else f x

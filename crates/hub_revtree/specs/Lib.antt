@@ -11,4 +11,6 @@ pub mod Key
 pub mod Order
 pub mod First
 pub mod Index
+pub mod Candidate
+pub mod Candidates
 pub mod Common

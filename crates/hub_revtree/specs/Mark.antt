@@ -51,12 +51,15 @@ AreNoted test stems =
     (k : ℕ) (stem : Stem) (r : Revision) → slice_get stems k ≡ Some stem → slice_get stem.revisions 0 ≡ Some r
     → stem.inner ≡ test r
 
--- each stem is noted as inner where its newest revision stands behind another
+-- each stem is noted as inner where its newest revision stands behind another. So the three stems above are
+-- noted as inner, not inner and not inner.
 abbrev pub AreMarked : List Stem → Type 0
 AreMarked stems = AreNoted (is_inner stems) stems
 
--- what was noted by any test that all pass that stand behind a newest revision is noted now by the test or
--- this one
+-- If the stems before were noted by some test, which every revision passes that stands behind a newest one
+-- of them, then the stems after are noted by that test or by `this`. An example: the stems before have
+-- 2-b 1-a and 3-c, which stands on 2-b, and are noted as inner and not inner. Where `this` is true of 3-c
+-- alone, since 4-d is to stand on it, the same two stems are noted as inner and inner.
 abbrev pub Notes : List Stem → (Revision → Bool) → List Stem → Type 0
 Notes before this after =
     (test : Revision → Bool) → ((r : Revision) → is_inner before r ≡ true → test r ≡ true) → AreNoted test before

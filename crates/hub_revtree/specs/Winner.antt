@@ -17,12 +17,14 @@ winner_of (leaf ∷ others) = Some (record { rev = leaf.rev; deleted = leaf.edit
 abbrev pub head_in : Branch → Option Winner
 head_in branch = option_map (λ r. record { rev = r; deleted = branch.deleted }) (slice_get branch.path 0)
 
--- what holds of a tree's edits and of the winner that it keeps
+-- what holds of a tree's edits and of the winner that it keeps. After edits with the paths 2-b 1-q, which
+-- deletes, 2-a 1-q and 1-z the winner that is kept is 2-a; after the first of them alone it is 2-b, deleted.
 pub record HasWinner (edits : List Edit) (winner : Option Winner) : Type 0 where
   pub legal : IsLegal edits
   pub first : winner ≡ winner_of (leaves_of edits [])
 
--- whether a leaf is above the best of the others, if there are any
+-- whether a leaf is above the best of the others, if there are any. 1-z is above 2-b where 2-b alone is
+-- deleted; no leaf is above itself.
 abbrev pub is_better_than : Winner → Option Winner → Bool
 is_better_than leaf None = true
 is_better_than leaf (Some best) = is_gt (leaf_cmp leaf.deleted leaf.rev best.deleted best.rev)

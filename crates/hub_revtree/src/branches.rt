@@ -10,6 +10,7 @@ ghost use Rattle.hub_model.specs.Missing.{highest as highest_of, missing as miss
 ghost use Rattle.hub_model.specs.Path.{IsHistory, IsPath, agrees as agrees_with, is_first, names};
 ghost use Rattle.hub_revtree.specs.Winner.{head_in};
 ghost use Rattle.hub_revtree.specs.Branch.{edit_of, edits_in, unnamed_in};
+ghost use Rattle.hub_revtree.specs.Candidates.{AreCandidates, candidates_in};
 ghost use Rattle.hub_revtree.specs.Count.{revision_count as count_of};
 ghost use Rattle.hub_revtree.specs.Extend.{line_to};
 ghost use Rattle.hub_revtree.specs.Index.{IsIndexed};
@@ -18,6 +19,7 @@ ghost use Rattle.hub_revtree.specs.Common.{last_in};
 ghost use Rattle.hub_revtree.specs.Stem.{Stem, AreStems, IsBrought, branches_of};
 ghost use Rattle.hub_revtree.specs.Tree.{nameless, tip, tip_of};
 
+use crate::candidates::Candidates;
 use crate::heads::StoredEdit;
 use crate::index::{Index, renewed};
 use crate::inner::note_inner;
@@ -51,13 +53,15 @@ impl Model for Branches {
 
     ghost Value = { Storage };
 
+    ghost use Rattle.std.specs.Prelude.{IfSome};
+    ghost use Rattle.hub_revtree.specs.Candidates.{AreCandidates, candidates_in};
     ghost use Rattle.hub_revtree.specs.Index.{IsIndexed};
     ghost use Rattle.hub_revtree.specs.Mark.{AreMarked};
     ghost use Rattle.hub_revtree.specs.Stem.{AreStems, AreUpTo, branches_of};
 
     ghost view = { λ a. record { list = branches_of a.stems.items; spare = vec_capacity a.stems - vec_len a.stems } };
 
-    ghost invariant = { λ a. AreStems a.stems.items × AreUpTo a.stems.items a.highest × IsIndexed (option_map (λ i. i.value) a.index) a.stems.items × AreMarked a.stems.items };
+    ghost invariant = { λ a. AreStems a.stems.items × AreUpTo a.stems.items a.highest × IsIndexed (option_map (λ i. i.value) a.index) a.stems.items × AreMarked a.stems.items × IfSome (candidates_in (option_map (λ i. i.value) a.index)) (AreCandidates (branches_of a.stems.items)) };
 }
 
 // The index as it is lent, if there is one.
@@ -104,7 +108,8 @@ fn kept(run: Run, path: Run, count: usize) -> (Run, Option<Line>)
 
 // The index without the path that it keeps.
 fn without_line(index: Option<Box<Index>>) -> Option<Box<Index>>
-    ensures { (stems : List Stem) → IsIndexed (option_map (λ i. i.value) index) stems → IsIndexed (option_map (λ i. i.value) result) stems }
+    ensures candidates { candidates_in (option_map (λ i. i.value) result) ≡ candidates_in (option_map (λ i. i.value) index) }
+    ensures index { (stems : List Stem) → IsIndexed (option_map (λ i. i.value) index) stems → IsIndexed (option_map (λ i. i.value) result) stems }
 {
     match index {
         Some(mut index) => {
@@ -361,6 +366,28 @@ impl Branches {
             self.highest,
             path.revisions(),
         )
+    }
+
+    /// The candidates for the best leaf, which are no longer kept; none where there is no index.
+    pub(crate) fn take_candidates(&mut self) -> Option<Candidates>
+        ensures list { self.new.list ≡ self.old.list }
+        ensures candidates { IfSome result (AreCandidates self.old.list) }
+    {
+        let alloc = self.allocator();
+        match &mut self.index {
+            Some(index) => Some(index.take_candidates(alloc)),
+            None => None,
+        }
+    }
+
+    /// Keeps the candidates for the best leaf, where there is an index.
+    pub(crate) fn put_candidates(&mut self, candidates: Candidates)
+        requires { AreCandidates self.old.list candidates }
+        ensures { self.new.list ≡ self.old.list }
+    {
+        if let Some(index) = &mut self.index {
+            index.put_candidates(candidates);
+        }
     }
 
     /// Makes room for one more edit: exactly for the first, since most documents have one.

@@ -1,13 +1,16 @@
 //! An index of a tree's revisions.
 
-ghost use Rattle.std.specs.Prelude.{◌≡◌, ℕ, [], ◌+◌, ◌-◌, ◌<◌, ◌≤◌, false, None, length, nat_eq, option_map, take, unwrap_or, IfNone, IfOk, IfSome, OnOk};
+ghost use Rattle.std.specs.Prelude.{◌≡◌, ℕ, [], ◌+◌, ◌-◌, ◌<◌, ◌≤◌, List, Some, false, None, length, nat_eq, option_map, take, unwrap_or, IfNone, IfOk, IfSome, OnOk};
 ghost use Rattle.std.specs.BTreeMap.{get as ordered_get};
 ghost use Rattle.std.specs.Ordering.{eq_by_cmp};
 ghost use Rattle.hub_model.specs.Revision.{Revision, revision_cmp};
+ghost use Rattle.hub_revtree.specs.Branch.{Branch};
+ghost use Rattle.hub_revtree.specs.Candidates.{AreCandidates, candidates_in};
 ghost use Rattle.hub_revtree.specs.First.{first_put};
 ghost use Rattle.hub_revtree.specs.Index.{AreLinked, AreTold, Has, HasTo, IsFirstPlace, IsIndex, IsIndexed, IsNewestLine, entry_in, link_in, other_in};
 ghost use Rattle.hub_revtree.specs.Stem.{AreStems, has_revision, revisions_at};
 
+use crate::candidates::Candidates;
 use crate::key::key_of_rev;
 use crate::line::Line;
 use crate::rev_key::RevKey;
@@ -39,6 +42,9 @@ pub(crate) struct Index {
     /// The newest stem's newest revision and all that stands behind it, for the next one that stands on it;
     /// None where it was not made so, and where the memory for it was not to be had.
     line: Option<Line>,
+    /// What was looked at so that the best leaf is found soon; None before one was sought that costs a look at
+    /// each edit, and where the memory for it was not to be had.
+    candidates: Option<Candidates>,
 }
 
 // The number that the map has at the revision. At most log n comparisons of revisions.
@@ -60,8 +66,8 @@ fn put_at(map: &mut BTreeMap<RevKey, u32>, rev: &RevId, number: u32) -> Result<(
     Ok(())
 }
 
-// The number of a stem, as the index keeps it.
-fn kept_number(number: usize) -> Result<u32, AllocError>
+/// The number of a stem, as it is kept beside keys.
+pub(crate) fn kept_number(number: usize) -> Result<u32, AllocError>
     ensures { IfOk result (λ kept. kept ≡ number) }
 {
     match u32::try_from(number) {
@@ -78,6 +84,7 @@ impl Index {
         ensures entries { OnOk result ((q : ℕ) → entry_in self.new q ≡ first_put nat_eq (entry_in self.old) key number q) }
         ensures others { self.new.others ≡ self.old.others }
         ensures links { self.new.links ≡ self.old.links }
+        ensures candidates { self.new.candidates ≡ self.old.candidates }
     {
         let other = self.stems.insert(key, number)?;
         let Some(first) = other else {
@@ -96,6 +103,7 @@ impl Index {
         requires told { AreTold (HasTo stems.now number at) (entry_in self.old) (other_in self.old) }
         ensures told { OnOk result (AreTold (HasTo stems.now number (at + 1)) (entry_in self.new) (other_in self.new)) }
         ensures links { self.new.links ≡ self.old.links }
+        ensures candidates { self.new.candidates ≡ self.old.candidates }
     {
         let stem = &stems[number as usize];
         let Some(key) = stem.key_at(at) else {
@@ -119,6 +127,7 @@ impl Index {
         requires told { AreTold (Has (take number stems.now)) (entry_in self.old) (other_in self.old) }
         ensures told { OnOk result (AreTold (Has stems.now) (entry_in self.new) (other_in self.new)) }
         ensures links { self.new.links ≡ self.old.links }
+        ensures candidates { self.new.candidates ≡ self.old.candidates }
     {
         for at in 0..stems[number as usize].len() {
             self.add_at(stems, number, at)?;
@@ -137,6 +146,7 @@ impl Index {
         ensures linked { OnOk result (AreLinked (HasTo stems.now number (at + 1)) stems.now (link_in self.new)) }
         ensures entries { self.new.stems ≡ self.old.stems }
         ensures others { self.new.others ≡ self.old.others }
+        ensures candidates { self.new.candidates ≡ self.old.candidates }
     {
         let rev = stems[number as usize].rev(at);
         let Some(place) = self.place(stems, &rev) else {
@@ -157,7 +167,8 @@ impl Index {
         requires newest { number + 1 ≡ length stems.now }
         requires told { AreTold (Has stems.now) (entry_in self.old) (other_in self.old) }
         requires linked { AreLinked (Has (take number stems.now)) (take number stems.now) (link_in self.old) }
-        ensures { OnOk result (IsIndex self.new stems.now) }
+        ensures index { OnOk result (IsIndex self.new stems.now) }
+        ensures candidates { self.new.candidates ≡ self.old.candidates }
     {
         for at in 0..stems[number as usize].len() {
             self.link_at(stems, number, at)?;
@@ -171,7 +182,8 @@ impl Index {
         requires stems { AreStems stems.now }
         requires some { 1 ≤ length stems.now }
         requires index { IsIndex self.old (take (length stems.now - 1) stems.now) }
-        ensures { OnOk result (IsIndex self.new stems.now) }
+        ensures index { OnOk result (IsIndex self.new stems.now) }
+        ensures candidates { self.new.candidates ≡ self.old.candidates }
     {
         let newest = stems.len() - 1;
         let number = kept_number(newest)?;
@@ -194,9 +206,36 @@ impl Index {
         ensures stems { self.new.stems ≡ self.old.stems }
         ensures others { self.new.others ≡ self.old.others }
         ensures links { self.new.links ≡ self.old.links }
+        ensures candidates { self.new.candidates ≡ self.old.candidates }
         ensures line { self.new.line ≡ None }
     {
         self.line = None;
+    }
+
+    /// The candidates, which it gives up; those of no edit where there are none.
+    pub(crate) fn take_candidates(&mut self, alloc: Global) -> Candidates
+        ensures stems { self.new.stems ≡ self.old.stems }
+        ensures others { self.new.others ≡ self.old.others }
+        ensures links { self.new.links ≡ self.old.links }
+        ensures line { self.new.line ≡ self.old.line }
+        ensures candidates { self.new.candidates ≡ None }
+        ensures taken { (branches : List Branch) → IfSome self.old.candidates (AreCandidates branches) → AreCandidates branches result }
+    {
+        match self.candidates.take() {
+            Some(candidates) => candidates,
+            None => Candidates::new(alloc),
+        }
+    }
+
+    /// Keeps the candidates.
+    pub(crate) fn put_candidates(&mut self, candidates: Candidates)
+        ensures stems { self.new.stems ≡ self.old.stems }
+        ensures others { self.new.others ≡ self.old.others }
+        ensures links { self.new.links ≡ self.old.links }
+        ensures line { self.new.line ≡ self.old.line }
+        ensures candidates { self.new.candidates ≡ Some candidates }
+    {
+        self.candidates = Some(candidates);
     }
 
     // The place of the revision in the stem that the others tell. At most log n comparisons of revisions.
@@ -247,7 +286,8 @@ impl Index {
 
 // An index of no stems, with room for so many keys.
 fn empty(alloc: Global, capacity: usize) -> Result<Index, AllocError>
-    ensures { IfOk result (λ i. IsIndex i []) }
+    ensures index { IfOk result (λ i. IsIndex i []) }
+    ensures candidates { IfOk result (λ i. i.candidates ≡ None) }
 {
     let stems = HashMap::with_capacity(alloc, capacity)?;
     Ok(Index {
@@ -255,13 +295,15 @@ fn empty(alloc: Global, capacity: usize) -> Result<Index, AllocError>
         others: BTreeMap::new(alloc),
         links: BTreeMap::new(alloc),
         line: None,
+        candidates: None,
     })
 }
 
 // An index of the stems. It costs what `add` does for each.
 fn built(alloc: Global, stems: &[Stem]) -> Result<Box<Index>, AllocError>
     requires { AreStems stems.now }
-    ensures { IfOk result (λ i. IsIndex i.value stems.now) }
+    ensures index { IfOk result (λ i. IsIndex i.value stems.now) }
+    ensures candidates { IfOk result (λ i. i.value.candidates ≡ None) }
 {
     let mut index = empty(alloc, stems.len())?;
     for count in 0..stems.len() {
@@ -276,6 +318,7 @@ fn with_newest(mut index: Box<Index>, stems: &[Stem], line: Option<Line>) -> Opt
     requires index { IsIndex index.value (take (length stems.now - 1) stems.now) }
     ensures index { IfSome result (λ i. IsIndex i.value stems.now) }
     ensures line { IfSome result (λ i. i.value.line ≡ line) }
+    ensures candidates { IfSome result (λ i. i.value.candidates ≡ index.value.candidates) }
 {
     if stems.is_empty() {
         return None;
@@ -294,6 +337,7 @@ fn begun(alloc: Global, stems: &[Stem], line: Option<Line>) -> Option<Box<Index>
     requires { AreStems stems.now }
     ensures index { IfSome result (λ i. IsIndex i.value stems.now) }
     ensures line { IfSome result (λ i. i.value.line ≡ line) }
+    ensures candidates { IfSome result (λ i. i.value.candidates ≡ None) }
 {
     if stems.len() < TURN || !stems.len().is_power_of_two() {
         return None;
@@ -319,7 +363,8 @@ pub(crate) fn renewed(
 ) -> Option<Box<Index>>
     requires stems { AreStems stems.now }
     requires index { IsIndexed (option_map (λ i. i.value) index) (take (length stems.now - 1) stems.now) }
-    ensures { IsNewestLine line stems.now → IsIndexed (option_map (λ i. i.value) result) stems.now }
+    ensures index { IsNewestLine line stems.now → IsIndexed (option_map (λ i. i.value) result) stems.now }
+    ensures candidates { IfSome (candidates_in (option_map (λ i. i.value) result)) (λ c. candidates_in (option_map (λ i. i.value) index) ≡ Some c) }
 {
     match index {
         Some(index) => with_newest(index, stems, line),

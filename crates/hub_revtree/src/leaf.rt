@@ -1,6 +1,6 @@
 //! The order of leaves.
 
-ghost use Rattle.std.specs.Prelude.{◌≡◌, ◌<◌, [], Some, length, map, option_and_then, option_map, reverse, slice_get, List, IfOk};
+ghost use Rattle.std.specs.Prelude.{◌≡◌, ◌<◌, [], Some, length, map, option_and_then, option_map, reverse, slice_get, List, IfOk, IfSome};
 ghost use Rattle.std.specs.List.{list_any};
 ghost use Rattle.hub_model.specs.Revision.{revision_cmp};
 ghost use Rattle.hub_model.specs.Journal.{IsLegal};
@@ -30,8 +30,8 @@ fn revision_order(rev: &RevId, other: &RevId) -> Ordering
         .then_with(|| rev.hash().cmp(other.hash()))
 }
 
-// A leaf that is not deleted is above a deleted one, then the greater revision is above.
-fn leaf_order(leaf: &Winner, other: &Winner) -> Ordering
+/// A leaf that is not deleted is above a deleted one, then the greater revision is above.
+pub(crate) fn leaf_order(leaf: &Winner, other: &Winner) -> Ordering
     ensures { result ≡ leaf_cmp leaf.now.deleted leaf.now.rev other.now.deleted other.now.rev }
 {
     match (leaf.deleted, other.deleted) {
@@ -73,13 +73,31 @@ pub(crate) fn best_leaf(branches: &Branches) -> usize
     number
 }
 
+// The same by the candidates; None where there is no memory for them. Each edit becomes a candidate once at most,
+// and is given up once, at log n comparisons of revisions each time.
+fn best_candidate(branches: &mut Branches) -> Option<usize>
+    requires { IsLegal (edits_in branches.old.list) }
+    ensures list { branches.new.list ≡ branches.old.list }
+    ensures best { IfSome result (λ best. option_and_then head_in (slice_get branches.old.list best) ≡ winner_of (leaves_of (edits_in branches.old.list) [])) }
+{
+    let mut candidates = branches.take_candidates()?;
+    if candidates.add_newer(branches).is_err() {
+        return None;
+    }
+    let best = candidates.best(branches);
+    branches.put_candidates(candidates);
+    Some(best)
+}
+
 /// The same where only the newest edit has come since the winner's edit had this number. Constant time where
-/// the newest edit wins, or the winner is not what it stands on; else the cost of `best_leaf`.
-pub(crate) fn best_with_newest(branches: &Branches, best: usize) -> usize
-    requires some { 0 < length branches.now.list }
-    requires legal { IsLegal (edits_in branches.now.list) }
-    requires winner { HasWinner (edits_in (earlier_branches branches.now.list)) (option_and_then head_in (slice_get (earlier_branches branches.now.list) best)) }
-    ensures { option_and_then head_in (slice_get branches.now.list result) ≡ winner_of (leaves_of (edits_in branches.now.list) []) }
+/// the newest edit wins, or the winner is not what it stands on. Else it costs what `best_candidate` does where
+/// the edits have an index, and memory for candidates, and where not what `best_leaf` does.
+pub(crate) fn best_with_newest(branches: &mut Branches, best: usize) -> usize
+    requires some { 0 < length branches.old.list }
+    requires legal { IsLegal (edits_in branches.old.list) }
+    requires winner { HasWinner (edits_in (earlier_branches branches.old.list)) (option_and_then head_in (slice_get (earlier_branches branches.old.list) best)) }
+    ensures list { branches.new.list ≡ branches.old.list }
+    ensures best { option_and_then head_in (slice_get branches.old.list result) ≡ winner_of (leaves_of (edits_in branches.old.list) []) }
 {
     let newest = branches.len() - 1;
     let leaf = branches.head(newest);
@@ -91,7 +109,10 @@ pub(crate) fn best_with_newest(branches: &Branches, best: usize) -> usize
         return newest;
     }
     if branches.is_head_inner(best) {
-        return best_leaf(branches);
+        return match best_candidate(branches) {
+            Some(best) => best,
+            None => best_leaf(branches),
+        };
     }
     best
 }

@@ -3,6 +3,7 @@
 #![tactic(auto)]
 
 mod branches;
+mod candidates;
 mod edit;
 mod fault;
 mod heads;

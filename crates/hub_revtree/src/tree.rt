@@ -30,11 +30,17 @@ use std::marker::Model;
 ///
 /// Of each edit the tree notes in one bit whether its revision stands behind another by now, so that a look
 /// whether it is a leaf takes constant time.
-#[derive(Debug, Drop)]
+#[derive(Debug)]
 pub struct RevTree {
     branches: Branches,
     /// The number of the winner's edit; 0 where there is none.
     best: usize,
+}
+
+impl Drop for RevTree {
+    fn drop(self) {
+        let Self { branches, best } = self;
+    }
 }
 
 impl Model for RevTree {
@@ -274,14 +280,18 @@ impl RevTree {
         Ok(Some(ready))
     }
 
-    /// Takes an edit that `look_merge` or `look_extend` made ready. It takes memory for the index and for a
-    /// path that is shared, and where there is none to be had the tree goes on without these, which changes
-    /// no answer. It gives back the path's: the tree keeps the revisions that are new as the look made them.
-    /// Where the look found more or fewer, as it may in a tree that is not this one, the path's memory is cut
-    /// to them instead. It costs what `look_merge` does. The winner takes constant time where it is the
-    /// edit's revision, or the old one which the edit does not stand on; else it is found anew, in one step an
-    /// edit. So an edit that `look_extend` made on the newest one of a line takes constant time, but that its
-    /// path's memory is given back, and that the index and the shared path grow, or are made.
+    /// Takes an edit that `look_merge` or `look_extend` made ready. It takes memory for the index, for a path
+    /// that is shared and for candidates for the winner, and where there is none to be had the tree goes on
+    /// without these, which changes no answer. It gives back the path's: the tree keeps the revisions that are
+    /// new as the look made them. Where the look found more or fewer, as it may in a tree that is not this one,
+    /// the path's memory is cut to them instead. It costs what `look_merge` does.
+    ///
+    /// The winner takes constant time where it is the edit's revision, or the old one which the edit does not
+    /// stand on; else it is found anew. This costs a tree with an index at most log n comparisons of revisions
+    /// for each edit that it ever takes, since each becomes a candidate once at most, and is given up once. It
+    /// costs a tree without one, or without memory for the candidates, one step an edit. So an edit that
+    /// `look_extend` made on the newest one of a line takes constant time, but that its path's memory is given
+    /// back, and that the index and the shared path grow, or are made.
     pub fn adopt(&mut self, ready: Ready)
         requires acceptable { IsAcceptable self.old.edits ready }
         requires room { length ready.path ≤ self.old.room }
@@ -294,7 +304,7 @@ impl RevTree {
             body,
         } = ready;
         self.branches.push(path, run, deleted, body);
-        self.best = best_with_newest(&self.branches, self.best);
+        self.best = best_with_newest(&mut self.branches, self.best);
     }
 
     /// Takes an edit, where its revision is new and its path contradicts no stored one. It costs

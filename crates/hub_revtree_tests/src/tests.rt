@@ -1,5 +1,11 @@
 //! Trees as tables: what is done to one, what it is asked, and what it answers.
+//!
+//! With ample memory each step is made once. Where a growth is refused the step says so, the tree shows the
+//! same as before it, and made again the step has the answer that it has with ample memory. So these tests
+//! hold whichever one of their growths is refused; the growths of the tests themselves, as of a document's
+//! text, are among them.
 
+mod best;
 mod digests;
 mod edits;
 mod index;
@@ -14,7 +20,7 @@ use crate::tests::Step::{
     Ancestors, Body, Deleted, Knows, Leaves, Len, Make, Merge, Missing, Nodes, Path, Winner,
 };
 use hub_document::{Body as Members, Doc, DocId, RevId};
-use hub_revtree::{EditFault, MergeFault, Merged, RevTree};
+use hub_revtree::{EditFault, MergeFault, Merged, RevTree, Winner as Best};
 use std::alloc::{AllocError, Global};
 use std::process::Abort;
 use std::test::Fail;
@@ -56,6 +62,47 @@ const ADDED: Result<Merged, MergeFault> = Ok(Merged::Added);
 /// An edit whose revision is known.
 const KNOWN: Result<Merged, MergeFault> = Ok(Merged::Known);
 
+// How often a call is made until it answers.
+const TRIES: u64 = 2;
+
+// What a call gives, which is made again where it finds no memory; None where it finds none each time.
+fn again<T: Drop, F>(call: F) -> Option<T>
+where
+    F: Fn() -> Result<T, AllocError>,
+    requires { F.IsAlwaysCallable call }
+{
+    for _ in 0..TRIES {
+        if let Ok(given) = call() {
+            return Some(given);
+        }
+    }
+    None
+}
+
+// What a tree shows in constant time, for which it takes no memory: how many edits it has, and its winner.
+fn shown(tree: &RevTree) -> (usize, Option<Best>) {
+    (tree.len(), tree.best())
+}
+
+// What a call on a tree gives. One that finds no memory leaves what the tree shows, and is made again; None
+// where it leaves something else, or finds no memory each time.
+fn again_on<T: Drop, F>(tree: &mut RevTree, call: F) -> Option<T>
+where
+    F: Fn(&mut RevTree) -> Result<T, AllocError>,
+    requires { F.IsAlwaysCallable call }
+{
+    for _ in 0..TRIES {
+        let before = shown(tree);
+        if let Ok(given) = call(tree) {
+            return Some(given);
+        }
+        if shown(tree) != before {
+            return None;
+        }
+    }
+    None
+}
+
 // The revisions' texts, each with a blank behind it.
 fn texts_of(alloc: Global, revs: &[RevId]) -> Result<Vec<u8>, AllocError> {
     let mut out = Vec::new(alloc);
@@ -91,24 +138,61 @@ fn revs_of(alloc: Global, texts: &[&str]) -> Result<Vec<RevId>, AllocError> {
     Ok(revs)
 }
 
-// What becomes of the document that the text is.
-fn merge(alloc: Global, tree: &mut RevTree, text: &str) -> Option<Result<Merged, MergeFault>> {
-    let doc = Doc::read(alloc, text.as_bytes(), false).ok()?;
-    Some(tree.merge(doc.path?, doc.deleted, doc.body))
+// What becomes of the document that the text is; an error where it finds no memory, and each time where the
+// text is no document with a revision.
+fn try_merge(
+    alloc: Global,
+    tree: &mut RevTree,
+    text: &str,
+) -> Result<Result<Merged, MergeFault>, AllocError> {
+    let Ok(doc) = Doc::read(alloc, text.as_bytes(), false) else {
+        return Err(AllocError);
+    };
+    let Doc {
+        deleted,
+        path,
+        body,
+        ..
+    } = doc;
+    let Some(path) = path else {
+        return Err(AllocError);
+    };
+    match tree.merge(path, deleted, body) {
+        Err(MergeFault::NoMemory) => Err(AllocError),
+        merged => Ok(merged),
+    }
 }
 
-// What becomes of an edit of the document `a` that is made.
+// The same, also where a growth of it is refused.
+fn merge(alloc: Global, tree: &mut RevTree, text: &str) -> Option<Result<Merged, MergeFault>> {
+    again_on(tree, |tree| try_merge(alloc, tree, text))
+}
+
+// What becomes of an edit of the document `a` that is made; an error where it finds no memory.
+fn try_make(
+    alloc: Global,
+    tree: &mut RevTree,
+    parent: Option<RevId>,
+    deleted: bool,
+) -> Result<Result<RevId, EditFault>, AllocError> {
+    let Some(id) = DocId::read(alloc, "a")? else {
+        return Err(AllocError);
+    };
+    let members = Members::empty(alloc)?;
+    match tree.extend(&id, parent, deleted, members) {
+        Err(EditFault::NoMemory) => Err(AllocError),
+        made => Ok(made),
+    }
+}
+
+// The same, also where a growth of it is refused.
 fn make(
     alloc: Global,
     tree: &mut RevTree,
     parent: Option<RevId>,
     deleted: bool,
-) -> Result<Option<Result<RevId, EditFault>>, AllocError> {
-    let Some(id) = DocId::read(alloc, "a")? else {
-        return Ok(None);
-    };
-    let members = Members::empty(alloc)?;
-    Ok(Some(tree.extend(&id, parent, deleted, members)))
+) -> Option<Result<RevId, EditFault>> {
+    again_on(tree, |tree| try_make(alloc, tree, parent, deleted))
 }
 
 // A document whose history has so many revisions.
@@ -119,6 +203,24 @@ fn long_history(alloc: Global, count: u16) -> Result<String, AllocError> {
     }
     text.push_str("]}}")?;
     Ok(text)
+}
+
+// How many of so many documents are edits that are new, numbered from 0.
+fn add_all<F>(alloc: Global, tree: &mut RevTree, count: usize, text_of: F) -> usize
+where
+    F: Fn(Global, usize) -> Result<String, AllocError>,
+    requires { F.IsAlwaysCallable text_of }
+{
+    let mut added = 0usize;
+    for number in 0..count {
+        let Some(text) = again(|| text_of(alloc, number)) else {
+            return added;
+        };
+        if merge(alloc, tree, text.as_str()) == Some(ADDED) {
+            added = added.saturating_add(1);
+        }
+    }
+    added
 }
 
 // Whether an edit is made with this answer. A text that is no revision stands for no parent, so a
@@ -134,10 +236,10 @@ fn is_made(
     if on.is_some() != parent.is_some() {
         return Ok(false);
     }
-    let made = make(alloc, tree, on, deleted)?;
+    let made = try_make(alloc, tree, on, deleted)?;
     Ok(match (made, answer) {
-        (Some(Ok(made)), Ok(text)) => Some(made) == RevId::read(text),
-        (Some(Err(fault)), Err(other)) => fault == other,
+        (Ok(made), Ok(text)) => Some(made) == RevId::read(text),
+        (Err(fault), Err(other)) => fault == other,
         _ => false,
     })
 }
@@ -196,10 +298,10 @@ fn tells(alloc: Global, tree: &RevTree, rev: &RevId, step: &Step) -> Result<bool
     }
 }
 
-// Whether a step has its answer.
+// Whether a step has its answer; an error where it finds no memory.
 fn holds(alloc: Global, tree: &mut RevTree, step: &Step) -> Result<bool, AllocError> {
     match step {
-        Merge(text, answer) => Ok(merge(alloc, tree, text) == Some(*answer)),
+        Merge(text, answer) => Ok(try_merge(alloc, tree, text)? == *answer),
         Make(parent, deleted, answer) => is_made(alloc, tree, *parent, *deleted, *answer),
         Len(len) => Ok(tree.len() == *len),
         Nodes(count) => Ok(tree.nodes() == *count),
@@ -216,26 +318,22 @@ fn holds(alloc: Global, tree: &mut RevTree, step: &Step) -> Result<bool, AllocEr
     }
 }
 
-// The place of the first step that has another answer.
-fn first_wrong(
-    alloc: Global,
-    tree: &mut RevTree,
-    steps: &[Step],
-) -> Result<Option<usize>, AllocError> {
+// The place of the first step that has another answer, also where a growth of it is refused.
+fn first_wrong(alloc: Global, tree: &mut RevTree, steps: &[Step]) -> Option<usize> {
     let mut at = 0usize;
     for step in steps {
-        if !holds(alloc, tree, step)? {
-            return Ok(Some(at));
+        if again_on(tree, |tree| holds(alloc, tree, step)) != Some(true) {
+            return Some(at);
         }
         at = at.saturating_add(1);
     }
-    Ok(None)
+    None
 }
 
 /// Asserts that these steps on a tree without edits have their answers.
 fn assert_steps(rt: &impl Abort, alloc: Global, steps: &[Step]) -> Result<(), Fail> {
     let mut tree = RevTree::new(alloc);
-    let wrong = first_wrong(alloc, &mut tree, steps)?;
+    let wrong = first_wrong(alloc, &mut tree, steps);
     assert_eq!(rt; wrong, None);
     Ok(())
 }

@@ -76,7 +76,7 @@ pub record IsWhole (a : Asked) (s : Service) : Type 0 where
   pub length : (takes_body s ≡ true) → (a.has_length ≡ true)
   pub document : IsGoodId s (document_of a)
 
--- What may fail for want of memory: finding the kind of the path; decoding a name, or the id of one document;
+-- What may run out of memory: finding the kind of the path; decoding a name, or the id of one document;
 -- and copying what a route has of the name, the id and the query, where nothing refuses the request. The
 -- routes of the greeting and of the list of databases have nothing of them.
 pub data NeedsRoom (a : Asked) : Type 0 where

@@ -1,3 +1,8 @@
+//! Where requests go, a line a request.
+//!
+//! Any one growth of a request or its route may be refused. The call that met it says so, and made again it
+//! has the answer that it has with ample memory.
+
 use hub_http::{Refusal, Request};
 use hub_routes::{Call, Route, RouteFault, Routes};
 use std::alloc::{AllocError, Global};
@@ -256,7 +261,7 @@ fn text(bytes: &[u8]) -> &str {
     str::from_utf8(bytes).unwrap_or("no text")
 }
 
-fn called(alloc: Global, db: &str, call: Call) -> Result<String, AllocError> {
+fn called(alloc: Global, db: &str, call: &Call) -> Result<String, AllocError> {
     match call {
         Call::Info => format!(in alloc; "get {db}"),
         Call::BulkDocs => format!(in alloc; "bulk {db}"),
@@ -277,7 +282,7 @@ fn called(alloc: Global, db: &str, call: Call) -> Result<String, AllocError> {
     }
 }
 
-fn shown(alloc: Global, answer: Result<Route, RouteFault>) -> Result<String, AllocError> {
+fn shown(alloc: Global, answer: &Result<Route, RouteFault>) -> Result<String, AllocError> {
     match answer {
         Ok(Route::Welcome) => format!(in alloc; "welcome"),
         Ok(Route::AllDbs) => format!(in alloc; "list"),
@@ -287,15 +292,48 @@ fn shown(alloc: Global, answer: Result<Route, RouteFault>) -> Result<String, All
         Ok(Route::PutDatabase { db }) => format!(in alloc; "put {db}"),
         Ok(Route::DeleteDatabase { db }) => format!(in alloc; "delete {db}"),
         Ok(Route::Database { db, call }) => called(alloc, db.as_str(), call),
-        Err(fault) => format!(in alloc; "{}", Refusal::from(fault).reason()),
+        Err(fault) => format!(in alloc; "{}", Refusal::from(*fault).reason()),
+    }
+}
+
+// What a call gives, made again where it finds no memory.
+fn again<T: Drop, F: Fn() -> Result<T, AllocError>>(call: F) -> Result<T, AllocError>
+    requires { F.IsAlwaysCallable call }
+{
+    match call() {
+        Ok(found) => Ok(found),
+        Err(AllocError) => call(),
+    }
+}
+
+// A request, made again where it finds no memory.
+fn asked(
+    alloc: Global,
+    method: &str,
+    target: &[u8],
+    has_length: bool,
+) -> Result<Request, AllocError> {
+    match asking(alloc, method, target, has_length) {
+        Ok(request) => Ok(request),
+        Err(AllocError) => asking(alloc, method, target, has_length),
+    }
+}
+
+// Where a request goes, asked again where no memory is found; the answer of a route that never finds any is
+// the fault.
+fn routed(alloc: Global, routes: &Routes, request: &Request) -> Result<Route, RouteFault> {
+    match routes.route(alloc, request) {
+        Err(RouteFault::NoMemory) => routes.route(alloc, request),
+        answer => answer,
     }
 }
 
 fn go(rt: &impl Abort, alloc: Global, requests: &[(&str, &[u8], bool, &str)]) -> Result<(), Fail> {
-    let routes = Routes::new(alloc)?;
+    let routes = again(|| Routes::new(alloc))?;
     for (method, target, has_length, want) in requests {
-        let request = asking(alloc, method, target, *has_length)?;
-        let text = shown(alloc, routes.route(alloc, &request))?;
+        let request = asked(alloc, method, target, *has_length)?;
+        let answer = routed(alloc, &routes, &request);
+        let text = again(|| shown(alloc, &answer))?;
         assert_eq!(rt; text.as_str(), *want);
     }
     Ok(())

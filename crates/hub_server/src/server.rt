@@ -179,7 +179,7 @@ fn accept(listener: &TcpListener) -> io::Result<TcpStream>
 /// each database of which a feed waits, and comes back once all have ended. Connections are numbered from 1 as
 /// they are accepted; each passes `Point::Request` of its number at the gate before each answer. A connection for
 /// which no thread can be made is closed unanswered; a feed for which the pump of its database is missing, and no
-/// thread can be made, is answered as want of memory is. An error says that there was no memory or no thread to
+/// thread can be made, is answered as out of memory. An error says that there was no memory or no thread to
 /// begin with, or that no connection could be accepted: then those that are open go on, and begin no pump.
 pub fn run_server<R, G, K>(
     rt: &R,

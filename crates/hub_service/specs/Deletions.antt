@@ -14,7 +14,8 @@ use Rattle.hub_service.specs.Moments.{HasDatabase, IsRead, IsWritten}
 use Rattle.hub_service.specs.Said.{Refusing, IsWant}
 use Rattle.hub_service.specs.declared.response.Response.{Response}
 
--- deleting a document that has this winner, where no leaf is named
+-- Why a document is not deleted that has this winner, where no leaf is named. Where there is no document it
+-- is Missing, where the winner is deleted DocDeleted, and where the winner stands, as 2-b, Conflict.
 abbrev pub refuses_unnamed : Option Winner → Refusal
 refuses_unnamed None = Missing
 refuses_unnamed (Some winner) = if winner.deleted then DocDeleted else Conflict
@@ -24,7 +25,7 @@ abbrev pub IsUnknown : List ℕ → Result Response Refusal → Type 0
 IsUnknown id r = ((r ≡ Err Missing) × HasDatabase (λ db. (db.deleted ≡ false) × (winner_in db id ≡ None)))
     ⊎ ((r ≡ Err Deleted) × HasDatabase (λ db. db.deleted ≡ true))
 
--- a look found such a document
+-- a look found a document of this id, in a database that was not deleted
 abbrev pub IsKnown : List ℕ → Type 0
 IsKnown id = HasDatabase (λ db. (db.deleted ≡ false) × (winner_in db id ≢ None))
 
@@ -36,7 +37,7 @@ DeletesLeaf id None rev r = r ≡ Err Missing
 DeletesLeaf id (Some short) rev r =
     IsUnknown id r ⊎ (IsWant r ⊎ (IsKnown id × IsWritten (λ db. edits 200 db (deletion short rev)) r))
 
--- deleting the leaf that a text names
+-- deleting the leaf that a text names, where the text is a revision's: x is none, and so it is BadRev
 abbrev pub DeletesNamed : List ℕ → Option Revision → Result Response Refusal → Type 0
 DeletesNamed id None r = r ≡ Err BadRev
 DeletesNamed id (Some rev) r = DeletesLeaf id (short_id id) rev r

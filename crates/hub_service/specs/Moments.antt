@@ -23,7 +23,9 @@ pub record HasDatabase (holds : Database → Type 0) : Type 0 where
 abbrev pub stands : Database → Said → Said
 stands db said = if db.deleted then Refusing Deleted else said
 
--- a look at some database found this; it was deleted, or memory was missing, where nothing was found
+-- A look at some database found this. Where nothing was found, the database was deleted, or memory was
+-- missing. It says nothing of a later look: that may find a deleted database where this one found a
+-- document.
 abbrev pub IsFound : {A : Type 0} → (Database → A → Type 0) → Result A Refusal → Type 0
 IsFound found (Ok a) = HasDatabase (λ db. (db.deleted ≡ false) × found db a)
 IsFound found (Err e) = (e ≡ NoMemory) ⊎ ((e ≡ Deleted) × HasDatabase (λ db. db.deleted ≡ true))
@@ -40,14 +42,15 @@ abbrev pub IsWritten : (Database → Writing) → Result Response Refusal → Ty
 IsWritten does r = HasDatabase (λ db. Says r (does db).said)
     ⊎ (IsWant r ⊎ ((r ≡ Err SequenceFull) × HasDatabase (λ db. HasStored (does db).outcomes)))
 
--- what became of a write to some database: the log of updates may have no note of it only where edits were
--- stored
+-- What became of a write to some database: the log of updates may have no note of it only where edits were
+-- stored. So for a batch of known documents alone no note is missing.
 pub record IsStored (new_edits : Bool) (docs : List Doc) (w : Written) : Type 0 where
   pub accepted : IsWrittenBy false 0 (record { parts = 0; count = 0 }) new_edits docs w.accepted
   pub lapsed : IsSome w.lapsed → ¬ (w.accepted.receipts.items ≡ [])
 
--- some database, whose journal is not looked at, has kept a local document, and says how often it was written;
--- or it was deleted, or can't count on, or memory was missing
+-- some database, whose journal is not looked at, has kept a local document, and says how often it was
+-- written; or it was deleted, or can't count on, or memory was missing. A document that was written twice
+-- before is told the count 3.
 abbrev pub IsKept : LocalDoc → Result ℕ Refusal → Type 0
 IsKept doc (Ok count) = (db : Database) × (db.deleted ≡ false) × (count ≡ (written db.locals doc).count)
 IsKept doc (Err e) = (e ≡ NoMemory) ⊎ (((e ≡ Deleted) × ((db : Database) × (db.deleted ≡ true)))

@@ -13,7 +13,8 @@ pub data Said : Type 0 where
   Body : (status : ℕ) (body : List ℕ) → Said
   Refusing : (refusal : Refusal) → Said
 
--- the response says this
+-- The response says this. One of status 200 with the bytes {} says Body 200 {}, and the error Missing says
+-- Refusing Missing. A response that begins a feed says neither.
 abbrev pub Says : Result Response Refusal → Said → Type 0
 Says (Ok (response.Body status bytes)) (Body n body) = (status ≡ n) × (bytes.items ≡ body)
 Says (Err e) (Refusing refusal) = e ≡ refusal

@@ -22,7 +22,7 @@ pub trait Pumping: Drop {
     /// Begins to hand a feed of the log of updates its items.
     fn begin_updates(&self, feed: &UpdatesFeed) -> Result<(), AllocError>;
 
-    /// The next item of a feed. There is none where nothing hands it further, as for want of memory.
+    /// The next item of a feed. There is none where nothing hands it further, as out of memory.
     fn next_item<S: FeedHost, H: Pumped<S>>(
         &self,
         feed: &mut HostFeed<S, H>,

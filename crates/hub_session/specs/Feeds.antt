@@ -20,11 +20,14 @@ last_chunk = codes "0\r\n\r\n"
 abbrev pub behind_item : StreamItem → List ℕ
 behind_item item = if is_end item then last_chunk else []
 
--- what is sent for an item, before which so many rows came
+-- what is sent for an item, before which so many rows came. In a normal feed a second row is one chunk with
+-- a comma, a line feed and the row's text; a beat is one chunk with a line feed; an End is its chunk and
+-- then the last one.
 abbrev pub sent_text : Mode → (life rows : ℕ) → StreamItem → List ℕ
 sent_text mode life rows item = text_chunks (stream_item_text mode life rows item) ++ behind_item item
 
--- what is sent for these items, before which so many rows came
+-- what is sent for these items, before which so many rows came. So of two rows of a normal feed the comma
+-- stands in the chunk of the second, also where a beat stands between them.
 abbrev pub items_text : Mode → (life rows : ℕ) → List StreamItem → List ℕ
 items_text mode life rows [] = []
 items_text mode life rows (item ∷ items) =
@@ -34,13 +37,16 @@ items_text mode life rows (item ∷ items) =
 abbrev pub feed_text : Mode → (life : ℕ) → List StreamItem → List ℕ
 feed_text mode life items = text_chunks (feed_head mode) ++ items_text mode life 0 items
 
--- a stream is not sent on once its service, now at s, gave this item: behind a row or a beat the service
--- gives back what the stream holds, and behind an End the stream holds nothing
+-- A stream is not sent on once its service, now at s, gave this item: behind a row or a beat the service
+-- gives back what the stream holds, and behind an End the stream holds nothing. So where the text of row 2
+-- finds no memory the service gives back, and where that of an End finds none it does not.
 abbrev pub GivesBack : {S : Type 0} → Rules S → StreamItem → S → S → Type 0
 GivesBack rules item s t = MatchBool (is_end item) (t ≡ s) (rules.drops s t)
 
 -- behind so many items, with its service at s, a stream goes on with these items, ends so, and leaves its
--- service at t
+-- service at t. A service that gives row 1, row 2 and then an End may have these three items and Complete.
+-- One that gives row 1 and then no item has row 1 and Stopped; one whose row 2 finds no memory for its text
+-- has row 1 and NoMemory.
 pub data Streams {S : Type 0} (rules : Rules S) : ℕ → S → List StreamItem → StreamEnd → S → Type 0 where
   -- a row or a beat is sent, and the stream goes on behind it
   goes_on : {sent : ℕ} {s mid t : S} {item : StreamItem} {items : List StreamItem} {end : StreamEnd}

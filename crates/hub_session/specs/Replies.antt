@@ -1,5 +1,5 @@
--- RFC 9112, section 9.6 (closing behind an error); own for the texts: replies to what is no request, and to
--- want of memory.
+-- RFC 9112, section 9.6 (closing behind an error); own for the texts: replies to what is no request, and
+-- to a request that found no memory.
 use Rattle.std.specs.Prelude.{ℕ, List, [], true, false, flat_map}
 use Rattle.std.specs.Borrow.{Bor}
 use Rattle.hub_http.specs.declared.reply.Reply.{Reply}

@@ -46,7 +46,8 @@ exchange_text x = answer_text x.answer (is_head x.asked) x.asked.close x.items
 abbrev pub after_answer : Bool → Option Closing
 after_answer close = if close then Some Requested else None
 
--- and behind a stream that ended so
+-- Why a session closes behind a stream that ended so, if it does. Behind a Complete one it goes on, unless
+-- the request asked to close; behind one that Stopped it always closes, as Cut, for no last chunk was sent.
 abbrev pub after_stream : Bool → StreamEnd → Option Closing
 after_stream close stream.Complete = after_answer close
 after_stream close stream.Stopped = Some Cut
@@ -83,7 +84,9 @@ pub record Answers {S : Type 0} (rules : Rules S) (s : S) (x : Exchange) (next :
   pub answered : rules.answers s x.asked x.answer mid
   pub goes : Goes rules x mid next t
 
--- where bytes begin with no request a session closes so, with this text
+-- Where bytes begin with no request a session closes so, with this text. Where there are none it closes as
+-- Finished, with no text. Where a head has a Content-Length of x it closes as Fault BadHead, with the text
+-- of that refusal.
 abbrev pub Closes : List ℕ → Closing → List ℕ → Type 0
 Closes bytes Finished text = (bytes ≡ []) × (text ≡ [])
 Closes bytes Requested text = ⊥
@@ -105,7 +108,9 @@ pub record Ending (S : Type 0) : Type 0 where
   pub service : S
 
 -- from where it stands a session has these exchanges, one after the other, goes on behind each of them, and
--- then ends so
+-- then ends so. Over two requests, of which the second asks to close, it has the exchange of the first, and
+-- ends Requested with the text of the second's answer. Over two that do not ask it has both exchanges, and
+-- ends Finished with no text.
 pub data Session {S : Type 0} (rules : Rules S) : Standing S → List Exchange → Ending S → Type 0 where
   -- a request is answered, and the session goes on behind it
   goes_on : {now : Standing S} {x : Exchange} {xs : List Exchange} {ending : Ending S} (rest : List ℕ) (mid : S)
@@ -146,7 +151,7 @@ pub record IsSession {S : Type 0} (rules : Rules S) (bytes : List ℕ) (closing 
   pub whole : Appends before.written mid (flat_map exchange_text exchanges)
   pub written : Sends (is_broken closing) mid after.written last
 
--- writing failed, if the session closes
+-- whether the session closes since writing to the other side failed
 abbrev pub breaks : Option Closing → Bool
 breaks None = false
 breaks (Some closing) = is_broken closing

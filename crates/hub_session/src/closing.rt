@@ -35,7 +35,7 @@ pub enum Closing {
     /// No request could be read. The fault was answered where it has a reply.
     #[error("{0}")]
     Fault(HttpFault),
-    /// A stream stopped without its End, or for want of memory.
+    /// A stream stopped without its End, or out of memory.
     #[error("a stream was cut before its end")]
     Cut,
     /// The other side can't be written to.

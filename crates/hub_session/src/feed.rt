@@ -182,7 +182,7 @@ fn send_items<W: Output, S: Service>(
 ///
 /// The end of a stream is flushed, and so is what was written before an item that is not ready,
 /// since the subscriber waits for that one. What a stream wrote that stopped without its End, or
-/// for want of memory, is flushed too, and what it holds is given back to the service. An item
+/// out of memory, is flushed too, and what it holds is given back to the service. An item
 /// costs the length of its text, one write, and memory only where its text is longer than each one
 /// before.
 pub fn stream_feed<W: Output, S: Service>(

@@ -21,7 +21,7 @@ pub trait Service {
     /// What it may answer, what its stream may go on with, and how it may give back what that holds.
     ghost rules: { Rules Self };
 
-    /// The answer to a request. Want of memory is an answer too.
+    /// The answer to a request. Out of memory is an answer too.
     fn answer(&mut self, request: &Request) -> Answer
         ensures { rules.answers self.old (asked_by request.now) result self.new };
 
@@ -30,8 +30,8 @@ pub trait Service {
     /// until it comes. After an End it is not called.
     fn is_ready(&self) -> bool;
 
-    /// The next item of the stream that was answered last, `None` where the stream stops, as for
-    /// want of memory. It may wait for one; after an End it is not called.
+    /// The next item of the stream that was answered last, `None` where the stream stops, as it does
+    /// out of memory. It may wait for one; after an End it is not called.
     fn item(&mut self) -> Option<StreamItem>
         ensures { rules.gives self.old result self.new };
 

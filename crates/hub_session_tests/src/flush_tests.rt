@@ -1,55 +1,56 @@
 //! Where sessions flush.
 
 use crate::cut::CutWriter;
-use crate::rows::{two_rows, written};
+use crate::made_again::{TRIES, Told, is_right, judged};
+use crate::rows::{
+    CONTINUOUS, CREATED, CREATED_HEAD, Exchange, FEED_HEAD, LONGPOLL, MISSING, MISSING_BODY,
+    NORMAL, NORMAL_END, VERSION, answers, asks, two_rows, written,
+};
 use hub_http::HttpFault;
 use hub_session::Closing;
-use std::alloc::Global;
+use std::alloc::{AllocError, Global};
 use std::process::Abort;
+use std::test::Fail;
 
-/// Requests, the numbers of the items that are not ready, how many writes the answers take, where
+/// Exchanges, the numbers of the items that are not ready, how many writes the answers take, where
 /// they are flushed, and why the session closes. The head of a stream has 79 bytes, and a chunk of n
 /// bytes has n, its digits and 4.
-type Flushes = (
-    &'static [u8],
+struct Flushes(
+    &'static [Exchange],
     &'static [u64],
     usize,
     &'static [usize],
     Closing,
 );
 
+const MAKE: Exchange = Exchange("PUT /d HTTP/1.1\r\n\r\n", &[CREATED]);
+
 /// Whole answers are flushed, each behind its last byte.
 const WHOLE: &[Flushes] = &[
-    (
-        b"PUT /d HTTP/1.1\r\n\r\nPUT /d HTTP/1.1\r\n\r\n",
-        &[],
-        2,
-        &[88, 176],
-        Closing::Finished,
-    ),
-    (
-        b"GET /x HTTP/1.1\r\n\r\n",
+    Flushes(&[MAKE, MAKE], &[], 2, &[88, 176], Closing::Finished),
+    Flushes(
+        &[Exchange("GET /x HTTP/1.1\r\n\r\n", &[MISSING, MISSING_BODY])],
         &[],
         1,
         &[119],
         Closing::Finished,
     ),
-    (
-        b"HEAD /d HTTP/1.1\r\n\r\n",
+    Flushes(
+        &[Exchange("HEAD /d HTTP/1.1\r\n\r\n", &[CREATED_HEAD])],
         &[],
         1,
         &[76],
         Closing::Finished,
     ),
-    (
-        b"HEAD /normal HTTP/1.1\r\n\r\n",
+    Flushes(
+        &[Exchange("HEAD /normal HTTP/1.1\r\n\r\n", &[FEED_HEAD])],
         &[],
         1,
         &[79],
         Closing::Finished,
     ),
-    (
-        b"GET / HTTP/1.0\r\n\r\n",
+    Flushes(
+        &[Exchange("GET / HTTP/1.0\r\n\r\n", &[VERSION])],
         &[],
         1,
         &[164],
@@ -57,45 +58,33 @@ const WHOLE: &[Flushes] = &[
     ),
 ];
 
+const NORMAL_FEED: &[Exchange] = &[Exchange("GET /normal HTTP/1.1\r\n\r\n", &[FEED_HEAD, NORMAL])];
+
+const LONGPOLL_FEED: &[Exchange] = &[Exchange(
+    "GET /longpoll HTTP/1.1\r\n\r\n",
+    &[FEED_HEAD, LONGPOLL],
+)];
+
+const CONTINUOUS_FEED: &[Exchange] = &[Exchange(
+    "GET /continuous HTTP/1.1\r\n\r\n",
+    &[FEED_HEAD, CONTINUOUS],
+)];
+
 /// Before an item that is not ready a stream is flushed, and at its end.
 const STREAMS: &[Flushes] = &[
-    (
-        b"GET /normal HTTP/1.1\r\n\r\n",
-        &[],
-        6,
-        &[267],
-        Closing::Finished,
-    ),
-    (
-        b"GET /normal HTTP/1.1\r\n\r\n",
-        &[0, 2],
-        6,
-        &[97, 222, 267],
-        Closing::Finished,
-    ),
-    (
-        b"GET /longpoll HTTP/1.1\r\n\r\n",
-        &[1],
-        6,
-        &[103, 202],
-        Closing::Finished,
-    ),
-    (
-        b"GET /longpoll HTTP/1.1\r\n\r\n",
+    Flushes(NORMAL_FEED, &[], 6, &[267], Closing::Finished),
+    Flushes(NORMAL_FEED, &[0, 2], 6, &[97, 222, 267], Closing::Finished),
+    Flushes(LONGPOLL_FEED, &[1], 6, &[103, 202], Closing::Finished),
+    Flushes(
+        LONGPOLL_FEED,
         &[0, 1, 2, 3],
         6,
         &[97, 103, 157, 202],
         Closing::Finished,
     ),
-    (
-        b"GET /continuous HTTP/1.1\r\n\r\n",
-        &[3],
-        6,
-        &[210, 252],
-        Closing::Finished,
-    ),
-    (
-        b"GET /continuous HTTP/1.1\r\n\r\n",
+    Flushes(CONTINUOUS_FEED, &[3], 6, &[210, 252], Closing::Finished),
+    Flushes(
+        CONTINUOUS_FEED,
         &[0, 1, 2, 3, 4],
         6,
         &[79, 134, 204, 210, 252],
@@ -103,40 +92,81 @@ const STREAMS: &[Flushes] = &[
     ),
 ];
 
-/// Asserts that these answers are flushed so.
-fn assert_flushes<A: Abort>(rt: &A, alloc: Global, table: &[Flushes]) {
-    for (input, late, writes, flushed, end) in table {
-        let writer = CutWriter::new(alloc, usize::MAX, 1000);
-        let mut service = two_rows(alloc);
-        service.late = *late;
-        let (closing, _, writer) = written(alloc, *input, writer, &mut service);
-        assert_eq!(rt; closing, *end);
-        assert_eq!(rt; writer.writes, *writes);
-        assert_eq!(rt; writer.flushed.as_slice(), *flushed);
+/// What became of a session that flushes so.
+fn session(alloc: Global, input: &[u8], flushes: &Flushes) -> Told {
+    let Flushes(_, late, writes, flushed, _) = flushes;
+    let mut service = two_rows(alloc);
+    service.late = *late;
+    let writer = CutWriter::new(alloc, usize::MAX, 1000);
+    let (closing, _, writer) = written(alloc, input, writer, &mut service);
+    Told {
+        closing: Some(closing),
+        counted: writer.writes == *writes && writer.flushed.as_slice() == *flushed,
+        output: writer.held,
     }
+}
+
+/// Whether these answers are flushed so. A session that met no memory is held again.
+fn is_flushed(alloc: Global, flushes: &Flushes) -> Result<bool, AllocError> {
+    let Flushes(exchanges, _, _, _, end) = flushes;
+    let input = asks(alloc, exchanges)?;
+    let expected = answers(alloc, exchanges)?;
+    for _ in 0..TRIES {
+        let told = session(alloc, input.as_bytes(), flushes);
+        if let Some(right) = judged(&told, exchanges, expected.as_bytes(), Some(*end)) {
+            return Ok(right);
+        }
+    }
+    Ok(false)
+}
+
+/// Asserts that these answers are flushed so.
+fn assert_flushes<A: Abort>(rt: &A, alloc: Global, table: &[Flushes]) -> Result<(), Fail> {
+    for flushes in table {
+        let Flushes(_, _, _, flushed, _) = flushes;
+        assert!(rt; is_flushed(alloc, flushes)?, "at {flushed:?}");
+    }
+    Ok(())
 }
 
 /// A whole answer is flushed behind its last byte, and so is the reply to a fault.
 #[test]
-fn flushes_of_whole_answers(rt: HostRuntime) {
-    assert_flushes(&rt, rt.alloc(), WHOLE);
+fn flushes_of_whole_answers(rt: HostRuntime) -> Result<(), Fail> {
+    assert_flushes(&rt, rt.alloc(), WHOLE)
 }
 
 /// What was written before an item that is not ready is flushed, and the end of a stream.
 #[test]
-fn flushes_of_streams(rt: HostRuntime) {
-    assert_flushes(&rt, rt.alloc(), STREAMS);
+fn flushes_of_streams(rt: HostRuntime) -> Result<(), Fail> {
+    assert_flushes(&rt, rt.alloc(), STREAMS)
+}
+
+/// What became of a session over a stream that stops.
+fn stopped(alloc: Global, input: &[u8]) -> Told {
+    let mut service = two_rows(alloc);
+    service.stops = true;
+    let writer = CutWriter::new(alloc, usize::MAX, 1000);
+    let (closing, _, writer) = written(alloc, input, writer, &mut service);
+    let flushed: &[usize] = &[222];
+    Told {
+        closing: Some(closing),
+        counted: writer.flushed.as_slice() == flushed,
+        output: writer.held,
+    }
 }
 
 /// What a stream wrote that stopped is flushed.
 #[test]
-fn a_stopped_stream_is_flushed(rt: HostRuntime) {
-    let writer = CutWriter::new(rt.alloc(), usize::MAX, 1000);
-    let mut service = two_rows(rt.alloc());
-    service.stops = true;
-    let input = b"GET /normal HTTP/1.1\r\n\r\n";
-    let (closing, _, writer) = written(rt.alloc(), input, writer, &mut service);
-    assert_eq!(rt; closing, Closing::Cut);
-    let flushed: &[usize] = &[222];
-    assert_eq!(rt; writer.flushed.as_slice(), flushed);
+fn a_stopped_stream_is_flushed(rt: HostRuntime) -> Result<(), Fail> {
+    let alloc = rt.alloc();
+    let input = asks(alloc, NORMAL_FEED)?;
+    let input = input.as_bytes();
+    let all = answers(alloc, NORMAL_FEED)?;
+    let Some(expected) = all.as_bytes().strip_suffix(NORMAL_END.as_bytes()) else {
+        return Err(Fail::new("another end"));
+    };
+    let end = Some(Closing::Cut);
+    let right = is_right(NORMAL_FEED, expected, end, move || stopped(alloc, input));
+    assert!(rt; right);
+    Ok(())
 }

@@ -1,8 +1,10 @@
 //! Sessions whose reads and writes are interrupted.
 
+use crate::made_again::{Told, is_right};
 use crate::rows::{EXCHANGES, answers, asks, two_rows};
 use hub_http::{Requests, Tally};
 use hub_session::{Closing, serve};
+use std::alloc::Global;
 use std::io;
 use std::io::{ErrorKind, Read, Write};
 use std::test::Fail;
@@ -66,20 +68,35 @@ impl<T: Write> Write for Hesitant<T> {
     }
 }
 
+/// What became of a session over these bytes, each of whose calls is interrupted so often.
+fn session(alloc: Global, input: &[u8], interrupts: u32) -> Told {
+    let mut requests = Requests::new(alloc, Tally::new(Hesitant::new(input, interrupts)));
+    let mut writer = Tally::new(Hesitant::new(Vec::new(alloc), interrupts));
+    let closing = serve(alloc, &mut requests, &mut writer, &mut two_rows(alloc));
+    let Hesitant { inner, .. } = writer.into_inner();
+    Told {
+        closing: Some(closing),
+        output: inner,
+        counted: true,
+    }
+}
+
 /// Interrupted reads and writes are made again.
 #[test]
 fn interrupted_calls_change_no_byte(rt: HostRuntime) -> Result<(), Fail> {
     let alloc = rt.alloc();
     let input = asks(alloc, EXCHANGES)?;
     let expected = answers(alloc, EXCHANGES)?;
+    let (input, expected) = (input.as_bytes(), expected.as_bytes());
     for interrupts in 0..4 {
-        let reader = Hesitant::new(input.as_bytes(), interrupts);
-        let mut requests = Requests::new(alloc, Tally::new(reader));
-        let mut writer = Tally::new(Hesitant::new(Vec::new(alloc), interrupts));
-        let closing = serve(alloc, &mut requests, &mut writer, &mut two_rows(alloc));
-        assert_eq!(rt; closing, Closing::Finished);
-        let Hesitant { inner, .. } = writer.into_inner();
-        assert_eq!(rt; inner.as_slice(), expected.as_bytes());
+        let end = Some(Closing::Finished);
+        let right = is_right(
+            EXCHANGES,
+            expected,
+            end,
+            move || session(alloc, input, interrupts),
+        );
+        assert!(rt; right, "interrupted {interrupts} times");
     }
     Ok(())
 }

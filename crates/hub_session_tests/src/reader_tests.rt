@@ -1,17 +1,11 @@
 //! Sessions whose reader fails or ends, and how far they read ahead.
 
 use crate::cut::CutReader;
+use crate::made_again::is_right;
 use crate::rows::{EXCHANGES, answers, asks, served, two_rows};
 use hub_http::HttpFault;
 use hub_session::Closing;
-use std::alloc::Global;
 use std::test::Fail;
-
-/// Whether a session over this reader writes these answers, and closes so.
-fn is_cut(alloc: Global, reader: CutReader<'_>, expected: &[u8], end: Closing) -> bool {
-    let (closing, output) = served(alloc, reader, two_rows(alloc));
-    output.as_slice() == expected && closing == end
-}
 
 /// Why a session closes whose input ends behind so many bytes, where the last whole request ends.
 fn closing_of_end(count: usize, whole: usize) -> Closing {
@@ -28,23 +22,22 @@ fn closing_of_end(count: usize, whole: usize) -> Closing {
 fn readers_that_are_cut(rt: HostRuntime) -> Result<(), Fail> {
     let alloc = rt.alloc();
     for number in 0..EXCHANGES.len() {
-        let whole = asks(alloc, &EXCHANGES[..number])?.len();
-        let expected = answers(alloc, &EXCHANGES[..number])?;
+        let before = &EXCHANGES[..number];
+        let whole = asks(alloc, before)?.len();
+        let expected = answers(alloc, before)?;
         let input = asks(alloc, &EXCHANGES[..number + 1])?;
         let (input, expected) = (input.as_bytes(), expected.as_bytes());
         for count in whole..input.len() {
-            let fault = Closing::Fault(HttpFault::IoFault);
-            let failing = CutReader::failing(input, 1, count);
-            assert!(rt;
-                is_cut(alloc, failing, expected, fault),
-                "failed behind {count}"
-            );
-            let end = closing_of_end(count, whole);
-            let ending = CutReader::ending(input, 1, count);
-            assert!(rt;
-                is_cut(alloc, ending, expected, end),
-                "ended behind {count}"
-            );
+            let end = Some(Closing::Fault(HttpFault::IoFault));
+            let failed = is_right(before, expected, end, move || {
+                served(alloc, CutReader::failing(input, 1, count), two_rows(alloc))
+            });
+            assert!(rt; failed, "failed behind {count}");
+            let end = Some(closing_of_end(count, whole));
+            let ended = is_right(before, expected, end, move || {
+                served(alloc, CutReader::ending(input, 1, count), two_rows(alloc))
+            });
+            assert!(rt; ended, "ended behind {count}");
         }
     }
     Ok(())
@@ -56,8 +49,12 @@ fn requests_of_one_read(rt: HostRuntime) -> Result<(), Fail> {
     let alloc = rt.alloc();
     let input = asks(alloc, EXCHANGES)?;
     let expected = answers(alloc, EXCHANGES)?;
-    let reader = CutReader::failing(input.as_bytes(), usize::MAX, 1);
-    let fault = Closing::Fault(HttpFault::IoFault);
-    assert!(rt; is_cut(alloc, reader, expected.as_bytes(), fault));
+    let (input, expected) = (input.as_bytes(), expected.as_bytes());
+    let end = Some(Closing::Fault(HttpFault::IoFault));
+    let right = is_right(EXCHANGES, expected, end, move || {
+        let reader = CutReader::failing(input, usize::MAX, 1);
+        served(alloc, reader, two_rows(alloc))
+    });
+    assert!(rt; right);
     Ok(())
 }

@@ -1,6 +1,7 @@
 //! A service of one feed of two rows, what it is asked, and the texts of its answers.
 
 use crate::cut::CutWriter;
+use crate::made_again::{Told, grown};
 use http::StatusCode;
 use hub_document::{ChangeRow, Changes, Doc, RevId, Revisions};
 use hub_http::{Output, Refusal, Reply, Request, Requests, Tally};
@@ -111,6 +112,10 @@ impl Service for Rows {
     }
 }
 
+/// The head of the answer that a database was made.
+pub(crate) const CREATED_HEAD: &str =
+    "HTTP/1.1 201 Created\r\nContent-Type: application/json\r\nContent-Length: 12\r\n\r\n";
+
 /// The answer that a database was made.
 pub(crate) const CREATED: &str = concat!(
     "HTTP/1.1 201 Created\r\nContent-Type: application/json\r\nContent-Length: 12\r\n\r\n",
@@ -175,11 +180,14 @@ pub(crate) const NORMAL_END: &str = concat!(
     "0\r\n\r\n"
 );
 
-/// The head of the answer to a HEAD of a path that is not there.
-const MISSING: &str = concat!(
+/// The head of the answer to a path that is not there.
+pub(crate) const MISSING: &str = concat!(
     "HTTP/1.1 404 Not Found\r\nContent-Type: application/json\r\n",
     "Content-Length: 41\r\n\r\n"
 );
+
+/// Its body.
+pub(crate) const MISSING_BODY: &str = concat!(r#"{"error":"not_found","reason":"missing"}"#, "\n");
 
 /// The answer to a request of HTTP/1.0, which closes.
 pub(crate) const VERSION: &str = concat!(
@@ -190,35 +198,36 @@ pub(crate) const VERSION: &str = concat!(
 );
 
 /// A request, and the parts of its answer.
-pub(crate) type Exchange = (&'static str, &'static [&'static str]);
+#[derive(Clone, Copy)]
+pub(crate) struct Exchange(pub(crate) &'static str, pub(crate) &'static [&'static str]);
 
 /// The exchanges of a session.
 pub(crate) const EXCHANGES: &[Exchange] = &[
-    (
+    Exchange(
         "PUT /d HTTP/1.1\r\nHost: h\r\ncontent-length: 2\r\n\r\n{}",
         &[CREATED],
     ),
-    ("GET /normal HTTP/1.1\r\n\r\n", &[FEED_HEAD, NORMAL]),
-    ("HEAD /normal HTTP/1.1\r\n\r\n", &[FEED_HEAD]),
-    ("HEAD /x HTTP/1.1\r\n\r\n", &[MISSING]),
-    ("GET /longpoll HTTP/1.1\r\n\r\n", &[FEED_HEAD, LONGPOLL]),
-    ("GET /continuous HTTP/1.1\r\n\r\n", &[FEED_HEAD, CONTINUOUS]),
-    ("PUT /d HTTP/1.1\r\n\r\n", &[CREATED]),
+    Exchange("GET /normal HTTP/1.1\r\n\r\n", &[FEED_HEAD, NORMAL]),
+    Exchange("HEAD /normal HTTP/1.1\r\n\r\n", &[FEED_HEAD]),
+    Exchange("HEAD /x HTTP/1.1\r\n\r\n", &[MISSING]),
+    Exchange("GET /longpoll HTTP/1.1\r\n\r\n", &[FEED_HEAD, LONGPOLL]),
+    Exchange("GET /continuous HTTP/1.1\r\n\r\n", &[FEED_HEAD, CONTINUOUS]),
+    Exchange("PUT /d HTTP/1.1\r\n\r\n", &[CREATED]),
 ];
 
 /// The requests of these exchanges, one behind the other.
-pub(crate) fn asks(alloc: Global, exchanges: &[Exchange]) -> Result<String, AllocError> {
+fn requests_of(alloc: Global, exchanges: &[Exchange]) -> Result<String, AllocError> {
     let mut out = String::new(alloc);
-    for (request, _) in exchanges {
+    for Exchange(request, _) in exchanges {
         out.push_str(request)?;
     }
     Ok(out)
 }
 
 /// The answers of these exchanges, one behind the other.
-pub(crate) fn answers(alloc: Global, exchanges: &[Exchange]) -> Result<String, AllocError> {
+fn answers_of(alloc: Global, exchanges: &[Exchange]) -> Result<String, AllocError> {
     let mut out = String::new(alloc);
-    for (_, answer) in exchanges {
+    for Exchange(_, answer) in exchanges {
         for part in *answer {
             out.push_str(part)?;
         }
@@ -226,16 +235,26 @@ pub(crate) fn answers(alloc: Global, exchanges: &[Exchange]) -> Result<String, A
     Ok(out)
 }
 
-/// Why a session over this reader closed, and what was written.
-pub(crate) fn served<R: Drop + Read>(
-    alloc: Global,
-    reader: R,
-    mut service: Rows,
-) -> (Closing, Vec<u8>) {
+/// The requests of these exchanges, made again where they find no memory.
+pub(crate) fn asks(alloc: Global, exchanges: &[Exchange]) -> Result<String, AllocError> {
+    grown(|| requests_of(alloc, exchanges))
+}
+
+/// The answers of these exchanges, made again where they find no memory.
+pub(crate) fn answers(alloc: Global, exchanges: &[Exchange]) -> Result<String, AllocError> {
+    grown(|| answers_of(alloc, exchanges))
+}
+
+/// What became of a session over this reader.
+pub(crate) fn served<R: Drop + Read>(alloc: Global, reader: R, mut service: Rows) -> Told {
     let mut requests = Requests::new(alloc, Tally::new(reader));
     let mut writer = Tally::new(Vec::new(alloc));
     let closing = serve(alloc, &mut requests, &mut writer, &mut service);
-    (closing, writer.into_inner())
+    Told {
+        closing: Some(closing),
+        output: writer.into_inner(),
+        counted: true,
+    }
 }
 
 /// Why a session over these bytes closed, how often its writer faulted, and that writer.

@@ -1,3 +1,5 @@
+use crate::made_again::{Told, is_right};
+use crate::rows::{Exchange, answers, asks};
 use hub_document::UpdateRow;
 use hub_http::{Request, Requests, Tally};
 use hub_model::{Item, Mode, UpdateKind};
@@ -53,6 +55,8 @@ impl Service for Updates {
     fn drop_stream(&mut self) {}
 }
 
+const ASK: &str = "GET /_db_updates HTTP/1.1\r\n\r\n";
+
 const FEED_HEAD: &str =
     "HTTP/1.1 200 OK\r\nContent-Type: application/json\r\nTransfer-Encoding: chunked\r\n\r\n";
 
@@ -91,10 +95,27 @@ const CONTINUOUS: &str = concat!(
     "0\r\n\r\n"
 );
 
-/// Why a session over two requests closed, and what was written.
-fn served(alloc: Global, mode: Mode) -> (Closing, Vec<u8>) {
-    let input = b"GET /_db_updates HTTP/1.1\r\n\r\nGET /_db_updates HTTP/1.1\r\n\r\n";
-    let mut requests = Requests::new(alloc, Tally::new(input.as_slice()));
+/// A mode, and two feeds of it.
+const FEEDS: &[(Mode, &[Exchange])] = &[
+    (
+        Mode::Normal,
+        &[
+            Exchange(ASK, &[FEED_HEAD, NORMAL]),
+            Exchange(ASK, &[FEED_HEAD, NORMAL]),
+        ],
+    ),
+    (
+        Mode::Continuous,
+        &[
+            Exchange(ASK, &[FEED_HEAD, CONTINUOUS]),
+            Exchange(ASK, &[FEED_HEAD, CONTINUOUS]),
+        ],
+    ),
+];
+
+/// What became of a session over these requests.
+fn served(alloc: Global, mode: Mode, input: &[u8]) -> Told {
+    let mut requests = Requests::new(alloc, Tally::new(input));
     let mut writer = Tally::new(Vec::new(alloc));
     let mut service = Updates {
         alloc,
@@ -102,18 +123,25 @@ fn served(alloc: Global, mode: Mode) -> (Closing, Vec<u8>) {
         next: 0,
     };
     let closing = serve(alloc, &mut requests, &mut writer, &mut service);
-    (closing, writer.into_inner())
+    Told {
+        closing: Some(closing),
+        output: writer.into_inner(),
+        counted: true,
+    }
 }
 
 /// The end of a feed of updates names no pending rows.
 #[test]
 fn streams_of_updates(rt: HostRuntime) -> Result<(), Fail> {
     let alloc = rt.alloc();
-    for (mode, text) in [(Mode::Normal, NORMAL), (Mode::Continuous, CONTINUOUS)] {
-        let (closing, output) = served(alloc, mode);
-        let expected = format!(in alloc; "{FEED_HEAD}{text}{FEED_HEAD}{text}")?;
-        assert_eq!(rt; output.as_slice(), expected.as_bytes());
-        assert_eq!(rt; closing, Closing::Finished);
+    for (mode, exchanges) in FEEDS {
+        let input = asks(alloc, exchanges)?;
+        let expected = answers(alloc, exchanges)?;
+        let (input, expected) = (input.as_bytes(), expected.as_bytes());
+        let end = Some(Closing::Finished);
+        let mode = *mode;
+        let right = is_right(exchanges, expected, end, move || served(alloc, mode, input));
+        assert!(rt; right, "of {mode:?}");
     }
     Ok(())
 }

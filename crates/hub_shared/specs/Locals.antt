@@ -7,7 +7,7 @@ use Rattle.hub_database.specs.Locals.{written}
 use Rattle.hub_database.specs.declared.batch.DbFault.{DbFault}
 use Rattle.hub_database.specs.declared.batch.DbFault.TheVariants.{NoMemory, Refused}
 
--- A deleted database is told before anything else. One that stands tells want of memory only where the
+-- A deleted database is told before anything else. One that stands tells out of memory only where the
 -- document's count has one more below 2^64, and else a full sequence.
 abbrev pub IsLocalFault : Database → LocalDoc → DbFault → Type 0
 IsLocalFault db doc e =

@@ -64,7 +64,9 @@ module _ {S R : Type 0} (hosted : S → Hosted R) (with_hosted : S → Hosted R 
 
   -- What one hand does, of the feed of this number that answers so, where `refuses` says what is told of a
   -- sender whose item was refused. An item that is due is sent, and the feed goes on behind it; or it is
-  -- refused, and nothing changes. A feed that has nothing to hand moves to the length.
+  -- refused, and nothing changes. A feed that has nothing to hand moves to the length. So where the row at 6
+  -- is due to feed 3, the answer is Row and the feed is at place 6, or it is Full and the feed stays at its
+  -- place.
   abbrev pub Hands : (FeedSender R → Item R → Type 0) → Next R → LockedState S R → ℕ → Handed
       → LockedState S R → Type 0
   Hands refuses (next.Give item) l number handed.Row new =
@@ -79,8 +81,9 @@ module _ {S R : Type 0} (hosted : S → Hosted R) (with_hosted : S → Hosted R 
       (answer ≡ handed.Nothing) × (new ≡ stepped l (λ h. behind_answer h number next.Nothing))
   Hands refuses next.Gone l number answer new = (answer ≡ handed.Gone) × (new ≡ l)
 
--- What one beat does, where one is due or not. One that is due is sent, and the feed stays; or it is refused,
--- and nothing changes.
+-- What one beat does, where one is due or not. One that is due is sent, and the feed stays; or it is
+-- refused, and nothing changes. A beat that is sent is told as Nothing, as one that is not due; one that is
+-- refused is told as Full.
 abbrev pub Beats : {S R : Type 0} → (FeedSender R → Item R → Type 0) → Bool → LockedState S R → ℕ → Handed
     → LockedState S R → Type 0
 Beats refuses true l number handed.Full new = IsRefused refuses l.senders number Beat × (new ≡ l)

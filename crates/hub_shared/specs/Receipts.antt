@@ -36,7 +36,8 @@ receipts_from n (id ∷ ids) [] = []
 receipts_from n (id ∷ ids) (reply ∷ replies) =
     receipt_if n id reply ++ receipts_from (behind_reply n reply) ids replies
 
--- these are the receipts of these edits, the first of which stands behind n others
+-- these are the receipts of these edits, the first of which stands behind n others. Behind 5 others edits of
+-- a with 1-p and of b with 1-q have the receipts (6, a, 1-p) and (7, b, 1-q).
 abbrev pub AreReceipts : ℕ → List Edit → List Receipt → Type 0
 AreReceipts n [] [] = ⊤
 AreReceipts n [] (r ∷ receipts) = ⊥
@@ -44,7 +45,8 @@ AreReceipts n (e ∷ edits) [] = ⊥
 AreReceipts n (e ∷ edits) (r ∷ receipts) =
     (r.seq ≡ n + 1) × (r.id ≡ e.id) × (head_of e ≡ Some r.rev) × AreReceipts (n + 1) edits receipts
 
--- just the edits of these receipts were added to the journal
+-- just the edits of these receipts were added to the journal. Where J has 5 edits, and the receipts have the
+-- sequences 6 and 7, K has 7 edits, of which the last two are those of the receipts.
 abbrev pub AreAdded : List Edit → List Edit → List Receipt → Type 0
 AreAdded J K receipts = (edits : List Edit) × (K ≡ J ++ edits) × AreReceipts (length J) edits receipts
 
@@ -58,7 +60,8 @@ abbrev pub is_entry_of : Option (List ℕ × Revision) → Receipt → Bool
 is_entry_of None r = false
 is_entry_of (Some entry) r = bytes_eq entry.0 r.id && is_same entry.1 r.rev
 
--- whether the journal has it, at its number
+-- whether the journal has it, at its number. After edits of a, b and then a again, where b has 1-q, it has
+-- (2, b, 1-q), and neither (3, b, 1-q) nor (2, b, 2-q).
 abbrev pub has_edit : List Edit → Receipt → Bool
 has_edit J r = is_entry_of (entry_of J r.seq) r
 

@@ -13,7 +13,7 @@ module _ {L I : Type 0} where
   MaySend allows senders number item =
       (s : SenderState L I) × (entry_in number senders ≡ Some s) × allows s.label (s.sent ++ item ∷ [])
 
-  -- there is a sender of this number, and `refuses` says so of it and the item
+  -- there is a sender of this number, and `refuses` holds of it and the item
   abbrev pub IsRefused : (SenderState L I → I → Type 0) → List (ℕ × SenderState L I) → ℕ → I → Type 0
   IsRefused refuses senders number item =
       (s : SenderState L I) × (entry_in number senders ≡ Some s) × refuses s item

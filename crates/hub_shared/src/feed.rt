@@ -34,7 +34,6 @@ pub type Feed<C> = HostFeed<DbState, Guarded<C>>;
 /// A feed of what threads share, as the connection has it that shows it. It is finished by `finish`: one
 /// that is let go otherwise stays among the feeds of its host. Contracts see its number, its lane, its
 /// label, and all that was taken.
-#[derive(Drop)]
 pub struct HostFeed<S: FeedHost, G: Pumped<S>> {
     pub(crate) host: Host<G>,
     pub(crate) id: FeedId,
@@ -43,6 +42,19 @@ pub struct HostFeed<S: FeedHost, G: Pumped<S>> {
     /// How many items were taken, but for heartbeats.
     taken: u64,
     of: PhantomData<S>,
+}
+
+impl<S: FeedHost, G: Pumped<S>> Drop for HostFeed<S, G> {
+    fn drop(self) {
+        let Self {
+            host,
+            id,
+            receiver,
+            signals,
+            taken,
+            of,
+        } = self;
+    }
 }
 
 impl<S: FeedHost, G: Pumped<S>> Model for HostFeed<S, G> {

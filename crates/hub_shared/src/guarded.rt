@@ -38,10 +38,15 @@ use std::sync::Arc;
 
 /// A database with the senders of its feeds, and the book of what was accepted: whenever it is got
 /// from the lock, the book's total is the length of the journal, where there is a count.
-#[derive(Drop)]
 pub struct Guarded<C: Count> {
     served: Served<DbState>,
     book: C::Book,
+}
+
+impl<C: Count> Drop for Guarded<C> {
+    fn drop(self) {
+        let Self { served, book } = self;
+    }
 }
 
 impl<C: Count> Model for Guarded<C> {

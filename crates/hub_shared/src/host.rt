@@ -89,10 +89,15 @@ struct Shared<G: Drop> {
 }
 
 /// What keeps feeds and is shared by threads. Each copy keeps it; it goes with the last of them.
-#[derive(Drop)]
 pub struct Host<G: Drop> {
     shared: Arc<Shared<G>, Global>,
     pub(crate) alloc: Global,
+}
+
+impl<G: Drop> Drop for Host<G> {
+    fn drop(self) {
+        let Self { shared, alloc } = self;
+    }
 }
 
 impl<G: Drop> Host<G> {

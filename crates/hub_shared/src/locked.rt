@@ -45,7 +45,6 @@ pub(crate) type Ends<S> = (
 
 /// A host of feeds, and the sender of each feed that is not finished. Whenever it is got from a
 /// lock, what each of these has sent fits its feed as the host is then (`state`).
-#[derive(Drop)]
 pub struct Locked<S: FeedHost> {
     pub(crate) state: S,
     /// The senders of the feeds that are not finished, by the numbers of the feeds, which rise.
@@ -53,6 +52,17 @@ pub struct Locked<S: FeedHost> {
     /// How many items a feed's lane holds at most.
     lane: usize,
     pub(crate) alloc: Global,
+}
+
+impl<S: FeedHost + Drop> Drop for Locked<S> {
+    fn drop(self) {
+        let Self {
+            state,
+            senders,
+            lane,
+            alloc,
+        } = self;
+    }
 }
 
 impl<S: FeedHost> Model for Locked<S> {

@@ -78,7 +78,7 @@ fn local_answer(alloc: Global, state: &DbState, id: &str) -> Result<Answer, DbFa
 }
 
 /// What a database answers to a question. It waits for nobody, and costs what the call of `DbState`
-/// does, and for a local document a copy. Want of memory is told only where the answer takes some.
+/// does, and for a local document a copy. Out of memory is told only where the answer takes some.
 pub fn answer_of(alloc: Global, state: &DbState, question: Question) -> Result<Answer, DbFault>
     ensures ok { IfOk result (λ a. (state.now.deleted ≡ false) × IsAnswer state.now question a) }
     ensures err { IfErr result (λ e. GivesUp state.now (TakesMemory state.now question) e) }

@@ -25,7 +25,6 @@ pub(crate) struct OpenedFeed<S: FeedHost> {
 }
 
 /// What keeps feeds, with their senders and the signals of each.
-#[derive(Drop)]
 pub struct Served<S: FeedHost> {
     pub(crate) locked: Locked<S>,
     pub(crate) alloc: Global,
@@ -37,6 +36,19 @@ pub struct Served<S: FeedHost> {
     hold: u64,
     /// Another number after each change that a pump may wait for, and each end of a feed.
     news: u64,
+}
+
+impl<S: FeedHost + Drop> Drop for Served<S> {
+    fn drop(self) {
+        let Self {
+            locked,
+            alloc,
+            signals,
+            has_pump,
+            hold,
+            news,
+        } = self;
+    }
 }
 
 impl<S: FeedHost> Model for Served<S> {

@@ -1,13 +1,17 @@
 //! Feeds of a database that lies under a lock, and what each call answers with ample memory.
+//!
+//! Where a growth is refused the call says so, the database shows the same as before it, and the same call
+//! then answers as it does with ample memory. So these tests hold whichever one of their growths is refused;
+//! the growths of the tests themselves, as of a document's text, are among them.
 
-use hub_database::{DbFault, DbState};
+use hub_database::{DbFault, DbState, Info};
 use hub_document::{ChangeRow, Doc, DocId, Limits, LocalDoc, RevId};
 use hub_feed::{FeedId, OpenFault};
 use hub_lane::Receiver;
 use hub_model::{Fault, Item};
 use hub_params::FeedParams;
 use hub_shared::{AuditFault, FeedLabel, Handed, Locked, Receipt, ReceiptRoom, audit_of};
-use std::alloc::Global;
+use std::alloc::{AllocError, Global};
 use std::sync::Wait;
 use std::test::Fail;
 
@@ -56,31 +60,132 @@ fn holds<F: FnOnce(Global, &mut Database) -> Result<bool, Fail>>(
     case(alloc, &mut database)
 }
 
-// The documents that the texts are.
-fn docs(alloc: Global, texts: &[&str]) -> Result<Vec<Doc>, Fail> {
+// How often a call is made until it answers.
+const TRIES: u64 = 2;
+
+// What a call gives, which is made again where it finds no memory.
+fn again<T: Drop, F>(call: F) -> Result<T, AllocError>
+where
+    F: Fn() -> Result<T, AllocError>,
+    requires { F.IsAlwaysCallable call }
+{
+    match call() {
+        Ok(given) => Ok(given),
+        Err(AllocError) => call(),
+    }
+}
+
+// What a database shows of itself, for which it takes no memory.
+fn shown(database: &Database) -> Result<Info, DbFault> {
+    database.state().info()
+}
+
+// What a call on a database gives. One that finds no memory leaves what the database shows, and is made
+// again; an error where it leaves something else.
+fn again_on<T: Drop, F>(database: &mut Database, call: F) -> Result<T, AllocError>
+where
+    F: Fn(&mut Database) -> Result<T, AllocError>,
+    requires { F.IsAlwaysCallable call }
+{
+    let before = shown(database);
+    match call(database) {
+        Err(AllocError) if shown(database) == before => call(database),
+        given => given,
+    }
+}
+
+// The documents that the texts are; an error where they find no memory, and each time where one is none.
+fn docs(alloc: Global, texts: &[&str]) -> Result<Vec<Doc>, AllocError> {
     let mut docs = Vec::new(alloc);
     for text in texts {
-        docs.push(Doc::read(alloc, text.as_bytes(), false)?)?;
+        let Ok(doc) = Doc::read(alloc, text.as_bytes(), false) else {
+            return Err(AllocError);
+        };
+        docs.push(doc)?;
     }
     Ok(docs)
 }
 
-// The receipts of the documents that the texts are, which another database made.
-fn write(alloc: Global, database: &mut Database, texts: &[&str]) -> Result<Vec<Receipt>, Fail> {
-    let accepted = database.write(docs(alloc, texts)?, false)?;
-    Ok(accepted.receipts)
+// Writes the documents that the texts are, which another database made, into room that was made before or
+// not, and adds their receipts: how many documents have their replies.
+fn write_some(
+    alloc: Global,
+    database: &mut Database,
+    texts: &[&str],
+    is_in_room: bool,
+    receipts: &mut Vec<Receipt>,
+) -> Result<usize, AllocError> {
+    let docs = docs(alloc, texts)?;
+    let accepted = if is_in_room {
+        let room = ReceiptRoom::of(alloc, docs.as_slice())?;
+        database.write_into(room, docs, false)
+    } else {
+        database.write(docs, false)
+    };
+    let Ok(accepted) = accepted else {
+        return Err(AllocError);
+    };
+    for receipt in accepted.receipts {
+        receipts.push(receipt)?;
+    }
+    Ok(accepted.replies.as_slice().len())
 }
 
-// What comes of opening a feed that the query asks for.
+// The receipts of all. Where a document finds no memory, those before it stand, and it is written again with
+// those behind it.
+fn write_all(
+    alloc: Global,
+    database: &mut Database,
+    texts: &[&str],
+    is_in_room: bool,
+) -> Result<Vec<Receipt>, Fail> {
+    let mut receipts = again(|| Vec::with_capacity(alloc, texts.len()))?;
+    let mut from = 0usize;
+    for _ in 0..TRIES {
+        if texts.len() < from {
+            break;
+        }
+        let before = shown(database);
+        match write_some(alloc, database, &texts[from..], is_in_room, &mut receipts) {
+            Ok(count) => from = from.saturating_add(count),
+            Err(AllocError) if shown(database) == before => {}
+            Err(AllocError) => break,
+        }
+        if from == texts.len() {
+            return Ok(receipts);
+        }
+    }
+    Err(Fail::new("not each document has its reply"))
+}
+
+// The same without room that was made before.
+fn write(alloc: Global, database: &mut Database, texts: &[&str]) -> Result<Vec<Receipt>, Fail> {
+    write_all(alloc, database, texts, false)
+}
+
+// What comes of opening a feed that the query asks for; an error where it finds no memory, and each time
+// where the query is refused.
+fn try_begin(
+    alloc: Global,
+    database: &mut Database,
+    query: &str,
+) -> Result<Result<(FeedId, Taker), OpenFault>, AllocError> {
+    let Ok(params) = FeedParams::read(alloc, query.as_bytes(), b"") else {
+        return Err(AllocError);
+    };
+    match database.begin(params) {
+        Err(OpenFault::NoMemory) => Err(AllocError),
+        opened => Ok(opened),
+    }
+}
+
+// The same, also where a growth of it is refused.
 fn begin(
     alloc: Global,
     database: &mut Database,
     query: &str,
-) -> Result<Result<(FeedId, Taker), OpenFault>, Fail> {
-    match FeedParams::read(alloc, query.as_bytes(), b"") {
-        Ok(params) => Ok(database.begin(params)),
-        Err(_) => Err(Fail::new("no parameters")),
-    }
+) -> Result<Result<(FeedId, Taker), OpenFault>, AllocError> {
+    again_on(database, |database| try_begin(alloc, database, query))
 }
 
 // A feed that the query opens, and its receiver.
@@ -104,7 +209,8 @@ fn hands<R: Wait>(
     feed: FeedId,
     wanted: Handed,
 ) -> Result<bool, Fail> {
-    Ok(database.hand(rt, feed)? == wanted)
+    let handed = again_on(database, |database| database.hand(rt, feed))?;
+    Ok(handed == wanted)
 }
 
 // Three documents, a continuous feed and a lane of two: row 1, row 2, no room with the place at 2,
@@ -207,25 +313,11 @@ fn receipts_go_on_from_the_journal(rt: HostRuntime) -> Result<(), Fail> {
     Ok(())
 }
 
-// The receipts that `write` gives, in room that was made before.
-fn write_into(
-    alloc: Global,
-    database: &mut Database,
-    texts: &[&str],
-) -> Result<Vec<Receipt>, Fail> {
-    let docs = docs(alloc, texts)?;
-    let room = ReceiptRoom::of(alloc, docs.as_slice())?;
-    let accepted = database.write_into(room, docs, false)?;
-    if accepted.stopped || accepted.replies.as_slice().len() != texts.len() {
-        return Err(Fail::new("not each document has its reply"));
-    }
-    Ok(accepted.receipts)
-}
-
+// Room that was made before takes the receipts that `write` gives.
 fn room_takes_the_same_receipts(alloc: Global, database: &mut Database) -> Result<bool, Fail> {
-    let one = write_into(alloc, database, &THREE[..1])?;
-    let rest = write_into(alloc, database, &THREE)?;
-    let none = write_into(alloc, database, &THREE)?;
+    let one = write_all(alloc, database, &THREE[..1], true)?;
+    let rest = write_all(alloc, database, &THREE, true)?;
+    let none = write_all(alloc, database, &THREE, true)?;
     Ok(one.len() == 1 && are_the_rest(rest.as_slice()) && none.is_empty())
 }
 
@@ -250,25 +342,29 @@ fn receipts_of_writes_pass_an_audit(rt: HostRuntime) -> Result<(), Fail> {
     Ok(())
 }
 
-fn receipt(alloc: Global, seq: u64, id: &str, rev: &str) -> Result<Receipt, Fail> {
+// A receipt's sequence, its document and its revision.
+type Parts = (u64, &'static str, &'static str);
+
+// The receipt of these parts; an error where it finds no memory, and each time where they are no receipt's.
+fn receipt(alloc: Global, (seq, id, rev): Parts) -> Result<Receipt, AllocError> {
     match (DocId::read(alloc, id)?, RevId::read(rev)) {
         (Some(id), Some(rev)) => Ok(Receipt { seq, id, rev }),
-        _ => Err(Fail::new("no receipt")),
+        _ => Err(AllocError),
     }
 }
 
 // The receipts of the three documents, of which the second is this one.
-fn receipts(alloc: Global, second: Receipt) -> Result<Vec<Receipt>, Fail> {
+fn receipts(alloc: Global, second: Parts) -> Result<Vec<Receipt>, AllocError> {
     let mut receipts = Vec::new(alloc);
-    receipts.push(receipt(alloc, 1, "a", "1-a")?)?;
-    receipts.push(second)?;
-    receipts.push(receipt(alloc, 3, "c", "1-c")?)?;
+    for parts in [(1, "a", "1-a"), second, (3, "c", "1-c")] {
+        receipts.push(receipt(alloc, parts)?)?;
+    }
     Ok(receipts)
 }
 
 // What is not the second receipt, by each of its parts: the number before, none, and above all; another
 // document; another generation, and another hash.
-const WRONG: [(u64, &str, &str); 6] = [
+const WRONG: [Parts; 6] = [
     (1, "b", "1-b"),
     (0, "b", "1-b"),
     (4, "b", "1-b"),
@@ -280,13 +376,13 @@ const WRONG: [(u64, &str, &str); 6] = [
 // Whether an audit tells the place of each wrong receipt, and passes the right one.
 fn wrong_receipts_are_told(alloc: Global, database: &mut Database) -> Result<bool, Fail> {
     let _receipts = write(alloc, database, &THREE)?;
-    for (seq, id, rev) in WRONG {
-        let list = receipts(alloc, receipt(alloc, seq, id, rev)?)?;
+    for wrong in WRONG {
+        let list = again(|| receipts(alloc, wrong))?;
         if audit_of(database.state(), list.as_slice()) != Err(AuditFault::WrongReceipt { at: 1 }) {
             return Ok(false);
         }
     }
-    let list = receipts(alloc, receipt(alloc, 2, "b", "1-b")?)?;
+    let list = again(|| receipts(alloc, (2, "b", "1-b")))?;
     Ok(audit_of(database.state(), list.as_slice()).is_ok())
 }
 
@@ -296,11 +392,22 @@ fn an_audit_tells_the_first_wrong_receipt(rt: HostRuntime) -> Result<(), Fail> {
     Ok(())
 }
 
-// Whether storing a local document has this answer.
+// What storing a local document answers; an error where it finds no memory.
+fn try_put(alloc: Global, database: &mut Database) -> Result<Result<u64, DbFault>, AllocError> {
+    let Ok(doc) = LocalDoc::read(alloc, "_local/p", b"{}") else {
+        return Err(AllocError);
+    };
+    match database.local_put(doc) {
+        Err(DbFault::NoMemory) => Err(AllocError),
+        put => Ok(put),
+    }
+}
+
+// Whether storing a local document has this answer, also where a growth of it is refused.
 fn puts(alloc: Global, database: &mut Database, answer: Result<u64, DbFault>) -> bool {
-    match LocalDoc::read(alloc, "_local/p", b"{}") {
-        Ok(doc) => database.local_put(doc) == answer,
-        Err(_) => false,
+    match again_on(database, |database| try_put(alloc, database)) {
+        Ok(put) => put == answer,
+        Err(AllocError) => false,
     }
 }
 

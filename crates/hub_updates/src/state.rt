@@ -20,11 +20,17 @@ pub enum NoteFault {
 }
 
 /// The log of updates, and the feeds that show it.
-#[derive(Debug, Drop)]
+#[derive(Debug)]
 pub struct UpdatesState {
     pub(crate) log: Log,
     pub(crate) feeds: Feeds,
     pub(crate) limits: Limits,
+}
+
+impl Drop for UpdatesState {
+    fn drop(self) {
+        let Self { log, feeds, limits } = self;
+    }
 }
 
 impl Model for UpdatesState {

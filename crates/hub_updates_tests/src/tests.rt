@@ -1,4 +1,9 @@
 //! Logs of updates as tables: what is noted, and what the feeds of a log hand.
+//!
+//! With ample memory each step is made once. Where a growth is refused the step says so, the log shows the
+//! same as before it, and made again the step has the answer that it has with ample memory. So these tests
+//! hold whichever one of their growths is refused; the growths of the tests themselves, as of a notice, are
+//! among them.
 
 use crate::tests::Handed::{Beat, End, Gone, Nothing, Row};
 use crate::tests::Step::{Beats, Expire, Finish, Hands, Length, Note, Open};
@@ -8,7 +13,7 @@ use hub_model::Item;
 use hub_model::UpdateKind::{self, Created, Deleted, Updated};
 use hub_params::FeedParams;
 use hub_updates::{NoteFault, Notice, UpdatesState};
-use std::alloc::Global;
+use std::alloc::{AllocError, Global};
 use std::process::Abort;
 
 /// A step on a log, and its answer.
@@ -50,6 +55,37 @@ const FIRST: FeedId = FeedId { number: 0 };
 
 const SECOND: FeedId = FeedId { number: 1 };
 
+// How often a call is made until it answers.
+const TRIES: u64 = 2;
+
+// What a log shows for which it takes no memory: how many notes it has, and whether beats are due to its
+// feeds.
+fn shown(state: &UpdatesState) -> (u64, bool, bool) {
+    (
+        state.update_seq(),
+        state.beat_due(FIRST),
+        state.beat_due(SECOND),
+    )
+}
+
+// Whether a call has its answer. One that finds no memory leaves what the log shows, and is made again.
+fn is_right<F>(state: &mut UpdatesState, call: F) -> bool
+where
+    F: Fn(&mut UpdatesState) -> Result<bool, AllocError>,
+    requires { F.IsAlwaysCallable call }
+{
+    for _ in 0..TRIES {
+        let before = shown(state);
+        if let Ok(answer) = call(state) {
+            return answer;
+        }
+        if shown(state) != before {
+            return false;
+        }
+    }
+    false
+}
+
 // Whether a notice of this has this answer. One that is handed back is the same, and lapses.
 fn notes(
     alloc: Global,
@@ -57,16 +93,16 @@ fn notes(
     kind: UpdateKind,
     name: &str,
     answer: Result<(), NoteFault>,
-) -> bool {
-    let Ok(notice) = Notice::new(alloc, kind, name) else {
-        return false;
-    };
-    match state.note(notice) {
-        Ok(()) => answer == Ok(()),
+) -> Result<bool, AllocError> {
+    match state.note(Notice::new(alloc, kind, name)?) {
+        Ok(()) => Ok(answer == Ok(())),
         Err((notice, fault)) => {
             let same = notice.kind() == kind && notice.name() == name;
             notice.lapse();
-            same && answer == Err(fault)
+            if same && fault == NoteFault::NoMemory {
+                return Err(AllocError);
+            }
+            Ok(same && answer == Err(fault))
         }
     }
 }
@@ -96,20 +132,22 @@ fn is_handed(next: &Next<UpdateRow>, handed: &Handed) -> bool {
 }
 
 // Whether a feed of a host hands this next.
-fn hands<H: FeedHost<Row = UpdateRow>>(host: &mut H, feed: FeedId, handed: &Handed) -> bool {
-    let Ok(next) = host.next_item(feed) else {
-        return false;
-    };
+fn hands<H: FeedHost<Row = UpdateRow>>(
+    host: &mut H,
+    feed: FeedId,
+    handed: &Handed,
+) -> Result<bool, AllocError> {
+    let next = host.next_item(feed)?;
     if let Next::Give(item) = &next {
         host.accept_item(feed, item);
     }
-    is_handed(&next, handed)
+    Ok(is_handed(&next, handed))
 }
 
-// Whether a feed of a host hands these, one after the other.
-fn hands_all<H: FeedHost<Row = UpdateRow>>(host: &mut H, feed: FeedId, all: &[Handed]) -> bool {
+// Whether a feed hands these, one after the other.
+fn hands_all(state: &mut UpdatesState, feed: FeedId, all: &[Handed]) -> bool {
     for handed in all {
-        if !hands(host, feed, handed) {
+        if !is_right(state, |state| hands(state, feed, handed)) {
             return false;
         }
     }
@@ -122,19 +160,24 @@ fn opens<H: FeedHost>(
     host: &mut H,
     query: &str,
     answer: Result<FeedId, OpenFault>,
-) -> bool {
-    match FeedParams::read(alloc, query.as_bytes(), b"") {
-        Ok(params) => host.open_feed(params) == answer,
-        Err(_) => false,
+) -> Result<bool, AllocError> {
+    let Ok(params) = FeedParams::read(alloc, query.as_bytes(), b"") else {
+        return Err(AllocError);
+    };
+    match host.open_feed(params) {
+        Err(OpenFault::NoMemory) => Err(AllocError),
+        opened => Ok(opened == answer),
     }
 }
 
-// Whether a step has its answer. Want of memory is another answer.
+// Whether a step has its answer, also where a growth of it is refused.
 fn holds(alloc: Global, state: &mut UpdatesState, step: &Step) -> bool {
     match step {
-        Note(kind, name, answer) => notes(alloc, state, *kind, name, *answer),
+        Note(kind, name, answer) => {
+            is_right(state, |state| notes(alloc, state, *kind, name, *answer))
+        }
         Length(length) => state.update_seq() == *length && state.length() == *length,
-        Open(query, answer) => opens(alloc, state, query, *answer),
+        Open(query, answer) => is_right(state, |state| opens(alloc, state, query, *answer)),
         Hands(feed, handed) => hands_all(state, *feed, handed),
         Beats(feed, answer) => state.beat_due(*feed) == *answer,
         Expire(feed) => {

@@ -23,14 +23,18 @@ pub record Answer : Type 0 where
 abbrev pub answer_with : Reply → World → Answer
 answer_with reply w = record { reply = reply; world = w }
 
--- an item is pushed where there is room, and the feed goes on so
+-- The answer where this item is to go into the lane of feed f, which goes on so: it is pushed where there is
+-- room, else the lane is Full and nothing changes. A lane of 2 takes a third item once one was taken
+-- (proved: `LaneFills`).
 abbrev pub push : World → ℕ → Subscription → Feed → ChangeItem → Answer
 push w f s feed item =
     if nat_lt (length s.lane) w.limits.lane
     then answer_with (Pushed item) (with_subscription w f (pushed s feed item))
     else answer_with Full w
 
--- a Hand to a feed to which this is due
+-- a Hand to a feed to which this is due. So a row or an End is pushed, or the lane is Full. Where nothing is
+-- due the feed moves to the journal's length, and what is not handed then is handed once it is written
+-- (proved: `LongpollWaits`).
 abbrev pub hand_due : World → ℕ → Subscription → Due → Answer
 hand_due w f s (DueRow c) =
     push w f s (after_row s.feed c.seq (length w.journal))
@@ -41,17 +45,20 @@ hand_due w f s DueNothing =
     answer_with Nothing (with_subscription w f (record s { feed = after_nothing s.feed (length w.journal) }))
 hand_due w f s DueGone = answer_with Gone w
 
--- a Hand
+-- what a Hand to feed f answers, and the world after it; where there is no such feed it is Gone
 abbrev pub hand : World → ℕ → Option Subscription → Answer
 hand w f None = answer_with Gone w
 hand w f (Some s) = hand_due w f s (due_in w.journal s.feed)
 
--- a Heartbeat
+-- What a Heartbeat to feed f answers, and the world after it. It is Nothing for a feed that does not wait or
+-- did not ask, and where there is no such feed (proved: `BeatsAreAsked`).
 abbrev pub beat : World → ℕ → Option Subscription → Answer
 beat w f None = answer_with Nothing w
 beat w f (Some s) = if beat_due s.feed then push w f s s.feed Beat else answer_with Nothing w
 
--- a Begin
+-- What a Begin answers, and the world after it: DatabaseDeleted once the database is deleted
+-- (proved: `DeletionEnds`), TooManyFeeds where there is no room (proved: `FeedsAreCounted`), else the new
+-- feed's number.
 abbrev pub opened : World → Params → Answer
 opened w params =
     if w.deleted then answer_with DatabaseDeleted w

@@ -16,21 +16,22 @@ pub record Core : Type 0 where
 abbrev pub limits_of : hub.Limits → Limits
 limits_of limits = record { journal = limits.journal; feeds = limits.feeds; lane = limits.lane }
 
--- of feeds numbered from n, those that are not finished, with their numbers
+-- of feeds numbered from n, those that are not finished, with their numbers. Of three feeds numbered from 4,
+-- of which the second is finished, they are (4, the first) and (6, the third).
 abbrev pub standing_from : ℕ → List Subscription → List (ℕ × Subscription)
 standing_from n [] = []
 standing_from n (s ∷ ss) =
     if is_finished s.feed.status then standing_from (n + 1) ss else (n, s) ∷ standing_from (n + 1) ss
 
--- those of a world
+-- the feeds of a world that are not finished, with their numbers
 abbrev pub standing : World → List (ℕ × Subscription)
 standing w = standing_from 0 w.feeds
 
--- the feed of such an entry
+-- the feed of a numbered subscription, with its number
 abbrev pub feed_entry : ℕ × Subscription → ℕ × Feed
 feed_entry p = (p.0, p.1.feed)
 
--- its lane
+-- the lane of a numbered subscription, with its number
 abbrev pub lane_entry : ℕ × Subscription → ℕ × List ChangeItem
 lane_entry p = (p.0, p.1.lane)
 
@@ -38,7 +39,8 @@ lane_entry p = (p.0, p.1.lane)
 abbrev pub IsEmptied : Subscription → Type 0
 IsEmptied s = is_finished s.feed.status ≡ true → s.lane ≡ []
 
--- the core shows this world
+-- the core shows this world. Of a world with two feeds, of which feed 0 is finished, it has feed 1 and its
+-- lane alone, and 2 as the number of the next feed.
 pub record Shows (c : Core) (w : World) : Type 0 where
   pub limits : w.limits ≡ limits_of c.db.limits
   pub life : w.life ≡ c.db.life

@@ -12,7 +12,8 @@ use Rattle.hub_world.specs.World.{World, has_no_room, subscription, feed_of, lan
 use Rattle.hub_world.specs.declared.event.Event as program
 
 -- Handing what is due takes memory: a row is made before its lane is looked at, and an End goes into a lane
--- that has room.
+-- that has room. A row that is due takes some even where the lane is full, and an End takes some only where
+-- it is not.
 abbrev pub IsMade : ℕ → List ChangeItem → Due → Type 0
 IsMade limit lane (DueRow c) = ⊤
 IsMade limit lane (DueEnd last_seq) = length lane < limit

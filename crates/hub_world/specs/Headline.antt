@@ -16,19 +16,22 @@ use Rattle.hub_world.specs.Handed.{handed, handed_by, taken, IsPrefixOf}
 abbrev pub reached : Limits → List Event → World
 reached limits events = after (empty limits) events
 
--- what feed f handed out over these events
+-- what feed f handed out over these events. Of eight documents a feed after 5 hands the rows 6, 7 and 8,
+-- also where its connection takes row 6 alone (proved: `TakesAFront`).
 abbrev pub handed_out : Limits → List Event → ℕ → List ChangeItem
 handed_out limits events f = handed f events (replies_to (empty limits) events)
 
--- what its connection has taken over them
+-- what the connection of feed f has taken over these events: in that example row 6 alone
+-- (proved: `TakesAFront`)
 abbrev pub taken_off : Limits → List Event → ℕ → List ChangeItem
 taken_off limits events f = taken f events (replies_to (empty limits) events)
 
 -- What these replies to these events say of feed f: what was taken off it is a front of what it handed, and
 -- that is right and whole; s is the feed after the events. For example a feed of the documents at 1 and 2
 -- whose replies say that it handed row 1 and then row 2, and whose connection took row 1, is faithful; one
--- that handed row 2 alone with its place at
--- 2, or row 1 with its place at 0, is not.
+-- that handed row 2 alone with its place at 2, or row 1 with its place at 0, is not. A normal feed of eight
+-- documents, two of which are written again behind its third row, hands the rows 1, 2, 3, 4, 6, 7 and 8 and
+-- an End at 8 with 2 pending: rows 9 and 10 lie above its bound (proved: `BoundHolds`).
 pub record IsFaithful (limits : Limits) (events : List Event) (replies : List Reply) (f : ℕ)
     (s : Subscription) : Type 0 where
   -- what the connection has taken is a prefix of what the feed handed out

@@ -13,7 +13,7 @@ use Rattle.hub_world.specs.Handed.{handed, handed_by, taken, IsPrefixOf}
 abbrev pub IsAnswered : Type 0
 IsAnswered = (w : World) (event : Event) → Step w event (answer w event).reply (answer w event).world
 
--- and no other
+-- no event has another answer
 abbrev pub IsOnlyAnswer : Type 0
 IsOnlyAnswer =
     (w new : World) (event : Event) (reply : Reply) → Step w event reply new
@@ -57,7 +57,8 @@ abbrev pub TakesInOrder : Type 0
 TakesInOrder = (limits : Limits) (events : List Event) (replies : List Reply) (w : World) (f : ℕ) →
     Run (empty limits) events replies w → IsPrefixOf (taken f events replies) (handed f events replies)
 
--- of a feed that is not finished, what was taken and then what its lane holds is what it handed
+-- of a feed that is not finished, what was taken and then what its lane holds is what it handed. Where the
+-- rows 6, 7 and 8 were handed and row 6 was taken, its lane holds the rows 7 and 8.
 abbrev pub HoldsTheRest : Type 0
 HoldsTheRest =
     (limits : Limits) (events : List Event) (replies : List Reply) (w : World) (f : ℕ) (s : Subscription) →

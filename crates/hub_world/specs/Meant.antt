@@ -13,7 +13,7 @@ use Rattle.hub_world.specs.declared.event.Event.TheVariants as event
 use Rattle.hub_world.specs.declared.reply.Reply.{Reply}
 use Rattle.hub_world.specs.declared.reply.Reply.TheVariants as reply
 
--- the event that is meant
+-- the event of the definitions that the program's event means
 abbrev pub event_of : Event → model.Event
 event_of (event.Write docs) = model.Write (map edit_of docs.items)
 event_of (event.Interactive docs) = model.Interactive (map draft_of docs.items)
@@ -25,7 +25,7 @@ event_of (event.Take feed) = model.Take feed.number
 event_of (event.Finish feed) = model.Finish feed.number
 event_of event.Delete = model.Delete
 
--- the reply that is meant
+-- the reply of the definitions that the program's reply means
 abbrev pub reply_of : Reply → model.Reply
 reply_of (reply.Outcomes batch) = model.Outcomes batch.replies
 reply_of (reply.Opened feed) = model.Opened feed.number
@@ -38,8 +38,9 @@ reply_of reply.Gone = model.Gone
 reply_of (reply.Took item) = model.Took item
 reply_of (reply.Left items) = model.Left items.items
 
--- the event as it took place, given its reply: of a batch that stopped, the write of the documents before the
--- stop
+-- the event as it took place, given its reply: of a batch that stopped, the write of the documents before
+-- the stop. Of a write of five documents whose batch stopped after three replies it is the write of the
+-- first three.
 abbrev pub happened : Event → Reply → model.Event
 happened (event.Write docs) (reply.Outcomes batch) =
     model.Write (map edit_of (take (length batch.replies) docs.items))
@@ -57,13 +58,14 @@ pub record IsAnsweredFor (new_edits : Bool) (old : Core) (docs : List Doc) (batc
   pub stops : IsTrue batch.stopped
       → StopsAt new_edits old.db.deleted new.db.journal (length batch.replies) docs
 
--- so the reply to a write that led from the old core to the new one
+-- A reply to a write that led from the old core to the new one answers for its documents as above. Of a
+-- reply to another event nothing is said.
 abbrev pub Answers : Core → Event → Reply → Core → Type 0
 Answers old (event.Write docs) (reply.Outcomes batch) new = IsAnsweredFor false old docs.items batch new
 Answers old (event.Interactive docs) (reply.Outcomes batch) new = IsAnsweredFor true old docs.items batch new
 Answers old event reply new = ⊤
 
--- whether it is that of a batch that stopped
+-- whether the reply is that of a batch that stopped
 abbrev pub is_stopped : Reply → Bool
 is_stopped (reply.Outcomes batch) = batch.stopped
 is_stopped reply = false

@@ -12,7 +12,9 @@ use Rattle.hub_world.specs.Event.{Event, Write, Interactive, Begin, Hand, Heartb
 use Rattle.hub_world.specs.Event.{Delete, Reply, Outcomes, Opened, TooManyFeeds, DatabaseDeleted, Pushed}
 use Rattle.hub_world.specs.Event.{Full, Nothing, Gone, Took, Left}
 
--- from old, the event may have this reply and lead to new
+-- from old, the event may have this reply and lead to new. With three documents and a lane of 2, three Hands
+-- to a new continuous feed have the replies Pushed row 1, Pushed row 2 and Full. After a Take, which has
+-- Took row 1, a Hand has Pushed row 3 (proved: `LaneFills`).
 abbrev pub Step : World → Event → Reply → World → Type 0
 Step old (Write edits) (Outcomes outcomes) new =
     (outcomes ≡ (merged old edits).outcomes) × (new ≡ record old { journal = (merged old edits).journal })
@@ -59,7 +61,9 @@ Step old Delete Nothing new =
 Step old Delete DatabaseDeleted new = (old.deleted ≡ true) × (new ≡ old)
 Step old Delete _ new = ⊥
 
--- one step after another
+-- From old the events may have these replies, one each, and lead to new, one step after another. After edits
+-- of a, b and then a again the events Begin, Hand, Hand, Hand, Hand have Opened 0, the row of b at 2, that
+-- of a at 3, an End at 3, and Gone (proved: `AgainIsLater`).
 abbrev pub Run : World → List Event → List Reply → World → Type 0
 Run old [] [] new = new ≡ old
 Run old (event ∷ events) (reply ∷ replies) new =

@@ -44,7 +44,9 @@ is_finished Finished = true
 abbrev pub open_feeds : World → ℕ
 open_feeds w = count_by (λ s. not (is_finished s.feed.status)) w.feeds
 
--- whether there may be no feed more: as many as may be are not finished, or no number is left
+-- whether there may be no feed more: as many as may be are not finished, or no number is left. Where there
+-- may be one feed at most and one is open, no other may be opened; once that one is finished, another may
+-- (proved: `FeedsAreCounted`).
 abbrev pub has_no_room : World → Bool
 has_no_room w = nat_le w.limits.feeds (open_feeds w) || nat_le (2 ^ 64 - 1) (length w.feeds)
 
@@ -65,43 +67,45 @@ abbrev pub lane_of : Option Subscription → List ChangeItem
 lane_of None = []
 lane_of (Some s) = s.lane
 
--- edits with their histories are written
+-- what writing these edits with their histories answers, and the journal after it
 abbrev pub merged : World → List Edit → StoresAll
 merged w edits = stores_all (merges w.limits.journal) w.deleted w.journal edits
 
--- drafts are written
+-- what writing these drafts answers, and the journal after it
 abbrev pub drafted : World → List Draft → StoresAll
 drafted w drafts = stores_all (makes w.limits.journal) w.deleted w.journal drafts
 
--- one feed more, with an empty lane
+-- the world with one feed more, which has an empty lane
 abbrev pub with_feed : World → Params → World
 with_feed w params =
     record w { feeds = w.feeds ++ record { feed = begin params (length w.journal) w.life; lane = [] } ∷ [] }
 
--- the item goes into the lane, and the feed goes on so
+-- the feed with its lane once the item went into it, and the feed went on so
 abbrev pub pushed : Subscription → Feed → ChangeItem → Subscription
 pushed s feed item = record { feed = feed; lane = s.lane ++ item ∷ [] }
 
--- there is room in the lane of f, and new is the world with the item in it
+-- there is room in the lane of f, and new is the world with the item in it. Where a lane holds 2 items at
+-- most, and has row 1 and row 2, there is no room for row 3 (proved: `LaneFills`).
 abbrev pub Pushes : World → ℕ → Subscription → Feed → ChangeItem → World → Type 0
 Pushes old f s feed item new =
     (length s.lane < old.limits.lane) × (new ≡ with_subscription old f (pushed s feed item))
 
--- its time is over
+-- the world once the time of feed f is over; without such a feed it stays as it is
 abbrev pub expired : Option Subscription → ℕ → World → World
 expired None f w = w
 expired (Some s) f w = with_subscription w f (record s { feed = expire s.feed })
 
--- the front item is taken
+-- the world once the front item of feed f's lane is taken: of row 1 and row 2 there row 2 stays
 abbrev pub took : Option Subscription → ℕ → World → World
 took None f w = w
 took (Some s) f w = with_subscription w f (record s { lane = drop 1 s.lane })
 
--- its subscriber is gone, and its lane is empty
+-- The world once the subscriber of feed f is gone: the feed is finished, and its lane is empty. So the
+-- heartbeats that were in the lane are never taken (proved: `BeatsAreAsked`).
 abbrev pub finished : Option Subscription → ℕ → World → World
 finished None f w = w
 finished (Some s) f w = with_subscription w f (record { feed = finish s.feed; lane = [] })
 
--- its database is deleted
+-- a feed with its lane once its database is deleted: the items in the lane stay there
 abbrev pub ended : Subscription → Subscription
 ended s = record s { feed = end s.feed }

@@ -10,9 +10,15 @@ use std::sync::Arc;
 
 /// An item that was handed: the reply that tells of it and the lane that holds it have it together,
 /// so no row is copied. Contracts see the item.
-#[derive(Debug, Drop)]
+#[derive(Debug)]
 pub struct SharedItem {
     item: Arc<Item<ChangeRow>, Global>,
+}
+
+impl Drop for SharedItem {
+    fn drop(self) {
+        let Self { item } = self;
+    }
 }
 
 impl Model for SharedItem {

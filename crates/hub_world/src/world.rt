@@ -23,7 +23,7 @@ use std::marker::Model;
 
 /// A database with its feeds and their lanes. Every event is one call, so that a list of events is
 /// an interleaving of whatever makes them.
-#[derive(Debug, Drop)]
+#[derive(Debug)]
 pub struct World {
     db: DbState,
     /// The lanes of the feeds that are not finished.
@@ -31,6 +31,17 @@ pub struct World {
     /// How many items a lane holds at most.
     lane: u64,
     alloc: Global,
+}
+
+impl Drop for World {
+    fn drop(self) {
+        let Self {
+            db,
+            lanes,
+            lane,
+            alloc,
+        } = self;
+    }
 }
 
 impl Model for World {

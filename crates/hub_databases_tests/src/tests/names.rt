@@ -1,12 +1,12 @@
 //! Which names have databases, and what the calls on them refuse.
 
 use crate::tests::names::Call::{Create, Find, List, Remove};
-use crate::tests::{FIRST, created, found, hub, write};
+use crate::tests::{FIRST, again, create, created, found, hub, hub_within, remove, shown, write};
 use hub_databases::{Hub, HubDb, HubFault};
 use hub_document::Limits;
 use hub_model::{Fault, Outcome};
-use hub_shared::{Answer, Question};
 use hub_updates::NoteFault;
+use std::alloc::AllocError;
 use std::sync::Wait;
 use std::test::Fail;
 
@@ -19,16 +19,16 @@ enum Call {
     List(&'static [&'static str]),
 }
 
-// Whether a hub lists these names.
-fn lists<R: Wait>(rt: &R, hub: &Hub, names: &[&str]) -> bool {
-    let Ok(list) = hub.list(rt) else {
-        return false;
-    };
-    list.len() == names.len()
-        && list
-            .iter()
-            .zip(names.iter())
-            .all(|(one, other)| one.as_str() == *other)
+// Whether a hub lists these names; an error where it finds no memory.
+fn lists<R: Wait>(rt: &R, hub: &Hub, names: &[&str]) -> Result<bool, AllocError> {
+    let list = hub.list(rt)?;
+    Ok(
+        list.len() == names.len()
+            && list
+                .iter()
+                .zip(names.iter())
+                .all(|(one, other)| one.as_str() == *other),
+    )
 }
 
 // Whether a name is found, and the database found has it.
@@ -40,21 +40,23 @@ fn finds<R: Wait>(rt: &R, hub: &Hub, name: &str) -> Result<(), HubFault> {
     Ok(())
 }
 
-// Whether a call has its answer.
-fn answers<R: Wait>(rt: &R, hub: &Hub, call: &Call) -> bool {
+// Whether a call has its answer, also where a growth of it is refused; an error where it finds no memory each
+// time.
+fn answers<R: Wait>(rt: &R, hub: &Hub, call: &Call) -> Result<bool, AllocError> {
     match call {
-        Create(name, answer) => hub.create(rt, name) == *answer,
-        Find(name, answer) => finds(rt, hub, name) == *answer,
-        Remove(name, answer) => hub.remove(rt, name) == *answer,
-        List(names) => lists(rt, hub, *names),
+        Create(name, answer) => Ok(create(rt, hub, name)? == *answer),
+        Find(name, answer) => Ok(finds(rt, hub, name) == *answer),
+        Remove(name, answer) => Ok(remove(rt, hub, name)? == *answer),
+        List(names) => again(|| lists(rt, hub, *names)),
     }
 }
 
 // How many calls have their answers, before the first that has another.
 fn count<R: Wait>(rt: &R, hub: &Hub, calls: &[Call]) -> usize {
     for (number, call) in calls.iter().enumerate() {
-        if !answers(rt, hub, call) {
-            return number;
+        match answers(rt, hub, call) {
+            Ok(true) => {}
+            _ => return number,
         }
     }
     calls.len()
@@ -87,7 +89,7 @@ const TWO: &[Call] = &[
 fn names_are_refused_in_order(rt: HostRuntime) -> Result<(), Fail> {
     let mut limits = Limits::full();
     limits.databases = 2;
-    let hub = Hub::new(rt.alloc(), limits)?;
+    let hub = hub_within(rt.alloc(), limits)?;
     assert_eq!(rt; count(&rt, &hub, TWO), TWO.len());
     Ok(())
 }
@@ -103,11 +105,8 @@ const ONE: &[Call] = &[
 ];
 
 // How many edits a database has.
-fn edits<R: Wait>(rt: &R, db: &HubDb) -> Result<u64, Fail> {
-    match db.handle()?.read(rt, Question::Info)? {
-        Answer::Info(info) => Ok(info.update_seq),
-        _ => Err(Fail::new("another answer")),
-    }
+fn edits<R: Wait>(rt: &R, db: &HubDb) -> Option<u64> {
+    Some(shown(rt, db)?.update_seq)
 }
 
 // Where the log is full, what it has no note of is not done; but an edit stands.
@@ -115,7 +114,7 @@ fn edits<R: Wait>(rt: &R, db: &HubDb) -> Result<u64, Fail> {
 fn a_full_log_refuses_what_it_would_note(rt: HostRuntime) -> Result<(), Fail> {
     let mut limits = Limits::full();
     limits.journal = 1;
-    let hub = Hub::new(rt.alloc(), limits)?;
+    let hub = hub_within(rt.alloc(), limits)?;
     assert_eq!(rt; count(&rt, &hub, ONE), ONE.len());
     let db = found(&rt, &hub, "a")?;
     let written = write(&rt, rt.alloc(), &hub, &db, FIRST)?;
@@ -123,7 +122,7 @@ fn a_full_log_refuses_what_it_would_note(rt: HostRuntime) -> Result<(), Fail> {
     let receipts = written.accepted.receipts.as_slice();
     assert_eq!(rt; receipts.len(), 1);
     assert_eq!(rt; receipts.first().map(|receipt| receipt.seq), Some(1));
-    assert_eq!(rt; edits(&rt, &db)?, 1);
+    assert_eq!(rt; edits(&rt, &db), Some(1));
     Ok(())
 }
 
@@ -144,7 +143,7 @@ fn too_many_names_are_told_before_a_full_log(rt: HostRuntime) -> Result<(), Fail
     let mut limits = Limits::full();
     limits.databases = 1;
     limits.journal = 1;
-    let hub = Hub::new(rt.alloc(), limits)?;
+    let hub = hub_within(rt.alloc(), limits)?;
     assert_eq!(rt; count(&rt, &hub, FULL), FULL.len());
     Ok(())
 }
@@ -158,11 +157,8 @@ const REFUSED: &[Call] = &[
 const AGAIN: &[Call] = &[Remove("d", Ok(())), Create("d", Ok(()))];
 
 // The life of a database.
-fn life<R: Wait>(rt: &R, db: &HubDb) -> Result<u64, Fail> {
-    match db.handle()?.read(rt, Question::Info)? {
-        Answer::Info(info) => Ok(info.life),
-        _ => Err(Fail::new("another answer")),
-    }
+fn life<R: Wait>(rt: &R, db: &HubDb) -> Option<u64> {
+    Some(shown(rt, db)?.life)
 }
 
 // A life is the number of a creation among those that succeeded, from 1.
@@ -170,14 +166,14 @@ fn life<R: Wait>(rt: &R, db: &HubDb) -> Result<u64, Fail> {
 fn lives_are_numbered_as_databases_are_made(rt: HostRuntime) -> Result<(), Fail> {
     let mut limits = Limits::full();
     limits.databases = 1;
-    let hub = Hub::new(rt.alloc(), limits)?;
+    let hub = hub_within(rt.alloc(), limits)?;
     let first = created(&rt, &hub, "d")?;
     assert_eq!(rt; count(&rt, &hub, REFUSED), REFUSED.len());
-    assert_eq!(rt; life(&rt, &first)?, 1);
+    assert_eq!(rt; life(&rt, &first), Some(1));
     for made in 2..5 {
         assert_eq!(rt; count(&rt, &hub, AGAIN), AGAIN.len());
         assert_eq!(rt; count(&rt, &hub, REFUSED), REFUSED.len());
-        assert_eq!(rt; life(&rt, &found(&rt, &hub, "d")?)?, made);
+        assert_eq!(rt; life(&rt, &found(&rt, &hub, "d")?), Some(made));
     }
     Ok(())
 }
@@ -204,7 +200,7 @@ fn names_are_listed_in_byte_order(rt: HostRuntime) -> Result<(), Fail> {
 fn a_removed_database_refuses_writes(rt: HostRuntime) -> Result<(), Fail> {
     let hub = hub(rt.alloc())?;
     let old = created(&rt, &hub, "a")?;
-    assert_eq!(rt; hub.remove(&rt, "a"), Ok(()));
+    assert_eq!(rt; remove(&rt, &hub, "a")?, Ok(()));
     let new = created(&rt, &hub, "a")?;
     let written = write(&rt, rt.alloc(), &hub, &old, FIRST)?;
     let replies = written.accepted.replies.as_slice();
@@ -214,6 +210,6 @@ fn a_removed_database_refuses_writes(rt: HostRuntime) -> Result<(), Fail> {
         Some(Outcome::Refused(Fault::Deleted))
     );
     assert!(rt; written.accepted.receipts.is_empty() && written.lapsed.is_none());
-    assert_eq!(rt; edits(&rt, &new)?, 0);
+    assert_eq!(rt; edits(&rt, &new), Some(0));
     Ok(())
 }

@@ -2,13 +2,13 @@
 //! again.
 
 use crate::tests::rows::Told::{End, Row};
-use crate::tests::{FIRST, Open, created, found, hub, params, write};
+use crate::tests::{FIRST, Open, again, created, found, hub, params, remove, write};
 use hub_databases::{Hub, HubDb};
 use hub_document::UpdateRow;
 use hub_model::Item;
 use hub_model::UpdateKind::{self, Created, Deleted, Updated};
-use hub_shared::{Handed, Turn, UpdatesFeed, hold};
-use std::alloc::Global;
+use hub_shared::{Feed, Handed, Plain, Turn, UpdatesFeed, hold};
+use std::alloc::{AllocError, Global};
 use std::sync::Wait;
 use std::test::Fail;
 
@@ -31,12 +31,23 @@ fn is_told(item: &Item<UpdateRow>, told: Told) -> bool {
     }
 }
 
-// A feed of the log that the query opens.
-fn open<R: Wait>(rt: &R, alloc: Global, hub: &Hub, query: &str) -> Result<UpdatesFeed, Fail> {
+// A feed of the log that the query opens; an error where it finds no memory, and each time where it is
+// refused.
+fn try_open<R: Wait>(
+    rt: &R,
+    alloc: Global,
+    hub: &Hub,
+    query: &str,
+) -> Result<UpdatesFeed, AllocError> {
     match hub.updates(rt, params(alloc, query)?) {
         Ok(feed) => Ok(feed),
-        Err(_) => Err(Fail::new("no feed")),
+        Err(_) => Err(AllocError),
     }
+}
+
+// The same, also where a growth of it is refused.
+fn open<R: Wait>(rt: &R, alloc: Global, hub: &Hub, query: &str) -> Result<UpdatesFeed, AllocError> {
+    again(|| try_open(rt, alloc, hub, query))
 }
 
 // Whether a normal feed that the query opens shows just these.
@@ -48,7 +59,8 @@ fn shows<R: Wait>(
     told: &[Told],
 ) -> Result<bool, Fail> {
     let mut feed = open(rt, alloc, hub, query)?;
-    if hub.hold_updates(rt, feed.id(), Turn::Hand, &Open)? != Handed::End {
+    let id = feed.id();
+    if again(|| hub.hold_updates(rt, id, Turn::Hand, &Open))? != Handed::End {
         return Ok(false);
     }
     for one in told {
@@ -60,19 +72,32 @@ fn shows<R: Wait>(
     Ok(feed.finish(rt).take(rt).is_none())
 }
 
-// A hub of whose database d this was noted: created, updated, deleted, created again.
+// Writes the document to a new database d; whether that was noted.
+fn is_noted<R: Wait>(rt: &R, alloc: Global, hub: &Hub) -> Result<bool, Fail> {
+    let db = created(rt, hub, "d")?;
+    let written = write(rt, alloc, hub, &db, FIRST)?;
+    Ok(written.lapsed.is_none())
+}
+
+// A hub of whose database d was noted that it was created and updated. An edit whose note finds no memory
+// stands: then another hub is made.
 fn noted<R: Wait>(rt: &R, alloc: Global) -> Result<Hub, Fail> {
-    let hub = hub(alloc)?;
-    let db = created(rt, &hub, "d")?;
-    let _written = write(rt, alloc, &hub, &db, FIRST)?;
-    Ok(hub)
+    let first = hub(alloc)?;
+    if is_noted(rt, alloc, &first)? {
+        return Ok(first);
+    }
+    let second = hub(alloc)?;
+    if is_noted(rt, alloc, &second)? {
+        return Ok(second);
+    }
+    Err(Fail::new("not noted"))
 }
 
 #[test]
 fn the_log_has_a_row_for_each_kind(rt: HostRuntime) -> Result<(), Fail> {
     let alloc = rt.alloc();
     let hub = noted(&rt, alloc)?;
-    assert_eq!(rt; hub.remove(&rt, "d"), Ok(()));
+    assert_eq!(rt; remove(&rt, &hub, "d")?, Ok(()));
     let first = [
         Row(Created, "d", 1),
         Row(Updated, "d", 2),
@@ -142,14 +167,41 @@ fn the_log_is_of_life_0(rt: HostRuntime) -> Result<(), Fail> {
     Ok(())
 }
 
+// A feed of a database that the query opens; an error where it finds no memory, and each time where it is
+// refused.
+fn try_follow<R: Wait>(
+    rt: &R,
+    alloc: Global,
+    db: &HubDb,
+    query: &str,
+) -> Result<Feed<Plain>, AllocError> {
+    match db.handle()?.open_feed(rt, params(alloc, query)?) {
+        Ok(feed) => Ok(feed),
+        Err(_) => Err(AllocError),
+    }
+}
+
+// The same, also where a growth of it is refused.
+fn follow<R: Wait>(
+    rt: &R,
+    alloc: Global,
+    db: &HubDb,
+    query: &str,
+) -> Result<Feed<Plain>, AllocError> {
+    again(|| try_follow(rt, alloc, db, query))
+}
+
+// What a holding hands of a feed, also where a growth of it is refused: what it handed stays handed.
+fn hand<R: Wait>(rt: &R, db: &HubDb, feed: &Feed<Plain>) -> Result<Handed, AllocError> {
+    again(|| hold(rt, db.db(), feed.id(), Turn::Hand, &Open))
+}
+
 // Of a normal feed of a database that the query opens: its life, where it begins, and the sequence of its
 // first row, 0 where it shows none.
 fn begun<R: Wait>(rt: &R, alloc: Global, db: &HubDb, query: &str) -> Result<(u64, u64, u64), Fail> {
-    let Ok(mut feed) = db.handle()?.open_feed(rt, params(alloc, query)?) else {
-        return Err(Fail::new("no feed"));
-    };
+    let mut feed = follow(rt, alloc, db, query)?;
     let (life, since) = (feed.label().life(), feed.label().since());
-    let _handed = hold(rt, db.db(), feed.id(), Turn::Hand, &Open)?;
+    let _handed = hand(rt, db, &feed)?;
     let first = match feed.take(rt) {
         Some(Item::Row(row)) => row.seq,
         _ => 0,
@@ -164,7 +216,7 @@ fn a_database_that_is_made_again_begins_anew(rt: HostRuntime) -> Result<(), Fail
     let hub = noted(&rt, alloc)?;
     let first = found(&rt, &hub, "d")?;
     assert_eq!(rt; begun(&rt, alloc, &first, "since=1-1")?, (1, 1, 0));
-    assert_eq!(rt; hub.remove(&rt, "d"), Ok(()));
+    assert_eq!(rt; remove(&rt, &hub, "d")?, Ok(()));
     let second = created(&rt, &hub, "d")?;
     let _written = write(&rt, alloc, &hub, &second, FIRST)?;
     assert_eq!(rt; begun(&rt, alloc, &second, "since=1-1")?, (2, 0, 1));
@@ -179,21 +231,10 @@ fn a_feed_of_a_removed_database_ends(rt: HostRuntime) -> Result<(), Fail> {
     let alloc = rt.alloc();
     let hub = noted(&rt, alloc)?;
     let db = found(&rt, &hub, "d")?;
-    let Ok(mut feed) = db
-        .handle()?
-        .open_feed(&rt, params(alloc, "feed=continuous&since=now")?)
-    else {
-        return Err(Fail::new("no feed"));
-    };
-    assert_eq!(rt;
-        hold(&rt, db.db(), feed.id(), Turn::Hand, &Open)?,
-        Handed::Nothing
-    );
-    assert_eq!(rt; hub.remove(&rt, "d"), Ok(()));
-    assert_eq!(rt;
-        hold(&rt, db.db(), feed.id(), Turn::Hand, &Open)?,
-        Handed::End
-    );
+    let mut feed = follow(&rt, alloc, &db, "feed=continuous&since=now")?;
+    assert_eq!(rt; hand(&rt, &db, &feed)?, Handed::Nothing);
+    assert_eq!(rt; remove(&rt, &hub, "d")?, Ok(()));
+    assert_eq!(rt; hand(&rt, &db, &feed)?, Handed::End);
     let Some(Item::End { last_seq, .. }) = feed.take(&rt) else {
         return Err(Fail::new("no end"));
     };

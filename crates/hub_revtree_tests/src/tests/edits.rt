@@ -1,10 +1,10 @@
 //! Edits that are made on trees. The hashes are the MD5s of the texts beside them.
 
 use crate::tests::Step::{Deleted, Leaves, Len, Make, Merge, Path, Winner};
-use crate::tests::{ADDED, Step, assert_steps, long_history, make, merge};
+use crate::tests::{ADDED, Step, again, assert_steps, long_history, make, merge};
 use hub_document::RevId;
 use hub_revtree::{EditFault, Merged, RevTree};
-use std::alloc::{AllocError, Global};
+use std::alloc::Global;
 use std::test::Fail;
 
 const CONFLICT: Result<&str, EditFault> = Err(EditFault::Conflict);
@@ -96,30 +96,29 @@ fn made_revisions_that_are_known_conflict(rt: HostRuntime) -> Result<(), Fail> {
 }
 
 // Whether the generation before the last is extended once, and the last is not.
-fn is_last_behind(alloc: Global, tree: &mut RevTree) -> Result<bool, AllocError> {
-    let Some(Ok(last)) = make(alloc, tree, tree.winner(), false)? else {
-        return Ok(false);
+fn is_last_behind(alloc: Global, tree: &mut RevTree) -> bool {
+    let Some(Ok(last)) = make(alloc, tree, tree.winner(), false) else {
+        return false;
     };
-    let more = make(alloc, tree, Some(last), false)?;
-    Ok(
-        last.generation() == 65535
-            && more == Some(Err(EditFault::GenerationLimit))
-            && tree.len() == 2
-            && tree.winner() == Some(last),
-    )
+    let more = make(alloc, tree, Some(last), false);
+    last.generation() == 65535
+        && more == Some(Err(EditFault::GenerationLimit))
+        && tree.len() == 2
+        && tree.winner() == Some(last)
 }
 
 #[test]
 fn last_generation_is_not_extended(rt: HostRuntime) -> Result<(), Fail> {
     let alloc = rt.alloc();
-    let text = long_history(alloc, 65534)?;
+    let Some(text) = again(|| long_history(alloc, 65534)) else {
+        return Err(Fail::new("no history"));
+    };
     let mut tree = RevTree::new(alloc);
     assert_eq!(rt;
         merge(alloc, &mut tree, text.as_str()),
         Some(Ok(Merged::Added))
     );
     assert_eq!(rt; tree.winner(), RevId::read("65534-a"));
-    let ends = is_last_behind(alloc, &mut tree)?;
-    assert!(rt; ends);
+    assert!(rt; is_last_behind(alloc, &mut tree));
     Ok(())
 }

@@ -1,7 +1,7 @@
 //! A tree with so many edits that it has an index.
 
 use crate::tests::Step::{Body, Deleted, Knows, Len, Merge, Missing, Nodes, Path};
-use crate::tests::{ADDED, KNOWN, Step, first_wrong, merge};
+use crate::tests::{ADDED, KNOWN, Step, add_all, again, first_wrong};
 use hub_document::RevId;
 use hub_revtree::{MergeFault, RevTree};
 use std::alloc::{AllocError, Global};
@@ -12,32 +12,30 @@ fn digest_of(alloc: Global, number: usize) -> Result<String, AllocError> {
     format!(in alloc; "{:016x}{number:016x}", number % 600)
 }
 
-// A tree of so many edits of the second generation, with the digests of the numbers from 0 on. All stand on
-// the revision 1-0.. with the digest of the number 0.
-fn tree_of(alloc: Global, count: usize) -> Result<RevTree, AllocError> {
-    let mut tree = RevTree::new(alloc);
+// The document of the edit of the second generation with the digest of this number, on the revision 1-0..
+// with the digest of the number 0.
+fn on_first(alloc: Global, number: usize) -> Result<String, AllocError> {
+    let own = digest_of(alloc, number)?;
     let first = digest_of(alloc, 0)?;
-    for number in 0..count {
-        let own = digest_of(alloc, number)?;
-        let text = format!(in alloc;
-            r#"{{"_id":"a","_revisions":{{"start":2,"ids":["{own}","{first}"]}}}}"#
-        )?;
-        let _ = merge(alloc, &mut tree, &text);
-    }
-    Ok(tree)
+    format!(in alloc; r#"{{"_id":"a","_revisions":{{"start":2,"ids":["{own}","{first}"]}}}}"#)
+}
+
+// Whether the revision of the second generation with the digest of this number is known.
+fn is_known(alloc: Global, tree: &RevTree, number: usize) -> Result<bool, AllocError> {
+    let digest = digest_of(alloc, number)?;
+    let text = format!(in alloc; "2-{digest}")?;
+    Ok(RevId::read(&text).is_some_and(|rev| tree.knows(&rev)))
 }
 
 // How many of so many numbers from 0 on are those of a revision of the second generation that is known.
-fn known(alloc: Global, tree: &RevTree, count: usize) -> Result<usize, AllocError> {
+fn known(alloc: Global, tree: &RevTree, count: usize) -> usize {
     let mut known = 0usize;
     for number in 0..count {
-        let digest = digest_of(alloc, number)?;
-        let text = format!(in alloc; "2-{digest}")?;
-        if RevId::read(&text).is_some_and(|rev| tree.knows(&rev)) {
+        if again(|| is_known(alloc, tree, number)) == Some(true) {
             known = known.saturating_add(1);
         }
     }
-    Ok(known)
+    known
 }
 
 // The numbers 0, 1, 50, 300, 600 and 650 are those of edits, 900 and 1250 of none.
@@ -85,27 +83,23 @@ const AMONG_MANY: &[Step] = &[
 
 #[test]
 fn revisions_among_many(rt: HostRuntime) -> Result<(), Fail> {
-    let mut tree = tree_of(rt.alloc(), 700)?;
-    assert_eq!(rt; known(rt.alloc(), &tree, 1400)?, 700);
-    assert_eq!(rt; first_wrong(rt.alloc(), &mut tree, AMONG_MANY)?, None);
+    let mut tree = RevTree::new(rt.alloc());
+    assert_eq!(rt; add_all(rt.alloc(), &mut tree, 700, on_first), 700);
+    assert_eq!(rt; known(rt.alloc(), &tree, 1400), 700);
+    assert_eq!(rt; first_wrong(rt.alloc(), &mut tree, AMONG_MANY), None);
     Ok(())
 }
 
-// A tree of so many edits of a revision alone, whose hashes are the texts of no digests, and then of an edit
-// on each, which tells its parent.
-fn tree_of_texts(alloc: Global, count: usize) -> Result<RevTree, AllocError> {
-    let mut tree = RevTree::new(alloc);
-    for number in 0..count {
-        let text = format!(in alloc; r#"{{"_id":"a","_rev":"2-x{number}"}}"#)?;
-        let _ = merge(alloc, &mut tree, &text);
-    }
-    for number in 0..count {
-        let text = format!(in alloc;
-            r#"{{"_id":"a","_revisions":{{"start":3,"ids":["y{number}","x{number}","z{number}"]}}}}"#
-        )?;
-        let _ = merge(alloc, &mut tree, &text);
-    }
-    Ok(tree)
+// The document of a revision alone, whose hash is the text of no digest.
+fn text_alone(alloc: Global, number: usize) -> Result<String, AllocError> {
+    format!(in alloc; r#"{{"_id":"a","_rev":"2-x{number}"}}"#)
+}
+
+// The document of an edit on it, which tells its parent.
+fn on_text(alloc: Global, number: usize) -> Result<String, AllocError> {
+    format!(in alloc;
+        r#"{{"_id":"a","_revisions":{{"start":3,"ids":["y{number}","x{number}","z{number}"]}}}}"#
+    )
 }
 
 // The numbers from 0 to 399 are those of edits.
@@ -143,7 +137,9 @@ const AMONG_TEXTS: &[Step] = &[
 
 #[test]
 fn revisions_that_are_no_digests(rt: HostRuntime) -> Result<(), Fail> {
-    let mut tree = tree_of_texts(rt.alloc(), 400)?;
-    assert_eq!(rt; first_wrong(rt.alloc(), &mut tree, AMONG_TEXTS)?, None);
+    let mut tree = RevTree::new(rt.alloc());
+    assert_eq!(rt; add_all(rt.alloc(), &mut tree, 400, text_alone), 400);
+    assert_eq!(rt; add_all(rt.alloc(), &mut tree, 400, on_text), 400);
+    assert_eq!(rt; first_wrong(rt.alloc(), &mut tree, AMONG_TEXTS), None);
     Ok(())
 }

@@ -1,9 +1,11 @@
-use Rattle.std.proofs.Common.{◌++◌, ◌∷◌, [], ◌∙◌, refl, sym, ap, false, max, arith}
+use Rattle.std.proofs.Common.{◌≡◌, ◌++◌, ◌∷◌, [], ◌∙◌, refl, sym, ap, false, max, arith}
 use Rattle.hub_revtree.specs.Branch.{edits_in}
 use Rattle.hub_revtree.specs.Index.{IsNewestLine}
-use Rattle.hub_revtree.specs.Stem.{Stem}
+use Rattle.hub_revtree.specs.Stem.{Stem, branches_of}
+use Rattle.hub_revtree.specs.Tree.{nameless}
 use Rattle.hub_revtree.proofs.BranchLemmas.{within_generation}
 use Rattle.hub_revtree.proofs.BringLemmas.{Brings, Meets, brought_edit, brought_line, brought_stems, met_brings, reach_low, some_kept, stands_low, take_falls}
+use Rattle.hub_revtree.proofs.CandidateLemmas.{candidates_more}
 use Rattle.hub_revtree.proofs.HighestLemmas.{up_to_more}
 use Rattle.hub_revtree.proofs.MarkLemmas.{branches_same, indexed_front, line_same, marked_more, plain_more, stems_same, up_to_same, within_told}
 use Rattle.hub_revtree.proofs.RunLemmas.{newest_of}
@@ -125,7 +127,18 @@ pub renewed-requires-clause-index : goal.renewed-requires-clause-index
 renewed-requires-clause-index c =
     let xs = c.self.inside.stems.items in
     rw (c.as_slice.ensures.value, c.push_reserved.ensures.items)
-    (indexed_front xs c.note_inner.new.stems.items c.new.result _ c.note_inner.ensures.plain (c.without_line-index.ensures xs (rw c.take.ensures.value c.self.invariant.2)))
+    (indexed_front xs c.note_inner.new.stems.items c.new.result _ c.note_inner.ensures.plain (c.without_line-index.ensures.index xs (rw c.take.ensures.value c.self.invariant.2)))
+
+edits_more : (c : Joined-drop) → edits_in (branches_of (c.note_inner.new.stems.items ++ stem_of c ∷ [])) ≡ edits_in (branches_of c.self.inside.stems.items) ++ nameless c.args.path c.args.deleted c.args.body ∷ []
+edits_more c =
+    let xs = c.self.inside.stems.items in
+    let ys = c.note_inner.new.stems.items in
+    let stem = stem_of c in
+    let legal = rw (sym c.self.view_is) at c.requires.legal in
+    let ok = rw (sym c.self.view_is) at c.requires.acceptable in
+    let same = plain_more xs ys stem c.note_inner.ensures.plain in
+    ap edits_in (sym (branches_same (xs ++ stem ∷ []) (ys ++ stem ∷ []) same))
+    ∙ brought_edit xs c.self.invariant.0 legal c.args.path c.args.deleted c.args.body ok stem (brings c)
 
 pub invariant_of-self : goal.invariant_of-self
 invariant_of-self c =
@@ -144,18 +157,11 @@ invariant_of-self c =
     rw (c.push_reserved.ensures.items, c.new.ensures) (
       stems_same (xs ++ stem ∷ []) (ys ++ stem ∷ []) same more,
       up_to_same (xs ++ stem ∷ []) (ys ++ stem ∷ []) c.max-self-inside.result same up,
-      rw (c.as_slice.ensures.value, c.push_reserved.ensures.items, c.new.ensures) at c.renewed.ensures (line_same (xs ++ stem ∷ []) (ys ++ stem ∷ []) c.if-whole.line2 same (line_of c)),
+      rw (c.as_slice.ensures.value, c.push_reserved.ensures.items, c.new.ensures) at c.renewed.ensures.index (line_same (xs ++ stem ∷ []) (ys ++ stem ∷ []) c.if-whole.line2 same (line_of c)),
       marked_more xs ys stem c.self.invariant.0 more (within_told xs stem.parent path.next.within) c.note_inner.ensures.plain c.self.invariant.3 refl c.note_inner.ensures.noted,
+      candidates_more (branches_of xs) (branches_of (ys ++ stem ∷ [])) (nameless c.args.path c.args.deleted c.args.body) _ _ (edits_more c) c.renewed.ensures.candidates
+          (rw (c.without_line-index.ensures.candidates, c.take.ensures.value) c.self.invariant.4),
     )
 
 pub returns : goal.returns
-returns c =
-    let xs = c.self.inside.stems.items in
-    let ys = c.note_inner.new.stems.items in
-    let stem = stem_of c in
-    let legal = rw (sym c.self.view_is) at c.requires.legal in
-    let ok = rw (sym c.self.view_is) at c.requires.acceptable in
-    let same = plain_more xs ys stem c.note_inner.ensures.plain in
-    rw (c.push_reserved.ensures.items, c.new.ensures, sym c.self.view_is)
-    (ap edits_in (sym (branches_same (xs ++ stem ∷ []) (ys ++ stem ∷ []) same))
-    ∙ brought_edit xs c.self.invariant.0 legal c.args.path c.args.deleted c.args.body ok stem (brings c))
+returns c = rw (c.push_reserved.ensures.items, c.new.ensures, sym c.self.view_is) (edits_more c)

@@ -4,8 +4,8 @@ use Rattle.hub_revtree.proofs.LinkLemmas.{link_fresh, link_start}
 use Rattle.hub_revtree.proofs.StemLooks.{read_stem}
 use Rattle.hub_revtree.proofs.index.Index.add.Goals as goal
 
-pub returns-then-not-joins : goal.returns-then-not-joins
-returns-then-not-joins c =
+pub returns-then-not-joins-clause-index : goal.returns-then-not-joins-clause-index
+returns-then-not-joins-clause-index c =
     let xs = c.args.stems.now in
     let n = c.in_ok-number.number in
     let same : n ≡ length xs - 1 = omega (arith, c.in_ok-number.ensures) in

@@ -8,6 +8,7 @@ pub loop-at-init : goal.loop-at-init
 loop-at-init c = record {
   told = told_start c.args.stems.now c.args.number (entry_in c.args.self.now) (other_in c.args.self.now) c.requires.told;
   links = refl;
+  candidates = refl;
 }
 
 pub add_at-requires-clause-within : goal.add_at-requires-clause-within

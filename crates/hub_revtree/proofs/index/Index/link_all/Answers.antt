@@ -9,6 +9,7 @@ loop-at-init c = record {
   linked = link_start c.args.stems.now c.args.number (link_in c.args.self.now) c.requires.linked;
   entries = refl;
   others = refl;
+  candidates = refl;
 }
 
 pub link_at-requires-clause-within : goal.link_at-requires-clause-within
@@ -18,8 +19,8 @@ link_at-requires-clause-within c =
 pub link_at-requires-clause-told : goal.link_at-requires-clause-told
 link_at-requires-clause-told c = rw (c.loop-at.invariant.entries, c.loop-at.invariant.others) c.requires.told
 
-pub returns : goal.returns
-returns c = (
+pub returns-clause-index : goal.returns-clause-index
+returns-clause-index c = (
   rw (c.loop-at.invariant.entries, c.loop-at.invariant.others) c.requires.told,
   link_end c.args.stems.now c.args.number c.loop-at.at (link_in c.loop-at.self) (omega (arith, c.requires.newest))
       (omega (arith, read_long c.args.stems.now c.args.number c.index-stems-number.result (omega (arith, c.requires.newest)) c.index-stems-number.is, c.loop-at-test.false, c.len-at-end.ensures)) c.loop-at.invariant.linked,

@@ -7,4 +7,5 @@ invariant-loop-at l = record {
   linked : AreLinked (HasTo l.stems l.number l.at) l.stems (link_in l.self);
   entries : l.self.stems ≡ l.initial.self.stems;
   others : l.self.others ≡ l.initial.self.others;
+  candidates : l.self.candidates ≡ l.initial.self.candidates;
 }

@@ -25,6 +25,6 @@ best_with_newest-self-inside-requires-clause-winner c =
 
 pub invariant_of-self : goal.invariant_of-self
 invariant_of-self c = record {
-  legal = rw c.push.ensures (legal_more _ _ c.self.invariant.legal (rw (sym c.self.view_is, sym c.ready.view_is) at c.requires.acceptable));
-  first = c.best_with_newest-self-inside.ensures;
+  legal = rw (c.best_with_newest-self-inside.ensures.list, c.push.ensures) (legal_more _ _ c.self.invariant.legal (rw (sym c.self.view_is, sym c.ready.view_is) at c.requires.acceptable));
+  first = rw c.best_with_newest-self-inside.ensures.list c.best_with_newest-self-inside.ensures.best;
 }

@@ -1,0 +1,16 @@
+use Rattle.hub_revtree.proofs.branches.Branches.take_candidates.Goals as goal
+use Rattle.hub_revtree.proofs.branches.Branches.take_candidates.Goals.{in-Some, in-None}
+
+pub invariant_of-self : goal.invariant_of-self
+invariant_of-self c = elim c.match-self.branch [
+  | in-Some w ↦
+      let own = rw w.in-Some.is at c.self.invariant.2 in
+      rw w.self-inside-is (
+        c.self.invariant.0,
+        c.self.invariant.1,
+        rw (w.take_candidates.ensures.stems, w.take_candidates.ensures.others, w.take_candidates.ensures.links, w.take_candidates.ensures.line, w.deref_mut.ensures.value) own,
+        c.self.invariant.3,
+        rw w.take_candidates.ensures.candidates tt,
+      )
+  | in-None w ↦ rw w.self-inside-is c.self.invariant
+]

@@ -1,0 +1,182 @@
+//! Revisions that may be the best leaf.
+
+ghost use Rattle.std.specs.Prelude.{◌≡◌, ◌<◌, ◌+◌, [], List, Some, length, option_and_then, refl, slice_get, IfOk, OnOk};
+ghost use Rattle.std.specs.Ordering.{eq_by_cmp};
+ghost use Rattle.std.specs.Cmp.{partial_equiv_from_equiv, partial_order_from_total};
+ghost use Rattle.hub_model.specs.Journal.{IsLegal};
+ghost use Rattle.hub_model.specs.Leaves.{leaves_of};
+ghost use Rattle.hub_revtree.specs.Branch.{Branch, edits_in};
+ghost use Rattle.hub_revtree.specs.Candidate.{candidate_cmp, candidates_level, candidates_total};
+ghost use Rattle.hub_revtree.specs.Candidates.{AreCandidates, candidate_of, winner_in};
+ghost use Rattle.hub_revtree.specs.Winner.{head_in, winner_of};
+
+use crate::branches::Branches;
+use crate::index::kept_number;
+use crate::leaf::{Winner, leaf_order};
+use crate::run::Run;
+use std::alloc::{AllocError, Global};
+use std::cmp::Ordering;
+use std::collections::BinaryHeap;
+use std::marker::Model;
+use std::mem::size_of;
+
+// A revision that may be the best leaf, and the number of its edit. It takes 40 bytes, and 68 more where its
+// hash is the text of no digest.
+#[derive(Debug, Drop)]
+struct Candidate {
+    // The revision alone.
+    rev: Run,
+    number: u32,
+    deleted: bool,
+}
+
+const _: () = prove!(size_of::<Candidate>() == 40);
+
+impl Model for Candidate {
+    ghost use Rattle.hub_revtree.specs.Candidate.{Candidate};
+
+    ghost Value = { Candidate };
+
+    ghost use Rattle.std.specs.Prelude.{[], slice_get, unwrap_or};
+    ghost use Rattle.hub_model.specs.Path.{IsPath};
+
+    ghost view = { λ a. record { rev = unwrap_or (slice_get a.rev 0) (record { generation = 0; hash = [] }); deleted = a.deleted; number = a.number } };
+
+    ghost invariant = { λ a. IsPath a.rev };
+}
+
+impl Candidate {
+    // That of this edit.
+    fn new(alloc: Global, leaf: &Winner, number: u32) -> Result<Candidate, AllocError>
+        ensures { IfOk result (λ candidate. candidate ≡ candidate_of number leaf.now) }
+    {
+        let _from_one = leaf.rev.generation();
+        Ok(Candidate {
+            rev: Run::front(alloc, &[leaf.rev], 1)?,
+            number,
+            deleted: leaf.deleted,
+        })
+    }
+
+    // Its revision and mark.
+    fn leaf(&self) -> Winner
+        ensures { result ≡ winner_in self.now }
+    {
+        Winner {
+            rev: self.rev.at(0),
+            deleted: self.deleted,
+        }
+    }
+}
+
+impl PartialEq for Candidate {
+    ghost eq = { eq_by_cmp candidate_cmp };
+
+    ghost laws = { partial_equiv_from_equiv candidates_level };
+
+    fn eq(&self, other: &Candidate) -> bool {
+        self.cmp(other).is_eq()
+    }
+}
+
+impl Eq for Candidate {
+    ghost laws = { candidates_level };
+}
+
+impl PartialOrd for Candidate {
+    ghost partial_cmp = { λ c d. Some (candidate_cmp c d) };
+
+    ghost laws = { partial_order_from_total candidates_total };
+
+    fn partial_cmp(&self, other: &Candidate) -> Option<Ordering> {
+        Some(self.cmp(other))
+    }
+}
+
+impl Ord for Candidate {
+    ghost cmp = { candidate_cmp };
+
+    ghost total = { candidates_total };
+
+    ghost matches_partial_cmp = { λ c d. refl };
+
+    ghost matches_eq = { λ c d. refl };
+
+    fn cmp(&self, other: &Candidate) -> Ordering {
+        leaf_order(&self.leaf(), &other.leaf())
+    }
+}
+
+/// The revisions of a tree's first edits, so many as were looked at, that were leaves then, in the order of
+/// leaves. Those that are leaves no more stay among them until they come to the top. For each it takes 40 to 80
+/// bytes, and 68 more where its hash is the text of no digest.
+#[derive(Debug, Drop)]
+pub(crate) struct Candidates {
+    heap: BinaryHeap<Candidate>,
+    /// How many edits were looked at.
+    count: usize,
+}
+
+impl Candidates {
+    /// Those of no edit. It takes no memory.
+    pub(crate) fn new(alloc: Global) -> Candidates
+        ensures { (branches : List Branch) → AreCandidates branches result }
+    {
+        Candidates {
+            heap: BinaryHeap::new(alloc),
+            count: 0,
+        }
+    }
+
+    // Looks at the next edit: where its revision is a leaf, it becomes a candidate. At most log n comparisons of
+    // revisions.
+    fn add_next(&mut self, branches: &Branches) -> Result<(), AllocError>
+        requires candidates { AreCandidates branches.now.list self.old }
+        requires more { self.old.count < length branches.now.list }
+        ensures candidates { OnOk result (AreCandidates branches.now.list self.new) }
+        ensures count { OnOk result (self.new.count ≡ self.old.count + 1) }
+    {
+        let _edits_at_most = branches.len();
+        let at = self.count;
+        let leaf = branches.head(at);
+        if !branches.is_head_inner(at) {
+            let number = kept_number(at)?;
+            let candidate = Candidate::new(branches.allocator(), &leaf, number)?;
+            self.heap.push(candidate)?;
+        }
+        self.count = at + 1;
+        Ok(())
+    }
+
+    /// Looks at all edits that came since the last time. It costs what `add_next` does for each.
+    pub(crate) fn add_newer(&mut self, branches: &Branches) -> Result<(), AllocError>
+        requires { AreCandidates branches.now.list self.old }
+        ensures candidates { OnOk result (AreCandidates branches.now.list self.new) }
+        ensures all { OnOk result (self.new.count ≡ length branches.now.list) }
+    {
+        while self.count < branches.len() {
+            self.add_next(branches)?;
+        }
+        Ok(())
+    }
+
+    /// The number of the best leaf's edit, where all edits were looked at; how many edits there are, where there
+    /// is none. It gives up each candidate above it, which is no leaf any more, at log n comparisons of revisions
+    /// each.
+    pub(crate) fn best(&mut self, branches: &Branches) -> usize
+        requires candidates { AreCandidates branches.now.list self.old }
+        requires all { self.old.count ≡ length branches.now.list }
+        requires legal { IsLegal (edits_in branches.now.list) }
+        ensures candidates { AreCandidates branches.now.list self.new }
+        ensures best { option_and_then head_in (slice_get branches.now.list result) ≡ winner_of (leaves_of (edits_in branches.now.list) []) }
+    {
+        while let Some(top) = self.heap.peek() {
+            let number = top.number as usize;
+            if !branches.is_head_inner(number) {
+                return number;
+            }
+            drop(self.heap.pop());
+        }
+        branches.len()
+    }
+}
