@@ -446,13 +446,11 @@ impl Run {
         for number in 0..self.seen.feeds {
             self.world.apply(Event::Finish(FeedId { number }))?;
         }
-        let Ok(params) = FeedParams::read(self.alloc, b"", b"") else {
+        let Ok(mut params) = FeedParams::read(self.alloc, b"", b"") else {
             return Err(Fail::new("no parameters"));
         };
-        match self
-            .world
-            .apply(Event::Begin(FeedParams { since, ..params }))?
-        {
+        params.since = since;
+        match self.world.apply(Event::Begin(params))? {
             Reply::Opened(feed) => Ok(Some(feed)),
             Reply::DatabaseDeleted => Ok(None),
             _ => Err(Fail::new("no feed")),
