@@ -1,12 +1,12 @@
 #!/usr/bin/env python3
 """Servers of the hub's routes beside each other, over TCP.
 
-    python3 bench/beside.py [--rounds N] [--seconds N] [--case WORD] NAME=PROGRAM NAME=PROGRAM ..
+    python3 bench/beside.py [--rounds N] [--seconds N] [--case WORD] [--keep] NAME=PROGRAM NAME=PROGRAM ..
 
 runs each program as `PROGRAM serve 127.0.0.1:0 4294967295`, which prints the address that it listens on,
 asks all of them the same by turns, and prints a table: the first one's rate against that of each other,
 each round and the median, and the processor time of each for a request or a row. No figure is asserted.
-It takes wrk and curl. A figure is read beside the load and what the host took, which are printed too.
+`--keep` writes the rates of the first by those of the second to bench/out/beside.json. It takes wrk and curl. A figure is read beside the load and what the host took, which are printed too.
 
 `bench/hyper` is such a server, of the hub's routes and bytes over hyper and tokio:
 
@@ -25,6 +25,7 @@ import sys
 import tempfile
 import time
 
+KEPT = os.path.join(os.path.dirname(os.path.abspath(__file__)), "out", "beside.json")
 TICK = os.sysconf("SC_CLK_TCK")
 ROWS = 100_000
 # What wrk sends: a new document of about 100 bytes each time, and a look at one of 10,000.
@@ -147,6 +148,24 @@ def disturbance(before):
     return "load %s, taken by the host %.1f" % (before[1], 100 * ticks[7] / max(sum(ticks), 1))
 
 
+def ratios_of(first, other, by):
+    """The rate of one program by that of another, round by round."""
+    return [mine[0] / its[0] for mine, its in zip(by[first], by[other])]
+
+
+def keep(names, figures):
+    """Writes the rates of the first program by those of the second."""
+    first, other = names[:2]
+    cases = [
+        {"case": case, "first": first, "other": other, "ratios": ratios_of(first, other, by)}
+        for case, by in figures.items()
+    ]
+    os.makedirs(os.path.dirname(KEPT), exist_ok=True)
+    with open(KEPT, "w") as file:
+        json.dump(cases, file, indent=1)
+        file.write("\n")
+
+
 def show(names, figures):
     """The table."""
     first, others = names[0], names[1:]
@@ -156,7 +175,7 @@ def show(names, figures):
     for case, by in figures.items():
         cells = [case]
         for other in others:
-            ratios = [mine[0] / its[0] for mine, its in zip(by[first], by[other])]
+            ratios = ratios_of(first, other, by)
             cells.append("%s; %.2f" % (", ".join("%.2f" % r for r in ratios), statistics.median(ratios)))
         for name in names:
             rates, costs = zip(*by[name])
@@ -169,6 +188,7 @@ def main():
     parser.add_argument("--rounds", type=int, default=3)
     parser.add_argument("--seconds", type=int, default=2, help="of wrk, for a case")
     parser.add_argument("--case", action="append", help="how the names of cases begin; may be given again; all if it is not")
+    parser.add_argument("--keep", action="store_true", help="write bench/out/beside.json")
     parser.add_argument("programs", nargs="+", metavar="NAME=PROGRAM")
     asked = parser.parse_args()
     programs = dict(word.split("=", 1) for word in asked.programs)
@@ -192,6 +212,8 @@ def main():
             for server in servers.values():
                 server.stop()
     show(names, figures)
+    if asked.keep and len(names) > 1:
+        keep(names, figures)
 
 
 main()
