@@ -9,14 +9,18 @@ The merge gate runs the program once alone, on the stored requests. Only Python'
 """
 import argparse
 import os
+import resource
 import socket
 import subprocess
 import sys
+import time
 
 TOP = os.path.dirname(os.path.dirname(os.path.abspath(__file__)))
 PROGRAM = f"{TOP}/crates/changes_hub/out/changes_hub"
 # The seconds that a run may take.
 PATIENCE = 20
+# The descriptors of a server that has few, and the clients that come to it.
+FEW, MANY = 16, 30
 
 WHOLE = b"PUT /d HTTP/1.1\r\n\r\n"
 CLOSE = b"PUT /d HTTP/1.1\r\nConnection: close\r\n\r\nx"
@@ -97,6 +101,32 @@ def try_served(program):
         fail(["serve", "127.0.0.1:0", "2"], status, 0)
 
 
+def few_files():
+    resource.setrlimit(resource.RLIMIT_NOFILE, (FEW, FEW))
+
+
+def try_few_files(program):
+    """A server with fewer descriptors than clients goes on: it accepts again once clients have gone."""
+    words = ["serve", "127.0.0.1:0", str(MANY + 1)]
+    with subprocess.Popen([program, *words], stdout=subprocess.PIPE, preexec_fn=few_files) as server:
+        port = int(server.stdout.readline().decode().rsplit(":", 1)[1])
+        try:
+            clients = [socket.create_connection(("127.0.0.1", port), PATIENCE) for _ in range(MANY)]
+            # Time for the server to run out of descriptors.
+            time.sleep(1)
+            for client in clients:
+                client.close()
+            with socket.create_connection(("127.0.0.1", port), PATIENCE) as client:
+                client.sendall(CLOSE)
+                if not client.recv(4096).startswith(b"HTTP/1.1 201 "):
+                    fail(words, "no answer", "an answer")
+            status = server.wait(PATIENCE)
+        finally:
+            server.kill()
+    if status != 0:
+        fail(words, status, 0)
+
+
 def main():
     parser = argparse.ArgumentParser(description="The statuses that the program ends with.")
     parser.add_argument("--program", default=PROGRAM)
@@ -106,7 +136,8 @@ def main():
     try_bound(program)
     try_full(program)
     try_served(program)
-    print(f"statuses: {len(CASES) + 3} runs as they should be")
+    try_few_files(program)
+    print(f"statuses: {len(CASES) + 4} runs as they should be")
 
 
 if __name__ == "__main__":

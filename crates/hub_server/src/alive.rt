@@ -2,40 +2,65 @@
 
 use std::sync::{Condvar, Mutex, Wait};
 
-/// The number of threads that serve connections or pump feeds, and which nobody joins.
+/// How many such threads run, and how many have ended.
+#[derive(Clone, Copy)]
+struct Numbers {
+    running: u64,
+    ended: u64,
+}
+
+/// The threads that serve connections or pump feeds, and which nobody joins, by their numbers.
 #[derive(Drop)]
 pub(crate) struct Alive {
-    count: Mutex<u64>,
+    numbers: Mutex<Numbers>,
     /// Told of each that ended.
-    ended: Condvar,
+    news: Condvar,
 }
 
 impl Alive {
     /// There are none yet.
     pub(crate) fn new() -> Alive {
         Alive {
-            count: Mutex::new(0),
-            ended: Condvar::new(),
+            numbers: Mutex::new(Numbers {
+                running: 0,
+                ended: 0,
+            }),
+            news: Condvar::new(),
         }
     }
 
     /// One more.
     pub(crate) fn begin<R: Wait>(&self, rt: &R) {
-        let mut count = self.count.lock(rt);
-        *count = count.saturating_add(1);
+        let mut numbers = self.numbers.lock(rt);
+        numbers.running = numbers.running.saturating_add(1);
     }
 
     /// One has ended.
     pub(crate) fn end<R: Wait>(&self, rt: &R) {
-        let mut count = self.count.lock(rt);
-        *count = count.saturating_sub(1);
-        drop(count);
-        self.ended.notify_all();
+        let mut numbers = self.numbers.lock(rt);
+        numbers.running = numbers.running.saturating_sub(1);
+        numbers.ended = numbers.ended.wrapping_add(1);
+        drop(numbers);
+        self.news.notify_all();
+    }
+
+    /// How many have ended.
+    pub(crate) fn ended<R: Wait>(&self, rt: &R) -> u64 {
+        self.numbers.lock(rt).ended
+    }
+
+    /// Sleeps until another number has ended than this, and says whether one has: none will where none runs.
+    pub(crate) fn wait_for_end<R: Wait>(&self, rt: &R, ended: u64) -> bool {
+        let numbers = self.numbers.lock(rt);
+        let numbers = self.news.wait_while(rt, numbers, move |now| {
+            now.running > 0 && now.ended == ended
+        });
+        numbers.ended != ended
     }
 
     /// Sleeps until there is none.
     pub(crate) fn wait<R: Wait>(&self, rt: &R) {
-        let count = self.count.lock(rt);
-        let _none = self.ended.wait_while(rt, count, |count| *count > 0);
+        let numbers = self.numbers.lock(rt);
+        let _none = self.news.wait_while(rt, numbers, |now| now.running > 0);
     }
 }

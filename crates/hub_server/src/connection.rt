@@ -19,7 +19,7 @@ use std::time::Duration;
 /// The bytes that are handed to the socket at once.
 const BUFFER: usize = 65_536;
 
-/// How long one write may wait for the client, in seconds: behind this its connection ends.
+/// How long one read or one write may wait for the client, in seconds: behind this its connection ends.
 const PATIENCE: u64 = 600;
 
 /// How long each read waits for a client to whom all is said, in seconds.
@@ -27,6 +27,14 @@ const FAREWELL: u64 = 1;
 
 /// How many reads are made of what such a client still sends: a longest body, twice.
 const FAREWELL_READS: u32 = 4_096;
+
+/// Has the socket send at once, and give up a read or a write that waits too long.
+fn prepare(stream: &TcpStream) -> io::Result<()> {
+    let patience = Some(Duration::from_secs(PATIENCE));
+    stream.set_nodelay(true)?;
+    stream.set_read_timeout(patience)?;
+    stream.set_write_timeout(patience)
+}
 
 /// Sends the end of what is written, and reads on until the client has ended too, and within bounds: bytes
 /// that nobody reads would make the system take back an answer that the client has not read.
@@ -67,8 +75,7 @@ where
     G: Gate + Drop,
     K: Clock + Drop,
 {
-    stream.set_nodelay(true)?;
-    stream.set_write_timeout(Some(Duration::from_secs(PATIENCE)))?;
+    prepare(stream)?;
     let mut requests = Requests::new(alloc, Tally::new(stream));
     let mut writer = Tally::new(BufWriter::with_capacity(alloc, BUFFER, stream)?);
     let closing = serve_connection(rt, alloc, hub, routes, pumps, &mut requests, &mut writer);

@@ -116,6 +116,22 @@ where
         Ok(())
     }
 
+    /// The next connection. Where none can be accepted while others are open, as where the system has no
+    /// descriptor left, it sleeps until one of them has ended, and tries again. An error is told where none is open.
+    fn accept_next<R: Wait>(&self, rt: &R, listener: &TcpListener) -> io::Result<TcpStream>
+        ensures { IfErr result (λ e. ¬ IsPassing (error_kind e)) }
+    {
+        for _ in rt.forever() {
+            let ended = self.alive.ended(rt);
+            match accept(listener) {
+                Err(error) if !self.alive.wait_for_end(rt, ended) => return Err(error),
+                Err(_) => {}
+                accepted => return accepted,
+            }
+        }
+        Err(io::Error::from(ErrorKind::Other))
+    }
+
     /// Accepts so many connections, and serves each.
     fn accept_all<R>(
         &self,
@@ -128,7 +144,7 @@ where
         R: Threads + Wait + Copy + Send + Sync + Drop + 'static,
     {
         for before in 0..count {
-            let stream = accept(listener)?;
+            let stream = self.accept_next(rt, listener)?;
             let _started = self.start(rt, alloc, stream, before + 1);
         }
         Ok(())
@@ -180,7 +196,8 @@ fn accept(listener: &TcpListener) -> io::Result<TcpStream>
 /// they are accepted; each passes `Point::Request` of its number at the gate before each answer. A connection for
 /// which no thread can be made is closed unanswered; a feed for which the pump of its database is missing, and no
 /// thread can be made, is answered as out of memory. An error says that there was no memory or no thread to
-/// begin with, or that no connection could be accepted: then those that are open go on, and begin no pump.
+/// begin with, or that no connection could be accepted while none was open. Where none can be accepted beside those
+/// that are open, the next one waits until one of them has ended.
 pub fn run_server<R, G, K>(
     rt: &R,
     alloc: Global,
