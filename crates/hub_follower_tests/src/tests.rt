@@ -10,6 +10,7 @@ mod named_peer;
 mod rounds;
 mod sessions;
 mod stops;
+mod surface;
 mod threads;
 mod worlds;
 

@@ -66,6 +66,21 @@ fn bounds_end_rows_within_a_page(rt: HostRuntime) -> Result<(), Fail> {
 }
 
 #[test]
+fn rows_are_removed_with_their_pages(rt: HostRuntime) -> Result<(), Fail> {
+    let mut index = border_rows(rt.alloc())?;
+    index.remove(300);
+    assert_eq!(rt; (index.pages(), index.count_after(0)), (3, 4));
+    index.remove(256);
+    assert_eq!(rt; (index.pages(), index.count_after(0)), (2, 3));
+    index.remove(257);
+    assert_eq!(rt; (index.pages(), index.count_after(0)), (2, 2));
+    index.remove(512);
+    assert_eq!(rt; (index.pages(), index.count_after(0)), (1, 1));
+    assert_eq!(rt; index.next_after(0, None), Some((513, 4)));
+    Ok(())
+}
+
+#[test]
 fn a_page_goes_with_its_last_row(rt: HostRuntime) -> Result<(), Fail> {
     let mut index = border_rows(rt.alloc())?;
     assert_eq!(rt; index.pages(), 3);

@@ -6,3 +6,4 @@
 mod doc_params;
 mod feed_params;
 mod feed_starts;
+mod surface;

@@ -15,6 +15,7 @@ mod looks;
 mod merges;
 mod partial;
 mod shared;
+mod surface;
 
 use crate::tests::Step::{
     Ancestors, Body, Deleted, Knows, Leaves, Len, Make, Merge, Missing, Nodes, Path, Winner,

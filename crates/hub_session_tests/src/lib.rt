@@ -14,6 +14,8 @@ mod reader_tests;
 #[cfg(test)]
 mod rows;
 #[cfg(test)]
+mod surface;
+#[cfg(test)]
 mod tests;
 #[cfg(test)]
 mod update_tests;

@@ -4,13 +4,17 @@
 //! then answers as it does with ample memory. So these tests hold whichever one of their growths is refused;
 //! the growths of the tests themselves, as of a document's text, are among them.
 
+mod surface;
+
 use hub_database::{DbFault, DbState, Info};
-use hub_document::{ChangeRow, Doc, DocId, Limits, LocalDoc, RevId};
+use hub_document::{Doc, DocId, Limits, LocalDoc, RevId};
 use hub_feed::{FeedId, OpenFault};
 use hub_lane::Receiver;
 use hub_model::{Fault, Item};
 use hub_params::FeedParams;
-use hub_shared::{AuditFault, FeedLabel, Handed, Locked, Receipt, ReceiptRoom, audit_of};
+use hub_shared::{
+    AuditFault, ChangeItem, ChangeLabel, Handed, Locked, Receipt, ReceiptRoom, audit_of,
+};
 use std::alloc::{AllocError, Global};
 use std::sync::Wait;
 use std::test::Fail;
@@ -19,7 +23,7 @@ use std::test::Fail;
 type Database = Locked<DbState>;
 
 // The end of a feed's lane that takes.
-type Taker = Receiver<FeedLabel<DbState>, Item<ChangeRow>>;
+type Taker = Receiver<ChangeLabel, ChangeItem>;
 
 // What an item is.
 #[derive(Clone, Copy, Debug, PartialEq, Eq)]
@@ -29,7 +33,7 @@ enum Told {
     End(u64),
 }
 
-fn seen(item: &Item<ChangeRow>) -> Told {
+fn seen(item: &ChangeItem) -> Told {
     match item {
         Item::Row(row) => Told::Row(row.seq),
         Item::Beat => Told::Beat,

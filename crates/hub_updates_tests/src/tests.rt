@@ -5,6 +5,8 @@
 //! hold whichever one of their growths is refused; the growths of the tests themselves, as of a notice, are
 //! among them.
 
+mod surface;
+
 use crate::tests::Handed::{Beat, End, Gone, Nothing, Row};
 use crate::tests::Step::{Beats, Expire, Finish, Hands, Length, Note, Open};
 use hub_document::{Limits, UpdateRow};

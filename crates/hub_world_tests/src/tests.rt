@@ -12,7 +12,7 @@ use hub_document::{ChangeRow, Doc, Limits, RevId};
 use hub_feed::FeedId;
 use hub_model::{Fault, Item, Outcome};
 use hub_params::FeedParams;
-use hub_world::{Event, Reply, World};
+use hub_world::{Event, Reply, SharedItem, World};
 use std::alloc::{AllocError, Global};
 use std::process::Abort;
 use std::test::Fail;
@@ -254,6 +254,11 @@ fn item_text(alloc: Global, item: &Item<ChangeRow>) -> Result<String, AllocError
     }
 }
 
+// The same of an item that a lane may have too.
+fn shared_text(alloc: Global, item: &SharedItem) -> Result<String, AllocError> {
+    item_text(alloc, item.item())
+}
+
 fn fault_text(fault: Fault) -> &'static str {
     match fault {
         Fault::Deleted => "deleted",
@@ -298,13 +303,13 @@ fn reply_text(alloc: Global, reply: &Reply) -> Result<String, AllocError> {
         Reply::Opened(feed) => format!(in alloc; "opened {}", feed.number),
         Reply::TooManyFeeds => String::from_str(alloc, "too many feeds"),
         Reply::DatabaseDeleted => String::from_str(alloc, "database deleted"),
-        Reply::Pushed(item) => item_text(alloc, item.item()),
+        Reply::Pushed(item) => shared_text(alloc, item),
         Reply::Full => String::from_str(alloc, "full"),
         Reply::Nothing => String::from_str(alloc, "nothing"),
         Reply::Gone => String::from_str(alloc, "gone"),
         Reply::Took(None) => String::from_str(alloc, "took none"),
         Reply::Took(Some(item)) => {
-            let text = item_text(alloc, item.item())?;
+            let text = shared_text(alloc, item)?;
             format!(in alloc; "took {}", text.as_str())
         }
         Reply::Left(items) => format!(in alloc; "left {}", items.len()),

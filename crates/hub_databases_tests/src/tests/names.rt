@@ -2,11 +2,11 @@
 
 use crate::tests::names::Call::{Create, Find, List, Remove};
 use crate::tests::{FIRST, again, create, created, found, hub, hub_within, remove, shown, write};
-use hub_databases::{Hub, HubDb, HubFault};
+use hub_databases::{Hub, HubDb, HubFault, is_name};
 use hub_document::Limits;
 use hub_model::{Fault, Outcome};
 use hub_updates::NoteFault;
-use std::alloc::AllocError;
+use std::alloc::{AllocError, Global};
 use std::sync::Wait;
 use std::test::Fail;
 
@@ -211,5 +211,43 @@ fn a_removed_database_refuses_writes(rt: HostRuntime) -> Result<(), Fail> {
     );
     assert!(rt; written.accepted.receipts.is_empty() && written.lapsed.is_none());
     assert_eq!(rt; edits(&rt, &new), Some(0));
+    Ok(())
+}
+
+// Texts, and whether they may name databases.
+const TEXTS: [(&str, bool); 12] = [
+    ("a", true),
+    ("z09", true),
+    ("a_$()+/-", true),
+    ("", false),
+    ("A", false),
+    ("0", false),
+    ("_a", false),
+    ("/a", false),
+    ("aB", false),
+    ("a.b", false),
+    ("a b", false),
+    ("aé", false),
+];
+
+// A text of so many letters.
+fn long_text(alloc: Global, count: u64) -> Result<String, AllocError> {
+    let mut text = String::new(alloc);
+    for _ in 0..count {
+        text.push('a')?;
+    }
+    Ok(text)
+}
+
+#[test]
+fn texts_that_are_names(rt: HostRuntime) -> Result<(), Fail> {
+    for (text, is_one) in TEXTS {
+        assert_eq!(rt; is_name(text), is_one, "{text}");
+    }
+    let alloc = rt.alloc();
+    for (count, is_one) in [(238, true), (239, false)] {
+        let text = again(|| long_text(alloc, count))?;
+        assert_eq!(rt; is_name(text.as_str()), is_one, "{count} letters");
+    }
     Ok(())
 }

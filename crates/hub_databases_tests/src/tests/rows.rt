@@ -1,6 +1,7 @@
 //! What feeds of the log of updates show, and what a feed of a database shows that is removed, or made
 //! again.
 
+use crate::tests::locks::Still;
 use crate::tests::rows::Told::{End, Row};
 use crate::tests::{FIRST, Open, again, created, found, hub, params, remove, write};
 use hub_databases::{Hub, HubDb};
@@ -50,6 +51,17 @@ fn open<R: Wait>(rt: &R, alloc: Global, hub: &Hub, query: &str) -> Result<Update
     again(|| try_open(rt, alloc, hub, query))
 }
 
+// Whether just these were handed to a feed and not taken yet. The feed is finished.
+fn has_handed<R: Wait>(rt: &R, mut feed: UpdatesFeed, told: &[Told]) -> bool {
+    for one in told {
+        match feed.take(rt) {
+            Some(item) if is_told(&item, *one) => {}
+            _ => return false,
+        }
+    }
+    feed.finish(rt).take(rt).is_none()
+}
+
 // Whether a normal feed that the query opens shows just these.
 fn shows<R: Wait>(
     rt: &R,
@@ -58,18 +70,12 @@ fn shows<R: Wait>(
     query: &str,
     told: &[Told],
 ) -> Result<bool, Fail> {
-    let mut feed = open(rt, alloc, hub, query)?;
+    let feed = open(rt, alloc, hub, query)?;
     let id = feed.id();
     if again(|| hub.hold_updates(rt, id, Turn::Hand, &Open))? != Handed::End {
         return Ok(false);
     }
-    for one in told {
-        match feed.take(rt) {
-            Some(item) if is_told(&item, *one) => {}
-            _ => return Ok(false),
-        }
-    }
-    Ok(feed.finish(rt).take(rt).is_none())
+    Ok(has_handed(rt, feed, told))
 }
 
 // Writes the document to a new database d; whether that was noted.
@@ -113,6 +119,19 @@ fn the_log_has_a_row_for_each_kind(rt: HostRuntime) -> Result<(), Fail> {
         End(4, 0),
     ];
     assert!(rt; shows(&rt, alloc, &hub, "", &again)?);
+    Ok(())
+}
+
+// A pump of a normal feed ends behind its end.
+#[test]
+fn a_pump_hands_the_log(rt: HostRuntime) -> Result<(), Fail> {
+    let alloc = rt.alloc();
+    let hub = noted(&rt, alloc)?;
+    let feed = open(&rt, alloc, &hub, "since=1")?;
+    let id = feed.id();
+    again(|| hub.pump_updates(&rt, id, &Open, &Still))?;
+    assert!(rt; feed.is_over());
+    assert!(rt; has_handed(&rt, feed, &[Row(Updated, "d", 2), End(2, 0)]));
     Ok(())
 }
 

@@ -78,7 +78,7 @@ fn is_same(found: &FeedParams, wanted: Wanted) -> bool {
 }
 
 // What a query and a body give, read again where no memory is found.
-fn read(alloc: Global, query: &[u8], body: &[u8]) -> Result<FeedParams, ParamFault> {
+pub(crate) fn read(alloc: Global, query: &[u8], body: &[u8]) -> Result<FeedParams, ParamFault> {
     match FeedParams::read(alloc, query, body) {
         Err(ParamFault::NoMemory) => FeedParams::read(alloc, query, body),
         found => found,

@@ -1,0 +1,224 @@
+//! Questions to a database that is lent, a log of updates under a lock, and feeds of any host.
+
+use crate::tests::{Database, LIFE, THREE, again, holds, write};
+use hub_database::{DbFault, DbState};
+use hub_document::{Limits, RevId};
+use hub_feed::FeedHost;
+use hub_lane::Asks;
+use hub_model::{Fault, Item, UpdateKind};
+use hub_params::FeedParams;
+use hub_shared::{
+    Answer, Db, Feed, FeedLabel, Gate, Handed, Host, HostFeed, HostPump, Locked, Plain, Point,
+    Pumped, Question, Turn, Updates, UpdatesFeed, answer_of, hold,
+};
+use hub_updates::{Notice, UpdatesState};
+use std::alloc::{AllocError, Global};
+use std::sync::Wait;
+use std::test::Fail;
+
+// The winner of a document; an error where no memory is found, and each time where there is no answer.
+fn winner(alloc: Global, state: &DbState, id: &str) -> Result<Option<RevId>, AllocError> {
+    let id = String::from_str(alloc, id)?;
+    match answer_of(alloc, state, Question::Winner { id }) {
+        Ok(Answer::Winner(winner)) => Ok(winner.map(|winner| winner.rev)),
+        _ => Err(AllocError),
+    }
+}
+
+// How many edits a database says that it has.
+fn edits(alloc: Global, state: &DbState) -> Result<Option<u64>, DbFault> {
+    match answer_of(alloc, state, Question::Info)? {
+        Answer::Info(info) => Ok(Some(info.update_seq)),
+        _ => Ok(None),
+    }
+}
+
+fn a_lent_database_answers(alloc: Global, database: &mut Database) -> Result<bool, Fail> {
+    let _receipts = write(alloc, database, &THREE)?;
+    let found = again(|| winner(alloc, database.state(), "b"))? == RevId::read("1-b");
+    let none = again(|| winner(alloc, database.state(), "d"))?.is_none();
+    let counted = edits(alloc, database.state()) == Ok(Some(3));
+    database.delete()?;
+    let deleted = edits(alloc, database.state()) == Err(DbFault::Refused(Fault::Deleted));
+    Ok(found && none && counted && deleted)
+}
+
+#[test]
+fn questions_to_a_lent_database(rt: HostRuntime) -> Result<(), Fail> {
+    assert!(rt; holds(rt.alloc(), a_lent_database_answers)?);
+    Ok(())
+}
+
+// The parameters of a query; an error where they find no memory, and each time where it is refused.
+fn params(alloc: Global, query: &str) -> Result<FeedParams, AllocError> {
+    match FeedParams::read(alloc, query.as_bytes(), b"") {
+        Ok(params) => Ok(params),
+        Err(_) => Err(AllocError),
+    }
+}
+
+// Whether a log hands what is noted in it, and then the end; an error where it finds no memory.
+fn hands_a_note<R: Wait>(
+    rt: &R,
+    alloc: Global,
+    log: &mut Locked<UpdatesState>,
+) -> Result<bool, AllocError> {
+    let notice = Notice::new(alloc, UpdateKind::Created, "d")?;
+    if let Err((notice, _fault)) = log.note(notice) {
+        notice.lapse();
+        return Err(AllocError);
+    }
+    let Ok((feed, mut taker)) = log.begin(params(alloc, "")?) else {
+        return Err(AllocError);
+    };
+    let handed = (log.hand(rt, feed)?, log.hand(rt, feed)?) == (Handed::Row, Handed::End);
+    let row = match taker.take(rt) {
+        Some(Item::Row(row)) => {
+            row.kind == UpdateKind::Created && row.db_name.as_str() == "d" && row.seq == 1
+        }
+        _ => false,
+    };
+    let end = matches!(
+        taker.take(rt),
+        Some(Item::End {
+            last_seq: 1,
+            pending: 0
+        })
+    );
+    Ok(handed && row && end && log.state().update_seq() == 1)
+}
+
+// The same of a new log.
+fn a_log_hands_a_note<R: Wait>(rt: &R, alloc: Global) -> Result<bool, AllocError> {
+    let mut log = Locked::new(alloc, UpdatesState::new(alloc, Limits::full(), 0), 2);
+    hands_a_note(rt, alloc, &mut log)
+}
+
+#[test]
+fn notes_go_under_a_lock(rt: HostRuntime) -> Result<(), Fail> {
+    assert!(rt; again(|| a_log_hands_a_note(&rt, rt.alloc()))?);
+    Ok(())
+}
+
+// A gate that holds nobody.
+#[derive(Drop)]
+struct Open;
+
+impl Gate for Open {
+    fn pass(&self, _point: Point) {}
+}
+
+// A feed that the query opens of a new database, with the database.
+fn of_database<R: Wait>(
+    rt: &R,
+    alloc: Global,
+    query: &str,
+) -> Result<(Db<Plain>, Feed<Plain>), AllocError> {
+    let (db, mut handle) = Db::new(alloc, Limits::full(), LIFE, Plain)?;
+    match handle.open_feed(rt, params(alloc, query)?) {
+        Ok(feed) => Ok((db, feed)),
+        Err(_) => Err(AllocError),
+    }
+}
+
+// A feed that the query opens of a new log in which one thing is noted, with the log.
+fn of_log<R: Wait>(
+    rt: &R,
+    alloc: Global,
+    query: &str,
+) -> Result<(Updates, UpdatesFeed), AllocError> {
+    let log = Updates::of_updates(alloc, Limits::full())?;
+    let notice = Notice::new(alloc, UpdateKind::Created, "d")?;
+    if let Err((notice, _fault)) = log.note(rt, notice) {
+        notice.lapse();
+        return Err(AllocError);
+    }
+    match log.open_feed(rt, params(alloc, query)?) {
+        Ok(feed) => Ok((log, feed)),
+        Err(_) => Err(AllocError),
+    }
+}
+
+// Whether one holding of the lock of a host hands so many rows of a feed, and its end.
+fn hands<R, S, H>(
+    rt: &R,
+    host: &Host<H>,
+    feed: &mut HostFeed<S, H>,
+    rows: u64,
+) -> Result<bool, AllocError>
+where
+    R: Asks<FeedLabel<S>, Item<S::Row>>,
+    S: FeedHost,
+    H: Pumped<S>,
+{
+    if hold(rt, host, feed.id(), Turn::Hand, &Open)? != Handed::End {
+        return Ok(false);
+    }
+    for _ in 0..rows {
+        if !matches!(feed.take(rt), Some(Item::Row(_))) {
+            return Ok(false);
+        }
+    }
+    Ok(matches!(feed.take(rt), Some(Item::End { .. })))
+}
+
+// Whether a new database hands no row, and a new log one.
+fn both_hand<R: Wait>(rt: &R, alloc: Global) -> Result<bool, AllocError> {
+    let (db, mut changes) = of_database(rt, alloc, "")?;
+    let (log, mut updates) = of_log(rt, alloc, "")?;
+    Ok(hands(rt, &db, &mut changes, 0)? && hands(rt, &log, &mut updates, 1)?)
+}
+
+#[test]
+fn feeds_of_any_host_are_handed(rt: HostRuntime) -> Result<(), Fail> {
+    assert!(rt; again(|| both_hand(&rt, rt.alloc()))?);
+    Ok(())
+}
+
+// Runs a pump to its end.
+fn run<R, S, H>(rt: &R, pump: &HostPump<S, H>)
+where
+    R: Asks<FeedLabel<S>, Item<S::Row>>,
+    S: FeedHost,
+    H: Pumped<S>,
+{
+    pump.run(rt, &Open);
+}
+
+// Whether a host has no pump for its feeds that wait, of which this is one. A pump ends once none waits.
+fn misses_a_pump<R, S, H>(rt: &R, feed: HostFeed<S, H>) -> Result<bool, AllocError>
+where
+    R: Asks<FeedLabel<S>, Item<S::Row>>,
+    S: FeedHost,
+    H: Pumped<S>,
+{
+    let missing = feed.missing_pump(rt)?;
+    let _receiver = feed.finish(rt);
+    match missing {
+        Some(pump) => {
+            run(rt, &pump);
+            Ok(true)
+        }
+        None => Ok(false),
+    }
+}
+
+// Whether feeds of a database and of a log miss a pump that this query opens.
+fn both_miss<R: Wait>(rt: &R, alloc: Global, query: &str) -> Result<(bool, bool), AllocError> {
+    let (_db, changes) = of_database(rt, alloc, query)?;
+    let (_log, updates) = of_log(rt, alloc, query)?;
+    Ok((misses_a_pump(rt, changes)?, misses_a_pump(rt, updates)?))
+}
+
+#[test]
+fn feeds_that_wait_miss_a_pump(rt: HostRuntime) -> Result<(), Fail> {
+    for (query, misses) in [
+        ("", false),
+        ("feed=longpoll", true),
+        ("feed=continuous", true),
+    ] {
+        let found = again(|| both_miss(&rt, rt.alloc(), query))?;
+        assert_eq!(rt; found, (misses, misses), "{query}");
+    }
+    Ok(())
+}
