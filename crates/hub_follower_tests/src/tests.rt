@@ -20,9 +20,7 @@ mod worlds;
 
 use hub_database::OpenRev;
 use hub_document::{Doc, Limits, OpenRevs};
-use hub_follower::{
-    CallFault, DbPeer, FailedStart, FollowFault, Follower, Peer, Round, Seq,
-};
+use hub_follower::{CallFault, DbPeer, FailedStart, FollowFault, Follower, Peer, Round, Seq};
 use hub_shared::{Answer, Db, Handle, Plain, Question};
 use std::alloc::{AllocError, Global};
 use std::sync::Wait;
@@ -122,12 +120,7 @@ fn edits<R: Wait>(rt: &R, db: &Db<Plain>) -> Result<u64, Fail> {
 
 // The texts of a document's leaves, best first, with their histories; an error where they find no memory, and
 // each time where the database refuses to tell them.
-fn leaves<R: Wait>(
-    rt: &R,
-    alloc: Global,
-    db: &Db<Plain>,
-    id: &str,
-) -> Result<Vec<u8>, AllocError> {
+fn leaves<R: Wait>(rt: &R, alloc: Global, db: &Db<Plain>, id: &str) -> Result<Vec<u8>, AllocError> {
     let question = Question::OpenRevs {
         id: String::from_str(alloc, id)?,
         which: OpenRevs::All,
@@ -194,11 +187,13 @@ fn begin<S: Peer + Drop, T: Peer + Drop>(
     session_id: &str,
 ) -> Result<Follower<S, T>, FailedStart<S, T>> {
     match Follower::start(alloc, source, target, log_id, session_id) {
-        Err(FailedStart {
-            fault: FollowFault::NoMemory,
-            source,
-            target,
-        }) => Follower::start(alloc, source, target, log_id, session_id),
+        Err(
+            FailedStart {
+                fault: FollowFault::NoMemory,
+                source,
+                target,
+            },
+        ) => Follower::start(alloc, source, target, log_id, session_id),
         begun => begun,
     }
 }

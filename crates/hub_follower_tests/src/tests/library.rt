@@ -49,7 +49,10 @@ fn a_database_is_copied(rt: HostRuntime) -> Result<(), Fail> {
     let source = crate::tests::database(rt.alloc())?;
     let target = crate::tests::database(rt.alloc())?;
     crate::tests::write(&rt, rt.alloc(), &source, &crate::tests::TWO)?;
-    for session_ids in [("2026-01-01", "2026-01-01T12"), ("2026-01-02", "2026-01-02T12")] {
+    for session_ids in [
+        ("2026-01-01", "2026-01-01T12"),
+        ("2026-01-02", "2026-01-02T12"),
+    ] {
         assert!(rt; copies(&rt, rt.alloc(), &source, &target, session_ids));
         assert_eq!(rt; crate::tests::edits(&rt, &target)?, 2);
     }

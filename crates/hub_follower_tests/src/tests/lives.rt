@@ -104,7 +104,8 @@ fn write_again<R: Wait>(rt: &R, alloc: Global, hub: &Hub) -> Result<(), Fail> {
 // Whether the target's leaves are the source's.
 fn is_copied<R: Wait>(rt: &R, alloc: Global, hub: &Hub) -> Result<bool, Fail> {
     let (source, target) = (found(rt, hub, SOURCE)?, found(rt, hub, TARGET)?);
-    agree(rt, alloc, source.db(), target.db(), &["a", "b", "c", "d"])
+    let ids = ["a", "b", "c", "d"];
+    Ok(agree(rt, alloc, source.db(), target.db(), &ids)?)
 }
 
 // A round copies two documents. Then both databases are made again, and three documents stored at the source:

@@ -2,9 +2,7 @@
 
 use crate::tests::sessions::Step::{self, Begins, HasNoLog, HaveLeaves, Refuses, Rounds, Stores};
 use crate::tests::sessions::assert_session;
-use crate::tests::{
-    LIFE, LOG, TWO, again, begin, database, database_within, round, start, write,
-};
+use crate::tests::{LIFE, LOG, TWO, again, begin, database, database_within, round, start, write};
 use hub_document::Limits;
 use hub_follower::{DbPeer, FollowFault, Follower, Peer, Round, Seq};
 use hub_model::Fault;

@@ -36,11 +36,7 @@ fn finish<R: Wait>(
 
 // How many edits the target has behind a session that stopped so, and where the next one begins; None where
 // it stopped since it found no memory.
-fn stopped<R: Wait>(
-    rt: &R,
-    alloc: Global,
-    losses: Losses,
-) -> Result<Option<(u64, u64)>, Fail> {
+fn stopped<R: Wait>(rt: &R, alloc: Global, losses: Losses) -> Result<Option<(u64, u64)>, Fail> {
     let (source, target) = databases(rt, alloc)?;
     let is_lost = match session(rt, alloc, &source, &target, "S2", losses)? {
         Ok(()) => return Err(Fail::new("not stopped")),

@@ -74,7 +74,10 @@ fn a_merge_whose_answer_is_lost(rt: HostRuntime) -> Result<(), Fail> {
 // The target's log is not written: the next session begins at 0. A session whose id was used does not.
 #[test]
 fn a_checkpoint_that_is_lost(rt: HostRuntime) -> Result<(), Fail> {
-    assert_eq!(rt; place(rt.alloc(), "w1aaraaaaaca<x2aa")?, Some(Seq::beginning()));
+    assert_eq!(rt;
+        place(rt.alloc(), "w1aaraaaaaca<x2aa")?,
+        Some(Seq::beginning())
+    );
     assert_eq!(rt; place(rt.alloc(), "w1aax1aa")?, None);
     Ok(())
 }
