@@ -1,4 +1,9 @@
 //! Followers over databases of a hub.
+//!
+//! Where a growth is refused the call says so: no session begins, and a round or a checkpoint leaves the
+//! place. Made again, it does what it does with ample memory. So these tests hold whichever one of their
+//! growths is refused; the growths of the tests themselves, as of a document's text, are among them. That of
+//! threads is not (`threads`).
 
 mod handed;
 mod histories;
@@ -16,9 +21,9 @@ mod worlds;
 
 use hub_database::OpenRev;
 use hub_document::{Doc, Limits, OpenRevs};
-use hub_follower::{DbPeer, FollowFault, Follower, Peer, Round, Seq};
+use hub_follower::{CallFault, DbPeer, FailedStart, FollowFault, Follower, Peer, Round, Seq};
 use hub_shared::{Answer, Db, Handle, Plain, Question};
-use std::alloc::Global;
+use std::alloc::{AllocError, Global};
 use std::sync::Wait;
 use std::test::Fail;
 
@@ -33,28 +38,77 @@ fn at(n: u64) -> Option<Seq> {
     Some(Seq::of_life(n, LIFE))
 }
 
-// A database without documents, of the life of this number.
-fn database_of_life(alloc: Global, life: u64) -> Result<Db<Plain>, Fail> {
-    let (db, _handle) = Db::new(alloc, Limits::full(), life, Plain)?;
+// How often a call is made until it answers.
+const TRIES: u64 = 2;
+
+// What a call gives, which is made again where it finds no memory.
+fn again<T: Drop, F>(call: F) -> Result<T, AllocError>
+where
+    F: Fn() -> Result<T, AllocError>,
+    requires { F.IsAlwaysCallable call }
+{
+    match call() {
+        Ok(given) => Ok(given),
+        Err(AllocError) => call(),
+    }
+}
+
+// A database without documents, within these limits and of the life of this number.
+fn database_within(alloc: Global, limits: Limits, life: u64) -> Result<Db<Plain>, AllocError> {
+    let (db, _handle) = again(|| Db::new(alloc, limits, life, Plain))?;
     Ok(db)
 }
 
 // A database without documents.
-fn database(alloc: Global) -> Result<Db<Plain>, Fail> {
-    database_of_life(alloc, LIFE)
+fn database(alloc: Global) -> Result<Db<Plain>, AllocError> {
+    database_within(alloc, Limits::full(), LIFE)
 }
 
-// Stores the documents that the texts are, with their histories.
-fn write<R: Wait>(rt: &R, alloc: Global, db: &Db<Plain>, texts: &[&str]) -> Result<(), Fail> {
+// The documents that the texts are; an error where they find no memory, and each time where one is none.
+fn docs(alloc: Global, texts: &[&str]) -> Result<Vec<Doc>, AllocError> {
     let mut docs = Vec::new(alloc);
     for text in texts {
-        docs.push(Doc::read(alloc, text.as_bytes(), false)?)?;
+        let Ok(doc) = Doc::read(alloc, text.as_bytes(), false) else {
+            return Err(AllocError);
+        };
+        docs.push(doc)?;
     }
-    let accepted = db.handle()?.write(rt, docs, false)?;
-    if accepted.stopped {
-        return Err(Fail::new("stopped"));
+    Ok(docs)
+}
+
+// Stores the documents that the texts are, with their histories: how many edits that were, and whether memory
+// ran out at a document.
+fn try_write<R: Wait>(
+    rt: &R,
+    alloc: Global,
+    db: &Db<Plain>,
+    texts: &[&str],
+) -> Result<(u64, bool), AllocError> {
+    let docs = docs(alloc, texts)?;
+    match db.handle()?.write(rt, docs, false) {
+        Ok(accepted) => Ok((accepted.receipts.len() as u64, accepted.stopped)),
+        Err(_) => Err(AllocError),
     }
-    Ok(())
+}
+
+// The same up to the last document. Where one finds no memory, those before it stand; written again, they
+// are known.
+fn write<R: Wait>(rt: &R, alloc: Global, db: &Db<Plain>, texts: &[&str]) -> Result<(), Fail> {
+    let mut stored = edits(rt, db)?;
+    for _ in 0..TRIES {
+        let (count, stopped) = match try_write(rt, alloc, db, texts) {
+            Ok(written) => written,
+            Err(AllocError) => (0, true),
+        };
+        stored = stored.saturating_add(count);
+        if edits(rt, db)? != stored {
+            return Err(Fail::new("other edits"));
+        }
+        if !stopped {
+            return Ok(());
+        }
+    }
+    Err(Fail::new("stopped"))
 }
 
 // How many edits a database accepted.
@@ -65,15 +119,16 @@ fn edits<R: Wait>(rt: &R, db: &Db<Plain>) -> Result<u64, Fail> {
     }
 }
 
-// The texts of a document's leaves, best first, with their histories.
-fn leaves<R: Wait>(rt: &R, alloc: Global, db: &Db<Plain>, id: &str) -> Result<Vec<u8>, Fail> {
+// The texts of a document's leaves, best first, with their histories; an error where they find no memory, and
+// each time where the database refuses to tell them.
+fn leaves<R: Wait>(rt: &R, alloc: Global, db: &Db<Plain>, id: &str) -> Result<Vec<u8>, AllocError> {
     let question = Question::OpenRevs {
         id: String::from_str(alloc, id)?,
         which: OpenRevs::All,
         revs: true,
     };
-    let Answer::OpenRevs(found) = db.handle()?.read(rt, question)? else {
-        return Err(Fail::new("no leaves"));
+    let Ok(Answer::OpenRevs(found)) = db.handle()?.read(rt, question) else {
+        return Err(AllocError);
     };
     let mut texts = Vec::new(alloc);
     for leaf in &found {
@@ -84,24 +139,27 @@ fn leaves<R: Wait>(rt: &R, alloc: Global, db: &Db<Plain>, id: &str) -> Result<Ve
     Ok(texts)
 }
 
-// The leaves' texts, as a text.
-fn leaves_text<R: Wait>(rt: &R, alloc: Global, db: &Db<Plain>, id: &str) -> Result<String, Fail> {
-    match String::from_utf8(leaves(rt, alloc, db, id)?) {
-        Ok(text) => Ok(text),
-        Err(_) => Err(Fail::new("no text")),
-    }
+// Whether two databases have the same leaves of a document, in the same order.
+fn have_same<R: Wait>(
+    rt: &R,
+    alloc: Global,
+    source: &Db<Plain>,
+    target: &Db<Plain>,
+    id: &str,
+) -> Result<bool, AllocError> {
+    Ok(leaves(rt, alloc, source, id)? == leaves(rt, alloc, target, id)?)
 }
 
-// Whether two databases have the same leaves of each of these documents, in the same order.
+// The same of each of these documents, also where a growth of it is refused.
 fn agree<R: Wait>(
     rt: &R,
     alloc: Global,
     source: &Db<Plain>,
     target: &Db<Plain>,
     ids: &[&str],
-) -> Result<bool, Fail> {
+) -> Result<bool, AllocError> {
     for id in ids {
-        if leaves(rt, alloc, source, id)? != leaves(rt, alloc, target, id)? {
+        if !again(|| have_same(rt, alloc, source, target, *id))? {
             return Ok(false);
         }
     }
@@ -110,9 +168,34 @@ fn agree<R: Wait>(
 
 // The sequence that a database's replication log records.
 fn recorded<R: Wait>(rt: &R, alloc: Global, db: &Db<Plain>) -> Result<Option<Seq>, Fail> {
-    match DbPeer::new(rt, alloc, db.handle()?).local_get(LOG) {
+    let mut peer = DbPeer::new(rt, alloc, db.handle()?);
+    let found = match peer.local_get(LOG) {
+        Err(CallFault::NoMemory) => peer.local_get(LOG),
+        found => found,
+    };
+    match found {
         Ok(log) => Ok(log.map(|log| log.source_last_seq)),
         Err(_) => Err(Fail::new("no log")),
+    }
+}
+
+// A session begins. Where it finds no memory the peers come back, and it begins with these.
+fn begin<S: Peer + Drop, T: Peer + Drop>(
+    alloc: Global,
+    source: S,
+    target: T,
+    log_id: &str,
+    session_id: &str,
+) -> Result<Follower<S, T>, FailedStart<S, T>> {
+    match Follower::start(alloc, source, target, log_id, session_id) {
+        Err(
+            FailedStart {
+                fault: FollowFault::NoMemory,
+                source,
+                target,
+            },
+        ) => Follower::start(alloc, source, target, log_id, session_id),
+        begun => begun,
     }
 }
 
@@ -126,17 +209,20 @@ fn start<'a, R: Wait>(
 ) -> Result<Follower<DbPeer<'a, R>, DbPeer<'a, R>>, Fail> {
     let source = DbPeer::new(rt, alloc, source.handle()?);
     let target = DbPeer::new(rt, alloc, target.handle()?);
-    match Follower::start(alloc, source, target, LOG, session_id) {
+    match begin(alloc, source, target, LOG, session_id) {
         Ok(follower) => Ok(follower),
         Err(_) => Err(Fail::new("no session")),
     }
 }
 
-// What a round did that does not fail.
-fn round<S: Peer + Drop, T: Peer + Drop>(follower: &mut Follower<S, T>) -> Result<Round, Fail> {
+// What a round does. One that finds no memory leaves the place, and is made again.
+fn round<S: Peer + Drop, T: Peer + Drop>(
+    follower: &mut Follower<S, T>,
+) -> Result<Round, FollowFault> {
+    let place = follower.place();
     match follower.round() {
-        Ok(round) => Ok(round),
-        Err(_) => Err(Fail::new("no round")),
+        Err(FollowFault::NoMemory) if follower.place() == place => follower.round(),
+        done => done,
     }
 }
 
@@ -151,24 +237,25 @@ fn round_into<R: Wait, S: Peer + Drop, T: Peer + Drop>(
     Ok((done, follower.place(), stored))
 }
 
-// Records a follower's place.
-fn checkpoint<S: Peer + Drop, T: Peer + Drop>(follower: &mut Follower<S, T>) -> Result<(), Fail> {
+// Records a follower's place. A checkpoint that finds no memory leaves it, and is made again.
+fn checkpoint<S: Peer + Drop, T: Peer + Drop>(
+    follower: &mut Follower<S, T>,
+) -> Result<(), FollowFault> {
+    let place = follower.place();
     match follower.checkpoint() {
-        Ok(()) => Ok(()),
-        Err(_) => Err(Fail::new("no checkpoint")),
+        Err(FollowFault::NoMemory) if follower.place() == place => follower.checkpoint(),
+        done => done,
     }
 }
 
 // Rounds until there is nothing new.
-fn copy_all<S: Peer + Drop, T: Peer + Drop>(
-    follower: &mut Follower<S, T>,
-) -> Result<(), FollowFault> {
+fn copy_all<S: Peer + Drop, T: Peer + Drop>(follower: &mut Follower<S, T>) -> Result<(), Fail> {
     for _ in 0..100 {
-        if follower.round()? == Round::Idle {
+        if round(follower)? == Round::Idle {
             return Ok(());
         }
     }
-    Err(FollowFault::Peer)
+    Err(Fail::new("no end"))
 }
 
 // Two documents, b behind a.

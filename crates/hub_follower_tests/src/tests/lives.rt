@@ -4,13 +4,14 @@ use crate::tests::named_peer::NamedPeer;
 use crate::tests::sessions::Step::{self, Records, Rounds};
 use crate::tests::sessions::{assert_session, copy_up_to};
 use crate::tests::{
-    LIFE, LOG, TWO, agree, at, checkpoint, database_of_life, recorded, round_into, write,
+    LIFE, LOG, TWO, again, agree, at, begin, checkpoint, database, database_within, recorded,
+    round, round_into, write,
 };
-use hub_databases::{Hub, HubDb};
+use hub_databases::{Hub, HubDb, HubFault};
 use hub_document::{Limits, LocalDoc};
-use hub_follower::{DbPeer, FollowFault, Follower, Peer, Round, Seq};
+use hub_follower::{CallFault, DbPeer, FollowFault, Follower, Peer, Round, Seq};
 use hub_shared::{Answer, Db, Plain, Question};
-use std::alloc::Global;
+use std::alloc::{AllocError, Global};
 use std::sync::Wait;
 use std::test::Fail;
 
@@ -26,17 +27,19 @@ const AGAIN: [&str; 3] = [
     r#"{"_id":"d","_rev":"1-d"}"#,
 ];
 
-fn make<R: Wait>(rt: &R, hub: &Hub, name: &str) -> Result<(), Fail> {
+// Makes a database. Where that finds no memory there is none of the name, and it is made again.
+fn make<R: Wait>(rt: &R, hub: &Hub, name: &str) -> Result<(), HubFault> {
     match hub.create(rt, name) {
-        Ok(()) => Ok(()),
-        Err(_) => Err(Fail::new("not made")),
+        Err(HubFault::NoMemory) if hub.find(rt, name).is_err() => hub.create(rt, name),
+        made => made,
     }
 }
 
-fn delete<R: Wait>(rt: &R, hub: &Hub, name: &str) -> Result<(), Fail> {
+// Deletes a database. Where that finds no memory it is still there, and is deleted again.
+fn delete<R: Wait>(rt: &R, hub: &Hub, name: &str) -> Result<(), HubFault> {
     match hub.remove(rt, name) {
-        Ok(()) => Ok(()),
-        Err(_) => Err(Fail::new("not deleted")),
+        Err(HubFault::NoMemory) if hub.find(rt, name).is_ok() => hub.remove(rt, name),
+        deleted => deleted,
     }
 }
 
@@ -49,7 +52,7 @@ fn found<R: Wait>(rt: &R, hub: &Hub, name: &str) -> Result<HubDb, Fail> {
 
 // A hub with both databases, of the lives 1 and 2, and two documents at the source.
 fn hub<R: Wait>(rt: &R, alloc: Global) -> Result<Hub, Fail> {
-    let hub = Hub::new(alloc, Limits::full())?;
+    let hub = again(|| Hub::new(alloc, Limits::full()))?;
     make(rt, &hub, SOURCE)?;
     make(rt, &hub, TARGET)?;
     write(rt, alloc, found(rt, &hub, SOURCE)?.db(), &TWO)?;
@@ -57,7 +60,7 @@ fn hub<R: Wait>(rt: &R, alloc: Global) -> Result<Hub, Fail> {
 }
 
 // Both databases again, of the lives 3 and 4 and without documents.
-fn make_again<R: Wait>(rt: &R, hub: &Hub) -> Result<(), Fail> {
+fn make_again<R: Wait>(rt: &R, hub: &Hub) -> Result<(), HubFault> {
     for name in [SOURCE, TARGET] {
         delete(rt, hub, name)?;
     }
@@ -76,7 +79,7 @@ fn follow<'a, R: Wait>(
 ) -> Result<Follower<NamedPeer<'a, R>, NamedPeer<'a, R>>, Fail> {
     let source = NamedPeer::new(rt, alloc, hub, SOURCE, tells_lives);
     let target = NamedPeer::new(rt, alloc, hub, TARGET, tells_lives);
-    match Follower::start(alloc, source, target, LOG, "S1") {
+    match begin(alloc, source, target, LOG, "S1") {
         Ok(follower) => Ok(follower),
         Err(_) => Err(Fail::new("no session")),
     }
@@ -101,7 +104,8 @@ fn write_again<R: Wait>(rt: &R, alloc: Global, hub: &Hub) -> Result<(), Fail> {
 // Whether the target's leaves are the source's.
 fn is_copied<R: Wait>(rt: &R, alloc: Global, hub: &Hub) -> Result<bool, Fail> {
     let (source, target) = (found(rt, hub, SOURCE)?, found(rt, hub, TARGET)?);
-    agree(rt, alloc, source.db(), target.db(), &["a", "b", "c", "d"])
+    let ids = ["a", "b", "c", "d"];
+    Ok(agree(rt, alloc, source.db(), target.db(), &ids)?)
 }
 
 // A round copies two documents. Then both databases are made again, and three documents stored at the source:
@@ -152,7 +156,7 @@ fn round_of_nothing<'a, R: Wait>(
     follower: &mut Copier<'a, R>,
 ) -> Result<Done, Fail> {
     delete(rt, hub, SOURCE)?;
-    if !matches!(follower.round(), Err(FollowFault::Peer)) || follower.place() != at(2) {
+    if !matches!(round(follower), Err(FollowFault::Peer)) || follower.place() != at(2) {
         return Err(Fail::new("a round without a source"));
     }
     make(rt, hub, SOURCE)?;
@@ -220,60 +224,79 @@ const ASKED: &[(u64, Option<u64>, usize)] = &[
     (u64::MAX, Some(u64::MAX), 2),
 ];
 
-// How many rows a source answers above a sequence, with its last sequence and its life.
-fn asked<P: Peer>(source: &mut P, n: u64, life: Option<u64>) -> Option<(usize, u64, u64)> {
-    let changes = source.changes(Seq { n, life }).ok()?;
+// How many rows a source answers above a sequence, with its last sequence and its life. Where it finds no
+// memory it is asked again.
+fn asked<P: Peer>(source: &mut P, since: Seq) -> Option<(usize, u64, u64)> {
+    let changes = match source.changes(since) {
+        Err(CallFault::NoMemory) => source.changes(since),
+        changes => changes,
+    };
+    let changes = changes.ok()?;
     Some((changes.rows.len(), changes.last_seq, changes.life))
 }
 
 #[test]
 fn changes_begin_in_the_life_of_the_source(rt: HostRuntime) -> Result<(), Fail> {
-    let source = database_of_life(rt.alloc(), LIFE)?;
+    let source = database(rt.alloc())?;
     write(&rt, rt.alloc(), &source, &TWO)?;
     let mut peer = DbPeer::new(&rt, rt.alloc(), source.handle()?);
     for (n, life, count) in ASKED {
-        let answer = asked(&mut peer, *n, *life);
+        let answer = asked(&mut peer, Seq { n: *n, life: *life });
         assert_eq!(rt; answer, Some((*count, 2, LIFE)), "above {n}");
     }
     Ok(())
 }
 
-// Keeps the log of one session that recorded this sequence, as it is written.
-fn put_log<R: Wait>(rt: &R, alloc: Global, db: &Db<Plain>, seq: &str) -> Result<(), Fail> {
+// Keeps the log of one session that recorded this sequence, as it is written; an error where it finds no
+// memory, and each time where it is refused.
+fn put_log<R: Wait>(rt: &R, alloc: Global, db: &Db<Plain>, seq: &str) -> Result<(), AllocError> {
     let entry = format!(in alloc;
         r#"{{"end_last_seq":{seq},"recorded_seq":{seq},"session_id":"S0","start_last_seq":0}}"#
     )?;
     let text = format!(in alloc;
         r#"{{"history":[{entry}],"replication_id_version":3,"session_id":"S0","source_last_seq":{seq}}}"#
     )?;
-    let _count = db
-        .handle()?
-        .local_put(rt, LocalDoc::read(alloc, LOG, text.as_bytes())?)?;
-    Ok(())
+    let Ok(log) = LocalDoc::read(alloc, LOG, text.as_bytes()) else {
+        return Err(AllocError);
+    };
+    match db.handle()?.local_put(rt, log) {
+        Ok(_count) => Ok(()),
+        Err(_) => Err(AllocError),
+    }
 }
 
-// The text of the log that a database keeps.
-fn kept_log<R: Wait>(rt: &R, alloc: Global, db: &Db<Plain>) -> Result<String, Fail> {
+// Whether the log that a database keeps has this text; an error where it finds no memory, and each time where
+// there is none.
+fn keeps<R: Wait>(rt: &R, alloc: Global, db: &Db<Plain>, text: &str) -> Result<bool, AllocError> {
     let id = String::from_str(alloc, LOG)?;
-    let Answer::Local(Some(local)) = db.handle()?.read(rt, Question::Local { id })? else {
-        return Err(Fail::new("no log"));
-    };
-    match String::from_utf8(Vec::from_slice(alloc, local.body.as_bytes())?) {
-        Ok(text) => Ok(text),
-        Err(_) => Err(Fail::new("no text")),
+    match db.handle()?.read(rt, Question::Local { id }) {
+        Ok(Answer::Local(Some(local))) => Ok(local.body.as_bytes() == text.as_bytes()),
+        _ => Err(AllocError),
     }
+}
+
+// Stores three documents at the source, and keeps logs of one session at both.
+fn resume<R: Wait>(
+    rt: &R,
+    alloc: Global,
+    (source, target): (&Db<Plain>, &Db<Plain>),
+    (source_log, target_log): (&str, &str),
+) -> Result<(), Fail> {
+    write(rt, alloc, source, &AGAIN)?;
+    again(|| put_log(rt, alloc, source, source_log))?;
+    again(|| put_log(rt, alloc, target, target_log))?;
+    Ok(())
 }
 
 // A source of life 2 with three documents, an empty target, and their logs of one session.
 fn resumed<R: Wait>(
     rt: &R,
     alloc: Global,
-    (source_log, target_log): (&str, &str),
+    logs: (&str, &str),
 ) -> Result<(Db<Plain>, Db<Plain>), Fail> {
-    let (source, target) = (database_of_life(alloc, 2)?, database_of_life(alloc, 3)?);
-    write(rt, alloc, &source, &AGAIN)?;
-    put_log(rt, alloc, &source, source_log)?;
-    put_log(rt, alloc, &target, target_log)?;
+    let source = database_within(alloc, Limits::full(), 2)?;
+    let target = database_within(alloc, Limits::full(), 3)?;
+    resume(rt, alloc, (&source, &target), logs)?;
     Ok((source, target))
 }
 
@@ -332,7 +355,7 @@ fn logs_of_whole_numbers_go_on_with_texts(rt: HostRuntime) -> Result<(), Fail> {
     let (source, target) = resumed(&rt, rt.alloc(), ("2", "2"))?;
     assert_session(&rt, rt.alloc(), (&source, &target), "S1", GOING_ON)?;
     for db in [&source, &target] {
-        assert_eq!(rt; kept_log(&rt, rt.alloc(), db)?.as_str(), GONE_ON);
+        assert!(rt; again(|| keeps(&rt, rt.alloc(), db, GONE_ON))?);
     }
     Ok(())
 }

@@ -1,7 +1,8 @@
 //! Replication logs.
 
+use crate::tests::again;
 use hub_follower::{HistoryEntry, Log, Seq, common_sequence};
-use std::alloc::Global;
+use std::alloc::{AllocError, Global};
 use std::test::Fail;
 
 // A number whose life is not known.
@@ -10,7 +11,12 @@ fn bare(n: u64) -> Seq {
 }
 
 // A log of this last session, with these sessions and what they recorded.
-fn log(alloc: Global, session_id: &str, last: Seq, entries: &[(&str, Seq)]) -> Result<Log, Fail> {
+fn log(
+    alloc: Global,
+    session_id: &str,
+    last: Seq,
+    entries: &[(&str, Seq)],
+) -> Result<Log, AllocError> {
     let mut history = Vec::new(alloc);
     for entry in entries {
         history.push(HistoryEntry {
@@ -39,23 +45,28 @@ const SEVEN: Seq = Seq { n: 7, life: None };
 
 const NINE: Seq = Seq { n: 9, life: None };
 
-// The log with these sessions, of which the first is the last one.
-fn log_of(alloc: Global, entries: &[(&str, Seq)]) -> Result<Log, Fail> {
+// The log with these sessions, of which the first is the last one; an error where it finds no memory, and
+// each time where there is no session.
+fn log_of(alloc: Global, entries: &[(&str, Seq)]) -> Result<Log, AllocError> {
     match entries {
         [(session_id, last), ..] => log(alloc, *session_id, *last, entries),
-        [] => Err(Fail::new("no session")),
+        [] => Err(AllocError),
     }
 }
 
 // The sequence up to which logs with these sessions agree.
-fn agreed(alloc: Global, source: &[(&str, Seq)], target: &[(&str, Seq)]) -> Result<Seq, Fail> {
+fn agreed(
+    alloc: Global,
+    source: &[(&str, Seq)],
+    target: &[(&str, Seq)],
+) -> Result<Seq, AllocError> {
     let source = log_of(alloc, source)?;
     let target = log_of(alloc, target)?;
     Ok(common_sequence(Some(&source), Some(&target)))
 }
 
 // The sequences up to which a log with these sessions agrees with none, as the source's and as the target's.
-fn agreed_alone(alloc: Global, entries: &[(&str, Seq)]) -> Result<(Seq, Seq), Fail> {
+fn agreed_alone(alloc: Global, entries: &[(&str, Seq)]) -> Result<(Seq, Seq), AllocError> {
     let log = log_of(alloc, entries)?;
     Ok((
         common_sequence(Some(&log), None),
@@ -65,16 +76,18 @@ fn agreed_alone(alloc: Global, entries: &[(&str, Seq)]) -> Result<(Seq, Seq), Fa
 
 #[test]
 fn sequences_up_to_which_logs_agree(rt: HostRuntime) -> Result<(), Fail> {
-    assert_eq!(rt; agreed(rt.alloc(), SOURCE, TARGET)?, FOUR);
-    assert_eq!(rt; agreed(rt.alloc(), SOURCE, LATER_TARGET)?, SEVEN);
+    let alloc = rt.alloc();
+    assert_eq!(rt; again(|| agreed(alloc, SOURCE, TARGET))?, FOUR);
+    assert_eq!(rt; again(|| agreed(alloc, SOURCE, LATER_TARGET))?, SEVEN);
     for entries in [SOURCE, LATER_TARGET] {
-        assert_eq!(rt; agreed_alone(rt.alloc(), entries)?, (bare(0), bare(0)));
+        assert_eq!(rt; again(|| agreed_alone(alloc, entries))?, (bare(0), bare(0)));
     }
     Ok(())
 }
 
-// The log of this last session, whose history has S3 alone, which recorded this sequence as it is written.
-fn written_log(alloc: Global, session_id: &str, seq: &str) -> Result<Log, Fail> {
+// The log of this last session, whose history has S3 alone, which recorded this sequence as it is written; an
+// error where it finds no memory, and each time where the text is no log.
+fn written_log(alloc: Global, session_id: &str, seq: &str) -> Result<Log, AllocError> {
     let entry = format!(in alloc;
         r#"{{"session_id":"S3","start_last_seq":0,"end_last_seq":{seq},"recorded_seq":{seq}}}"#
     )?;
@@ -82,7 +95,7 @@ fn written_log(alloc: Global, session_id: &str, seq: &str) -> Result<Log, Fail> 
     let text = format!(in alloc; r#"{{{last},"history":[{entry}],"replication_id_version":3}}"#)?;
     match Log::read(alloc, text.as_bytes())? {
         Some(log) => Ok(log),
-        None => Err(Fail::new("no log")),
+        None => Err(AllocError),
     }
 }
 
@@ -107,7 +120,7 @@ fn agreed_of_lives(
     alloc: Global,
     (source, target): (&str, &str),
     (source_session, target_session): (&str, &str),
-) -> Result<Seq, Fail> {
+) -> Result<Seq, AllocError> {
     let source = written_log(alloc, source_session, source)?;
     let target = written_log(alloc, target_session, target)?;
     Ok(common_sequence(Some(&source), Some(&target)))
@@ -116,9 +129,10 @@ fn agreed_of_lives(
 // The session is the last one of both logs, or of the source's alone, or stands in the histories.
 #[test]
 fn sequences_of_lives(rt: HostRuntime) -> Result<(), Fail> {
+    let alloc = rt.alloc();
     for (source, target, n, life) in LIVES {
         for sessions in LAST_SESSIONS {
-            let common = agreed_of_lives(rt.alloc(), (*source, *target), *sessions)?;
+            let common = again(|| agreed_of_lives(alloc, (*source, *target), *sessions))?;
             assert_eq!(rt; common, Seq { n: *n, life: *life });
         }
     }
@@ -156,7 +170,7 @@ fn is_read(
     session_id: &str,
     last: Seq,
     entries: &[(Seq, Seq, Seq)],
-) -> Result<bool, Fail> {
+) -> Result<bool, AllocError> {
     match Log::read(alloc, text)? {
         Some(log) => Ok(is_log(&log, session_id, last, entries)),
         None => Ok(false),
@@ -179,16 +193,19 @@ const WRITTEN_LOG: &str = concat!(
 const ENTRIES: &[(Seq, Seq, Seq)] = &[(ZERO, SEVEN_OF_ONE, SEVEN_OF_ONE), (ZERO, FOUR, FOUR)];
 
 // The text of the log with these sessions, of which the first is the last one.
-fn text_of(alloc: Global, entries: &[(&str, Seq)]) -> Result<Vec<u8>, Fail> {
-    Ok(log_of(alloc, entries)?.text(alloc)?)
+fn text_of(alloc: Global, entries: &[(&str, Seq)]) -> Result<Vec<u8>, AllocError> {
+    log_of(alloc, entries)?.text(alloc)
 }
+
+const SESSIONS: &[(&str, Seq)] = &[("S\"2", SEVEN_OF_ONE), ("S1", FOUR)];
 
 #[test]
 fn a_log_is_read_as_it_was_written(rt: HostRuntime) -> Result<(), Fail> {
     let alloc = rt.alloc();
-    let text = text_of(alloc, &[("S\"2", SEVEN_OF_ONE), ("S1", FOUR)])?;
-    assert!(rt; text.as_slice() == WRITTEN_LOG.as_bytes());
-    assert!(rt; is_read(alloc, text.as_slice(), "S\"2", SEVEN_OF_ONE, ENTRIES)?);
+    let text = again(|| text_of(alloc, SESSIONS))?;
+    let bytes = text.as_slice();
+    assert!(rt; bytes == WRITTEN_LOG.as_bytes());
+    assert!(rt; again(|| is_read(alloc, bytes, "S\"2", SEVEN_OF_ONE, ENTRIES))?);
     Ok(())
 }
 
@@ -212,8 +229,8 @@ const MIXED_ENTRIES: &[(Seq, Seq, Seq)] = &[(
 
 #[test]
 fn a_log_of_numbers_and_texts_is_read(rt: HostRuntime) -> Result<(), Fail> {
-    let last = bare(u64::MAX);
-    assert!(rt; is_read(rt.alloc(), MIXED.as_bytes(), "S", last, MIXED_ENTRIES)?);
+    let (alloc, last) = (rt.alloc(), bare(u64::MAX));
+    assert!(rt; again(|| is_read(alloc, MIXED.as_bytes(), "S", last, MIXED_ENTRIES))?);
     Ok(())
 }
 
@@ -233,18 +250,24 @@ const WRITTEN: &[(&str, bool)] = &[
     ("-1", false),
 ];
 
+// Whether a text is that of a log.
+fn is_a_log(alloc: Global, text: &[u8]) -> Result<bool, AllocError> {
+    Ok(Log::read(alloc, text)?.is_some())
+}
+
 // Whether the text of a log with this last sequence is read as one.
-fn is_written(alloc: Global, seq: &str) -> Result<bool, Fail> {
+fn is_written(alloc: Global, seq: &str) -> Result<bool, AllocError> {
     let text = format!(in alloc;
         r#"{{"history":[],"replication_id_version":3,"session_id":"S","source_last_seq":{seq}}}"#
     )?;
-    Ok(Log::read(alloc, text.as_bytes())?.is_some())
+    is_a_log(alloc, text.as_bytes())
 }
 
 #[test]
 fn sequences_that_are_written(rt: HostRuntime) -> Result<(), Fail> {
+    let alloc = rt.alloc();
     for (seq, is_one) in WRITTEN {
-        assert_eq!(rt; is_written(rt.alloc(), *seq)?, *is_one, "{seq}");
+        assert_eq!(rt; again(|| is_written(alloc, *seq))?, *is_one, "{seq}");
     }
     Ok(())
 }
@@ -260,24 +283,24 @@ const ABSENT: &[&str] = &[
 ];
 
 // Whether a history of so many entries is read.
-fn is_read_of(alloc: Global, count: u64) -> Result<bool, Fail> {
+fn is_read_of(alloc: Global, count: u64) -> Result<bool, AllocError> {
     let mut entries = Vec::new(alloc);
     for _ in 0..count {
         entries.push(("S", bare(1)))?;
     }
     let text = text_of(alloc, entries.as_slice())?;
-    Ok(Log::read(alloc, text.as_slice())?.is_some())
+    is_a_log(alloc, text.as_slice())
 }
 
 // A member that is absent or of another kind, another version, and a history that is too long.
 #[test]
 fn logs_that_are_absent(rt: HostRuntime) -> Result<(), Fail> {
+    let alloc = rt.alloc();
     for text in ABSENT {
-        let log = Log::read(rt.alloc(), text.as_bytes())?;
-        assert!(rt; log.is_none(), "{text}");
+        assert!(rt; !again(|| is_a_log(alloc, text.as_bytes()))?, "{text}");
     }
     for (count, is_there) in [(50, true), (51, false)] {
-        assert!(rt; is_read_of(rt.alloc(), count)? == is_there);
+        assert!(rt; again(|| is_read_of(alloc, count))? == is_there);
     }
     Ok(())
 }

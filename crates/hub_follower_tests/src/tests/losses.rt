@@ -1,8 +1,11 @@
 //! Calls and answers that are lost, at every call of a run.
+//!
+//! A session that loses a call is made once: made again, another call would be lost. So where a growth of it
+//! is refused, the next session goes on as behind any other failure, and the run is made again.
 
 use crate::tests::sessions::copy_in_session;
-use crate::tests::{FIVE, LOG, agree, at, copy_all, database, edits, recorded, write};
-use hub_follower::{DbPeer, FaultPeer, FollowFault, Follower, Loss, Peer};
+use crate::tests::{FIVE, LOG, TRIES, agree, at, database, edits, recorded, write};
+use hub_follower::{DbPeer, FaultPeer, FollowFault, Follower, Loss, Peer, Round};
 use hub_shared::{Db, Plain};
 use std::alloc::Global;
 use std::sync::Wait;
@@ -27,12 +30,16 @@ fn failing<'a, R: Wait>(
     Ok(FaultPeer::new(DbPeer::new(rt, alloc, db.handle()?), call, loss))
 }
 
-// Copies all, and records the place.
+// Copies all, and records the place, up to the first call that fails.
 fn copy_and_record<S: Peer + Drop, T: Peer + Drop>(
     follower: &mut Follower<S, T>,
 ) -> Result<(), FollowFault> {
-    copy_all(follower)?;
-    follower.checkpoint()
+    for _ in 0..100 {
+        if follower.round()? == Round::Idle {
+            return follower.checkpoint();
+        }
+    }
+    Err(FollowFault::Peer)
 }
 
 // One session of this id up to its checkpoint, or up to the call that fails.
@@ -76,21 +83,26 @@ fn are_recorded<R: Wait>(
     )
 }
 
-// A session with losses, and where one failed another without any: whether a call was lost.
+// A session with losses, and where one failed another without any: whether a call was lost; None where the
+// first found no memory.
 fn run_between<R: Wait>(
     rt: &R,
     alloc: Global,
     (source, target): (&Db<Plain>, &Db<Plain>),
     writes: Writes<'_>,
     losses: Losses,
-) -> Result<bool, Fail> {
+) -> Result<Option<bool>, Fail> {
     if !writes.before.is_empty() {
         write(rt, alloc, source, writes.before)?;
         let _place = copy_in_session(rt, alloc, (source, target), "S0")?;
     }
     write(rt, alloc, source, writes.after)?;
-    let is_lost = session(rt, alloc, source, target, "S1", losses)?.is_err();
-    if is_lost {
+    let is_lost = match session(rt, alloc, source, target, "S1", losses)? {
+        Ok(()) => Some(false),
+        Err(FollowFault::NoMemory) => None,
+        Err(_) => Some(true),
+    };
+    if is_lost != Some(false) {
         let _place = copy_in_session(rt, alloc, (source, target), "S2")?;
     }
     if !agree(rt, alloc, source, target, writes.ids)? {
@@ -103,9 +115,24 @@ fn run_between<R: Wait>(
 }
 
 // The same between two new databases.
-fn run<R: Wait>(rt: &R, alloc: Global, writes: Writes<'_>, losses: Losses) -> Result<bool, Fail> {
+fn try_run<R: Wait>(
+    rt: &R,
+    alloc: Global,
+    writes: Writes<'_>,
+    losses: Losses,
+) -> Result<Option<bool>, Fail> {
     let (source, target) = (database(alloc)?, database(alloc)?);
     run_between(rt, alloc, (&source, &target), writes, losses)
+}
+
+// Whether a call is lost of a session that does not find itself out of memory.
+fn run<R: Wait>(rt: &R, alloc: Global, writes: Writes<'_>, losses: Losses) -> Result<bool, Fail> {
+    for _ in 0..TRIES {
+        if let Some(is_lost) = try_run(rt, alloc, writes, losses)? {
+            return Ok(is_lost);
+        }
+    }
+    Err(Fail::new("out of memory"))
 }
 
 // How many calls of the source are lost in turn, and how many of the target.

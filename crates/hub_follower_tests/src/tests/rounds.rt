@@ -2,7 +2,7 @@
 
 use crate::tests::sessions::Step::{self, Begins, HasNoLog, HaveLeaves, Refuses, Rounds, Stores};
 use crate::tests::sessions::assert_session;
-use crate::tests::{LIFE, LOG, TWO, database, start, write};
+use crate::tests::{LIFE, LOG, TWO, again, begin, database, database_within, round, start, write};
 use hub_document::Limits;
 use hub_follower::{DbPeer, FollowFault, Follower, Peer, Round, Seq};
 use hub_model::Fault;
@@ -33,7 +33,7 @@ fn a_round_copies_and_the_next_is_idle(rt: HostRuntime) -> Result<(), Fail> {
 // Stores so many documents.
 fn write_many<R: Wait>(rt: &R, alloc: Global, db: &Db<Plain>, count: u64) -> Result<(), Fail> {
     for number in 0..count {
-        let text = format!(in alloc; r#"{{"_id":"d{number}","_rev":"1-a"}}"#)?;
+        let text = again(|| format!(in alloc; r#"{{"_id":"d{number}","_rev":"1-a"}}"#))?;
         write(rt, alloc, db, &[text.as_str()])?;
     }
     Ok(())
@@ -63,7 +63,7 @@ const ONE_FEED: &[Step] = &[
 fn a_round_finishes_its_feed(rt: HostRuntime) -> Result<(), Fail> {
     let mut limits = Limits::full();
     limits.feeds = 1;
-    let (source, _handle) = Db::new(rt.alloc(), limits, LIFE, Plain)?;
+    let source = database_within(rt.alloc(), limits, LIFE)?;
     let target = database(rt.alloc())?;
     write(&rt, rt.alloc(), &source, &TWO)?;
     assert_session(&rt, rt.alloc(), (&source, &target), "S1", ONE_FEED)
@@ -77,7 +77,7 @@ fn a_full_target_refuses_and_the_place_stays(rt: HostRuntime) -> Result<(), Fail
     write(&rt, rt.alloc(), &source, &TWO)?;
     let mut limits = Limits::full();
     limits.journal = 1;
-    let (target, _handle) = Db::new(rt.alloc(), limits, LIFE, Plain)?;
+    let target = database_within(rt.alloc(), limits, LIFE)?;
     assert_session(&rt, rt.alloc(), (&source, &target), "S1", REFUSED)
 }
 
@@ -88,7 +88,7 @@ fn fails_without_source<R: Wait, S: Peer + Drop, T: Peer + Drop>(
     follower: &mut Follower<S, T>,
 ) -> Result<bool, Fail> {
     source.handle()?.delete(rt)?;
-    let is_fault = matches!(follower.round(), Err(FollowFault::Peer));
+    let is_fault = matches!(round(follower), Err(FollowFault::Peer));
     Ok(is_fault && follower.place() == Some(Seq::beginning()))
 }
 
@@ -124,7 +124,7 @@ fn failed_start<R: Wait>(
 ) -> Result<Option<(FollowFault, u64, u64)>, Fail> {
     let source = DbPeer::new(rt, alloc, source.handle()?);
     let target = DbPeer::new(rt, alloc, target.handle()?);
-    match Follower::start(alloc, source, target, log_id, "S1") {
+    match begin(alloc, source, target, log_id, "S1") {
         Ok(_) => Ok(None),
         Err(failed) => {
             let counts = (failed.source.faults(), failed.target.faults());

@@ -1,13 +1,13 @@
 //! Sessions as tables: what a follower does between two databases, and what is found behind each step.
 
 use crate::tests::{
-    LIFE, checkpoint, copy_all, edits, leaves_text, recorded, round_into, start, write,
+    LIFE, again, checkpoint, copy_all, edits, leaves, recorded, round, round_into, start, write,
 };
 use hub_document::{Asked, RevId};
 use hub_follower::{DbPeer, FollowFault, Follower, Peer, Round, Seq};
 use hub_model::Fault;
 use hub_shared::{Db, Plain};
-use std::alloc::Global;
+use std::alloc::{AllocError, Global};
 use std::process::Abort;
 use std::sync::Wait;
 use std::test::Fail;
@@ -38,31 +38,47 @@ pub(crate) enum Step {
     HasNoLog,
 }
 
-/// Whether both databases have these leaves of a document, in this order.
+// Whether these texts stand here, one behind the other, and nothing else.
+fn are_texts(found: &[u8], texts: &[&str]) -> bool {
+    let mut rest = found;
+    for text in texts {
+        match rest.strip_prefix(text.as_bytes()) {
+            Some(behind) => rest = behind,
+            None => return false,
+        }
+    }
+    rest.is_empty()
+}
+
+/// Whether both databases have these leaves of a document, in this order, also where a growth of it is
+/// refused.
 pub(crate) fn have_leaves<R: Wait>(
     rt: &R,
     alloc: Global,
     (source, target): (&Db<Plain>, &Db<Plain>),
     id: &str,
-    leaves: &[&str],
-) -> Result<bool, Fail> {
-    let mut text = String::new(alloc);
-    for leaf in leaves {
-        text.push_str(leaf)?;
+    texts: &[&str],
+) -> Result<bool, AllocError> {
+    for db in [source, target] {
+        let found = again(|| leaves(rt, alloc, db, id))?;
+        if !are_texts(found.as_slice(), texts) {
+            return Ok(false);
+        }
     }
-    Ok(leaves_text(rt, alloc, source, id)? == text && leaves_text(rt, alloc, target, id)? == text)
+    Ok(true)
 }
 
-// The revisions that a source lists above a number.
+// The revisions that a source lists above a number; an error where they find no memory, and each time where
+// the source does not list them.
 fn listed<R: Wait>(
     rt: &R,
     alloc: Global,
     source: &Db<Plain>,
     since: u64,
-) -> Result<Vec<Asked>, Fail> {
+) -> Result<Vec<Asked>, AllocError> {
     let Ok(changes) = DbPeer::new(rt, alloc, source.handle()?).changes(Seq::of_life(since, LIFE))
     else {
-        return Err(Fail::new("no changes"));
+        return Err(AllocError);
     };
     let mut asked = Vec::new(alloc);
     for row in changes.rows {
@@ -74,17 +90,18 @@ fn listed<R: Wait>(
     Ok(asked)
 }
 
-// Whether the target misses none of the revisions that the source lists above a number.
+// Whether the target misses none of the revisions that the source lists above a number; an error where it
+// finds no memory, and each time where there is no answer.
 fn has_all<R: Wait>(
     rt: &R,
     alloc: Global,
     (source, target): (&Db<Plain>, &Db<Plain>),
     since: u64,
-) -> Result<bool, Fail> {
+) -> Result<bool, AllocError> {
     let asked = listed(rt, alloc, source, since)?;
     match DbPeer::new(rt, alloc, target.handle()?).revs_diff(&asked) {
         Ok(missing) => Ok(missing.is_empty()),
-        Err(_) => Err(Fail::new("no answer")),
+        Err(_) => Err(AllocError),
     }
 }
 
@@ -93,7 +110,7 @@ fn refuses<S: Peer + Drop, T: Peer + Drop>(
     follower: &mut Follower<S, T>,
     refused: (&str, &str, Fault),
 ) -> bool {
-    match follower.round() {
+    match round(follower) {
         Err(FollowFault::Refused { id, rev, fault }) => {
             id.as_str() == refused.0 && RevId::read(refused.1) == Some(rev) && fault == refused.2
         }
@@ -101,14 +118,15 @@ fn refuses<S: Peer + Drop, T: Peer + Drop>(
     }
 }
 
-// Whether what a step says is found.
+// Whether what a step says is found, also where a growth of it is refused.
 fn holds<R: Wait, S: Peer + Drop, T: Peer + Drop>(
     rt: &R,
     alloc: Global,
     follower: &mut Follower<S, T>,
-    (source, target): (&Db<Plain>, &Db<Plain>),
+    peers: (&Db<Plain>, &Db<Plain>),
     step: &Step,
 ) -> Result<bool, Fail> {
+    let (source, target) = peers;
     Ok(match step {
         Step::Begins => follower.place() == Some(Seq::beginning()),
         Step::IsAt(n, life) => follower.place() == Some(Seq::of_life(*n, *life)),
@@ -117,7 +135,10 @@ fn holds<R: Wait, S: Peer + Drop, T: Peer + Drop>(
             round_into(rt, follower, target)? == (*done, place, *stored)
         }
         Step::Refuses(id, rev, fault) => refuses(follower, (*id, *rev, *fault)),
-        Step::Copies => copy_all(follower).is_ok(),
+        Step::Copies => {
+            copy_all(follower)?;
+            true
+        }
         Step::Records => {
             checkpoint(follower)?;
             true
@@ -127,8 +148,8 @@ fn holds<R: Wait, S: Peer + Drop, T: Peer + Drop>(
             true
         }
         Step::Stores(count) => edits(rt, target)? == *count,
-        Step::HaveLeaves(id, leaves) => have_leaves(rt, alloc, (source, target), *id, *leaves)?,
-        Step::HasAll(since, answer) => has_all(rt, alloc, (source, target), *since)? == *answer,
+        Step::HaveLeaves(id, texts) => have_leaves(rt, alloc, peers, *id, *texts)?,
+        Step::HasAll(since, answer) => again(|| has_all(rt, alloc, peers, *since))? == *answer,
         Step::HasNoLog => recorded(rt, alloc, target)?.is_none(),
     })
 }
@@ -184,10 +205,7 @@ pub(crate) fn copy_unrecorded<R: Wait>(
     session_id: &str,
 ) -> Result<(), Fail> {
     let mut follower = start(rt, alloc, source, target, session_id)?;
-    match copy_all(&mut follower) {
-        Ok(()) => Ok(()),
-        Err(_) => Err(Fail::new("no copy")),
-    }
+    copy_all(&mut follower)
 }
 
 // Copies all, and records the place: where the session began.
@@ -195,9 +213,7 @@ fn copy_and_record<S: Peer + Drop, T: Peer + Drop>(
     follower: &mut Follower<S, T>,
 ) -> Result<Option<Seq>, Fail> {
     let place = follower.place();
-    if copy_all(follower).is_err() {
-        return Err(Fail::new("no copy"));
-    }
+    copy_all(follower)?;
     checkpoint(follower)?;
     Ok(place)
 }
