@@ -19,8 +19,9 @@ use std::test::Fail;
 // The winner of a document; an error where no memory is found, and each time where there is no answer.
 fn winner(alloc: Global, state: &DbState, id: &str) -> Result<Option<RevId>, AllocError> {
     let id = String::from_str(alloc, id)?;
-    match answer_of(alloc, state, Question::Winner { id }) {
-        Ok(Answer::Winner(winner)) => Ok(winner.map(|winner| winner.rev)),
+    match &answer_of(alloc, state, Question::Winner { id }) {
+        Ok(Answer::Winner(Some(winner))) => Ok(Some(winner.rev)),
+        Ok(Answer::Winner(None)) => Ok(None),
         _ => Err(AllocError),
     }
 }
