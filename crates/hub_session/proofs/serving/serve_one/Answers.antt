@@ -1,7 +1,6 @@
-use Rattle.std.proofs.Common.{◌∙◌}
 use Rattle.hub_session.specs.Rules.{moment}
-use Rattle.hub_session.proofs.SessionLemmas.{one_answered, one_finished, one_faulted, one_broken}
-use Rattle.hub_session.proofs.session.serve_one.Goals as goal
+use Rattle.hub_session.proofs.SessionLemmas.{one_answered, one_finished, one_faulted}
+use Rattle.hub_session.proofs.serving.serve_one.Goals as goal
 
 pub returns-in-Ok-Some-clause-told : goal.returns-in-Ok-Some-clause-told
 returns-in-Ok-Some-clause-told g c = λ is_open.
@@ -14,12 +13,6 @@ returns-in-Ok-None-clause-told g c = λ is_open.
     let told = rw c.in-Ok-None.field-0-is at (c.in-Ok-None.ensures.told is_open) in
     one_finished g.S.Service.rules _ _ _ told
 
-pub returns-in-Ok-clause-told : goal.returns-in-Ok-clause-told
-returns-in-Ok-clause-told g c = λ is_open.
-    one_faulted g.S.Service.rules _ _ _ _ c.in-Err.fault _ (c.in-Err.ensures.told is_open)
-    (c.as_bytes.ensures.value ∙ c.fault_text.ensures) c.in-Ok.ensures.sent
-
-pub returns-in-Err-send-clause-told : goal.returns-in-Err-send-clause-told
-returns-in-Err-send-clause-told g c = λ is_open.
-    one_broken g.S.Service.rules _ _ _ _ c.in-Err.fault _ (c.in-Err.ensures.told is_open)
-    (c.as_bytes.ensures.value ∙ c.fault_text.ensures) c.in-Err-send.ensures.sent
+pub returns-in-Err-clause-told : goal.returns-in-Err-clause-told
+returns-in-Err-clause-told g c = λ is_open.
+    one_faulted g.S.Service.rules _ _ _ _ c.in-Err.fault _ (c.in-Err.ensures.told is_open) c.answer_fault.ensures.closes c.answer_fault.ensures.sent
