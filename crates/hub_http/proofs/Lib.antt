@@ -1,4 +1,5 @@
 pub mod BlockLemmas
+pub mod BoxLemmas
 pub mod ChangeLemmas
 pub mod ChunkLemmas
 pub mod CountLemmas
@@ -6,6 +7,7 @@ pub mod ExclusionLemmas
 pub mod FrontLemmas
 pub mod HeadLemmas
 pub mod LengthLemmas
+pub mod OfferLemmas
 pub mod RequestLemmas
 pub mod SendLemmas
 pub mod UniqueLemmas

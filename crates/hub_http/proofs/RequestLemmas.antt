@@ -65,7 +65,7 @@ too_long_more held y b =
       ]
     ]
 
-head_fault_more : (held y : List ℕ) (e : HttpFault) → HasHeadFault held e → HasHeadFault (held ++ y) e
+pub head_fault_more : (held y : List ℕ) (e : HttpFault) → HasHeadFault held e → HasHeadFault (held ++ y) e
 head_fault_more held y BadHead f = elim f [ inl x ↦ inl (never_request_more held y x) | inr x ↦ inr (faulty_more held y BadHead x) ]
 head_fault_more held y HeadTooLong f = (never_more held y f.0, too_long_more held y f.1)
 head_fault_more held y BodyTooLong f = faulty_more held y BodyTooLong f

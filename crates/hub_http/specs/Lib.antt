@@ -2,6 +2,8 @@ pub mod Counts
 pub mod Heads
 pub mod Looking
 pub mod Stream
+pub mod Offers
+pub mod Boxes
 pub mod Exclusions
 pub mod Words
 pub mod Refusals

@@ -8,6 +8,7 @@ mod connection;
 mod fault;
 mod fixed;
 mod head;
+mod inbox;
 mod input;
 #[cfg(test)]
 mod interruption_tests;
@@ -15,7 +16,14 @@ mod item;
 mod length;
 #[cfg(test)]
 mod made_again;
+mod next;
+#[cfg(test)]
+mod offer_tests;
+mod outbox;
+#[cfg(test)]
+mod outbox_tests;
 mod output;
+mod pending;
 mod read;
 mod refusal;
 mod reply;
@@ -37,13 +45,16 @@ mod update_text;
 pub use chunk::{ChunkFault, ChunkWriter};
 pub use fault::HttpFault;
 pub use fixed::{no_memory_text, stream_head_text};
+pub use inbox::Inbox;
 pub use input::Input;
 pub use item::{feed_head, item_text};
-pub use output::{IoFault, Output, send, write_all};
+pub use next::Next;
+pub use outbox::{Handed, Outbox};
+pub use output::{IoFault, Output, send, write_all, write_vec};
 pub use refusal::Refusal;
 pub use reply::{Reply, reply_bytes};
 pub use request::Request;
-pub use requests::{Requests, one_reading, one_verdict};
+pub use requests::{Requests, more_behind, one_reading, one_verdict};
 pub use row_text::RowText;
 pub use tally::Tally;
 pub use text::Text;

@@ -1,5 +1,5 @@
 //! Where replies go.
-ghost use Rattle.std.specs.Prelude.{◌≡◌, ◌<◌, ◌≤◌, ℕ, List, Option, is_err, length, IfOk, OnOk, OnErr, take};
+ghost use Rattle.std.specs.Prelude.{◌≡◌, ◌<◌, ◌≤◌, ℕ, List, Option, is_err, length, IfOk, IfNone, IfSome, OnOk, OnErr, take};
 ghost use Rattle.std.specs.Io.{WritesAtMost};
 ghost use Rattle.std.specs.IoError.{error_kind};
 ghost use Rattle.std.specs.Io.KnownBytes.{Keeps, Appends, WriteAppends};
@@ -26,6 +26,18 @@ pub trait Output {
         ensures bytes { WriteAppends (written self.old) (written self.new) result buf.now }
         ensures faults { fault_count self.new ≡ bumped_if (write_faulted result buf.now) (fault_count self.old) }
         ensures failures { failure_count self.new ≡ bumped_if (write_failed result buf.now) (failure_count self.old) };
+
+    /// Takes all of the bytes as written and keeps their memory, or gives them back. A writer that has
+    /// no use for it gives them back, as this body does.
+    fn keep(&mut self, bytes: Vec<u8>) -> Option<Vec<u8>>
+        ensures kept { IfNone result (Appends (written self.old) (written self.new) bytes.items) }
+        ensures back { IfSome result (λ given. given.items ≡ bytes.items) }
+        ensures same { IfSome result (λ given. Keeps (written self.old) (written self.new)) }
+        ensures faults { fault_count self.new ≡ fault_count self.old }
+        ensures failures { failure_count self.new ≡ failure_count self.old }
+    {
+        Some(bytes)
+    }
 
     /// Hands on what was written and not handed on yet.
     fn flush(&mut self) -> io::Result<()>
@@ -121,6 +133,21 @@ pub fn write_all<W: Output>(writer: &mut W, bytes: &[u8]) -> Result<(), IoFault>
         rest = &rest[n..];
     }
     Ok(())
+}
+
+/// Writes all of a vector, whose memory the writer may keep, and does not flush, as `write_all` does.
+pub fn write_vec<W: Output>(writer: &mut W, bytes: Vec<u8>) -> Result<(), IoFault>
+    ensures sent { Sends (is_err result) (W.written writer.old) (W.written writer.new) bytes.items }
+    ensures monotone { W.fault_count writer.old ≤ W.fault_count writer.new }
+    ensures failures_monotone { W.failure_count writer.old ≤ W.failure_count writer.new }
+    ensures fault { OnErr result (Rose (W.fault_count writer.old) (W.fault_count writer.new)) }
+    ensures tried { OnErr result (GaveUp (W.failure_count writer.old) (W.failure_count writer.new)
+        (W.fault_count writer.old) (W.fault_count writer.new)) }
+{
+    match writer.keep(bytes) {
+        None => Ok(()),
+        Some(bytes) => write_all(writer, bytes.as_slice()),
+    }
 }
 
 /// Writes all the bytes, mostly by one write, and flushes. After a fault a front of them was

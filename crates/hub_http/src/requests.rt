@@ -5,6 +5,8 @@ ghost use Rattle.hub_http.specs.Counts.{Rose, GaveUp};
 ghost use Rattle.hub_http.specs.Stream.{Asked, Leaves, Spells, known, to_read};
 ghost use Rattle.hub_http.specs.Exclusions.{SpelledHasNoFault, NothingSpellsNothing, NothingHasNoFault, HeadHasOneFault, HeadFaultIsNamed, WholeHeadHasOneFault, OtherFaultsAreOpen};
 ghost use Rattle.hub_http.specs.Looking.{Finds};
+ghost use Rattle.hub_http.specs.Heads.{HasHeadFault};
+ghost use Rattle.hub_http.specs.Offers.{SpellsAll};
 
 use crate::block::{BLOCK, Block};
 use crate::fault::HttpFault;
@@ -59,7 +61,7 @@ const FIRST_ROOM: usize = 65_536;
 
 /// To how many bytes what is held may grow, where so many are held: by as many again, by 65,536 at
 /// least, and never past those that are wanted.
-fn room(held: usize, wanted: usize) -> usize
+pub(crate) fn room(held: usize, wanted: usize) -> usize
     ensures { result ≡ min wanted (held + max held 65536) }
 {
     wanted.min(held.saturating_add(held.max(FIRST_ROOM)))
@@ -134,7 +136,7 @@ pub(crate) fn fill<R: Input>(
 }
 
 /// A copy of the bytes. It takes memory where there are some.
-fn copy_of(alloc: Global, bytes: &[u8]) -> Result<Vec<u8>, HttpFault>
+pub(crate) fn copy_of(alloc: Global, bytes: &[u8]) -> Result<Vec<u8>, HttpFault>
     ensures ok { IfOk result (λ copy. copy.items ≡ bytes.now) }
     ensures err { IfErr result (λ e. (e ≡ HttpFault.NoMemory) × (0 < length bytes.now)) }
 {
@@ -149,7 +151,7 @@ fn copy_of(alloc: Global, bytes: &[u8]) -> Result<Vec<u8>, HttpFault>
 
 /// Makes the held bytes the body, and holds on to those behind it. An error changes nothing.
 /// It moves the body once and copies the bytes behind it.
-fn split_body(
+pub(crate) fn split_body(
     alloc: Global,
     held: &mut Vec<u8>,
     len: usize,
@@ -372,4 +374,15 @@ pub fn one_verdict()
     ensures named { HeadFaultIsNamed }
     ensures whole { WholeHeadHasOneFault }
     ensures open { OtherFaultsAreOpen }
+{}
+
+/// More bytes behind those of a request change nothing of it: they come behind what is left. So it is of
+/// several requests, and of a fault that a head has.
+pub fn more_behind()
+    ensures spelled { (bytes : List ℕ) (a : Asked) (rest more : List ℕ)
+        → Spells bytes a rest → Spells (bytes ++ more) a (rest ++ more) }
+    ensures all { (all : List Asked) (bytes rest more : List ℕ)
+        → SpellsAll bytes all rest → SpellsAll (bytes ++ more) all (rest ++ more) }
+    ensures faulty { (bytes more : List ℕ) (e : HttpFault)
+        → HasHeadFault bytes e → HasHeadFault (bytes ++ more) e }
 {}

@@ -49,7 +49,7 @@ impl<T> Tally<T> {
 }
 
 /// One more, up to the last value.
-fn bump(count: u64) -> u64
+pub(crate) fn bump(count: u64) -> u64
     ensures { result ≡ bumped count }
 {
     count.saturating_add(1)

@@ -1,9 +1,11 @@
 -- The answer to one request.
-use Rattle.std.proofs.Common.{◌≡◌, ℕ, List, [], Bool, true, false, Option, Some, refl, sym, ap, subst, ◌∙◌, append-nil}
+use Rattle.std.proofs.Common.{◌≡◌, ℕ, List, [], Bool, true, false, Option, Some, refl, sym, ap, subst, ◌∙◌, append_assoc, append-nil}
 use Rattle.std.specs.Io.KnownBytes.{Appends}
 use Rattle.hub_http.specs.Counts.{AppendsFront, Sends}
 use Rattle.hub_http.proofs.SendLemmas.{front_of_more, sends_after}
 use Rattle.hub_http.specs.declared.reply.Reply.{Reply}
+use Rattle.hub_http.specs.Chunks.{text_chunks}
+use Rattle.hub_http.specs.Items.{feed_head}
 use Rattle.hub_http.specs.Texts.{head_text, chunked_line, reply_text}
 use Rattle.hub_http.specs.Stream.{Asked}
 use Rattle.hub_model.specs.declared.feeds.Mode.{Mode}
@@ -12,8 +14,8 @@ use Rattle.hub_session.specs.declared.closing.StreamEnd.{StreamEnd}
 use Rattle.hub_session.specs.declared.closing.StreamEnd.TheVariants as stream
 use Rattle.hub_session.specs.declared.closing.Closing.{Closing}
 use Rattle.hub_session.specs.declared.closing.Closing.TheVariants.{Broken}
-use Rattle.hub_session.specs.Feeds.{IsFed, feed_text, is_broken}
-use Rattle.hub_session.specs.Sessions.{Goes, HasAnswer, breaks, after_answer, after_stream, is_head}
+use Rattle.hub_session.specs.Feeds.{IsFed, items_text, is_broken}
+use Rattle.hub_session.specs.Sessions.{Goes, HasAnswer, breaks, after_answer, after_stream, is_head, stream_head}
 use Rattle.hub_session.specs.Rules.{Rules, Moment, moment}
 
 pub breaks-after_answer : (close : Bool) → breaks (after_answer close) ≡ false
@@ -35,9 +37,6 @@ broken_stream close stream.Stopped e = cc
 broken_stream close stream.NoMemory e = cc
 broken_stream close stream.Broken e = refl
 broken_stream close stream.Exhausted e = cc
-
-abbrev pub stream_head : Asked → List ℕ
-stream_head asked = head_text 200 chunked_line asked.close
 
 -- the service answered, and is at mid
 module _ {S : Type 0} (rules : Rules S) (asked : Asked) (before : Moment S) (mid : S) where
@@ -62,30 +61,42 @@ module _ {S : Type 0} (rules : Rules S) (asked : Asked) (before : Moment S) (mid
     written = subst (λ b. AppendsFront before.written new (reply_text reply b asked.close)) h sent;
   }
 
-  pub stream_broken : (mode : Mode) (life : ℕ) (after : Moment S) → rules.answers before.service asked (Stream mode life) mid → rules.drops mid after.service
-      → AppendsFront before.written after.written (stream_head asked) → HasAnswer rules asked (Some Broken) before after
-  stream_broken mode life after a d p = record {
+  pub bare_broken : (mode : Mode) (life : ℕ) (after : Moment S) → rules.answers before.service asked (Stream mode life) mid → rules.drops mid after.service
+      → AppendsFront before.written after.written (head_text 200 chunked_line asked.close) → HasAnswer rules asked (Some Broken) before after
+  bare_broken mode life after a d p = record {
     exchange = record { asked = asked; answer = Stream mode life; items = [] };
     asked_is = refl;
     goes = record { mid = mid; answered = a; goes = Goes.head_broken mode life refl refl d refl };
-    written = front_of_more before.written after.written (stream_head asked) _ p;
+    written = front_of_more before.written after.written (head_text 200 chunked_line asked.close) _ p;
+  }
+
+  pub stream_broken : (mode : Mode) (life : ℕ) (after : Moment S) → rules.answers before.service asked (Stream mode life) mid → rules.drops mid after.service
+      → is_head asked ≡ false → AppendsFront before.written after.written (stream_head asked.close mode) → HasAnswer rules asked (Some Broken) before after
+  stream_broken mode life after a d h p = record {
+    exchange = record { asked = asked; answer = Stream mode life; items = [] };
+    asked_is = refl;
+    goes = record { mid = mid; answered = a; goes = Goes.head_broken mode life refl refl d refl };
+    written = rw h (subst (AppendsFront before.written after.written) (append_assoc (head_text 200 chunked_line asked.close) (text_chunks (feed_head mode)) [])
+        (front_of_more before.written after.written (stream_head asked.close mode) [] p));
   }
 
   pub stream_bare : (mode : Mode) (life : ℕ) (next : Option Closing) (after : Moment S) → rules.answers before.service asked (Stream mode life) mid → rules.drops mid after.service
-      → is_head asked ≡ true → next ≡ after_answer asked.close → Appends before.written after.written (stream_head asked) → HasAnswer rules asked next before after
+      → is_head asked ≡ true → next ≡ after_answer asked.close → Appends before.written after.written (head_text 200 chunked_line asked.close) → HasAnswer rules asked next before after
   stream_bare mode life next after a d h e p = record {
     exchange = record { asked = asked; answer = Stream mode life; items = [] };
     asked_is = refl;
     goes = record { mid = mid; answered = a; goes = Goes.head_alone mode life refl h refl d e };
-    written = rw (e, breaks-after_answer asked.close, h) (subst (Appends before.written after.written) (sym (append-nil (stream_head asked))) p);
+    written = rw (e, breaks-after_answer asked.close, h) (subst (Appends before.written after.written) (sym (append-nil (head_text 200 chunked_line asked.close))) p);
   }
 
   pub stream_fed : (mode : Mode) (life : ℕ) (next : Option Closing) (end : StreamEnd) (sent : Option (List ℕ)) (after : Moment S) → rules.answers before.service asked (Stream mode life) mid
-      → is_head asked ≡ false → next ≡ after_stream asked.close end → Appends before.written sent (stream_head asked)
-      → IsFed rules (feed_text mode life) end (moment mid sent) after → HasAnswer rules asked next before after
+      → is_head asked ≡ false → next ≡ after_stream asked.close end → Appends before.written sent (stream_head asked.close mode)
+      → IsFed rules (items_text mode life 0) end (moment mid sent) after → HasAnswer rules asked next before after
   stream_fed mode life next end sent after a h e p f = record {
     exchange = record { asked = asked; answer = Stream mode life; items = f.items };
     asked_is = refl;
     goes = record { mid = mid; answered = a; goes = Goes.stream_sent mode life end refl h f.streams e };
-    written = rw (e, breaks-after_stream asked.close end, h) (sends_after (is_broken end) before.written sent after.written (stream_head asked) (feed_text mode life f.items) p f.written);
+    written = rw (e, breaks-after_stream asked.close end, h)
+        (subst (Sends (is_broken end) before.written after.written) (append_assoc (head_text 200 chunked_line asked.close) (text_chunks (feed_head mode)) (items_text mode life 0 f.items))
+        (sends_after (is_broken end) before.written sent after.written (stream_head asked.close mode) (items_text mode life 0 f.items) p f.written));
   }

@@ -1,6 +1,7 @@
 -- The items of a stream, sent one after the other, and how it ends behind them.
-use Rattle.std.proofs.Common.{◌≡◌, ◌⊎◌, ℕ, ◌+◌, List, [], ◌∷◌, ◌++◌, Bool, true, false, MatchBool, Option, Some, Err, refl, sym, ap, subst, ◌∙◌, inl, inr, append_assoc, append-nil}
+use Rattle.std.proofs.Common.{◌≡◌, ◌≤◌, ◌⊎◌, ℕ, ◌+◌, List, [], ◌∷◌, ◌++◌, Bool, true, false, MatchBool, Option, Some, Ok, Err, refl, sym, ap, subst, ◌∙◌, inl, inr, append_assoc, append-nil, arith}
 use Rattle.std.proofs.lemmas.Bool.{cases_Bool}
+use Rattle.std.specs.Prelude.{if◌then◌else◌}
 use Rattle.std.specs.Io.KnownBytes.{Appends}
 use Rattle.std.proofs.KnownBytes.{Appends-trans, Appends-nil}
 use Rattle.hub_http.specs.Counts.{Sends}
@@ -13,54 +14,105 @@ use Rattle.hub_http.specs.Items.{feed_head}
 use Rattle.hub_session.specs.declared.item.StreamItem.{StreamItem}
 use Rattle.hub_session.specs.declared.closing.StreamEnd.{StreamEnd}
 use Rattle.hub_session.specs.declared.closing.StreamEnd.TheVariants.{Broken}
-use Rattle.hub_session.specs.Feeds.{GivesBack, Streams, IsFed, sent_text, items_text, feed_text, is_broken}
-use Rattle.hub_session.specs.Items.{is_end, rows_after}
+use Rattle.hub_session.specs.Feeds.{GivesBack, HasStreamed, Streams, IsFed, IsStreamed, sent_text, items_text, feed_text, is_broken, rows_behind}
+use Rattle.hub_session.specs.Items.{is_end, is_row, rows_after}
 use Rattle.hub_session.specs.Rules.{Rules, Moment, moment}
 
--- no End came yet: how the stream goes on is how it goes from its start
+-- the texts of items, and then of others
+pub items_text-append : (mode : Mode) (life rows : ℕ) (xs ys : List StreamItem)
+    → items_text mode life rows (xs ++ ys) ≡ items_text mode life rows xs ++ items_text mode life (rows_behind rows xs) ys
+items_text-append mode life rows [] ys = refl
+items_text-append mode life rows (x ∷ xs) ys =
+    ap (λ l. sent_text mode life rows x ++ l) (items_text-append mode life (rows_after rows x) xs ys)
+    ∙ sym (append_assoc (sent_text mode life rows x) (items_text mode life (rows_after rows x) xs) (items_text mode life (rows_behind (rows_after rows x) xs) ys))
+
+-- the rows behind one more item
+pub rows_behind-push : (rows : ℕ) (xs : List StreamItem) (item : StreamItem) → rows_behind rows (xs ++ item ∷ []) ≡ rows_after (rows_behind rows xs) item
+rows_behind-push rows [] item = refl
+rows_behind-push rows (x ∷ xs) item = rows_behind-push (rows_after rows x) xs item
+
+module _ {S : Type 0} (rules : Rules S) where
+  -- what was sent so far, and then the rest of the stream, is the stream
+  pub streamed_streams : (from : ℕ) (s : S) (first : List StreamItem) (sent : ℕ) (mid : S) (rest : List StreamItem) (end : StreamEnd) (t : S)
+      → HasStreamed rules from s first sent mid → Streams rules sent mid rest end t → Streams rules from s (first ++ rest) end t
+  streamed_streams from s first sent mid rest end t HasStreamed.stands h = h
+  streamed_streams from s first sent mid rest end t (HasStreamed.goes_on gives not_end more) h =
+      Streams.goes_on gives not_end (streamed_streams _ _ _ sent mid rest end t more h)
+
+  -- one more item was sent
+  pub streamed_more : (from : ℕ) (s : S) (first : List StreamItem) (sent : ℕ) (mid : S) (item : StreamItem) (t : S)
+      → HasStreamed rules from s first sent mid → rules.gives mid (Some item) t → is_end item ≡ false → HasStreamed rules from s (first ++ item ∷ []) (sent + 1) t
+  streamed_more from s first sent mid item t HasStreamed.stands gives not_end = HasStreamed.goes_on gives not_end HasStreamed.stands
+  streamed_more from s first sent mid item t (HasStreamed.goes_on g n more) gives not_end =
+      HasStreamed.goes_on g n (streamed_more _ _ _ sent mid item t more gives not_end)
+
+-- an item more is a row more at most
+choice_more : (b : Bool) (n : ℕ) → (if b then n + 1 else n) ≤ n + 1
+choice_more true n = omega arith
+choice_more false n = omega arith
+
+row_more : (rows : ℕ) (item : StreamItem) → rows_after rows item ≤ rows + 1
+row_more rows item = choice_more (is_row item) rows
+
+-- there are no more rows than items
+pub rows_within : {S : Type 0} (rules : Rules S) (from : ℕ) (s : S) (items : List StreamItem) (sent : ℕ) (t : S) (rows : ℕ)
+    → HasStreamed rules from s items sent t → rows ≤ from → rows_behind rows items ≤ sent
+rows_within rules from s items sent t rows HasStreamed.stands low = low
+rows_within rules from s items sent t rows (HasStreamed.goes_on {item = item} g n more) low =
+    rows_within rules (from + 1) _ _ sent t (rows_after rows item) more (omega (arith, low, row_more rows item))
+
+-- the text of one item is that of its list
+pub one_sent : (mode : Mode) (life : ℕ) (rows : ℕ) (item : StreamItem) (broken : Bool) (a b : Option (List ℕ)) → Sends broken a b (sent_text mode life rows item)
+    → Sends broken a b (items_text mode life rows (item ∷ []))
+one_sent mode life rows item broken a b p = subst (Sends broken a b) (sym (append-nil (sent_text mode life rows item))) p
+
+-- what a stream has sent and written since it began
 pub record Went {S : Type 0} (rules : Rules S) (mode : Mode) (life : ℕ) (before : Moment S) (sent rows : ℕ) (now : Moment S) : Type 0 where
   pub first : List StreamItem
-  pub leads : (more : List StreamItem) (end : StreamEnd) (t : S) → Streams rules sent now.service more end t → Streams rules 0 before.service (first ++ more) end t
-  pub done : List ℕ
-  pub texts : (more : List StreamItem) → items_text mode life 0 (first ++ more) ≡ done ++ items_text mode life rows more
-  pub written : Appends before.written now.written done
+  pub streamed : HasStreamed rules 0 before.service first sent now.service
+  pub rows_is : rows ≡ rows_behind 0 first
+  pub written : Appends before.written now.written (items_text mode life 0 first)
 
 pub went_none : {S : Type 0} (rules : Rules S) (mode : Mode) (life : ℕ) (now : Moment S) → Went rules mode life now 0 0 now
 went_none rules mode life now = record {
   first = [];
-  leads = λ more end t h. h;
-  done = [];
-  texts = λ more. refl;
+  streamed = HasStreamed.stands;
+  rows_is = refl;
   written = Appends-nil now.written;
 }
 
+-- what items wrote behind others
+pub wrote_behind : {S : Type 0} (rules : Rules S) (mode : Mode) (life rows : ℕ) (before now after : Option (List ℕ)) (first more : List StreamItem) (broken : Bool)
+    → rows ≡ rows_behind 0 first → Appends before now (items_text mode life 0 first) → Sends broken now after (items_text mode life rows more)
+    → Sends broken before after (items_text mode life 0 (first ++ more))
+wrote_behind rules mode life rows before now after first more broken is w p =
+    subst (Sends broken before after) (sym (items_text-append mode life 0 first more))
+    (sends_after broken before now after (items_text mode life 0 first) (items_text mode life (rows_behind 0 first) more) w
+    (subst (λ n. Sends broken now after (items_text mode life n more)) is p))
+
 module _ {S : Type 0} (rules : Rules S) (mode : Mode) (life : ℕ) (before : Moment S) (sent rows : ℕ) (now : Moment S) where
-  went_text : (w : Went rules mode life before sent rows now) (item : StreamItem) (more : List StreamItem)
-      → items_text mode life 0 ((w.first ++ item ∷ []) ++ more) ≡ (w.done ++ sent_text mode life rows item) ++ items_text mode life (rows_after rows item) more
-  went_text w item more =
-      ap (items_text mode life 0) (append_assoc w.first (item ∷ []) more) ∙ w.texts (item ∷ more)
-      ∙ sym (append_assoc w.done (sent_text mode life rows item) (items_text mode life (rows_after rows item) more))
-
   -- one more item that is no End
-  pub went_more : (next : Moment S) (item : StreamItem) → Went rules mode life before sent rows now → rules.gives now.service (Some item) next.service
-      → is_end item ≡ false → Appends now.written next.written (sent_text mode life rows item)
-      → Went rules mode life before (sent + 1) (rows_after rows item) next
-  went_more next item w given e p = record {
-    first = w.first ++ item ∷ [];
-    leads = λ more end t h. subst (λ l. Streams rules 0 before.service l end t) (sym (append_assoc w.first (item ∷ []) more)) (w.leads (item ∷ more) end t (Streams.goes_on given e h));
-    done = w.done ++ sent_text mode life rows item;
-    texts = went_text w item;
-    written = Appends-trans before.written now.written next.written w.done (sent_text mode life rows item) w.written p;
-  }
+  pub went_more : (next : Moment S) (rows_then : ℕ) → Went rules mode life before sent rows now → IsStreamed rules mode life sent rows (Ok rows_then) now next
+      → Went rules mode life before (sent + 1) rows_then next
+  went_more next rows_then w step =
+      let item = step.0 in
+      let count : rows_then ≡ rows_behind 0 (w.first ++ item ∷ []) =
+      step.3 ∙ ap (λ n. rows_after n item) w.rows_is ∙ sym (rows_behind-push 0 w.first item) in
+      record {
+        first = w.first ++ item ∷ [];
+        streamed = streamed_more rules 0 before.service w.first sent now.service item next.service w.streamed step.1 step.2;
+        rows_is = count;
+        written = wrote_behind rules mode life rows before.written now.written next.written w.first (item ∷ []) false w.rows_is w.written
+            (one_sent mode life rows item false now.written next.written step.4);
+      }
 
-  -- the stream ends behind these more items
-  pub fed_by : (after : Moment S) (more : List StreamItem) (end : StreamEnd) → Went rules mode life before sent rows now
-      → Streams rules sent now.service more end after.service → Sends (is_broken end) now.written after.written (items_text mode life rows more)
+  -- the stream ends so
+  pub went_ends : (after : Moment S) (end : StreamEnd) → Went rules mode life before sent rows now → IsStreamed rules mode life sent rows (Err end) now after
       → IsFed rules (items_text mode life 0) end before after
-  fed_by after more end w h p = record {
-    items = w.first ++ more;
-    streams = w.leads more end after.service h;
-    written = subst (Sends (is_broken end) before.written after.written) (sym (w.texts more)) (sends_after (is_broken end) before.written now.written after.written w.done _ w.written p);
+  went_ends after end w step = record {
+    items = w.first ++ step.0;
+    streams = streamed_streams rules 0 before.service w.first sent now.service step.0 end after.service w.streamed step.1;
+    written = wrote_behind rules mode life rows before.written now.written after.written w.first step.0 (is_broken end) w.rows_is w.written step.2;
   }
 
 -- behind an item that can't be written the stream has ended, or it gives back what it holds
@@ -78,11 +130,6 @@ stream_fails rules sent s mid t item given back = from (cases_Bool (is_end item)
 pub front_written : (e : ChunkFault) (x y : List ℕ) (a b : Option (List ℕ)) → Writes x (Err e) a b → Writes (x ++ y) (Err e) a b
 front_written chunk.NoMemory x y a b p = p
 front_written chunk.IoFault x y a b p = front_of_more a b x y p
-
--- the text of one item is that of its list
-pub one_sent : (mode : Mode) (life : ℕ) (rows : ℕ) (item : StreamItem) (broken : Bool) (a b : Option (List ℕ)) → Sends broken a b (sent_text mode life rows item)
-    → Sends broken a b (items_text mode life rows (item ∷ []))
-one_sent mode life rows item broken a b p = subst (Sends broken a b) (sym (append-nil (sent_text mode life rows item))) p
 
 -- the items behind the head
 pub fed_behind : {S : Type 0} (rules : Rules S) (mode : Mode) (life : ℕ) (end : StreamEnd) (before after : Moment S) (mid : Option (List ℕ)) → Appends before.written mid (text_chunks (feed_head mode))

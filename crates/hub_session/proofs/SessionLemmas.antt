@@ -1,10 +1,10 @@
 -- From one request to all of them.
-use Rattle.std.proofs.Common.{◌≡◌, ◌≤◌, ℕ, ◌+◌, List, [], ◌∷◌, ◌++◌, Option, Some, None, Ok, Err, IfSome, refl, sym, ap, subst, ◌∙◌, append_assoc, append-nil}
+use Rattle.std.proofs.Common.{◌≡◌, ◌≤◌, ◌⊎◌, ℕ, ◌+◌, List, [], ◌∷◌, ◌++◌, Option, Some, None, Ok, Err, IfSome, refl, sym, ap, subst, ◌∙◌, append_assoc, append-nil, inl, inr}
 use Rattle.std.proofs.lemmas.Grind.{flat_map-append}
 use Rattle.std.specs.List.{flat_map}
 use Rattle.std.specs.Io.KnownBytes.{Appends}
 use Rattle.std.proofs.KnownBytes.{Appends-nil, Appends-trans}
-use Rattle.hub_http.specs.Counts.{AppendsFront, Sends, last_count}
+use Rattle.hub_http.specs.Counts.{Sends, last_count}
 use Rattle.hub_http.specs.declared.request.Request.{Request}
 use Rattle.hub_http.specs.declared.fault.HttpFault.{HttpFault}
 use Rattle.hub_http.specs.Stream.{Asked, asked_by, Spells, Leaves, Faults}
@@ -13,7 +13,7 @@ use Rattle.hub_session.specs.declared.closing.Closing.{Closing}
 use Rattle.hub_session.specs.declared.closing.Closing.TheVariants.{Finished, Fault, Broken, Exhausted}
 use Rattle.hub_session.specs.Replies.{fault_text}
 use Rattle.hub_session.specs.Rules.{Rules, Moment, moment}
-use Rattle.hub_session.specs.Sessions.{Exchange, exchange_text, Standing, Ending, Session, IsSession, HasAnswer, IsServed, Closes, is_broken}
+use Rattle.hub_session.specs.Sessions.{Answers, Exchange, exchange_text, Standing, Ending, Session, HasServed, IsSession, HasAnswer, IsServed, Closes, is_broken, standing}
 
 -- a fault of the next request is one that its bytes have
 ends_faulty : (b c : Option (List ℕ)) (e : HttpFault) → IfSome b (λ bytes. Leaves bytes (Err e) c) → IfSome b (λ bytes. Faults bytes e)
@@ -27,6 +27,11 @@ ends_faulty (Some y) (Some z) Version s = s
 ends_faulty (Some y) (Some z) Coding s = s
 ends_faulty (Some y) (Some z) Ended s = s
 ends_faulty (Some y) (Some z) IoFault s = tt
+
+-- a session closes by a fault that its bytes have, or by an answer to it that can't be written
+pub faulty_closes : (bytes : List ℕ) (e : HttpFault) (closing : Closing) → Faults bytes e → (closing ≡ Fault e) ⊎ (closing ≡ Broken) → Closes bytes closing (fault_text e)
+faulty_closes bytes e closing f (inl is) = subst (λ c. Closes bytes c (fault_text e)) (sym is) (f, refl)
+faulty_closes bytes e closing f (inr is) = subst (λ c. Closes bytes c (fault_text e)) (sym is) (e, f, refl)
 
 pub one_answered : {S : Type 0} (rules : Rules S) (before after : Moment S) (b left : Option (List ℕ)) (q : Request) (next : Option Closing)
     → IfSome b (λ bytes. Leaves bytes (Ok (Some q)) left) → HasAnswer rules (asked_by q) next before after → IfSome b (λ bytes. IsServed rules bytes next left before after)
@@ -48,47 +53,48 @@ module _ {S : Type 0} (rules : Rules S) (before : Moment S) where
     written = Appends-nil before.written;
   })
 
-  pub one_faulted : (new b left : Option (List ℕ)) (e : HttpFault) (text : List ℕ) → IfSome b (λ bytes. Leaves bytes (Err e) left) → text ≡ fault_text e
-      → Appends before.written new text → IfSome b (λ bytes. IsServed rules bytes (Some (Fault e)) left before (moment before.service new))
-  one_faulted new None left e text l is p = tt
-  one_faulted new (Some x) left e text l is p = IsServed.closed (record {
-    closing = Fault e;
-    text = text;
+  -- the bytes have this fault, which was answered so
+  pub one_faulted : (new b left : Option (List ℕ)) (e : HttpFault) (closing : Closing) → IfSome b (λ bytes. Leaves bytes (Err e) left)
+      → (closing ≡ Fault e) ⊎ (closing ≡ Broken) → Sends (is_broken closing) before.written new (fault_text e)
+      → IfSome b (λ bytes. IsServed rules bytes (Some closing) left before (moment before.service new))
+  one_faulted new None left e closing l c p = tt
+  one_faulted new (Some x) left e closing l c p = IsServed.closed (record {
+    closing = closing;
+    text = fault_text e;
     next_is = refl;
-    closes = (ends_faulty (Some x) left e l, is);
+    closes = faulty_closes x e closing (ends_faulty (Some x) left e l) c;
     same = refl;
     written = p;
   })
 
-  pub one_broken : (new b left : Option (List ℕ)) (e : HttpFault) (text : List ℕ) → IfSome b (λ bytes. Leaves bytes (Err e) left) → text ≡ fault_text e
-      → AppendsFront before.written new text → IfSome b (λ bytes. IsServed rules bytes (Some Broken) left before (moment before.service new))
-  one_broken new None left e text l is p = tt
-  one_broken new (Some x) left e text l is p = IsServed.closed (record {
-    closing = Broken;
-    text = text;
-    next_is = refl;
-    closes = (e, ends_faulty (Some x) left e l, is);
-    same = refl;
-    written = p;
-  })
+-- what was served, and then the rest of the session, is the session
+pub served_session : {S : Type 0} (rules : Rules S) (from : Standing S) (first : List Exchange) (now : Standing S) (more : List Exchange) (ending : Ending S)
+    → HasServed rules from first now → Session rules now more ending → Session rules from (first ++ more) ending
+served_session rules from first now more ending HasServed.stands h = h
+served_session rules from first now more ending (HasServed.goes_on rest mid spelt answers others) h =
+    Session.goes_on rest mid spelt answers (served_session rules _ _ now more ending others h)
 
-abbrev standing : {S : Type 0} → ℕ → List ℕ → S → Standing S
-standing served bytes service = record { served = served; bytes = bytes; service = service }
+-- one more request was answered
+pub served_more : {S : Type 0} (rules : Rules S) (from : Standing S) (first : List Exchange) (now : Standing S) (x : Exchange) (rest : List ℕ) (mid : S)
+    → HasServed rules from first now → Spells now.bytes x.asked rest → Answers rules now.service x None mid
+    → HasServed rules from (first ++ x ∷ []) (standing (now.served + 1) rest mid)
+served_more rules from first now x rest mid HasServed.stands spelt answers = HasServed.goes_on rest mid spelt answers HasServed.stands
+served_more rules from first now x rest mid (HasServed.goes_on r m s a others) spelt answers =
+    HasServed.goes_on r m s a (served_more rules _ _ now x rest mid others spelt answers)
 
--- `served` requests were answered, and how the session goes on is how it goes from its start
+-- `served` requests of these bytes were answered, and these are left
 pub record Served {S : Type 0} (rules : Rules S) (bytes : List ℕ) (before : Moment S) (served : ℕ) (left : Option (List ℕ)) (now : Moment S) : Type 0 where
   pub first : List Exchange
   pub rest : List ℕ
   pub left_is : left ≡ Some rest
-  pub leads : (more : List Exchange) (ending : Ending S)
-      → Session rules (standing served rest now.service) more ending → Session rules (standing 0 bytes before.service) (first ++ more) ending
+  pub goes : HasServed rules (standing 0 bytes before.service) first (standing served rest now.service)
   pub written : Appends before.written now.written (flat_map exchange_text first)
 
 pub served_none : {S : Type 0} (rules : Rules S) (now : Moment S) (b : Option (List ℕ)) → IfSome b (λ bytes. Served rules bytes now 0 b now)
 served_none rules now None = tt
-served_none rules now (Some x) = record { first = []; rest = x; left_is = refl; leads = λ more ending h. h; written = Appends-nil now.written }
+served_none rules now (Some x) = record { first = []; rest = x; left_is = refl; goes = HasServed.stands; written = Appends-nil now.written }
 
-one_more : (xs : List Exchange) (x : Exchange) → flat_map exchange_text (xs ++ x ∷ []) ≡ flat_map exchange_text xs ++ exchange_text x
+pub one_more : (xs : List Exchange) (x : Exchange) → flat_map exchange_text (xs ++ x ∷ []) ≡ flat_map exchange_text xs ++ exchange_text x
 one_more xs x = flat_map-append exchange_text xs (x ∷ []) ∙ ap (λ l. flat_map exchange_text xs ++ l) (append-nil (exchange_text x))
 
 module _ {S : Type 0} (rules : Rules S) (bytes : List ℕ) (before : Moment S) (served : ℕ) (left : Option (List ℕ)) (now : Moment S) where
@@ -104,9 +110,8 @@ module _ {S : Type 0} (rules : Rules S) (bytes : List ℕ) (before : Moment S) (
         first = w.first ++ x ∷ [];
         rest = a.rest;
         left_is = a.left_is;
-        leads = λ more ending h.
-            subst (λ l. Session rules (standing 0 bytes before.service) l ending) (sym (append_assoc w.first (x ∷ []) more))
-            (w.leads (x ∷ more) ending (Session.goes_on a.rest next.service (begins_with w.rest a.asked a.rest x a.spelt a.answer.asked_is) a.answer.goes h));
+        goes = served_more rules (standing 0 bytes before.service) w.first (standing served w.rest now.service) x a.rest next.service w.goes
+            (begins_with w.rest a.asked a.rest x a.spelt a.answer.asked_is) a.answer.goes;
         written = subst (Appends before.written next.written) (sym (one_more w.first x)) (Appends-trans before.written now.written next.written _ _ w.written a.answer.written);
       }
   more_by w left' next (IsServed.closed k) = let e = k.next_is in cc
@@ -118,7 +123,8 @@ module _ {S : Type 0} (rules : Rules S) (bytes : List ℕ) (before : Moment S) (
     exchanges = w.first;
     last = text;
     mid = now.written;
-    goes = subst (λ l. Session rules (standing 0 bytes before.service) l (record { closing = closing; text = text; service = after.service })) (append-nil w.first) (w.leads [] _ h);
+    goes = subst (λ l. Session rules (standing 0 bytes before.service) l (record { closing = closing; text = text; service = after.service })) (append-nil w.first)
+        (served_session rules (standing 0 bytes before.service) w.first (standing served w.rest now.service) [] (record { closing = closing; text = text; service = after.service }) w.goes h);
     whole = w.written;
     written = p;
   }

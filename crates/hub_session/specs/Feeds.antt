@@ -1,6 +1,7 @@
 -- RFC 9112, section 7.1 (chunks); own for the feed: what a stream sends for its items, and how it goes.
 use Rattle.std.specs.Prelude.{◌≡◌, ◌≤◌, ℕ, ◌+◌, List, [], ◌∷◌, ◌++◌, Bool, true, false, Some, None}
-use Rattle.std.specs.Prelude.{MatchBool, if◌then◌else◌, codes}
+use Rattle.std.specs.Prelude.{MatchBool, Option, Result, Ok, Err, if◌then◌else◌, codes}
+use Rattle.std.specs.Io.KnownBytes.{Appends}
 use Rattle.hub_model.specs.declared.feeds.Mode.{Mode}
 use Rattle.hub_http.specs.Counts.{last_count, Sends}
 use Rattle.hub_http.specs.Chunks.{text_chunks}
@@ -32,6 +33,11 @@ abbrev pub items_text : Mode → (life rows : ℕ) → List StreamItem → List 
 items_text mode life rows [] = []
 items_text mode life rows (item ∷ items) =
     sent_text mode life rows item ++ items_text mode life (rows_after rows item) items
+
+-- how many rows came behind these items, where so many came before them
+abbrev pub rows_behind : ℕ → List StreamItem → ℕ
+rows_behind rows [] = rows
+rows_behind rows (item ∷ items) = rows_behind (rows_after rows item) items
 
 -- what is sent for a stream of the life of this number and of these items, behind the head of its answer
 abbrev pub feed_text : Mode → (life : ℕ) → List StreamItem → List ℕ
@@ -69,6 +75,17 @@ pub data Streams {S : Type 0} (rules : Rules S) : ℕ → S → List StreamItem 
   -- its items can't be counted further: the service gives back what the stream holds
   gives_up : {sent : ℕ} {s t : S} → rules.drops s t → last_count ≤ sent → Streams rules sent s [] Exhausted t
 
+-- From behind so many items, with its service at s, a stream has sent these rows and beats, and is behind so
+-- many then, with its service at t. A service that gives row 1, row 2 and an End has streamed no item, row 1,
+-- or row 1 and row 2.
+pub data HasStreamed {S : Type 0} (rules : Rules S) : ℕ → S → List StreamItem → ℕ → S → Type 0 where
+  -- none was sent
+  stands : {sent : ℕ} {s : S} → HasStreamed rules sent s [] sent s
+  -- a row or a beat was sent, and then the others
+  goes_on : {sent now : ℕ} {s mid t : S} {item : StreamItem} {items : List StreamItem}
+      → rules.gives s (Some item) mid → is_end item ≡ false → HasStreamed rules (sent + 1) mid items now t
+      → HasStreamed rules sent s (item ∷ items) now t
+
 -- writing to the other side failed
 abbrev pub is_broken : StreamEnd → Bool
 is_broken Complete = false
@@ -84,3 +101,17 @@ pub record IsFed {S : Type 0} (rules : Rules S) (text : List StreamItem → List
   pub items : List StreamItem
   pub streams : Streams rules 0 before.service items end after.service
   pub written : Sends (is_broken end) before.written after.written (text items)
+
+-- A stream that sent so many items, of which so many are rows, took one step. One more row or beat was
+-- written, and so many are rows then; or the stream ended so, with what was written of its last item. Behind
+-- row 1 of a normal feed it is row 2 with its comma, and 2; or the End with the last chunk, and Complete; or
+-- nothing, and Stopped.
+abbrev pub IsStreamed : {S : Type 0} → Rules S → Mode → (life sent rows : ℕ) → Result ℕ StreamEnd
+    → Moment S → Moment S → Type 0
+IsStreamed rules mode life sent rows (Ok rows_then) before after =
+    (item : StreamItem) × rules.gives before.service (Some item) after.service × (is_end item ≡ false)
+    × (rows_then ≡ rows_after rows item)
+    × Appends before.written after.written (sent_text mode life rows item)
+IsStreamed rules mode life sent rows (Err end) before after =
+    (items : List StreamItem) × Streams rules sent before.service items end after.service
+    × Sends (is_broken end) before.written after.written (items_text mode life rows items)

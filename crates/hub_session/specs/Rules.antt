@@ -1,8 +1,10 @@
 -- own: what a service may do, and where a connection stands.
-use Rattle.std.specs.Prelude.{ℕ, List, Option}
+use Rattle.std.specs.Prelude.{◌≡◌, ℕ, List, Option}
 use Rattle.hub_http.specs.Stream.{Asked}
 use Rattle.hub_session.specs.declared.item.StreamItem.{StreamItem}
 use Rattle.hub_session.specs.declared.service.Answer.{Answer}
+use Rattle.hub_session.specs.declared.service.Polled.{Polled}
+use Rattle.hub_session.specs.declared.service.Polled.TheVariants.{Given, Waits}
 
 -- what a service may do, each from a state to the one that it leaves
 pub record Rules (S : Type 0) : Type 1 where
@@ -12,6 +14,12 @@ pub record Rules (S : Type 0) : Type 1 where
   pub gives : S → Option StreamItem → S → Type 0
   -- give back what its stream holds
   pub drops : S → S → Type 0
+
+-- Asked not to wait, it goes on with this item, or with none where the stream stops; or it has none yet, and
+-- stays as it is. A feed of which all was sent and to which nothing was written waits.
+abbrev pub GivesOrWaits : {S : Type 0} → Rules S → S → Polled → S → Type 0
+GivesOrWaits rules s (Given given) t = rules.gives s given t
+GivesOrWaits rules s Waits t = t ≡ s
 
 -- a moment of a connection: the state of its service, and the bytes that were written, where they are told
 pub record Moment (S : Type 0) : Type 0 where

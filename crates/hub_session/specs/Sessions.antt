@@ -5,6 +5,8 @@ use Rattle.std.specs.List.{flat_map}
 use Rattle.std.specs.Io.KnownBytes.{Appends}
 use Rattle.hub_model.specs.declared.feeds.Mode.{Mode}
 use Rattle.hub_http.specs.Counts.{last_count, Sends}
+use Rattle.hub_http.specs.Chunks.{text_chunks}
+use Rattle.hub_http.specs.Items.{feed_head}
 use Rattle.hub_http.specs.Texts.{head_text, chunked_line, reply_text}
 use Rattle.hub_http.specs.declared.reply.Reply.{Reply}
 use Rattle.hub_http.specs.declared.fault.HttpFault.{HttpFault}
@@ -12,6 +14,8 @@ use Rattle.hub_http.specs.Stream.{Asked, Spells, Faults}
 use Rattle.hub_session.specs.declared.item.StreamItem.{StreamItem}
 use Rattle.hub_session.specs.declared.service.Answer.{Answer}
 use Rattle.hub_session.specs.declared.service.Answer.TheVariants.{Whole, Stream}
+use Rattle.hub_session.specs.declared.answering.Begun.{Begun}
+use Rattle.hub_session.specs.declared.answering.Begun.TheVariants.{Answered, Streaming}
 use Rattle.hub_session.specs.declared.closing.StreamEnd.{StreamEnd}
 use Rattle.hub_session.specs.declared.closing.StreamEnd.TheVariants as stream
 use Rattle.hub_session.specs.declared.closing.Closing.{Closing}
@@ -31,6 +35,10 @@ pub record Exchange : Type 0 where
 -- the answer has a head alone
 abbrev pub is_head : Asked → Bool
 is_head asked = bytes_eq asked.method (codes "HEAD")
+
+-- what a stream writes before its items: the head of its answer, and the chunk that begins its text
+abbrev pub stream_head : (close : Bool) → Mode → List ℕ
+stream_head close mode = head_text 200 chunked_line close ++ text_chunks (feed_head mode)
 
 -- the text of an answer
 abbrev pub answer_text : Answer → Bool → Bool → List StreamItem → List ℕ
@@ -76,8 +84,8 @@ pub data Goes {S : Type 0} (rules : Rules S) (x : Exchange) (s : S) (next : Opti
   head_broken : (mode : Mode) (life : ℕ) → x.answer ≡ Stream mode life → x.items ≡ [] → rules.drops s t
       → next ≡ Some Broken → Goes rules x s next t
 
--- from s the service may answer the request of the exchange so and, once that is sent, stand at t; and then the
--- session closes so, or goes on
+-- from s the service may answer the request of the exchange so and, once that is sent, stand at t; and then
+-- the session closes so, or goes on
 pub record Answers {S : Type 0} (rules : Rules S) (s : S) (x : Exchange) (next : Option Closing) (t : S)
     : Type 0 where
   pub mid : S
@@ -128,6 +136,21 @@ pub data Session {S : Type 0} (rules : Rules S) : Standing S → List Exchange �
   gives_up : {now : Standing S} {ending : Ending S} → last_count ≤ now.served → ending.closing ≡ Exhausted
       → ending.text ≡ [] → ending.service ≡ now.service → Session rules now [] ending
 
+-- a session stands there
+abbrev pub standing : {S : Type 0} → ℕ → List ℕ → S → Standing S
+standing served bytes service = record { served = served; bytes = bytes; service = service }
+
+-- From where it stood a session has had these exchanges, gone on behind each of them, and stands there then.
+-- Over two requests it has had no exchange, that of the first, or both.
+pub data HasServed {S : Type 0} (rules : Rules S) : Standing S → List Exchange → Standing S → Type 0 where
+  -- no request was answered
+  stands : {now : Standing S} → HasServed rules now [] now
+  -- a request was answered, and then the others
+  goes_on : {now later : Standing S} {x : Exchange} {xs : List Exchange} (rest : List ℕ) (mid : S)
+      → Spells now.bytes x.asked rest → Answers rules now.service x None mid
+      → HasServed rules (record { served = now.served + 1; bytes = rest; service = mid }) xs later
+      → HasServed rules now (x ∷ xs) later
+
 -- writing to the other side failed
 abbrev pub is_broken : Closing → Bool
 is_broken Finished = false
@@ -164,6 +187,14 @@ pub record HasAnswer {S : Type 0} (rules : Rules S) (asked : Asked) (next : Opti
   pub asked_is : exchange.asked ≡ asked
   pub goes : Answers rules before.service exchange next after.service
   pub written : Sends (breaks next) before.written after.written (exchange_text exchange)
+
+-- The answer to this request was begun: all of it was written, and then the session closes so, or goes on; or
+-- it is a stream in this mode, of the life of this number, and all was written that stands before its items.
+abbrev pub HasBegun : {S : Type 0} → Rules S → Asked → Begun → Moment S → Moment S → Type 0
+HasBegun rules asked (Answered next) before after = HasAnswer rules asked next before after
+HasBegun rules asked (Streaming mode life) before after =
+    rules.answers before.service asked (Stream mode life) after.service × (is_head asked ≡ false)
+    × Appends before.written after.written (stream_head asked.close mode)
 
 -- the bytes begin with a request, which was answered, and those behind it are left
 pub record IsAnswered {S : Type 0} (rules : Rules S) (bytes : List ℕ) (next : Option Closing)

@@ -1,11 +1,11 @@
 //! Streams to a writer.
-ghost use Rattle.std.specs.Prelude.{◌≡◌, ◌<◌, ◌≤◌, ◌+◌, ◌^◌, is_err, OnErr, IsErrOf};
+ghost use Rattle.std.specs.Prelude.{◌≡◌, ◌<◌, ◌≤◌, ◌+◌, ◌^◌, ℕ, is_err, IfOk, OnErr, IsErrOf};
 ghost use Rattle.std.specs.Io.KnownBytes.{Keeps};
 ghost use Rattle.hub_http.specs.Counts.{GaveUp, Rose, Sends};
 ghost use Rattle.hub_http.specs.Items.{feed_head};
 ghost use Rattle.hub_http.specs.Chunks.{Writes, text_chunks};
 ghost use Rattle.hub_session.specs.Items.{rows_after};
-ghost use Rattle.hub_session.specs.Feeds.{feed_text, items_text, sent_text, behind_item, GivesBack, IsFed, last_chunk};
+ghost use Rattle.hub_session.specs.Feeds.{feed_text, items_text, sent_text, behind_item, GivesBack, IsFed, IsStreamed, last_chunk};
 ghost use Rattle.hub_session.specs.Rules.{moment};
 
 use crate::closing::StreamEnd;
@@ -126,8 +126,67 @@ fn give_back<S: Service>(service: &mut S, item: &StreamItem)
     }
 }
 
+/// A stream that is being sent.
+#[derive(Clone, Copy, Debug)]
+pub(crate) struct Sending {
+    pub(crate) mode: Mode,
+    /// The number of the life that its sequences are of.
+    pub(crate) life: u64,
+    /// How many rows were sent.
+    pub(crate) rows: u64,
+}
+
+/// Sends what the service gave of its stream, and answers how many rows are sent then, or how the stream
+/// ended. What was written of a stream that is cut is flushed, and what it holds is given back.
+pub(crate) fn send_given<W: Output, S: Service>(
+    chunks: &mut ChunkWriter,
+    writer: &mut W,
+    service: &mut S,
+    sending: Sending,
+    given: Option<StreamItem>,
+) -> Result<u64, StreamEnd>
+    requires { sending.rows + 1 < 2 ^ 64 }
+    ensures sent { (from : S) (count : ℕ) → S.rules.gives from given service.old
+        → IsStreamed S.rules sending.mode sending.life count sending.rows result
+        (moment from (W.written writer.old)) (moment service.new (W.written writer.new)) }
+    ensures bound { IfOk result (λ rows. rows ≤ sending.rows + 1) }
+    ensures monotone { W.fault_count writer.old ≤ W.fault_count writer.new }
+    ensures failures_monotone { W.failure_count writer.old ≤ W.failure_count writer.new }
+    ensures fault { IsErrOf result StreamEnd.Broken → Rose (W.fault_count writer.old) (W.fault_count writer.new) }
+    ensures tried { IsErrOf result StreamEnd.Broken → GaveUp (W.failure_count writer.old)
+        (W.failure_count writer.new) (W.fault_count writer.old) (W.fault_count writer.new) }
+{
+    let Some(item) = given else {
+        flush_cut(writer);
+        service.drop_stream();
+        return Err(StreamEnd::Stopped);
+    };
+    let text = ItemText {
+        item: &item,
+        mode: sending.mode,
+        life: sending.life,
+        rows: sending.rows,
+    };
+    match send_item(chunks, writer, service, &text) {
+        Ok(()) => {}
+        Err(ChunkFault::NoMemory) => {
+            flush_cut(writer);
+            give_back(service, &item);
+            return Err(StreamEnd::NoMemory);
+        }
+        Err(ChunkFault::IoFault) => {
+            give_back(service, &item);
+            return Err(StreamEnd::Broken);
+        }
+    }
+    if item.is_end() {
+        return Err(StreamEnd::Complete);
+    }
+    Ok(rows_after(sending.rows, &item))
+}
+
 /// Sends the items of the stream that the service answered last.
-fn send_items<W: Output, S: Service>(
+pub(crate) fn send_items<W: Output, S: Service>(
     alloc: Global,
     writer: &mut W,
     service: &mut S,
@@ -145,36 +204,31 @@ fn send_items<W: Output, S: Service>(
     let mut chunks = ChunkWriter::new(alloc);
     let mut rows = 0;
     for _ in 0..u64::MAX {
-        let Some(item) = service.item() else {
-            flush_cut(writer);
-            service.drop_stream();
-            return StreamEnd::Stopped;
-        };
-        let text = ItemText {
-            item: &item,
-            mode,
-            life,
-            rows,
-        };
-        match send_item(&mut chunks, writer, service, &text) {
-            Ok(()) => {}
-            Err(ChunkFault::NoMemory) => {
-                flush_cut(writer);
-                give_back(service, &item);
-                return StreamEnd::NoMemory;
-            }
-            Err(ChunkFault::IoFault) => {
-                give_back(service, &item);
-                return StreamEnd::Broken;
-            }
+        let given = service.item();
+        let sending = Sending { mode, life, rows };
+        match send_given(&mut chunks, writer, service, sending, given) {
+            Ok(sent) => rows = sent,
+            Err(end) => return end,
         }
-        if item.is_end() {
-            return StreamEnd::Complete;
-        }
-        rows = rows_after(rows, &item);
     }
     service.drop_stream();
     StreamEnd::Exhausted
+}
+
+/// Writes the chunk at the head of a stream.
+pub(crate) fn begin_items<W: Output, S: Service>(
+    writer: &mut W,
+    service: &S,
+    mode: Mode,
+) -> Result<(), IoFault>
+    ensures sent { Sends (is_err result) (W.written writer.old) (W.written writer.new) (text_chunks (feed_head mode)) }
+    ensures monotone { W.fault_count writer.old ≤ W.fault_count writer.new }
+    ensures failures_monotone { W.failure_count writer.old ≤ W.failure_count writer.new }
+    ensures fault { OnErr result (Rose (W.fault_count writer.old) (W.fault_count writer.new)) }
+    ensures tried { OnErr result (GaveUp (W.failure_count writer.old) (W.failure_count writer.new)
+        (W.fault_count writer.old) (W.fault_count writer.new)) }
+{
+    send_ahead(writer, service, head_chunk(mode).as_bytes())
 }
 
 /// Sends the stream that the service answered last, of the life of this number, behind the head of
@@ -200,7 +254,7 @@ pub fn stream_feed<W: Output, S: Service>(
     ensures tried { result ≡ StreamEnd.Broken → GaveUp (W.failure_count writer.old)
         (W.failure_count writer.new) (W.fault_count writer.old) (W.fault_count writer.new) }
 {
-    match send_ahead(writer, service, head_chunk(mode).as_bytes()) {
+    match begin_items(writer, service, mode) {
         Ok(()) => send_items(alloc, writer, service, mode, life),
         Err(_) => {
             service.drop_stream();

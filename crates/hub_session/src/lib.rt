@@ -1,16 +1,19 @@
 //! Sessions: the requests that bytes spell, answered by a service, one after the other.
 #![tactic(auto)]
 
+mod answering;
 mod closing;
 mod feed;
 mod item;
+mod machine;
 mod parts;
 mod reply;
 mod service;
-mod session;
+mod serving;
 
 pub use closing::{Closing, StreamEnd};
 pub use feed::stream_feed;
 pub use item::StreamItem;
-pub use service::{Answer, Service};
-pub use session::{serve, serve_one};
+pub use machine::{Session, Step};
+pub use service::{Answer, Polled, Service};
+pub use serving::{serve, serve_one};

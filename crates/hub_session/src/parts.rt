@@ -6,7 +6,7 @@ ghost use Rattle.hub_http.specs.Texts.{close_line, head_text, length_line, phras
 ghost use Rattle.hub_session.specs.Replies.{body_in, parts_text, status_in};
 
 use http::StatusCode;
-use hub_http::{IoFault, Output, Refusal, Reply, send, write_all};
+use hub_http::{IoFault, Output, Refusal, Reply, send, write_all, write_vec};
 use itoa::Buffer;
 
 fn phrase(status: StatusCode) -> &'static str
@@ -112,9 +112,9 @@ fn framing(reply: &Reply) -> (StatusCode, usize)
     }
 }
 
-/// Writes the body of an answer.
-fn write_body<W: Output>(writer: &mut W, reply: &Reply) -> Result<(), IoFault>
-    ensures sent { Sends (is_err result) (W.written writer.old) (W.written writer.new) (body_in reply.now) }
+/// Writes the body of an answer, which the writer may keep.
+fn write_body<W: Output>(writer: &mut W, reply: Reply) -> Result<(), IoFault>
+    ensures sent { Sends (is_err result) (W.written writer.old) (W.written writer.new) (body_in reply) }
     ensures monotone { W.fault_count writer.old ≤ W.fault_count writer.new }
     ensures failures_monotone { W.failure_count writer.old ≤ W.failure_count writer.new }
     ensures fault { OnErr result (Rose (W.fault_count writer.old) (W.fault_count writer.new)) }
@@ -122,8 +122,8 @@ fn write_body<W: Output>(writer: &mut W, reply: &Reply) -> Result<(), IoFault>
         (W.fault_count writer.old) (W.fault_count writer.new)) }
 {
     match reply {
-        Reply::Done { body, .. } => write_all(writer, body.as_slice()),
-        Reply::Refused(refusal) => write_refusal(writer, *refusal),
+        Reply::Done { body, .. } => write_vec(writer, body),
+        Reply::Refused(refusal) => write_refusal(writer, refusal),
     }
 }
 
@@ -131,18 +131,18 @@ fn write_body<W: Output>(writer: &mut W, reply: &Reply) -> Result<(), IoFault>
 /// head, some ten, and for the body.
 pub(crate) fn send_in_parts<W: Output>(
     writer: &mut W,
-    reply: &Reply,
+    reply: Reply,
     head_only: bool,
     close: bool,
 ) -> Result<(), IoFault>
-    ensures sent { Sends (is_err result) (W.written writer.old) (W.written writer.new) (reply_text reply.now head_only close) }
+    ensures sent { Sends (is_err result) (W.written writer.old) (W.written writer.new) (reply_text reply head_only close) }
     ensures monotone { W.fault_count writer.old ≤ W.fault_count writer.new }
     ensures failures_monotone { W.failure_count writer.old ≤ W.failure_count writer.new }
     ensures fault { OnErr result (Rose (W.fault_count writer.old) (W.fault_count writer.new)) }
     ensures tried { OnErr result (GaveUp (W.failure_count writer.old) (W.failure_count writer.new)
         (W.fault_count writer.old) (W.fault_count writer.new)) }
 {
-    let (status, len) = framing(reply);
+    let (status, len) = framing(&reply);
     write_head(writer, status, len, close)?;
     if !head_only {
         write_body(writer, reply)?;

@@ -5,7 +5,7 @@ ghost use Rattle.hub_http.specs.Texts.{reply_text};
 ghost use Rattle.hub_session.specs.Replies.{fault_text};
 
 use crate::parts::send_in_parts;
-use hub_http::{HttpFault, IoFault, Output, Reply, no_memory_text, reply_bytes, send};
+use hub_http::{HttpFault, IoFault, Output, Reply, no_memory_text, reply_bytes, send, write_vec};
 use std::alloc::Global;
 
 /// The reply to a fault of reading a request, empty where it has none. It needs no memory.
@@ -33,24 +33,37 @@ pub(crate) fn fault_text(fault: HttpFault) -> &'static str
     }
 }
 
-/// Writes a whole answer and flushes it: by one write, mostly, of the answer's length, or in parts where
-/// there is no memory for the whole, so that no answer is lost behind what its request did.
-pub(crate) fn send_reply<W: Output>(
-    alloc: Global,
-    writer: &mut W,
-    reply: &Reply,
-    head_only: bool,
-    close: bool,
-) -> Result<(), IoFault>
-    ensures sent { Sends (is_err result) (W.written writer.old) (W.written writer.new) (reply_text reply.now head_only close) }
+/// Writes a vector's bytes, which the writer may keep, and flushes them.
+fn send_vec<W: Output>(writer: &mut W, bytes: Vec<u8>) -> Result<(), IoFault>
+    ensures sent { Sends (is_err result) (W.written writer.old) (W.written writer.new) bytes.items }
     ensures monotone { W.fault_count writer.old ≤ W.fault_count writer.new }
     ensures failures_monotone { W.failure_count writer.old ≤ W.failure_count writer.new }
     ensures fault { OnErr result (Rose (W.fault_count writer.old) (W.fault_count writer.new)) }
     ensures tried { OnErr result (GaveUp (W.failure_count writer.old) (W.failure_count writer.new)
         (W.fault_count writer.old) (W.fault_count writer.new)) }
 {
-    match reply_bytes(alloc, reply, head_only, close) {
-        Ok(bytes) => send(writer, bytes.as_slice()),
+    write_vec(writer, bytes)?;
+    send(writer, b"")
+}
+
+/// Writes a whole answer and flushes it: by one write, mostly, of the answer's length, or in parts where
+/// there is no memory for the whole, so that no answer is lost behind what its request did.
+pub(crate) fn send_reply<W: Output>(
+    alloc: Global,
+    writer: &mut W,
+    reply: Reply,
+    head_only: bool,
+    close: bool,
+) -> Result<(), IoFault>
+    ensures sent { Sends (is_err result) (W.written writer.old) (W.written writer.new) (reply_text reply head_only close) }
+    ensures monotone { W.fault_count writer.old ≤ W.fault_count writer.new }
+    ensures failures_monotone { W.failure_count writer.old ≤ W.failure_count writer.new }
+    ensures fault { OnErr result (Rose (W.fault_count writer.old) (W.fault_count writer.new)) }
+    ensures tried { OnErr result (GaveUp (W.failure_count writer.old) (W.failure_count writer.new)
+        (W.fault_count writer.old) (W.fault_count writer.new)) }
+{
+    match reply_bytes(alloc, &reply, head_only, close) {
+        Ok(bytes) => send_vec(writer, bytes),
         Err(_) => send_in_parts(writer, reply, head_only, close),
     }
 }

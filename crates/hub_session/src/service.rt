@@ -1,6 +1,6 @@
 //! What answers requests.
 ghost use Rattle.hub_http.specs.Stream.{asked_by};
-ghost use Rattle.hub_session.specs.Rules.{Rules};
+ghost use Rattle.hub_session.specs.Rules.{GivesOrWaits, Rules};
 
 use crate::item::StreamItem;
 use hub_http::{Reply, Request};
@@ -14,6 +14,15 @@ pub enum Answer {
     /// A feed of changes or of updates, with the number of the life that its sequences are of: its items
     /// come one by one, by `item`.
     Stream(Mode, u64),
+}
+
+/// What there is of a stream that is asked not to wait.
+#[derive(Debug, Drop)]
+pub enum Polled {
+    /// Its next item, `None` where the stream stops.
+    Given(Option<StreamItem>),
+    /// It has none yet.
+    Waits,
 }
 
 /// What answers requests.
@@ -34,6 +43,14 @@ pub trait Service {
     /// out of memory. It may wait for one; after an End it is not called.
     fn item(&mut self) -> Option<StreamItem>
         ensures { rules.gives self.old result self.new };
+
+    /// The next item of the stream that was answered last, or `Waits` where there is none yet. A
+    /// service that can't tell may wait for one, as this body does. After an End it is not called.
+    fn poll_item(&mut self) -> Polled
+        ensures { GivesOrWaits rules self.old result self.new }
+    {
+        Polled::Given(self.item())
+    }
 
     /// The stream that was answered last is not sent on: what it holds is given back. After the End
     /// of a stream it is not called.

@@ -8,6 +8,8 @@ mod flush_tests;
 #[cfg(test)]
 mod interruption_tests;
 #[cfg(test)]
+mod machine_tests;
+#[cfg(test)]
 mod made_again;
 #[cfg(test)]
 mod reader_tests;

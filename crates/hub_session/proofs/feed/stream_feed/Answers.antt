@@ -1,18 +1,15 @@
-use Rattle.std.proofs.Common.{◌∙◌, subst}
-use Rattle.std.specs.Io.KnownBytes.{Appends}
-use Rattle.hub_http.specs.Counts.{AppendsFront}
 use Rattle.hub_http.proofs.CountLemmas.{gave_up_since}
 use Rattle.hub_session.proofs.FeedLemmas.{fed_behind, fed_broken}
 use Rattle.hub_session.proofs.feed.stream_feed.Goals as goal
 
 pub returns-in-Ok-clause-fed : goal.returns-in-Ok-clause-fed
 returns-in-Ok-clause-fed g c =
-    fed_behind g.S.Service.rules c.args.mode c.args.life _ _ _ _ (subst (Appends _ _) (c.as_bytes.ensures.value ∙ c.head_chunk.ensures) c.in-Ok.ensures.sent) c.send_items.ensures.fed
+    fed_behind g.S.Service.rules c.args.mode c.args.life _ _ _ _ c.in-Ok.ensures.sent c.send_items.ensures.fed
 
 pub returns-in-Err-clause-fed : goal.returns-in-Err-clause-fed
 returns-in-Err-clause-fed g c =
-    fed_broken g.S.Service.rules c.args.mode c.args.life _ _ c.drop_stream.ensures (subst (AppendsFront _ _) (c.as_bytes.ensures.value ∙ c.head_chunk.ensures) c.in-Err.ensures.sent)
+    fed_broken g.S.Service.rules c.args.mode c.args.life _ _ c.drop_stream.ensures c.in-Err.ensures.sent
 
 pub returns-in-Ok-clause-tried : goal.returns-in-Ok-clause-tried
 returns-in-Ok-clause-tried g c = λ broken.
-    gave_up_since _ _ _ _ _ _ c.send_ahead.ensures.failures_monotone c.send_ahead.ensures.monotone (c.send_items.ensures.tried broken)
+    gave_up_since _ _ _ _ _ _ c.begin_items.ensures.failures_monotone c.begin_items.ensures.monotone (c.send_items.ensures.tried broken)

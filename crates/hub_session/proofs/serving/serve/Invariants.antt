@@ -2,7 +2,7 @@ use Rattle.std.proofs.Common.{◌≡◌, ◌≤◌, IfSome}
 use Rattle.hub_http.specs.Words.{to_come, IsOpen, HasEnded}
 use Rattle.hub_session.specs.Rules.{moment}
 use Rattle.hub_session.proofs.SessionLemmas.{Served}
-use Rattle.hub_session.proofs.session.serve.Given as goal
+use Rattle.hub_session.proofs.serving.serve.Given as goal
 
 abbrev pub invariant-loop : goal.invariant-loop
 invariant-loop g l =

@@ -2,7 +2,7 @@ use Rattle.std.proofs.Common.{arith, refl, sym, subst, ◌∙◌}
 use Rattle.hub_http.specs.Words.{HasEnded}
 use Rattle.hub_http.proofs.CountLemmas.{gave_up_since}
 use Rattle.hub_session.proofs.SessionLemmas.{served_none, serves_more, serves_so, serves_all}
-use Rattle.hub_session.proofs.session.serve.Goals as goal
+use Rattle.hub_session.proofs.serving.serve.Goals as goal
 
 pub returns-in-Some-clause-session : goal.returns-in-Some-clause-session
 returns-in-Some-clause-session g c = λ is_open.

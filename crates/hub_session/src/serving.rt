@@ -2,86 +2,15 @@
 ghost use Rattle.std.specs.Prelude.{◌≡◌, ◌≤◌, IfSome, Some};
 ghost use Rattle.hub_http.specs.Counts.{GaveUp, Rose};
 ghost use Rattle.hub_http.specs.declared.fault.HttpFault.{HttpFault};
-ghost use Rattle.hub_http.specs.Stream.{asked_by};
 ghost use Rattle.hub_http.specs.Words.{to_come, IsOpen, HasEnded, failures_of, faults_of};
 ghost use Rattle.hub_session.specs.Rules.{moment};
-ghost use Rattle.hub_session.specs.Sessions.{HasAnswer, IsServed, IsSession, after_answer, after_stream, is_head};
+ghost use Rattle.hub_session.specs.Sessions.{IsServed, IsSession};
 
-use crate::closing::{Closing, StreamEnd};
-use crate::feed::stream_feed;
-use crate::reply::{fault_text, send_reply};
-use crate::service::{Answer, Service};
-use hub_http::{HttpFault, Input, Output, Request, Requests, send, stream_head_text, write_all};
-use hub_model::Mode;
+use crate::answering::{answer_fault, answer_one};
+use crate::closing::Closing;
+use crate::service::Service;
+use hub_http::{HttpFault, Input, Output, Requests};
 use std::alloc::Global;
-
-fn after_answer(close: bool) -> Option<Closing>
-    ensures { result ≡ after_answer close }
-{
-    if close {
-        Some(Closing::Requested)
-    } else {
-        None
-    }
-}
-
-fn after_stream(close: bool, end: StreamEnd) -> Option<Closing>
-    ensures { result ≡ after_stream close end }
-{
-    match end {
-        StreamEnd::Complete => after_answer(close),
-        StreamEnd::Stopped | StreamEnd::NoMemory => Some(Closing::Cut),
-        StreamEnd::Broken => Some(Closing::Broken),
-        StreamEnd::Exhausted => Some(Closing::Exhausted),
-    }
-}
-
-fn is_head(request: &Request) -> bool
-    ensures { result ≡ is_head (asked_by request.now) }
-{
-    request.method.as_slice() == b"HEAD".as_slice()
-}
-
-/// Answers a request, and says why the session closes behind it, if it does.
-fn answer_one<W: Output, S: Service>(
-    alloc: Global,
-    writer: &mut W,
-    service: &mut S,
-    request: &Request,
-) -> Option<Closing>
-    ensures told { HasAnswer S.rules (asked_by request.now) result
-        (moment service.old (W.written writer.old)) (moment service.new (W.written writer.new)) }
-    ensures monotone { W.fault_count writer.old ≤ W.fault_count writer.new }
-    ensures failures_monotone { W.failure_count writer.old ≤ W.failure_count writer.new }
-    ensures fault { result ≡ Some Closing.Broken → Rose (W.fault_count writer.old) (W.fault_count writer.new) }
-    ensures tried { result ≡ Some Closing.Broken → GaveUp (W.failure_count writer.old)
-        (W.failure_count writer.new) (W.fault_count writer.old) (W.fault_count writer.new) }
-{
-    let head_only = is_head(request);
-    let close = request.close;
-    match service.answer(request) {
-        Answer::Whole(reply) => match send_reply(alloc, writer, &reply, head_only, close) {
-            Ok(()) => after_answer(close),
-            Err(_) => Some(Closing::Broken),
-        },
-        Answer::Stream(mode, life) => {
-            if head_only {
-                service.drop_stream();
-                return match send(writer, stream_head_text(close).as_bytes()) {
-                    Ok(()) => after_answer(close),
-                    Err(_) => Some(Closing::Broken),
-                };
-            }
-            match write_all(writer, stream_head_text(close).as_bytes()) {
-                Ok(()) => after_stream(close, stream_feed(alloc, writer, service, mode, life)),
-                Err(_) => {
-                    service.drop_stream();
-                    Some(Closing::Broken)
-                }
-            }
-        }
-    }
-}
 
 /// Serves the next request, and says why the session closes, if it does. A fault of reading a
 /// request is answered where it has a reply, and closes the session. Requests that ended close it
@@ -115,10 +44,7 @@ pub fn serve_one<R: Input, W: Output, S: Service>(
         Ok(Some(request)) => answer_one(alloc, writer, service, &request),
         Ok(None) => Some(Closing::Finished),
         Err(HttpFault::Ended) => Some(Closing::Fault(HttpFault::Ended)),
-        Err(fault) => match send(writer, fault_text(fault).as_bytes()) {
-            Ok(()) => Some(Closing::Fault(fault)),
-            Err(_) => Some(Closing::Broken),
-        },
+        Err(fault) => Some(answer_fault(writer, fault)),
     }
 }
 

@@ -1,0 +1,190 @@
+//! Texts that are to go.
+ghost use Rattle.std.specs.Prelude.{◌≡◌, ◌<◌, ◌≤◌, ◌++◌, ℕ, List, [], length, drop, Some, IfOk, IsTrue, IsFalse, OnOk, OnErr};
+ghost use Rattle.hub_http.specs.Boxes.{Hands, pending_in, faults_in};
+
+use crate::output::{Output, is_interrupted};
+use crate::pending::Pending;
+use crate::tally::bump;
+use std::alloc::{AllocError, Global};
+use std::io;
+use std::io::{ErrorKind, Write};
+
+/// The room that an outbox keeps: for the head of an answer, and for each text of hub_http that needs no
+/// memory.
+const ROOM: usize = 256;
+
+/// What came of handing bytes to a writer.
+#[derive(Clone, Copy, Debug, PartialEq, Eq)]
+pub enum Handed {
+    /// So many were taken.
+    Took(usize),
+    /// None, and the same call may be made again: at once, or when the writer has room.
+    Again,
+    /// None, and the other side can't be written to.
+    Refused,
+}
+
+/// Texts that are to go, in order. As a writer it never waits, and faults only where it finds no memory:
+/// then it takes nothing. While it is empty it takes `ROOM` bytes without memory, and any one vector.
+#[derive(Drop)]
+pub struct Outbox {
+    alloc: Global,
+    /// What was copied here.
+    texts: Pending,
+    /// A vector that was moved here, and what came behind it.
+    moved: Pending,
+    faults: u64,
+    failures: u64,
+}
+
+/// Whether a write that answered this error may be made again, now or later.
+fn may_try_again(error: &io::Error) -> bool {
+    is_interrupted(error) || matches!(error.kind(), ErrorKind::WouldBlock)
+}
+
+impl Outbox {
+    /// Nothing is to go.
+    pub fn new(alloc: Global) -> Result<Outbox, AllocError>
+        ensures empty { IfOk result (λ outbox. pending_in outbox ≡ []) }
+        ensures faults { IfOk result (λ outbox. faults_in outbox ≡ 0) }
+    {
+        Ok(Outbox {
+            alloc,
+            texts: Pending::new(Vec::with_capacity(alloc, ROOM)?),
+            moved: Pending::new(Vec::new(alloc)),
+            faults: 0,
+            failures: 0,
+        })
+    }
+
+    /// Whether nothing is to go.
+    pub fn is_empty(&self) -> bool
+        ensures empty { IsTrue result → pending_in self.now ≡ [] }
+        ensures some { IsFalse result → 0 < length (pending_in self.now) }
+    {
+        self.texts.is_empty() && self.moved.is_empty()
+    }
+
+    /// Whether at least so many bytes are to go.
+    pub fn holds(&self, count: usize) -> bool
+        ensures many { IsTrue result → count ≤ length (pending_in self.now) }
+        ensures few { IsFalse result → length (pending_in self.now) < count }
+    {
+        let texts = self.texts.len();
+        texts >= count || self.moved.len() >= count - texts
+    }
+
+    /// A front of what is to go, which is empty only where nothing is.
+    pub fn front(&self) -> &[u8]
+        ensures front { (behind : List ℕ) × (pending_in self.now ≡ result.now ++ behind) }
+        ensures some { 0 < length (pending_in self.now) → 0 < length result.now }
+    {
+        if self.texts.is_empty() {
+            self.moved.as_slice()
+        } else {
+            self.texts.as_slice()
+        }
+    }
+
+    /// So many bytes went, from the front.
+    pub fn sent(&mut self, count: usize)
+        requires { count ≤ length (pending_in self.old) }
+        ensures rest { pending_in self.new ≡ drop count (pending_in self.old) }
+        ensures faults { faults_in self.new ≡ faults_in self.old }
+    {
+        let texts = self.texts.len();
+        if count <= texts {
+            self.texts.take(count);
+        } else {
+            self.texts.take(texts);
+            self.moved.take(count - texts);
+        }
+        self.release();
+    }
+
+    /// Gives back room that is not needed.
+    fn release(&mut self)
+        ensures same { pending_in self.new ≡ pending_in self.old }
+        ensures faults { faults_in self.new ≡ faults_in self.old }
+    {
+        self.texts.release(self.alloc, ROOM);
+        if self.moved.is_empty() {
+            self.moved = Pending::new(Vec::new(self.alloc));
+        }
+    }
+
+    /// Hands a front of what is to go to a writer, by one write, and keeps what it did not take.
+    pub fn send_to<W: Write>(&mut self, writer: &mut W) -> Handed
+        ensures handed { Hands result (pending_in self.old) (pending_in self.new)
+            (W.contents writer.old) (W.contents writer.new) }
+        ensures faults { faults_in self.new ≡ faults_in self.old }
+    {
+        let front = self.front();
+        if front.is_empty() {
+            return Handed::Took(0);
+        }
+        match writer.write(front) {
+            Ok(0) => Handed::Refused,
+            Ok(n) => {
+                self.sent(n);
+                Handed::Took(n)
+            }
+            Err(e) => {
+                if may_try_again(&e) {
+                    Handed::Again
+                } else {
+                    Handed::Refused
+                }
+            }
+        }
+    }
+
+    /// Puts bytes behind those that are to go. An error changes nothing.
+    fn put(&mut self, bytes: &[u8]) -> Result<(), AllocError>
+        ensures ok { OnOk result (pending_in self.new ≡ pending_in self.old ++ bytes.now) }
+        ensures err { OnErr result (pending_in self.new ≡ pending_in self.old) }
+        ensures faults { self.new.faults ≡ self.old.faults }
+        ensures failures { self.new.failures ≡ self.old.failures }
+    {
+        if self.moved.is_empty() {
+            self.texts.put(bytes)
+        } else {
+            self.moved.put(bytes)
+        }
+    }
+}
+
+impl Output for Outbox {
+    ghost written = { λ o. Some (pending_in o) };
+
+    ghost fault_count = { λ o. o.faults };
+
+    ghost failure_count = { λ o. o.failures };
+
+    fn write(&mut self, buf: &[u8]) -> io::Result<usize> {
+        match self.put(buf) {
+            Ok(()) => Ok(buf.len()),
+            Err(_) => {
+                self.faults = bump(self.faults);
+                self.failures = bump(self.failures);
+                Err(io::Error::from(ErrorKind::OutOfMemory))
+            }
+        }
+    }
+
+    fn keep(&mut self, bytes: Vec<u8>) -> Option<Vec<u8>> {
+        if !self.moved.is_empty() {
+            return Some(bytes);
+        }
+        self.moved = Pending::new(bytes);
+        None
+    }
+
+    fn flush(&mut self) -> io::Result<()> {
+        Ok(())
+    }
+
+    fn faults(&self) -> u64 {
+        self.faults
+    }
+}

@@ -1,0 +1,120 @@
+use crate::made_again::again;
+use crate::{Handed, Outbox, Output, write_vec};
+use std::alloc::{AllocError, Global};
+use std::io;
+use std::io::{ErrorKind, Write};
+use std::test::Fail;
+
+/// Takes at most two bytes at every second write, and has no room at the others.
+#[derive(Drop)]
+struct Slow {
+    held: Vec<u8>,
+    full: bool,
+}
+
+impl Slow {
+    /// Room for so many bytes, of which none is taken.
+    fn new(alloc: Global, room: usize) -> Result<Slow, AllocError> {
+        let held = again(|| Vec::with_capacity(alloc, room))?;
+        Ok(Slow { held, full: false })
+    }
+}
+
+impl Write for Slow {
+    fn write(&mut self, buf: &[u8]) -> io::Result<usize> {
+        self.full = !self.full;
+        if self.full {
+            return Err(io::Error::from(ErrorKind::WouldBlock));
+        }
+        let n = buf.len().min(2);
+        self.held.extend_from_slice(&buf[..n])?;
+        Ok(n)
+    }
+
+    fn flush(&mut self) -> io::Result<()> {
+        Ok(())
+    }
+}
+
+/// An outbox to which two texts were written, with a vector between them.
+fn three_texts(alloc: Global) -> Result<Outbox, Fail> {
+    let vector = again(|| Vec::from_slice(alloc, b"defgh"))?;
+    let mut outbox = again(|| Outbox::new(alloc))?;
+    outbox.write(b"abc")?;
+    write_vec(&mut outbox, vector)?;
+    if outbox.write(b"ij").is_err() {
+        outbox.write(b"ij")?;
+    }
+    Ok(outbox)
+}
+
+/// What a slow writer takes is each byte once, in order, and nothing is left.
+#[test]
+fn two_bytes_a_write(rt: HostRuntime) -> Result<(), Fail> {
+    let mut outbox = three_texts(rt.alloc())?;
+    let mut writer = Slow::new(rt.alloc(), 10)?;
+    let mut refusals = 0;
+    for _ in 0..12 {
+        match outbox.send_to(&mut writer) {
+            Handed::Took(_) => {}
+            Handed::Again => refusals += 1,
+            Handed::Refused => return Err(Fail::new("refused")),
+        }
+    }
+    assert!(rt; outbox.is_empty());
+    assert_eq!(rt; refusals, 6);
+    assert_eq!(rt; writer.held.as_slice(), b"abcdefghij".as_slice());
+    Ok(())
+}
+
+/// A text that goes behind a part of another keeps its place.
+#[test]
+fn parts_and_texts_by_turns(rt: HostRuntime) -> Result<(), Fail> {
+    let mut outbox = three_texts(rt.alloc())?;
+    assert_eq!(rt; outbox.front(), b"abc".as_slice());
+    outbox.sent(2);
+    assert_eq!(rt; outbox.front(), b"c".as_slice());
+    outbox.sent(3);
+    assert_eq!(rt; outbox.front(), b"fghij".as_slice());
+    assert!(rt; outbox.holds(5) && !outbox.holds(6));
+    outbox.sent(5);
+    assert!(rt; outbox.is_empty());
+    Ok(())
+}
+
+/// Takes nothing: its other side is gone, or it is full for good.
+#[derive(Drop)]
+struct Gone {
+    kind: Option<ErrorKind>,
+}
+
+impl Write for Gone {
+    fn write(&mut self, _buf: &[u8]) -> io::Result<usize> {
+        match self.kind {
+            Some(kind) => Err(io::Error::from(kind)),
+            None => Ok(0),
+        }
+    }
+
+    fn flush(&mut self) -> io::Result<()> {
+        Ok(())
+    }
+}
+
+/// What a writer refuses stays in the outbox.
+#[test]
+fn refused_bytes_stay(rt: HostRuntime) -> Result<(), Fail> {
+    let table = [
+        (Some(ErrorKind::BrokenPipe), Handed::Refused),
+        (Some(ErrorKind::Interrupted), Handed::Again),
+        (Some(ErrorKind::WouldBlock), Handed::Again),
+        (None, Handed::Refused),
+    ];
+    for (kind, expected) in table {
+        let mut outbox = three_texts(rt.alloc())?;
+        let handed = outbox.send_to(&mut Gone { kind });
+        assert_eq!(rt; handed, expected);
+        assert!(rt; outbox.holds(10) && !outbox.holds(11));
+    }
+    Ok(())
+}

@@ -1,0 +1,194 @@
+-- own: sessions that are stepped: what one shows, what one step does, and what all of its steps did.
+use Rattle.std.specs.Prelude.{◌≡◌, ⊤, ◌<◌, ◌≤◌, ◌⊎◌, ℕ, List, [], ◌++◌, Bool, true, false, length, Option, Some}
+use Rattle.std.specs.Prelude.{None, Ok, Err}
+use Rattle.std.specs.List.{flat_map}
+use Rattle.hub_http.specs.Boxes.{came_to, is_over, pending_in}
+use Rattle.hub_http.specs.Offers.{IsShort}
+use Rattle.hub_http.specs.Stream.{Asked, Spells}
+use Rattle.hub_http.specs.declared.fault.HttpFault.TheVariants as fault
+use Rattle.hub_session.specs.declared.item.StreamItem.{StreamItem}
+use Rattle.hub_session.specs.declared.service.Answer.TheVariants.{Stream}
+use Rattle.hub_session.specs.declared.closing.Closing.{Closing}
+use Rattle.hub_session.specs.declared.closing.Closing.TheVariants.{Finished, Fault}
+use Rattle.hub_session.specs.declared.closing.StreamEnd.{StreamEnd}
+use Rattle.hub_session.specs.declared.feed.Sending.{Sending}
+use Rattle.hub_session.specs.declared.machine.Place.{Place}
+use Rattle.hub_session.specs.declared.machine.Place.TheVariants.{Between, Within, Closed}
+use Rattle.hub_session.specs.declared.machine.Session.{Session}
+use Rattle.hub_session.specs.declared.machine.Step.{Step}
+use Rattle.hub_session.specs.declared.machine.Step.TheVariants.{Served, WantsInput, WantsRoom, WantsNews, Ended}
+use Rattle.hub_session.specs.Feeds.{HasStreamed, IsStreamed, items_text, rows_behind}
+use Rattle.hub_session.specs.Rules.{Rules, Moment, moment}
+use Rattle.hub_session.specs.Sessions.{Exchange, HasAnswer, HasServed, IsServed, IsSession, after_stream}
+use Rattle.hub_session.specs.Sessions.{exchange_text, is_head, standing, stream_head}
+
+-- what a session shows
+pub record Seen (S : Type 0) : Type 0 where
+  pub place : Place
+  pub bytes : List ℕ  -- those that came and that no request took
+  pub over : Bool  -- no more of them come
+  pub service : S
+  pub pending : List ℕ  -- those that are to go
+
+-- what this session shows
+abbrev pub seen : {S : Type 0} → Session S → Seen S
+seen session = record {
+  place = session.place;
+  bytes = came_to session.inbox;
+  over = is_over session.inbox;
+  service = session.service;
+  pending = pending_in session.outbox;
+}
+
+-- the moment of its connection, for which what is to go is written
+abbrev pub moment_of : {S : Type 0} → Seen S → Moment S
+moment_of x = moment x.service (Some x.pending)
+
+-- a session closes for the end of its input
+abbrev pub IsOfEnd : Option Closing → Type 0
+IsOfEnd (Some Finished) = ⊤
+IsOfEnd (Some (Fault fault.Ended)) = ⊤
+IsOfEnd next = ⊥
+
+-- ---- one step
+
+-- where a session is behind an answer, where it closes so or goes on
+abbrev pub place_behind : Option Closing → Place
+place_behind None = Between
+place_behind (Some closing) = Closed closing
+
+-- what came of the step that ended an answer
+abbrev pub step_behind : Option Closing → Step
+step_behind None = Served
+step_behind (Some closing) = Ended closing
+
+-- what a session shows before and behind the answer to this request, and what came of it
+pub data HasAnswered {S : Type 0} (rules : Rules S) (asked : Asked) (old : Seen S) (step : Step) (new : Seen S)
+    : Type 0 where
+  -- it was answered whole
+  whole : (next : Option Closing) → new.place ≡ place_behind next → step ≡ step_behind next
+      → new.over ≡ old.over → new.bytes ≡ old.bytes
+      → HasAnswer rules asked next (moment_of old) (moment_of new) → HasAnswered rules asked old step new
+  -- it was answered by a stream, and what stands before its items is to go
+  begins : (sending : Sending) → new.place ≡ Within sending asked.close → step ≡ Served
+      → new.over ≡ old.over → new.bytes ≡ old.bytes → sending.rows ≡ 0
+      → rules.answers old.service asked (Stream sending.mode sending.life) new.service → is_head asked ≡ false
+      → new.pending ≡ old.pending ++ stream_head asked.close sending.mode → HasAnswered rules asked old step new
+
+-- What a session shows before and behind a step that did something. Over a GET of a document it is one
+-- exchange. Over one of a feed of two rows it is the head of the stream, then each row, and then its End.
+pub data Steps {S : Type 0} (rules : Rules S) (old new : Seen S) (step : Step) : Type 0 where
+  -- the next request was answered whole, or there was none, and the session closed or goes on
+  exchanges : (next : Option Closing) → old.place ≡ Between → new.place ≡ place_behind next
+      → step ≡ step_behind next → new.over ≡ old.over → (IsOfEnd next → old.over ≡ true)
+      → IsServed rules old.bytes next (Some new.bytes) (moment_of old) (moment_of new)
+      → Steps rules old new step
+  -- the next request was answered by a stream, and its head is to go
+  begins : (asked : Asked) (sending : Sending) → old.place ≡ Between → new.place ≡ Within sending asked.close
+      → step ≡ Served → new.over ≡ old.over → sending.rows ≡ 0 → Spells old.bytes asked new.bytes
+      → rules.answers old.service asked (Stream sending.mode sending.life) new.service → is_head asked ≡ false
+      → new.pending ≡ old.pending ++ stream_head asked.close sending.mode
+      → Steps rules old new step
+  -- a row or a beat of the stream is to go
+  sends : (sending : Sending) (rows : ℕ) (close : Bool) → old.place ≡ Within sending close
+      → new.place ≡ Within (record sending { rows = rows }) close → step ≡ Served → new.over ≡ old.over
+      → new.bytes ≡ old.bytes
+      → IsStreamed rules sending.mode sending.life 0 sending.rows (Ok rows) (moment_of old) (moment_of new)
+      → Steps rules old new step
+  -- the stream ended, whatever number of items it had, and the session closed or goes on
+  ends : (sending : Sending) (close : Bool) (end : StreamEnd) → old.place ≡ Within sending close
+      → new.place ≡ place_behind (after_stream close end) → step ≡ step_behind (after_stream close end)
+      → new.over ≡ old.over → new.bytes ≡ old.bytes
+      → ((sent : ℕ) → sending.rows ≤ sent → IsStreamed rules sending.mode sending.life sent sending.rows (Err end)
+      (moment_of old) (moment_of new))
+      → Steps rules old new step
+
+-- What a session shows before and behind a step, and what came of it. Where it waits nothing changed: for
+-- input where the bytes that came are no whole request and more may come, and for room where there are some
+-- to go.
+abbrev pub IsStepped : {S : Type 0} → Rules S → Seen S → Step → Seen S → Type 0
+IsStepped rules old Served new = Steps rules old new Served
+IsStepped rules old (Ended closing) new =
+    Steps rules old new (Ended closing) ⊎ ((old.place ≡ Closed closing) × (new ≡ old))
+IsStepped rules old WantsInput new =
+    (old.place ≡ Between) × (old.over ≡ false) × IsShort old.bytes × (new ≡ old)
+IsStepped rules old WantsRoom new = (0 < length old.pending) × (new ≡ old)
+IsStepped rules old WantsNews new =
+    (sending : Sending) × (close : Bool) × (old.place ≡ Within sending close) × (new ≡ old)
+
+-- ---- all steps
+
+-- a session as its surroundings see it: its service as it began, the bytes that were offered, in order, and
+-- those that left its outbox, in order
+pub record Run (S : Type 0) : Type 0 where
+  pub start : S
+  pub offered : List ℕ
+  pub gone : List ℕ
+
+-- a session begins
+abbrev pub new_run : {S : Type 0} → S → Run S
+new_run start = record { start = start; offered = []; gone = [] }
+
+-- more bytes were offered
+abbrev pub with_offered : {S : Type 0} → Run S → List ℕ → Run S
+with_offered run bytes = record { start = run.start; offered = run.offered ++ bytes; gone = run.gone }
+
+-- more bytes left the outbox
+abbrev pub with_gone : {S : Type 0} → Run S → List ℕ → Run S
+with_gone run bytes = record { start = run.start; offered = run.offered; gone = run.gone ++ bytes }
+
+-- From such a service and over such bytes a session has had whole exchanges, whose texts it wrote, one after
+-- the other. These bytes are left, and so is its service.
+pub record IsBetween {S : Type 0} (rules : Rules S) (start : S) (offered bytes : List ℕ) (service : S)
+    (text : List ℕ) : Type 0 where
+  pub exchanges : List Exchange
+  pub count : ℕ
+  pub served : HasServed rules (standing 0 offered start) exchanges (standing count bytes service)
+  pub text_is : text ≡ flat_map exchange_text exchanges
+
+-- It has had whole exchanges, and took a request that was answered by a stream, of which these items were
+-- sent: it wrote the texts of the exchanges, and then what stands before the items and their texts.
+pub record IsWithin {S : Type 0} (rules : Rules S) (start : S) (offered bytes : List ℕ) (service : S)
+    (text : List ℕ) (sending : Sending) (close : Bool) : Type 0 where
+  pub exchanges : List Exchange
+  pub count : ℕ
+  pub front : List ℕ  -- the bytes that were left before the request
+  pub mid : S  -- its service then
+  pub begun : S  -- and as it answered
+  pub asked : Asked
+  pub items : List StreamItem
+  pub sent : ℕ  -- how many
+  pub served : HasServed rules (standing 0 offered start) exchanges (standing count front mid)
+  pub spelt : Spells front asked bytes
+  pub answered : rules.answers mid asked (Stream sending.mode sending.life) begun
+  pub has_body : is_head asked ≡ false
+  pub close_is : close ≡ asked.close
+  pub streamed : HasStreamed rules 0 begun items sent service
+  pub rows_are : sending.rows ≡ rows_behind 0 items
+  pub text_is : text ≡ flat_map exchange_text exchanges
+      ++ (stream_head asked.close sending.mode ++ items_text sending.mode sending.life 0 items)
+
+-- What a session did from its beginning to this place, where it wrote this text: whole exchanges; these and
+-- the beginning of a stream; or where it closed, all of a session over the bytes that were offered. Only
+-- where the input is over it closed for its end.
+abbrev pub HasDone : {S : Type 0} → Rules S → (start : S) → (offered bytes : List ℕ) → (over : Bool)
+    → (service : S) → (text : List ℕ) → Place → Type 0
+HasDone rules start offered bytes over service text Between = IsBetween rules start offered bytes service text
+HasDone rules start offered bytes over service text (Within sending close) =
+    IsWithin rules start offered bytes service text sending close
+HasDone rules start offered bytes over service text (Closed closing) =
+    IsSession rules offered closing (moment start (Some [])) (moment service (Some text))
+    × (IsOfEnd (Some closing) → over ≡ true)
+
+-- A session has run so: what left its outbox and what is to go are, in order, what it wrote. Where two
+-- requests were offered and answered, and the first answer went with 3 bytes of the second, the others are to
+-- go.
+abbrev pub HasRun : {S : Type 0} → Rules S → Run S → Seen S → Type 0
+HasRun rules run x =
+    HasDone rules run.start run.offered x.bytes x.over x.service (run.gone ++ x.pending) x.place
+
+-- why a session at this place closed, if it did
+abbrev pub closing_at : Place → Option Closing
+closing_at Between = None
+closing_at (Within sending close) = None
+closing_at (Closed closing) = Some closing

@@ -1,0 +1,151 @@
+//! Answers to single requests.
+ghost use Rattle.std.specs.Prelude.{◌≡◌, ◌≤◌, ◌⊎◌, Some, is_err, OnErr};
+ghost use Rattle.hub_http.specs.Counts.{GaveUp, Rose, Sends};
+ghost use Rattle.hub_http.specs.Stream.{asked_by};
+ghost use Rattle.hub_session.specs.Replies.{fault_text};
+ghost use Rattle.hub_session.specs.Rules.{moment};
+ghost use Rattle.hub_session.specs.Sessions.{HasAnswer, HasBegun, after_answer, after_stream, is_broken, is_head, stream_head};
+
+use crate::closing::{Closing, StreamEnd};
+use crate::feed::{begin_items, send_items};
+use crate::reply::{fault_text, send_reply};
+use crate::service::{Answer, Service};
+use hub_http::{HttpFault, IoFault, Output, Request, send, stream_head_text, write_all};
+use hub_model::Mode;
+use std::alloc::Global;
+
+/// How an answer was begun.
+#[derive(Clone, Copy, Debug)]
+pub(crate) enum Begun {
+    /// All of it was written, and then the session closes so, or goes on.
+    Answered(Option<Closing>),
+    /// A stream in this mode, of the life of this number: what stands before its items was written.
+    Streaming(Mode, u64),
+}
+
+fn after_answer(close: bool) -> Option<Closing>
+    ensures { result ≡ after_answer close }
+{
+    if close {
+        Some(Closing::Requested)
+    } else {
+        None
+    }
+}
+
+pub(crate) fn after_stream(close: bool, end: StreamEnd) -> Option<Closing>
+    ensures { result ≡ after_stream close end }
+{
+    match end {
+        StreamEnd::Complete => after_answer(close),
+        StreamEnd::Stopped | StreamEnd::NoMemory => Some(Closing::Cut),
+        StreamEnd::Broken => Some(Closing::Broken),
+        StreamEnd::Exhausted => Some(Closing::Exhausted),
+    }
+}
+
+fn is_head(request: &Request) -> bool
+    ensures { result ≡ is_head (asked_by request.now) }
+{
+    request.method.as_slice() == b"HEAD".as_slice()
+}
+
+/// Writes what stands before the items of a stream.
+fn write_head<W: Output, S: Service>(
+    writer: &mut W,
+    service: &S,
+    mode: Mode,
+    close: bool,
+) -> Result<(), IoFault>
+    ensures sent { Sends (is_err result) (W.written writer.old) (W.written writer.new) (stream_head close mode) }
+    ensures monotone { W.fault_count writer.old ≤ W.fault_count writer.new }
+    ensures failures_monotone { W.failure_count writer.old ≤ W.failure_count writer.new }
+    ensures fault { OnErr result (Rose (W.fault_count writer.old) (W.fault_count writer.new)) }
+    ensures tried { OnErr result (GaveUp (W.failure_count writer.old) (W.failure_count writer.new)
+        (W.fault_count writer.old) (W.fault_count writer.new)) }
+{
+    write_all(writer, stream_head_text(close).as_bytes())?;
+    begin_items(writer, service, mode)
+}
+
+/// Answers a request up to the items of a stream.
+pub(crate) fn begin_answer<W: Output, S: Service>(
+    alloc: Global,
+    writer: &mut W,
+    service: &mut S,
+    request: &Request,
+) -> Begun
+    ensures told { HasBegun S.rules (asked_by request.now) result
+        (moment service.old (W.written writer.old)) (moment service.new (W.written writer.new)) }
+    ensures monotone { W.fault_count writer.old ≤ W.fault_count writer.new }
+    ensures failures_monotone { W.failure_count writer.old ≤ W.failure_count writer.new }
+    ensures fault { result ≡ Begun.Answered (Some Closing.Broken)
+        → Rose (W.fault_count writer.old) (W.fault_count writer.new) }
+    ensures tried { result ≡ Begun.Answered (Some Closing.Broken) → GaveUp (W.failure_count writer.old)
+        (W.failure_count writer.new) (W.fault_count writer.old) (W.fault_count writer.new) }
+{
+    let head_only = is_head(request);
+    let close = request.close;
+    match service.answer(request) {
+        Answer::Whole(reply) => match send_reply(alloc, writer, reply, head_only, close) {
+            Ok(()) => Begun::Answered(after_answer(close)),
+            Err(_) => Begun::Answered(Some(Closing::Broken)),
+        },
+        Answer::Stream(mode, life) => {
+            if head_only {
+                service.drop_stream();
+                return match send(writer, stream_head_text(close).as_bytes()) {
+                    Ok(()) => Begun::Answered(after_answer(close)),
+                    Err(_) => Begun::Answered(Some(Closing::Broken)),
+                };
+            }
+            match write_head(writer, service, mode, close) {
+                Ok(()) => Begun::Streaming(mode, life),
+                Err(_) => {
+                    service.drop_stream();
+                    Begun::Answered(Some(Closing::Broken))
+                }
+            }
+        }
+    }
+}
+
+/// Answers a request, and says why the session closes behind it, if it does.
+pub(crate) fn answer_one<W: Output, S: Service>(
+    alloc: Global,
+    writer: &mut W,
+    service: &mut S,
+    request: &Request,
+) -> Option<Closing>
+    ensures told { HasAnswer S.rules (asked_by request.now) result
+        (moment service.old (W.written writer.old)) (moment service.new (W.written writer.new)) }
+    ensures monotone { W.fault_count writer.old ≤ W.fault_count writer.new }
+    ensures failures_monotone { W.failure_count writer.old ≤ W.failure_count writer.new }
+    ensures fault { result ≡ Some Closing.Broken → Rose (W.fault_count writer.old) (W.fault_count writer.new) }
+    ensures tried { result ≡ Some Closing.Broken → GaveUp (W.failure_count writer.old)
+        (W.failure_count writer.new) (W.fault_count writer.old) (W.fault_count writer.new) }
+{
+    match begin_answer(alloc, writer, service, request) {
+        Begun::Answered(next) => next,
+        Begun::Streaming(mode, life) => {
+            let end = send_items(alloc, writer, service, mode, life);
+            after_stream(request.close, end)
+        }
+    }
+}
+
+/// Answers a fault of reading a request where it has a reply, and says why the session closes.
+pub(crate) fn answer_fault<W: Output>(writer: &mut W, fault: HttpFault) -> Closing
+    ensures sent { Sends (is_broken result) (W.written writer.old) (W.written writer.new) (fault_text fault) }
+    ensures closes { (result ≡ Closing.Fault fault) ⊎ (result ≡ Closing.Broken) }
+    ensures monotone { W.fault_count writer.old ≤ W.fault_count writer.new }
+    ensures failures_monotone { W.failure_count writer.old ≤ W.failure_count writer.new }
+    ensures broken { result ≡ Closing.Broken → Rose (W.fault_count writer.old) (W.fault_count writer.new) }
+    ensures tried { result ≡ Closing.Broken → GaveUp (W.failure_count writer.old)
+        (W.failure_count writer.new) (W.fault_count writer.old) (W.fault_count writer.new) }
+{
+    match send(writer, fault_text(fault).as_bytes()) {
+        Ok(()) => Closing::Fault(fault),
+        Err(_) => Closing::Broken,
+    }
+}

@@ -1,0 +1,286 @@
+//! Sessions that are stepped.
+ghost use Rattle.std.specs.Prelude.{◌≡◌, ◌<◌, ◌≤◌, ◌+◌, ◌^◌, ◌++◌, ℕ, List, [], false, true, length, take, drop, IsSome, OnOk, OnErr};
+ghost use Rattle.hub_http.specs.Boxes.{Hands, handed_of, pending_in};
+ghost use Rattle.hub_http.specs.Stream.{asked_by};
+ghost use Rattle.hub_session.specs.Runs.{HasAnswered, HasRun, IsStepped, Run, Seen, closing_at, new_run, place_behind, seen, step_behind, with_gone, with_offered};
+
+use crate::answering::{Begun, after_stream, answer_fault, begin_answer};
+use crate::closing::{Closing, StreamEnd};
+use crate::feed::{Sending, begin_items, send_given};
+use crate::item::StreamItem;
+use crate::service::{Polled, Service};
+use hub_http::{ChunkWriter, Handed, HttpFault, Inbox, Next, Outbox, Request};
+use std::alloc::{AllocError, Global};
+use std::io::Write;
+
+/// How many bytes of a stream may be to go, before it wants room.
+const FULL: usize = 65_536;
+
+/// What came of a step.
+#[derive(Clone, Copy, Debug, PartialEq, Eq)]
+pub enum Step {
+    /// An answer, the head of a stream, or an item of it is to go: step again.
+    Served,
+    /// No request is whole: offer bytes, or say that no more come.
+    WantsInput,
+    /// What is to go has to go first.
+    WantsRoom,
+    /// The stream has no item yet: step again when there may be one.
+    WantsNews,
+    /// The session closed. What is to go still has to.
+    Ended(Closing),
+}
+
+/// Where a session is.
+#[derive(Clone, Copy, Debug)]
+pub(crate) enum Place {
+    /// Between two requests.
+    Between,
+    /// A stream is sent, and behind it the session closes or goes on.
+    Within(Sending, bool),
+    /// It closed so.
+    Closed(Closing),
+}
+
+/// A session over bytes that are offered, whoever runs it: each call returns at once, and none calls the
+/// system. What it writes lies in its outbox until it went.
+#[derive(Drop)]
+pub struct Session<S> {
+    alloc: Global,
+    inbox: Inbox,
+    outbox: Outbox,
+    /// What the items of a stream are made with.
+    chunks: ChunkWriter,
+    service: S,
+    place: Place,
+}
+
+impl<S: Service> Session<S> {
+    /// A session to which nothing was offered, with an empty outbox.
+    pub fn new(alloc: Global, outbox: Outbox, service: S) -> Session<S>
+        requires { pending_in outbox ≡ [] }
+        ensures run { HasRun S.rules (new_run service) (seen result) }
+        ensures open { (seen result).over ≡ false }
+    {
+        Session {
+            alloc,
+            inbox: Inbox::new(alloc),
+            outbox,
+            chunks: ChunkWriter::new(alloc),
+            service,
+            place: Place::Between,
+        }
+    }
+
+    /// The session closes behind an answer, or is between two requests.
+    fn go_behind(&mut self, next: Option<Closing>) -> Step
+        ensures step { result ≡ step_behind next }
+        ensures shown { seen self.new ≡ record (seen self.old) { place = place_behind next } }
+    {
+        match next {
+            None => {
+                self.place = Place::Between;
+                Step::Served
+            }
+            Some(closing) => {
+                self.place = Place::Closed(closing);
+                Step::Ended(closing)
+            }
+        }
+    }
+
+    /// Answers a request, up to the items of a stream.
+    fn answer(&mut self, request: &Request) -> Step
+        ensures { HasAnswered S.rules (asked_by request.now) (seen self.old) result (seen self.new) }
+    {
+        match begin_answer(self.alloc, &mut self.outbox, &mut self.service, request) {
+            Begun::Answered(next) => self.go_behind(next),
+            Begun::Streaming(mode, life) => {
+                let sending = Sending {
+                    mode,
+                    life,
+                    rows: 0,
+                };
+                self.place = Place::Within(sending, request.close);
+                Step::Served
+            }
+        }
+    }
+
+    /// Answers the next request, where it is whole.
+    fn take_request(&mut self) -> Step
+        requires { (seen self.old).place ≡ Place.Between }
+        ensures { IsStepped S.rules (seen self.old) result (seen self.new) }
+    {
+        if !self.outbox.is_empty() {
+            return Step::WantsRoom;
+        }
+        match self.inbox.next() {
+            Ok(Next::Whole(request)) => self.answer(&request),
+            Ok(Next::NotYet) => Step::WantsInput,
+            Ok(Next::End) => self.go_behind(Some(Closing::Finished)),
+            Err(HttpFault::Ended) => self.go_behind(Some(Closing::Fault(HttpFault::Ended))),
+            Err(fault) => {
+                let closing = answer_fault(&mut self.outbox, fault);
+                self.go_behind(Some(closing))
+            }
+        }
+    }
+
+    /// Sends what the service gave of its stream.
+    fn put_item(&mut self, sending: Sending, close: bool, given: Option<StreamItem>) -> Step
+        requires place { (seen self.old).place ≡ Place.Within sending close }
+        requires rows { sending.rows + 1 < 2 ^ 64 }
+        ensures { (from : S) → S.rules.gives from given (seen self.old).service
+            → IsStepped S.rules (record (seen self.old) { service = from }) result (seen self.new) }
+    {
+        match send_given(
+            &mut self.chunks,
+            &mut self.outbox,
+            &mut self.service,
+            sending,
+            given,
+        ) {
+            Ok(rows) => {
+                self.place = Place::Within(Sending { rows, ..sending }, close);
+                Step::Served
+            }
+            Err(end) => self.go_behind(after_stream(close, end)),
+        }
+    }
+
+    /// Sends the next item of a stream, where there is one.
+    fn send_item(&mut self, sending: Sending, close: bool) -> Step
+        requires { (seen self.old).place ≡ Place.Within sending close }
+        ensures { IsStepped S.rules (seen self.old) result (seen self.new) }
+    {
+        if self.outbox.holds(FULL) {
+            return Step::WantsRoom;
+        }
+        if sending.rows == u64::MAX {
+            self.service.drop_stream();
+            return self.go_behind(after_stream(close, StreamEnd::Exhausted));
+        }
+        match self.service.poll_item() {
+            Polled::Given(given) => self.put_item(sending, close, given),
+            Polled::Waits => {
+                self.chunks = ChunkWriter::new(self.alloc);
+                Step::WantsNews
+            }
+        }
+    }
+
+    /// Goes on where the session is.
+    fn go_on(&mut self) -> Step
+        ensures { IsStepped S.rules (seen self.old) result (seen self.new) }
+    {
+        match self.place {
+            Place::Between => self.take_request(),
+            Place::Within(sending, close) => self.send_item(sending, close),
+            Place::Closed(closing) => Step::Ended(closing),
+        }
+    }
+
+    /// Goes on by one exchange, by the head of a stream, or by one item of it. A request is answered only
+    /// where nothing is to go: then its answer needs no memory of the outbox but for the items of a stream.
+    /// Where the outbox finds none all the same, the session closes as `Broken`, with a front of what was
+    /// written last.
+    pub fn step(&mut self) -> Step
+        ensures told { IsStepped S.rules (seen self.old) result (seen self.new) }
+        ensures run { (run : Run S) → HasRun S.rules run (seen self.old) → HasRun S.rules run (seen self.new) }
+    {
+        self.go_on()
+    }
+
+    /// Whether no more bytes come.
+    pub fn is_over(&self) -> bool
+        ensures { result ≡ (seen self.now).over }
+    {
+        self.inbox.is_over()
+    }
+
+    /// Offers bytes that came, behind those that were offered before. An error changes nothing: they may
+    /// be offered again.
+    pub fn offer(&mut self, bytes: &[u8]) -> Result<(), AllocError>
+        requires { (seen self.old).over ≡ false }
+        ensures ok { OnOk result (seen self.new
+            ≡ record (seen self.old) { bytes = (seen self.old).bytes ++ bytes.now }) }
+        ensures run { OnOk result ((run : Run S) → HasRun S.rules run (seen self.old)
+            → HasRun S.rules (with_offered run bytes.now) (seen self.new)) }
+        ensures err { OnErr result (seen self.new ≡ seen self.old) }
+    {
+        self.inbox.offer(bytes)
+    }
+
+    /// Says that no more bytes come.
+    pub fn end(&mut self)
+        ensures shown { seen self.new ≡ record (seen self.old) { over = true } }
+        ensures run { (run : Run S) → HasRun S.rules run (seen self.old) → HasRun S.rules run (seen self.new) }
+    {
+        self.inbox.end();
+    }
+
+    /// A front of what is to go, which is empty only where nothing is.
+    pub fn front(&self) -> &[u8]
+        ensures front { (behind : List ℕ) × ((seen self.now).pending ≡ result.now ++ behind) }
+        ensures some { 0 < length (seen self.now).pending → 0 < length result.now }
+    {
+        self.outbox.front()
+    }
+
+    /// So many bytes went, from the front of what was to go.
+    pub fn sent(&mut self, count: usize)
+        requires { count ≤ length (seen self.old).pending }
+        ensures shown { seen self.new
+            ≡ record (seen self.old) { pending = drop count (seen self.old).pending } }
+        ensures run { (run : Run S) → HasRun S.rules run (seen self.old)
+            → HasRun S.rules (with_gone run (take count (seen self.old).pending)) (seen self.new) }
+    {
+        self.outbox.sent(count);
+    }
+
+    /// Hands a front of what is to go to a writer, by one write, and keeps what it did not take.
+    pub fn send_to<W: Write>(&mut self, writer: &mut W) -> Handed
+        ensures handed { Hands result (seen self.old).pending (seen self.new).pending
+            (W.contents writer.old) (W.contents writer.new) }
+        ensures shown { seen self.new
+            ≡ record (seen self.old) { pending = (seen self.new).pending } }
+        ensures run { (run : Run S) → HasRun S.rules run (seen self.old)
+            → HasRun S.rules (with_gone run (handed_of result (seen self.old).pending)) (seen self.new) }
+    {
+        self.outbox.send_to(writer)
+    }
+
+    /// The other side is gone: a session that did not close does so as `Broken`, and its service gets back
+    /// what a stream holds.
+    pub fn give_up(&mut self)
+        ensures closed { IsSome (closing_at (seen self.new).place) }
+        ensures run { (run : Run S) → HasRun S.rules run (seen self.old) → HasRun S.rules run (seen self.new) }
+    {
+        match self.place {
+            Place::Between => self.place = Place::Closed(Closing::Broken),
+            Place::Within(..) => {
+                self.service.drop_stream();
+                self.place = Place::Closed(Closing::Broken);
+            }
+            Place::Closed(_) => {}
+        }
+    }
+
+    /// Why the session closed, if it did.
+    pub fn closing(&self) -> Option<Closing>
+        ensures { result ≡ closing_at (seen self.now).place }
+    {
+        match self.place {
+            Place::Between | Place::Within(..) => None,
+            Place::Closed(closing) => Some(closing),
+        }
+    }
+
+    /// What answers its requests.
+    pub fn service(&self) -> &S
+        ensures { result.now ≡ (seen self.now).service }
+    {
+        &self.service
+    }
+}

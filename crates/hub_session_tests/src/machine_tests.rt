@@ -1,0 +1,242 @@
+//! Sessions that are stepped.
+
+use crate::cut::CutWriter;
+use crate::made_again::{Told, is_right};
+use crate::rows::{CREATED, EXCHANGES, Exchange, Rows, VERSION, answers, asks, two_rows};
+use hub_http::{Handed, HttpFault, Outbox, Request};
+use hub_session::{Answer, Closing, Polled, Service, Session, Step, StreamItem};
+use std::alloc::Global;
+use std::cell::Cell;
+use std::test::Fail;
+
+/// The most steps of a session of these tests.
+const STEPS: usize = 10_000;
+
+/// Rows that wait for news before each item. News come for one item each.
+#[derive(Drop)]
+struct Waiting<'a> {
+    rows: Rows,
+    has_news: &'a Cell<bool>,
+}
+
+impl Service for Waiting<'_> {
+    ghost rules = { record {
+      answers = λ _ _ _ _. Unit {0};
+      gives = λ _ _ _. Unit {0};
+      drops = λ _ _. Unit {0};
+    } };
+
+    fn answer(&mut self, request: &Request) -> Answer {
+        self.rows.answer(request)
+    }
+
+    fn is_ready(&self) -> bool {
+        true
+    }
+
+    fn item(&mut self) -> Option<StreamItem> {
+        self.rows.item()
+    }
+
+    fn poll_item(&mut self) -> Polled {
+        if self.has_news.replace(false) {
+            return Polled::Given(self.rows.item());
+        }
+        Polled::Waits
+    }
+
+    fn drop_stream(&mut self) {
+        self.rows.drop_stream();
+    }
+}
+
+/// How a session is driven.
+#[derive(Clone, Copy)]
+struct Driver<'a> {
+    /// The bytes that are offered, and how many at once.
+    input: &'a [u8],
+    size: usize,
+    /// The most bytes of a write.
+    most: usize,
+}
+
+/// Gives a session what it wants. None where it closed, or something is wrong.
+fn serve_want<S: Service>(
+    session: &mut Session<S>,
+    writer: &mut CutWriter,
+    rest: &mut &[u8],
+    size: usize,
+) -> Option<Step> {
+    let step = session.step();
+    match step {
+        Step::Served | Step::WantsNews | Step::Ended(_) => {}
+        Step::WantsRoom => {
+            if matches!(session.send_to(writer), Handed::Refused) {
+                return None;
+            }
+        }
+        Step::WantsInput => {
+            if session.is_over() {
+                return None;
+            }
+            let (front, behind) = rest.split_at(rest.len().min(size));
+            if front.is_empty() {
+                session.end();
+            } else if session.offer(front).is_ok() {
+                *rest = behind;
+            }
+        }
+    }
+    Some(step)
+}
+
+/// Sends all that a session has to send.
+fn drain<S: Service>(session: &mut Session<S>, writer: &mut CutWriter) {
+    for _ in 0..STEPS {
+        if session.front().is_empty() {
+            return;
+        }
+        session.send_to(writer);
+    }
+}
+
+/// What became of a session that is driven so, and how often it waited for news.
+fn driven(alloc: Global, driver: Driver<'_>) -> Option<(Told, usize)> {
+    let has_news = Cell::new(false);
+    let service = Waiting {
+        rows: two_rows(alloc),
+        has_news: &has_news,
+    };
+    let Ok(outbox) = Outbox::new(alloc) else {
+        return None;
+    };
+    let mut session = Session::new(alloc, outbox, service);
+    let mut writer = CutWriter::new(alloc, driver.most, usize::MAX);
+    let mut rest = driver.input;
+    let mut waits = 0usize;
+    for _ in 0..STEPS {
+        match serve_want(&mut session, &mut writer, &mut rest, driver.size)? {
+            Step::WantsNews => {
+                waits = waits.saturating_add(1);
+                has_news.set(true);
+            }
+            Step::Ended(_) => break,
+            Step::Served | Step::WantsInput | Step::WantsRoom => {}
+        }
+    }
+    drain(&mut session, &mut writer);
+    let told = Told {
+        closing: session.closing(),
+        output: writer.held,
+        counted: true,
+    };
+    Some((told, waits))
+}
+
+/// The same, and whether it waited so often. Without an outbox the session is one that was cut.
+fn told(alloc: Global, driver: Driver<'_>, expected: usize) -> Told {
+    match driven(alloc, driver) {
+        Some((told, waits)) => Told {
+            counted: waits == expected,
+            ..told
+        },
+        None => Told {
+            closing: Some(Closing::Cut),
+            output: Vec::new(alloc),
+            counted: false,
+        },
+    }
+}
+
+/// How many items the streams of the exchanges have.
+const ITEMS: usize = 10;
+
+/// Whatever the cut of its input and of its output, a session writes the same, and waits once for each item.
+#[test]
+fn cuts_change_no_byte(rt: HostRuntime) -> Result<(), Fail> {
+    let alloc = rt.alloc();
+    let input = asks(alloc, EXCHANGES)?;
+    let expected = answers(alloc, EXCHANGES)?;
+    let (input, expected) = (input.as_bytes(), expected.as_bytes());
+    let all = usize::MAX;
+    for (size, most) in [(1, 1), (1, all), (7, 3), (all, 1), (all, all)] {
+        let driver = Driver { input, size, most };
+        let end = Some(Closing::Finished);
+        let right = is_right(EXCHANGES, expected, end, move || told(alloc, driver, ITEMS));
+        assert!(rt; right, "{size} bytes an offer, {most} a write");
+    }
+    Ok(())
+}
+
+/// Wherever its input ends, a session answers the requests before and nothing else.
+#[test]
+fn inputs_that_end(rt: HostRuntime) -> Result<(), Fail> {
+    let alloc = rt.alloc();
+    let before = &EXCHANGES[..1];
+    let whole = asks(alloc, before)?.len();
+    let expected = answers(alloc, before)?;
+    let input = asks(alloc, &EXCHANGES[..2])?;
+    let (input, expected) = (input.as_bytes(), expected.as_bytes());
+    for count in whole..input.len() {
+        let end = if count == whole {
+            Closing::Finished
+        } else {
+            Closing::Fault(HttpFault::Ended)
+        };
+        let driver = Driver {
+            input: &input[..count],
+            size: 5,
+            most: usize::MAX,
+        };
+        let right = is_right(before, expected, Some(end), move || told(alloc, driver, 0));
+        assert!(rt; right, "ended behind {count}");
+    }
+    Ok(())
+}
+
+const CLOSES: &[Exchange] = &[
+    Exchange("PUT /d HTTP/1.1\r\n\r\n", &[CREATED]),
+    Exchange("GET / HTTP/1.0\r\n\r\n", &[VERSION]),
+];
+
+/// Behind the answer that closes a session no request is answered.
+#[test]
+fn closed_sessions_answer_nothing(rt: HostRuntime) -> Result<(), Fail> {
+    let alloc = rt.alloc();
+    let expected = answers(alloc, CLOSES)?;
+    let mut input = asks(alloc, CLOSES)?;
+    input.push_str("PUT /d HTTP/1.1\r\n\r\n")?;
+    let (input, expected) = (input.as_bytes(), expected.as_bytes());
+    for size in [1, usize::MAX] {
+        let driver = Driver {
+            input,
+            size,
+            most: 2,
+        };
+        let end = Some(Closing::Fault(HttpFault::Version));
+        let right = is_right(CLOSES, expected, end, move || told(alloc, driver, 0));
+        assert!(rt; right, "{size} bytes an offer");
+    }
+    Ok(())
+}
+
+/// A session that is given up while it sends a stream gives the stream back, once.
+#[test]
+fn a_stream_is_given_back(rt: HostRuntime) -> Result<(), Fail> {
+    let alloc = rt.alloc();
+    let Ok(outbox) = Outbox::new(alloc) else {
+        return Ok(());
+    };
+    let mut session = Session::new(alloc, outbox, two_rows(alloc));
+    if session.offer(b"GET /normal HTTP/1.1\r\n\r\n").is_err() {
+        return Ok(());
+    }
+    session.step();
+    session.give_up();
+    session.give_up();
+    if session.closing() == Some(Closing::Broken) {
+        assert_eq!(rt; session.service().dropped, 1);
+    }
+    assert!(rt; matches!(session.step(), Step::Ended(_)));
+    Ok(())
+}
