@@ -92,10 +92,14 @@ fn is_held<N: Wait>(
         return is_had(rt, alloc, hub, routes, exchange);
     }
     let (ask, _) = exchange;
-    match answer_of_standing(ask) {
-        Some(answer) => is_had(rt, alloc, hub, routes, (ask, answer)),
-        None => Ok(false),
+    let Some(answer) = answer_of_standing(ask) else {
+        return Ok(false);
+    };
+    if is_had(rt, alloc, hub, routes, (ask, answer))? {
+        return Ok(true);
     }
+    // Where a front of a batch stood, its note may have filled the log: the rest is told so, and stands.
+    is_had(rt, alloc, hub, routes, (ask, answer))
 }
 
 /// Whether these exchanges are had with a hub, one after the other.
