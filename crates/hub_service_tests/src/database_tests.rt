@@ -1,8 +1,10 @@
 //! Calls on a database that was deleted, and whose name still stands.
 
+use crate::hub_tests::answered;
+use crate::made_again::again;
 use hub_databases::Hub;
 use hub_document::Limits;
-use hub_http::{Refusal, Reply, Request, Requests, Tally};
+use hub_http::{Refusal, Reply};
 use hub_routes::Routes;
 use hub_service::{ByTurns, Connection};
 use hub_session::{Answer, Service};
@@ -12,33 +14,28 @@ use std::test::Fail;
 
 /// A call of each kind on the database `d`, each with the body `{}`.
 const CALLS: &[&str] = &[
-    "GET /d",
-    "GET /d/_changes",
-    "POST /d/_revs_diff",
-    "GET /d/a",
-    "PUT /d/a",
-    "DELETE /d/a",
-    "GET /d/_local/a",
-    "PUT /d/_local/a",
+    "GET /d HTTP/1.1\r\nContent-Length: 2\r\n\r\n{}",
+    "GET /d/_changes HTTP/1.1\r\nContent-Length: 2\r\n\r\n{}",
+    "POST /d/_revs_diff HTTP/1.1\r\nContent-Length: 2\r\n\r\n{}",
+    "GET /d/a HTTP/1.1\r\nContent-Length: 2\r\n\r\n{}",
+    "PUT /d/a HTTP/1.1\r\nContent-Length: 2\r\n\r\n{}",
+    "DELETE /d/a HTTP/1.1\r\nContent-Length: 2\r\n\r\n{}",
+    "GET /d/_local/a HTTP/1.1\r\nContent-Length: 2\r\n\r\n{}",
+    "PUT /d/_local/a HTTP/1.1\r\nContent-Length: 2\r\n\r\n{}",
 ];
 
-/// A request; None where it is none.
-fn request(alloc: Global, line: &str, body: &str) -> Option<Request> {
-    let len = body.len();
-    let text = format!(in alloc; "{line} HTTP/1.1\r\nContent-Length: {len}\r\n\r\n{body}").ok()?;
-    let mut requests = Requests::new(alloc, Tally::new(text.as_bytes()));
-    requests.next().ok()?
-}
-
-/// Whether a call is refused because the database is deleted; None where the text is no request.
+/// Whether a call is refused because the database is deleted, or is not.
 fn is_refused<N: Wait>(
     alloc: Global,
     connection: &mut Connection<'_, N, ByTurns<'_, N>>,
-    line: &str,
-) -> Option<bool> {
-    let answer = connection.answer(&request(alloc, line, "{}")?);
+    call: &str,
+    refused: bool,
+) -> bool {
+    let Some(answer) = answered(alloc, connection, call) else {
+        return false;
+    };
     connection.drop_stream();
-    Some(matches!(answer, Answer::Whole(Reply::Refused(Refusal::Deleted))))
+    matches!(answer, Answer::Whole(Reply::Refused(Refusal::Deleted))) == refused
 }
 
 /// Whether each kind of call is refused because the database is deleted, or none is.
@@ -47,26 +44,28 @@ fn are_refused<N: Wait>(
     connection: &mut Connection<'_, N, ByTurns<'_, N>>,
     refused: bool,
 ) -> bool {
-    CALLS.iter().all(|line| is_refused(alloc, connection, line) == Some(refused))
+    CALLS
+        .iter()
+        .all(|call| is_refused(alloc, connection, call, refused))
 }
+
+const BATCH: &str =
+    "POST /d/_bulk_docs HTTP/1.1\r\nContent-Length: 22\r\n\r\n{\"docs\":[{\"_id\":\"b\"}]}";
 
 const NOT_STORED: &str = concat!(
     r#"[{"id":"b","error":"not_found","reason":"Database does not exist."}]"#,
     "\n"
 );
 
-/// Whether a batch of one document is answered so.
-fn is_stored<N: Wait>(
+/// Whether a request is answered so.
+fn is_done<N: Wait>(
     alloc: Global,
     connection: &mut Connection<'_, N, ByTurns<'_, N>>,
+    text: &str,
     reply: &str,
 ) -> bool {
-    let body = r#"{"docs":[{"_id":"b"}]}"#;
-    let Some(request) = request(alloc, "POST /d/_bulk_docs", body) else {
-        return false;
-    };
-    match connection.answer(&request) {
-        Answer::Whole(Reply::Done { body, .. }) => body.as_slice() == reply.as_bytes(),
+    match answered(alloc, connection, text) {
+        Some(Answer::Whole(Reply::Done { body, .. })) => body.as_slice() == reply.as_bytes(),
         _ => false,
     }
 }
@@ -86,13 +85,20 @@ fn delete<N: Wait>(rt: &N, hub: &Hub) -> bool {
 #[test]
 fn a_deleted_database(rt: HostRuntime) -> Result<(), Fail> {
     let alloc = rt.alloc();
-    let hub = Hub::new(alloc, Limits::full())?;
-    let routes = Routes::new(alloc)?;
-    assert!(rt; hub.create(&rt, "d").is_ok());
+    let hub = again(move || Hub::new(alloc, Limits::full()))?;
+    let routes = again(move || Routes::new(alloc))?;
     let mut connection = Connection::new(&rt, alloc, &hub, &routes, ByTurns::new(&rt));
+    assert!(rt;
+        is_done(
+            alloc,
+            &mut connection,
+            "PUT /d HTTP/1.1\r\n\r\n",
+            "{\"ok\":true}\n"
+        )
+    );
     assert!(rt; are_refused(alloc, &mut connection, false));
     assert!(rt; delete(&rt, &hub));
     assert!(rt; are_refused(alloc, &mut connection, true));
-    assert!(rt; is_stored(alloc, &mut connection, NOT_STORED));
+    assert!(rt; is_done(alloc, &mut connection, BATCH, NOT_STORED));
     Ok(())
 }

@@ -1,17 +1,18 @@
 //! The hub over bytes: feeds of changes, one at a time.
 
+use crate::made_again::{again, told};
 use crate::session_tests::Answer::{Feed, Found, Head, Written};
 use crate::session_tests::Ask::{Batch, Body, Line};
-use crate::session_tests::{Exchange, MAKE, STORED, answers, asks, assert_session};
+use crate::session_tests::{Exchange, MAKE, STORED, assert_session};
+use crate::steps::ROOM;
+use crate::wire_tests::Narrow;
 use hub_databases::Hub;
 use hub_document::Limits;
-use hub_http::{Output, Requests, Tally};
+use hub_http::{Requests, Tally};
 use hub_routes::Routes;
 use hub_service::{ByTurns, Connection};
 use hub_session::{Closing, serve};
 use std::alloc::{AllocError, Global};
-use std::io;
-use std::io::Write;
 use std::process::Abort;
 use std::sync::Wait;
 use std::test::Fail;
@@ -304,101 +305,86 @@ fn heads_of_feeds(rt: HostRuntime) -> Result<(), Fail> {
     assert_feeds(&rt, rt.alloc(), HEADS)
 }
 
-/// Takes so many bytes, and then none.
-#[derive(Drop)]
-struct Narrow {
+/// The request for a database, and its answer.
+const MAKING: (&str, &str) = (
+    "PUT /d HTTP/1.1\r\n\r\n",
+    concat!(
+        "HTTP/1.1 201 Created\r\nContent-Type: application/json\r\nContent-Length: 12\r\n\r\n",
+        r#"{"ok":true}"#,
+        "\n"
+    ),
+);
+
+/// The request for its feed, and its answer.
+const ONE_FEED: (&str, &str) = ("GET /d/_changes HTTP/1.1\r\n\r\n", EMPTY);
+
+/// Whether a session over a request, whose writer has so much room, writes what it has room for of the
+/// answer. An error says that it met no memory.
+fn is_had<N: Wait>(
+    alloc: Global,
+    connection: &mut Connection<'_, N, ByTurns<'_, N>>,
+    exchange: (&str, &str),
     room: usize,
+) -> Result<bool, AllocError> {
+    let (asked, answer) = exchange;
+    let mut requests = Requests::new(alloc, Tally::new(asked.as_bytes()));
+    let mut writer = Tally::new(Narrow {
+        held: Vec::with_capacity(alloc, ROOM)?,
+        most: usize::MAX,
+        room,
+    });
+    let closing = serve(alloc, &mut requests, &mut writer, connection);
+    let output = writer.into_inner().held;
+    if room < answer.len() {
+        let front = &answer.as_bytes()[..room];
+        return told(output.as_slice(), closing, front, Closing::Broken);
+    }
+    told(
+        output.as_slice(),
+        closing,
+        answer.as_bytes(),
+        Closing::Finished,
+    )
 }
 
-impl Write for Narrow {
-    fn write(&mut self, buf: &[u8]) -> io::Result<usize> {
-        let n = buf.len().min(self.room);
-        self.room -= n;
-        Ok(n)
-    }
-
-    fn flush(&mut self) -> io::Result<()> {
-        Ok(())
-    }
-}
-
-/// Why a session over these bytes closes that writes here.
-fn closing<N: Wait, W: Output>(
+/// The same, made again where the session met no memory.
+fn is_held<N: Wait>(
     alloc: Global,
     connection: &mut Connection<'_, N, ByTurns<'_, N>>,
-    input: &[u8],
-    writer: &mut W,
-) -> Closing {
-    let mut requests = Requests::new(alloc, Tally::new(input));
-    serve(alloc, &mut requests, writer, connection)
-}
-
-/// Why a session over these bytes closes whose writer has so much room.
-fn closed<N: Wait>(
-    alloc: Global,
-    connection: &mut Connection<'_, N, ByTurns<'_, N>>,
-    input: &[u8],
+    exchange: (&str, &str),
     room: usize,
-) -> Closing {
-    let mut writer = Tally::new(Narrow { room });
-    closing(alloc, connection, input, &mut writer)
+) -> Result<bool, AllocError> {
+    match is_had(alloc, connection, exchange, room) {
+        Ok(is_right) => Ok(is_right),
+        Err(AllocError) => is_had(alloc, connection, exchange, room),
+    }
 }
 
-/// Whether each of these sessions breaks whose writer has less room than this.
-fn breaks<N: Wait>(
+/// How much room there may be for the answer to a request, first that other bytes are written.
+fn held_count<N: Wait>(
     alloc: Global,
     connection: &mut Connection<'_, N, ByTurns<'_, N>>,
-    input: &[u8],
-    len: usize,
-) -> bool {
-    for room in 0..len {
-        if closed(alloc, connection, input, room) != Closing::Broken {
-            return false;
+    exchange: (&str, &str),
+) -> Result<usize, AllocError> {
+    let (_, answer) = exchange;
+    for room in 0..answer.len() + 1 {
+        if !is_held(alloc, connection, exchange, room)? {
+            return Ok(room);
         }
     }
-    true
-}
-
-/// Whether these bytes are answered so.
-fn is_shown<N: Wait>(
-    alloc: Global,
-    connection: &mut Connection<'_, N, ByTurns<'_, N>>,
-    input: &[u8],
-    expected: &[u8],
-) -> bool {
-    let mut writer = Tally::new(Vec::new(alloc));
-    let _closing = closing(alloc, connection, input, &mut writer);
-    writer.into_inner().as_slice() == expected
-}
-
-const MAKING: &[Exchange] = &[MAKE];
-
-const ONE_FEED: &[Exchange] = &[(Line("GET /d/_changes"), Feed(&[], 0, 0))];
-
-/// Whether the database is made, a feed breaks wherever its writing ends, and the next is shown.
-fn is_shown_after_breaks<N: Wait>(
-    alloc: Global,
-    connection: &mut Connection<'_, N, ByTurns<'_, N>>,
-) -> Result<bool, AllocError> {
-    let make = asks(alloc, MAKING)?;
-    let asked = asks(alloc, ONE_FEED)?;
-    let shown = answers(alloc, ONE_FEED)?;
-    let made = closed(alloc, connection, make.as_bytes(), 1000);
-    Ok(
-        made == Closing::Finished
-            && breaks(alloc, connection, asked.as_bytes(), shown.len())
-            && is_shown(alloc, connection, asked.as_bytes(), shown.as_bytes()),
-    )
+    Ok(answer.len() + 1)
 }
 
 /// Wherever the writing of a feed breaks, it is not held open: with one feed at a time the next is
 /// shown.
 #[test]
 fn broken_feeds(rt: HostRuntime) -> Result<(), Fail> {
-    let hub = Hub::new(rt.alloc(), one_feed())?;
-    let routes = Routes::new(rt.alloc())?;
-    let mut connection = Connection::new(&rt, rt.alloc(), &hub, &routes, ByTurns::new(&rt));
-    let shown = is_shown_after_breaks(rt.alloc(), &mut connection)?;
-    assert!(rt; shown);
+    let alloc = rt.alloc();
+    let hub = again(move || Hub::new(alloc, one_feed()))?;
+    let routes = again(move || Routes::new(alloc))?;
+    let mut connection = Connection::new(&rt, alloc, &hub, &routes, ByTurns::new(&rt));
+    assert!(rt; is_held(alloc, &mut connection, MAKING, 1000)?);
+    let shown = held_count(alloc, &mut connection, ONE_FEED)?;
+    assert_eq!(rt; shown, EMPTY.len() + 1);
     Ok(())
 }

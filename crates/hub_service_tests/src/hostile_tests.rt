@@ -1,5 +1,6 @@
 //! The hub over hostile bytes: input that is cut, deep texts, bad histories, and histories that part.
 
+use crate::made_again::again;
 use crate::session_tests::Answer::{Found, Refused, Replies};
 use crate::session_tests::Ask::{Batch, Body, Line};
 use crate::session_tests::{Exchange, MAKE, STORED, answers, asks, assert_session, is_written};
@@ -86,7 +87,8 @@ fn closing_of_end(is_between: bool) -> Closing {
 }
 
 /// The bytes behind which the input may end, from one whole request to before the end of the next, first
-/// that the session writes other answers than those before, or closes otherwise.
+/// that the session writes other answers than those before, or closes otherwise. An error says that a session
+/// met no memory.
 fn cut_count<N: Wait>(
     rt: &N,
     alloc: Global,
@@ -109,10 +111,13 @@ fn cut_count<N: Wait>(
 /// Wherever the input ends, the requests before are answered and nothing else.
 #[test]
 fn cut_input(rt: HostRuntime) -> Result<(), Fail> {
+    let (rt, alloc) = (&rt, rt.alloc());
     for count in 0..RUN.len() {
+        let whole = &RUN[..count];
         let next = &RUN[..count + 1];
-        let cut = cut_count(&rt, rt.alloc(), &RUN[..count], next)?;
-        assert_eq!(rt; cut, asks(rt.alloc(), next)?.len());
+        let cut = again(move || cut_count(rt, alloc, whole, next))?;
+        let asked = again(move || asks(alloc, next))?;
+        assert_eq!(rt; cut, asked.len());
     }
     Ok(())
 }

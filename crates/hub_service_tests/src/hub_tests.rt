@@ -1,16 +1,17 @@
 //! A hub before anything happened to it, and one with two connections.
 
+use crate::made_again::again;
 use crate::session_tests::Answer::Written;
 use crate::session_tests::Ask::Line;
 use crate::session_tests::{Exchange, assert_session};
 use hub_databases::Hub;
 use hub_document::Limits;
-use hub_http::{Request, Requests, Tally};
+use hub_http::{Refusal, Reply, Request, Requests, Tally};
 use hub_model::Item;
 use hub_routes::Routes;
 use hub_service::{ByTurns, Connection};
-use hub_session::{Closing, Service, StreamItem};
-use std::alloc::Global;
+use hub_session::{Answer, Closing, Service, StreamItem};
+use std::alloc::{AllocError, Global};
 use std::sync::Wait;
 use std::test::Fail;
 
@@ -36,24 +37,36 @@ fn an_empty_log(rt: HostRuntime) -> Result<(), Fail> {
     )
 }
 
-/// The request that a text is; None where it is none.
-fn request(alloc: Global, text: &str) -> Option<Request> {
+/// The request that a text is; an error where it finds no memory, and each time where it is none.
+fn request(alloc: Global, text: &str) -> Result<Request, AllocError> {
     let mut requests = Requests::new(alloc, Tally::new(text.as_bytes()));
-    requests.next().ok()?
+    match requests.next() {
+        Ok(Some(request)) => Ok(request),
+        _ => Err(AllocError),
+    }
 }
 
-/// Asks a connection, whatever it answers; None where the text is no request.
-fn ask<N: Wait>(
+/// What a connection answers to a request, asked again where it finds no memory; None where the text is no
+/// request.
+pub(crate) fn answered<N: Wait>(
     alloc: Global,
     connection: &mut Connection<'_, N, ByTurns<'_, N>>,
     text: &str,
-) -> Option<()> {
-    let _answer = connection.answer(&request(alloc, text)?);
-    Some(())
+) -> Option<Answer> {
+    let request = again(move || request(alloc, text)).ok()?;
+    match connection.answer(&request) {
+        Answer::Whole(Reply::Refused(Refusal::NoMemory)) => Some(connection.answer(&request)),
+        answer => Some(answer),
+    }
 }
 
-/// The sequence of a row, or the last one at the end of a feed.
-fn sequence(item: Option<StreamItem>) -> Option<(bool, u64)> {
+/// The sequence of the next row of a feed, or the last one at its end, asked for again where it finds no
+/// memory.
+fn sequence<N: Wait>(connection: &mut Connection<'_, N, ByTurns<'_, N>>) -> Option<(bool, u64)> {
+    let item = match connection.item() {
+        None => connection.item(),
+        item => item,
+    };
     match item {
         Some(StreamItem::Change(Item::Row(row))) => Some((false, row.seq)),
         Some(StreamItem::Change(Item::End { last_seq, .. })) => Some((true, last_seq)),
@@ -69,23 +82,24 @@ fn items_of_removed<N: Wait>(
     writer: &mut Connection<'_, N, ByTurns<'_, N>>,
     reader: &mut Connection<'_, N, ByTurns<'_, N>>,
 ) -> Option<((bool, u64), (bool, u64))> {
-    ask(alloc, writer, "PUT /d HTTP/1.1\r\n\r\n")?;
-    ask(alloc, writer, PUT_A)?;
+    let _made = answered(alloc, writer, "PUT /d HTTP/1.1\r\n\r\n")?;
+    let _put = answered(alloc, writer, PUT_A)?;
     let feed = "GET /d/_changes?feed=continuous HTTP/1.1\r\n\r\n";
-    ask(alloc, reader, feed)?;
-    let first = sequence(reader.item())?;
-    ask(alloc, writer, "DELETE /d HTTP/1.1\r\n\r\n")?;
-    Some((first, sequence(reader.item())?))
+    let _opened = answered(alloc, reader, feed)?;
+    let first = sequence(reader)?;
+    let _removed = answered(alloc, writer, "DELETE /d HTTP/1.1\r\n\r\n")?;
+    Some((first, sequence(reader)?))
 }
 
 /// A feed that is open where another connection removes its database comes to its end at its place.
 #[test]
 fn a_feed_of_a_removed_database(rt: HostRuntime) -> Result<(), Fail> {
-    let hub = Hub::new(rt.alloc(), Limits::full())?;
-    let routes = Routes::new(rt.alloc())?;
-    let mut writer = Connection::new(&rt, rt.alloc(), &hub, &routes, ByTurns::new(&rt));
-    let mut reader = Connection::new(&rt, rt.alloc(), &hub, &routes, ByTurns::new(&rt));
-    let items = items_of_removed(rt.alloc(), &mut writer, &mut reader);
+    let alloc = rt.alloc();
+    let hub = again(move || Hub::new(alloc, Limits::full()))?;
+    let routes = again(move || Routes::new(alloc))?;
+    let mut writer = Connection::new(&rt, alloc, &hub, &routes, ByTurns::new(&rt));
+    let mut reader = Connection::new(&rt, alloc, &hub, &routes, ByTurns::new(&rt));
+    let items = items_of_removed(alloc, &mut writer, &mut reader);
     assert_eq!(rt; items, Some(((false, 1), (true, 1))));
     Ok(())
 }

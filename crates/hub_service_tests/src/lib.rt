@@ -12,7 +12,11 @@ mod hostile_tests;
 #[cfg(test)]
 mod hub_tests;
 #[cfg(test)]
+mod made_again;
+#[cfg(test)]
 mod session_tests;
+#[cfg(test)]
+mod steps;
 #[cfg(test)]
 mod tests;
 #[cfg(test)]

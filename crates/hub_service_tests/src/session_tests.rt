@@ -1,7 +1,9 @@
 //! Sessions as tables: what a client sends, and what the hub answers. Most exchanges over one connection are not
 //! here: they are the stored run of the program (`crates/changes_hub/stdin` and `stdout`).
 
+use crate::made_again::{again, told};
 use crate::session_tests::Answer::{Created, Replies};
+use crate::steps::are_steps;
 use hub_document::Limits;
 use hub_http::{Requests, Tally};
 use hub_service::answer_stream;
@@ -271,7 +273,8 @@ pub(crate) fn answers(alloc: Global, exchanges: &[Exchange]) -> Result<String, A
     Ok(out)
 }
 
-/// Whether the hub writes these bytes for those that it reads, and closes for this reason.
+/// Whether the hub writes these bytes for those that it reads, and closes for this reason. An error says that
+/// it met no memory.
 pub(crate) fn is_written<N: Wait>(
     rt: &N,
     alloc: Global,
@@ -283,10 +286,11 @@ pub(crate) fn is_written<N: Wait>(
     let mut writer = Tally::new(Vec::new(alloc));
     let mut requests = Requests::new(alloc, Tally::new(input));
     let closing = answer_stream(rt, alloc, &mut requests, &mut writer, limits)?;
-    Ok(writer.into_inner().as_slice() == expected && closing == end)
+    told(writer.into_inner().as_slice(), closing, expected, end)
 }
 
-/// Whether a session within these limits has these exchanges, and closes for this reason.
+/// Whether a session within these limits has these exchanges, and closes for this reason. An error says that
+/// it met no memory.
 pub(crate) fn is_session<N: Wait>(
     rt: &N,
     alloc: Global,
@@ -306,7 +310,8 @@ pub(crate) fn is_session<N: Wait>(
     )
 }
 
-/// Asserts that a session within these limits has these exchanges, and closes for this reason.
+/// Asserts that a session within these limits has these exchanges, and closes for this reason. Where it comes
+/// to the end of its input, they are had over a connection each, too.
 pub(crate) fn assert_session<N: Abort + Wait>(
     rt: &N,
     alloc: Global,
@@ -314,6 +319,9 @@ pub(crate) fn assert_session<N: Abort + Wait>(
     limits: Limits,
     end: Closing,
 ) -> Result<(), Fail> {
-    assert!(rt; is_session(rt, alloc, exchanges, limits, end)?);
+    assert!(rt; again(move || is_session(rt, alloc, exchanges, limits, end))?);
+    if end == Closing::Finished {
+        assert!(rt; again(move || are_steps(rt, alloc, exchanges, limits))?);
+    }
     Ok(())
 }

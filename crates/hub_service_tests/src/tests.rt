@@ -1,5 +1,6 @@
 //! The hub over bytes: what limits refuse, the last generation, and what closes a connection.
 
+use crate::made_again::again;
 use crate::session_tests::Answer::{
     Created, Feed, Found, Last, Nothing, Refused, Replies, Written,
 };
@@ -228,7 +229,8 @@ const FAULTS: &[(Exchange, HttpFault)] = &[
     ),
 ];
 
-/// Whether a head is answered so and closes for this fault, with nothing answered behind it.
+/// Whether a head is answered so and closes for this fault, with nothing answered behind it. An error says
+/// that the session met no memory.
 fn is_fault<N: Wait>(
     rt: &N,
     alloc: Global,
@@ -259,7 +261,8 @@ fn assert_faults<N: Abort + Wait>(
     alloc: Global,
     faults: &[(Exchange, HttpFault)],
 ) -> Result<(), Fail> {
-    assert_eq!(rt; fault_count(rt, alloc, faults)?, faults.len());
+    let count = again(move || fault_count(rt, alloc, faults))?;
+    assert_eq!(rt; count, faults.len());
     Ok(())
 }
 

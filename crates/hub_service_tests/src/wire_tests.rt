@@ -1,5 +1,6 @@
 //! The hub over readers and writers as networks have them: of one byte a call, cut, broken, interrupted.
 
+use crate::made_again::{again, told};
 use crate::session_tests::Answer::{Feed, Nothing, Written};
 use crate::session_tests::Ask::{Batch, Bytes, Line};
 use crate::session_tests::{Exchange, MAKE, STORED, answers, asks, assert_session};
@@ -13,16 +14,17 @@ use std::io::{ErrorKind, Read, Write};
 use std::sync::Wait;
 use std::test::Fail;
 
-/// Takes one byte a call, so many in all, and then none.
+/// Takes so many bytes a call at most, so many in all, and then none.
 #[derive(Drop)]
-struct Narrow {
-    held: Vec<u8>,
-    room: usize,
+pub(crate) struct Narrow {
+    pub(crate) held: Vec<u8>,
+    pub(crate) most: usize,
+    pub(crate) room: usize,
 }
 
 impl Write for Narrow {
     fn write(&mut self, buf: &[u8]) -> io::Result<usize> {
-        let n = buf.len().min(self.room).min(1);
+        let n = buf.len().min(self.room).min(self.most);
         self.held.extend_from_slice(&buf[..n])?;
         self.room -= n;
         Ok(n)
@@ -56,20 +58,24 @@ impl Read for Failing<'_> {
     }
 }
 
-/// What a session over these two writes, and why it closes.
-fn session<N: Wait, R: Drop + Read>(
+/// Whether a session over this reader, whose writer takes one byte a call and so many in all, writes what is
+/// expected and closes so. An error says that it met no memory.
+fn is_written<N: Wait, R: Drop + Read>(
     rt: &N,
     alloc: Global,
     reader: R,
     room: usize,
-) -> Result<(Vec<u8>, Closing), AllocError> {
+    expected: &[u8],
+    end: Closing,
+) -> Result<bool, AllocError> {
     let mut requests = Requests::new(alloc, Tally::new(reader));
     let mut writer = Tally::new(Narrow {
         held: Vec::new(alloc),
+        most: 1,
         room,
     });
     let closing = answer_stream(rt, alloc, &mut requests, &mut writer, Limits::full())?;
-    Ok((writer.into_inner().held, closing))
+    told(writer.into_inner().held.as_slice(), closing, expected, end)
 }
 
 /// A database, a batch and its feed.
@@ -92,18 +98,8 @@ pub(crate) const RUN: &[Exchange] = &[
     ),
 ];
 
-/// Whether a session whose writer breaks behind so many bytes writes just these.
-fn is_broken_behind<N: Wait>(
-    rt: &N,
-    alloc: Global,
-    input: &[u8],
-    front: &[u8],
-) -> Result<bool, AllocError> {
-    let (written, closing) = session(rt, alloc, input, front.len())?;
-    Ok(written.as_slice() == front && closing == Closing::Broken)
-}
-
-/// Behind how many bytes of what is expected the writer may break first that other bytes are written.
+/// Behind how many bytes of what is expected the writer may break first that other bytes are written. An
+/// error says that a session met no memory.
 fn front_count<N: Wait>(
     rt: &N,
     alloc: Global,
@@ -111,7 +107,8 @@ fn front_count<N: Wait>(
     expected: &[u8],
 ) -> Result<usize, AllocError> {
     for room in 0..expected.len() {
-        if !is_broken_behind(rt, alloc, input, &expected[..room])? {
+        let front = &expected[..room];
+        if !is_written(rt, alloc, input, room, front, Closing::Broken)? {
             return Ok(room);
         }
     }
@@ -121,17 +118,20 @@ fn front_count<N: Wait>(
 /// Wherever a writer breaks, what it took is the front of what is written else.
 #[test]
 fn broken_writers(rt: HostRuntime) -> Result<(), Fail> {
-    let input = asks(rt.alloc(), RUN)?;
-    let expected = answers(rt.alloc(), RUN)?;
-    let (written, closing) = session(&rt, rt.alloc(), input.as_bytes(), usize::MAX)?;
-    assert!(rt; written.as_slice() == expected.as_bytes());
-    assert!(rt; closing == Closing::Finished);
-    let count = front_count(&rt, rt.alloc(), input.as_bytes(), expected.as_bytes())?;
+    let (rt, alloc) = (&rt, rt.alloc());
+    let input = again(move || asks(alloc, RUN))?;
+    let expected = again(move || answers(alloc, RUN))?;
+    let (input, expected) = (input.as_bytes(), expected.as_bytes());
+    let end = Closing::Finished;
+    let is_whole = again(move || is_written(rt, alloc, input, usize::MAX, expected, end))?;
+    assert!(rt; is_whole);
+    let count = again(move || front_count(rt, alloc, input, expected))?;
     assert_eq!(rt; count, expected.len());
     Ok(())
 }
 
-/// Whether a session whose reader fails behind so many bytes writes the answers of the requests before.
+/// Whether a session whose reader fails behind so many bytes writes what is expected. An error says that it
+/// met no memory.
 fn is_failed_behind<N: Wait>(
     rt: &N,
     alloc: Global,
@@ -144,13 +144,12 @@ fn is_failed_behind<N: Wait>(
         left: count,
         is_interrupted: false,
     };
-    let (written, closing) = session(rt, alloc, reader, usize::MAX)?;
     let fault = Closing::Fault(HttpFault::IoFault);
-    Ok(written.as_slice() == expected && closing == fault)
+    is_written(rt, alloc, reader, usize::MAX, expected, fault)
 }
 
 /// The bytes behind which a reader may fail, from one whole request to before the end of the next, first
-/// that other answers are written than those before.
+/// that other answers are written than those before. An error says that a session met no memory.
 fn failed_count<N: Wait>(
     rt: &N,
     alloc: Global,
@@ -173,11 +172,13 @@ fn failed_count<N: Wait>(
 /// nothing.
 #[test]
 fn failing_readers(rt: HostRuntime) -> Result<(), Fail> {
+    let (rt, alloc) = (&rt, rt.alloc());
     for count in 0..RUN.len() {
         let whole = &RUN[..count];
         let next = &RUN[..count + 1];
-        let failed = failed_count(&rt, rt.alloc(), whole, next)?;
-        assert_eq!(rt; failed, asks(rt.alloc(), next)?.len());
+        let failed = again(move || failed_count(rt, alloc, whole, next))?;
+        let asked = again(move || asks(alloc, next))?;
+        assert_eq!(rt; failed, asked.len());
     }
     Ok(())
 }
@@ -185,13 +186,14 @@ fn failing_readers(rt: HostRuntime) -> Result<(), Fail> {
 /// A request line and a field.
 const HEAD: &str = "PUT /d HTTP/1.1\r\nHost: h\r\n\r\n";
 
-/// Whether a request that ends here has no answer, and closes so.
+/// Whether a request that ends here has no answer, and closes so. An error says that the session met no
+/// memory.
 fn is_cut<N: Wait>(rt: &N, alloc: Global, part: &[u8], end: Closing) -> Result<bool, AllocError> {
-    let (written, closing) = session(rt, alloc, part, usize::MAX)?;
-    Ok(written.is_empty() && closing == end)
+    is_written(rt, alloc, part, usize::MAX, b"", end)
 }
 
-/// Behind how many bytes of a head its end is first not told as one in the middle of a request.
+/// Behind how many bytes of a head its end is first not told as one in the middle of a request. An error says
+/// that a session met no memory.
 fn cut_count<N: Wait>(rt: &N, alloc: Global, head: &[u8]) -> Result<usize, AllocError> {
     let end = Closing::Fault(HttpFault::Ended);
     for count in 1..head.len() {
@@ -206,8 +208,9 @@ fn cut_count<N: Wait>(rt: &N, alloc: Global, head: &[u8]) -> Result<usize, Alloc
 /// request.
 #[test]
 fn heads_that_end(rt: HostRuntime) -> Result<(), Fail> {
-    assert!(rt; is_cut(&rt, rt.alloc(), b"", Closing::Finished)?);
-    let count = cut_count(&rt, rt.alloc(), HEAD.as_bytes())?;
+    let (rt, alloc) = (&rt, rt.alloc());
+    assert!(rt; again(move || is_cut(rt, alloc, b"", Closing::Finished))?);
+    let count = again(move || cut_count(rt, alloc, HEAD.as_bytes()))?;
     assert_eq!(rt; count, HEAD.len());
     Ok(())
 }
