@@ -160,17 +160,16 @@ fn hands_all(state: &mut DbState, feed: FeedId, all: &[Handed]) -> bool {
     true
 }
 
-// Whether opening a feed has this answer. That there are too many is known before.
+// Whether opening a feed has this answer.
 fn opens(
     alloc: Global,
     state: &mut DbState,
     query: &str,
     answer: Result<FeedId, OpenFault>,
 ) -> Result<bool, AllocError> {
-    let are_full = state.feeds_are_full();
     match state.open_feed(asked(alloc, query)?) {
         Err(OpenFault::NoMemory) => Err(AllocError),
-        opened => Ok(opened == answer && are_full == (answer == Err(OpenFault::TooManyFeeds))),
+        opened => Ok(opened == answer),
     }
 }
 

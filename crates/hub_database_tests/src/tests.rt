@@ -8,7 +8,7 @@ use crate::local_tests::{LocalStep, local_holds};
 use crate::made_again::{TRIES, is_right};
 use crate::read_tests::{ReadStep, read_holds};
 use crate::tests::Step::{Batch, Feed, Seq};
-use hub_database::{Batch as Written, Contents, DbFault, DbState, Info};
+use hub_database::{Batch as Written, DbFault, DbState, Info};
 use hub_document::{Doc, Limits, RevId};
 use hub_feed::FeedHost;
 use hub_model::Fault;
@@ -115,14 +115,13 @@ fn edit_count(told: &[Outcome<&str>]) -> u64 {
 
 // How many documents of a batch were told something, and whether the batch found no memory for the next;
 // None where they were told something else than this.
-fn told_count(batch: Written, told: &[Outcome<&str>]) -> Option<(usize, bool)> {
-    let Written { replies, stopped } = batch;
-    let replies = replies.into_vec();
+fn told_count(batch: &Written, told: &[Outcome<&str>]) -> Option<(usize, bool)> {
+    let replies = batch.replies.as_slice();
     let count = replies.len();
-    if told.len() < count || !all_are(replies.as_slice(), &told[..count], is_told) {
+    if told.len() < count || !all_are(replies, &told[..count], is_told) {
         return None;
     }
-    Some((count, stopped))
+    Some((count, batch.stopped))
 }
 
 // The same of a batch of these documents.
@@ -137,7 +136,7 @@ fn tell(
         return Some((0, true));
     };
     match state.write_edits(docs, new_edits) {
-        Ok(batch) => told_count(batch, told),
+        Ok(batch) => told_count(&batch, told),
         Err(DbFault::NoMemory) => Some((0, true)),
         Err(DbFault::Refused(_)) => None,
     }
@@ -236,12 +235,6 @@ fn makes(
     }
 }
 
-// What a database says of itself by what it lends while it stands.
-fn lent_info(state: &DbState) -> Result<Info, DbFault> {
-    let contents: &Contents = state.standing()?;
-    Ok(contents.info())
-}
-
 // Whether these are the counts of a database.
 fn has_counts(state: &DbState, answer: Result<(u64, u64, u64), DbFault>) -> bool {
     let counts = match answer {
@@ -253,7 +246,7 @@ fn has_counts(state: &DbState, answer: Result<(u64, u64, u64), DbFault>) -> bool
         }),
         Err(fault) => Err(fault),
     };
-    state.info() == counts && lent_info(state) == counts
+    state.info() == counts
 }
 
 // Whether a step has its answer, also where a growth of it is refused.
