@@ -55,12 +55,12 @@ fn one_byte_an_offer(rt: HostRuntime) -> Result<(), Fail> {
     let alloc = rt.alloc();
     let mut inbox = Inbox::new(alloc);
     let mut found = again(|| Vec::with_capacity(alloc, 2))?;
-    let mut waits = 0;
+    let mut waits = 0usize;
     for byte in TEXT {
         offer(&mut inbox, &[*byte])?;
         match next_of(&mut inbox)? {
             Next::Whole(request) => found.push(request)?,
-            Next::NotYet => waits += 1,
+            Next::NotYet => waits = waits.saturating_add(1),
             Next::End => return Err(Fail::new("an end")),
         }
     }
@@ -122,12 +122,10 @@ fn faults_of_heads(rt: HostRuntime) -> Result<(), Fail> {
         let found = fault_of(alloc, bytes)?;
         assert_eq!(rt; found, Some(*fault));
     }
-    let long = again(|| Vec::from_elem(alloc, b'a', 16_384))?;
-    assert_eq!(rt; fault_of(alloc, &long[..16_383])?, None);
-    assert_eq!(rt;
-        fault_of(alloc, long.as_slice())?,
-        Some(HttpFault::HeadTooLong)
-    );
+    for (count, expected) in [(16_383, None), (16_384, Some(HttpFault::HeadTooLong))] {
+        let long = again(|| Vec::from_elem(alloc, b'a', count))?;
+        assert_eq!(rt; fault_of(alloc, long.as_slice())?, expected);
+    }
     Ok(())
 }
 

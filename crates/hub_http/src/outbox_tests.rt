@@ -53,11 +53,11 @@ fn three_texts(alloc: Global) -> Result<Outbox, Fail> {
 fn two_bytes_a_write(rt: HostRuntime) -> Result<(), Fail> {
     let mut outbox = three_texts(rt.alloc())?;
     let mut writer = Slow::new(rt.alloc(), 10)?;
-    let mut refusals = 0;
+    let mut refusals = 0usize;
     for _ in 0..12 {
         match outbox.send_to(&mut writer) {
             Handed::Took(_) => {}
-            Handed::Again => refusals += 1,
+            Handed::Again => refusals = refusals.saturating_add(1),
             Handed::Refused => return Err(Fail::new("refused")),
         }
     }
@@ -67,17 +67,26 @@ fn two_bytes_a_write(rt: HostRuntime) -> Result<(), Fail> {
     Ok(())
 }
 
+/// So many bytes went.
+fn went(outbox: &mut Outbox, count: usize) -> Result<(), Fail> {
+    if !outbox.holds(count) {
+        return Err(Fail::new("fewer bytes"));
+    }
+    outbox.sent(count);
+    Ok(())
+}
+
 /// A text that goes behind a part of another keeps its place.
 #[test]
 fn parts_and_texts_by_turns(rt: HostRuntime) -> Result<(), Fail> {
     let mut outbox = three_texts(rt.alloc())?;
     assert_eq!(rt; outbox.front(), b"abc".as_slice());
-    outbox.sent(2);
+    went(&mut outbox, 2)?;
     assert_eq!(rt; outbox.front(), b"c".as_slice());
-    outbox.sent(3);
+    went(&mut outbox, 3)?;
     assert_eq!(rt; outbox.front(), b"fghij".as_slice());
     assert!(rt; outbox.holds(5) && !outbox.holds(6));
-    outbox.sent(5);
+    went(&mut outbox, 5)?;
     assert!(rt; outbox.is_empty());
     Ok(())
 }
