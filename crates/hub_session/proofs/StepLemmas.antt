@@ -23,6 +23,11 @@ use Rattle.hub_session.specs.Sessions.{HasAnswer, IsServed, after_stream, is_bro
 use Rattle.hub_session.proofs.RunLemmas.{not_end}
 use Rattle.hub_session.proofs.SessionLemmas.{faulty_closes}
 
+-- a step that closed a session as broken
+pub step_broken : (next : Option Closing) → step_behind next ≡ step.Ended Broken → next ≡ Some Broken
+step_broken None e = absurd (cc)
+step_broken (Some closing) e = let same : closing ≡ Broken = cc in ap (λ c. Some c) same
+
 module _ {S : Type 0} (rules : Rules S) where
   -- a request was answered whole, and the place was set
   pub answered_whole : (asked : Asked) (next : Option Closing) (old mid new : Seen S) (came : Step) → HasAnswer rules asked next (moment_of old) (moment_of mid)

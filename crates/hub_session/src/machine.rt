@@ -1,6 +1,7 @@
 //! Sessions that are stepped.
-ghost use Rattle.std.specs.Prelude.{◌≡◌, ◌<◌, ◌≤◌, ◌+◌, ◌^◌, ◌++◌, ℕ, List, [], false, true, length, take, drop, IsSome, OnOk, OnErr};
-ghost use Rattle.hub_http.specs.Boxes.{Hands, handed_of, pending_in};
+ghost use Rattle.std.specs.Prelude.{◌≡◌, ◌<◌, ◌≤◌, ◌⊎◌, ◌+◌, ◌^◌, ◌++◌, ℕ, List, [], false, true, length, take, drop, IsSome, OnOk, OnErr};
+ghost use Rattle.hub_http.specs.Boxes.{Hands, faults_in, handed_of, pending_in};
+ghost use Rattle.hub_http.specs.Counts.{Rose};
 ghost use Rattle.hub_http.specs.Stream.{asked_by};
 ghost use Rattle.hub_session.specs.Runs.{HasAnswered, HasRun, IsStepped, Run, Seen, closing_at, new_run, place_behind, seen, step_behind, with_gone, with_offered};
 
@@ -76,6 +77,7 @@ impl<S: Service> Session<S> {
     fn go_behind(&mut self, next: Option<Closing>) -> Step
         ensures step { result ≡ step_behind next }
         ensures shown { seen self.new ≡ record (seen self.old) { place = place_behind next } }
+        ensures outbox { self.new.outbox ≡ self.old.outbox }
     {
         match next {
             None => {
@@ -91,7 +93,9 @@ impl<S: Service> Session<S> {
 
     /// Answers a request, up to the items of a stream.
     fn answer(&mut self, request: &Request) -> Step
-        ensures { HasAnswered S.rules (asked_by request.now) (seen self.old) result (seen self.new) }
+        ensures told { HasAnswered S.rules (asked_by request.now) (seen self.old) result (seen self.new) }
+        ensures broken { result ≡ Step.Ended Closing.Broken
+            → Rose (faults_in self.old.outbox) (faults_in self.new.outbox) }
     {
         match begin_answer(self.alloc, &mut self.outbox, &mut self.service, request) {
             Begun::Answered(next) => self.go_behind(next),
@@ -110,7 +114,9 @@ impl<S: Service> Session<S> {
     /// Answers the next request, where it is whole.
     fn take_request(&mut self) -> Step
         requires { (seen self.old).place ≡ Place.Between }
-        ensures { IsStepped S.rules (seen self.old) result (seen self.new) }
+        ensures told { IsStepped S.rules (seen self.old) result (seen self.new) }
+        ensures broken { result ≡ Step.Ended Closing.Broken
+            → Rose (faults_in self.old.outbox) (faults_in self.new.outbox) }
     {
         if !self.outbox.is_empty() {
             return Step::WantsRoom;
@@ -131,7 +137,9 @@ impl<S: Service> Session<S> {
     fn put_item(&mut self, sending: Sending, close: bool, given: Option<StreamItem>) -> Step
         requires place { (seen self.old).place ≡ Place.Within sending close }
         requires rows { sending.rows + 1 < 2 ^ 64 }
-        ensures { (from : S) → S.rules.gives from given (seen self.old).service
+        ensures broken { result ≡ Step.Ended Closing.Broken
+            → Rose (faults_in self.old.outbox) (faults_in self.new.outbox) }
+        ensures told { (from : S) → S.rules.gives from given (seen self.old).service
             → IsStepped S.rules (record (seen self.old) { service = from }) result (seen self.new) }
     {
         match send_given(
@@ -152,7 +160,9 @@ impl<S: Service> Session<S> {
     /// Sends the next item of a stream, where there is one.
     fn send_item(&mut self, sending: Sending, close: bool) -> Step
         requires { (seen self.old).place ≡ Place.Within sending close }
-        ensures { IsStepped S.rules (seen self.old) result (seen self.new) }
+        ensures told { IsStepped S.rules (seen self.old) result (seen self.new) }
+        ensures broken { result ≡ Step.Ended Closing.Broken
+            → Rose (faults_in self.old.outbox) (faults_in self.new.outbox) }
     {
         if self.outbox.holds(FULL) {
             return Step::WantsRoom;
@@ -172,7 +182,10 @@ impl<S: Service> Session<S> {
 
     /// Goes on where the session is.
     fn go_on(&mut self) -> Step
-        ensures { IsStepped S.rules (seen self.old) result (seen self.new) }
+        ensures told { IsStepped S.rules (seen self.old) result (seen self.new) }
+        ensures broken { result ≡ Step.Ended Closing.Broken
+            → ((seen self.old).place ≡ Place.Closed Closing.Broken)
+            ⊎ Rose (faults_in self.old.outbox) (faults_in self.new.outbox) }
     {
         match self.place {
             Place::Between => self.take_request(),
@@ -188,6 +201,9 @@ impl<S: Service> Session<S> {
     pub fn step(&mut self) -> Step
         ensures told { IsStepped S.rules (seen self.old) result (seen self.new) }
         ensures run { (run : Run S) → HasRun S.rules run (seen self.old) → HasRun S.rules run (seen self.new) }
+        ensures broken { result ≡ Step.Ended Closing.Broken
+            → ((seen self.old).place ≡ Place.Closed Closing.Broken)
+            ⊎ Rose (faults_in self.old.outbox) (faults_in self.new.outbox) }
     {
         self.go_on()
     }
