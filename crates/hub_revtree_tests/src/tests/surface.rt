@@ -136,8 +136,8 @@ fn winners_with_their_members(rt: HostRuntime) {
     }
 }
 
-// Whether this is an edit.
-fn is_edit(found: Option<StoredEdit<'_>>, (rev, deleted, members, count): Edit) -> bool {
+// Whether an edit is found, and is this one.
+fn is_edit(found: &Option<StoredEdit<'_>>, (rev, deleted, members, count): Edit) -> bool {
     match found {
         Some(found) => {
             Some(found.rev) == RevId::read(rev)
@@ -158,8 +158,8 @@ fn edits_by_their_numbers_and_revisions(rt: HostRuntime) {
     }
     for (at, (text, edit)) in EDITS.iter().enumerate() {
         let rev = RevId::read(edit.0).expect(&rt, "a revision");
-        assert!(rt; is_edit(tree.edit(at), *edit), "{text}");
-        assert!(rt; is_edit(tree.headed(&rev), *edit), "{text}");
+        assert!(rt; is_edit(&tree.edit(at), *edit), "{text}");
+        assert!(rt; is_edit(&tree.headed(&rev), *edit), "{text}");
     }
     assert!(rt; tree.edit(EDITS.len()).is_none());
     for text in ["1-x", "9-z"] {
