@@ -1,5 +1,5 @@
 -- What the bytes that came so far spell, and what more bytes behind them change.
-use Rattle.std.proofs.Common.{◌≡◌, ℕ, ◌+◌, ◌<◌, ◌≤◌, Bool, List, [], ◌∷◌, ◌++◌, length, take, drop, Option, Some, None, Result, Ok, Err, is_some, unwrap_or, refl, sym, ap, subst, ◌∙◌, append_assoc, append-nil, inl, inr, arith}
+use Rattle.std.proofs.Common.{◌≡◌, ℕ, ◌+◌, ◌<◌, ◌≤◌, Bool, List, [], ◌∷◌, ◌++◌, length, take, drop, Option, Some, None, Ok, is_some, unwrap_or, sym, ap, subst, ◌∙◌, append_assoc, append-nil, arith}
 use Rattle.std.proofs.lemmas.Grind.{common_steps}
 use Rattle.httparse.specs.Grammar.{RequestHead, print_request}
 use Rattle.httparse.proofs.GrammarLemmas.{ReadsRequest-append}
@@ -7,9 +7,9 @@ use Rattle.hub_http.specs.declared.fault.HttpFault.{HttpFault}
 use Rattle.hub_http.specs.declared.fault.HttpFault.TheVariants.{NoMemory, BadHead, HeadTooLong, BodyTooLong, Version, Coding, Ended, IoFault}
 use Rattle.hub_http.specs.declared.head.Head.{Head}
 use Rattle.hub_http.specs.declared.request.Request.{Request}
-use Rattle.hub_http.specs.Heads.{Begins, GoesOn, IsPartOfHead, length_by}
+use Rattle.hub_http.specs.Heads.{length_by}
 use Rattle.hub_http.specs.Looking.{IsHeadAt, LookFaults}
-use Rattle.hub_http.specs.Offers.{FaultsSoFar, LeavesSoFar, SpellsAll}
+use Rattle.hub_http.specs.Offers.{FaultsSoFar, SpellsAll}
 use Rattle.hub_http.specs.Stream.{Asked, asked_by, Spells, IsCut}
 use Rattle.hub_http.proofs.RequestLemmas.{spelled}
 

@@ -1,11 +1,11 @@
 -- RFC 9112, sections 2, 6 and 9.3.2; own for what is not whole yet: what the bytes that came so far spell,
 -- where more may come.
-use Rattle.std.specs.Prelude.{◌≡◌, ℕ, ◌⊎◌, Bool, true, false, List, [], ◌∷◌, ◌<◌, length, Result, Ok, Err}
+use Rattle.std.specs.Prelude.{◌≡◌, ℕ, ◌⊎◌, Bool, true, false, List, [], ◌∷◌, Result, Ok, Err}
 use Rattle.hub_http.specs.declared.fault.HttpFault.{HttpFault}
-use Rattle.hub_http.specs.declared.fault.HttpFault.TheVariants.{NoMemory, Ended, IoFault}
+use Rattle.hub_http.specs.declared.fault.HttpFault.TheVariants.{Ended, IoFault}
 use Rattle.hub_http.specs.declared.next.Next.{Next}
 use Rattle.hub_http.specs.declared.next.Next.TheVariants.{Whole, NotYet, End}
-use Rattle.hub_http.specs.Heads.{HasHeadFault, IsPartOfHead}
+use Rattle.hub_http.specs.Heads.{IsPartOfHead}
 use Rattle.hub_http.specs.Stream.{Asked, asked_by, Spells, IsCut, Faults}
 
 -- there are none, or they end in the middle of a head or of a body: so of the front of a request, up to any

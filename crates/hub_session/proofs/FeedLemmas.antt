@@ -3,7 +3,7 @@ use Rattle.std.proofs.Common.{◌≡◌, ◌≤◌, ◌⊎◌, ℕ, ◌+◌, Lis
 use Rattle.std.proofs.lemmas.Bool.{cases_Bool}
 use Rattle.std.specs.Prelude.{if◌then◌else◌}
 use Rattle.std.specs.Io.KnownBytes.{Appends}
-use Rattle.std.proofs.KnownBytes.{Appends-trans, Appends-nil}
+use Rattle.std.proofs.KnownBytes.{Appends-nil}
 use Rattle.hub_http.specs.Counts.{Sends}
 use Rattle.hub_http.proofs.SendLemmas.{front_of_more, sends_after}
 use Rattle.hub_http.specs.declared.chunk.ChunkFault.{ChunkFault}

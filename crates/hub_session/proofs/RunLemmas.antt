@@ -1,11 +1,10 @@
 -- What the steps of a session did together.
-use Rattle.std.proofs.Common.{◌≡◌, ◌≤◌, ◌⊎◌, ℕ, ◌+◌, List, [], ◌∷◌, ◌++◌, Bool, true, false, Option, Some, None, Result, Ok, Err, length, take, drop, refl, sym, ap, subst, ◌∙◌, append_assoc, append-nil, take-append-drop, inl, inr, arith}
+use Rattle.std.proofs.Common.{◌≡◌, ◌≤◌, ℕ, ◌+◌, List, [], ◌∷◌, ◌++◌, Bool, true, false, Option, Some, None, Result, Ok, Err, take, refl, sym, ap, subst, ◌∙◌, append_assoc, append-nil, inl, inr, arith}
 use Rattle.std.proofs.lemmas.Grind.{common_steps}
 use Rattle.std.specs.List.{flat_map}
 use Rattle.std.specs.Prelude.{OnOk}
-use Rattle.std.specs.Io.KnownBytes.{Appends}
 use Rattle.hub_http.specs.Chunks.{text_chunks}
-use Rattle.hub_http.specs.Counts.{AppendsFront, Sends}
+use Rattle.hub_http.specs.Counts.{Sends}
 use Rattle.hub_http.specs.Items.{feed_head}
 use Rattle.hub_http.specs.Texts.{head_text, chunked_line}
 use Rattle.hub_http.specs.declared.fault.HttpFault.{HttpFault}
@@ -26,12 +25,12 @@ use Rattle.hub_session.specs.declared.machine.Place.{Place}
 use Rattle.hub_session.specs.declared.machine.Place.TheVariants.{Between, Within, Closed}
 use Rattle.hub_session.specs.declared.machine.Step.{Step}
 use Rattle.hub_session.specs.declared.machine.Step.TheVariants.{Served, WantsInput, WantsRoom, WantsNews, Ended}
-use Rattle.hub_session.specs.Feeds.{HasStreamed, Streams, IsStreamed, items_text, feed_text, sent_text, is_broken as stream_breaks, rows_behind}
-use Rattle.hub_session.specs.Items.{is_end, rows_after}
+use Rattle.hub_session.specs.Feeds.{HasStreamed, Streams, IsStreamed, items_text, sent_text, is_broken as stream_breaks, rows_behind}
+use Rattle.hub_session.specs.Items.{rows_after}
 use Rattle.hub_session.specs.Replies.{fault_text}
-use Rattle.hub_session.specs.Rules.{Rules, Moment, moment}
+use Rattle.hub_session.specs.Rules.{Rules, moment}
 use Rattle.hub_session.specs.Runs.{Run, new_run, with_gone, with_offered, Seen, Steps, IsOfEnd, IsStepped, place_behind, IsBetween, IsWithin, HasDone, HasRun}
-use Rattle.hub_session.specs.Sessions.{Answers, Closes, Ending, Exchange, Goes, HasServed, IsServed, IsSession, Session, Standing, after_answer, after_stream, breaks, exchange_text, is_broken, is_head, standing, stream_head}
+use Rattle.hub_session.specs.Sessions.{Answers, Closes, Ending, Exchange, Goes, HasServed, IsServed, Session, Standing, after_answer, after_stream, breaks, exchange_text, is_broken, is_head, standing, stream_head}
 use Rattle.hub_session.proofs.AnswerLemmas.{breaks-after_stream}
 use Rattle.hub_session.proofs.FeedLemmas.{items_text-append, rows_behind-push, rows_within, streamed_more, streamed_streams}
 use Rattle.hub_session.proofs.SessionLemmas.{one_more, served_more, served_session}

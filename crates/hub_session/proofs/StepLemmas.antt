@@ -1,11 +1,11 @@
 -- What one step of a session did.
-use Rattle.std.proofs.Common.{◌≡◌, ◌≤◌, ◌⊎◌, ℕ, List, [], ◌++◌, Bool, true, false, Option, Some, None, Ok, Err, length, refl, sym, ap, subst, ◌∙◌, append-nil, inl, inr}
+use Rattle.std.proofs.Common.{◌≡◌, ◌≤◌, ◌⊎◌, ℕ, List, [], Bool, true, Option, Some, None, Ok, Err, refl, sym, ap, subst, ◌∙◌, append-nil, inl, inr}
 use Rattle.std.specs.Io.KnownBytes.{Appends}
 use Rattle.std.proofs.KnownBytes.{Appends-nil}
 use Rattle.hub_http.specs.Counts.{Sends, last_count}
 use Rattle.hub_http.specs.declared.fault.HttpFault.{HttpFault}
 use Rattle.hub_http.specs.declared.fault.HttpFault.TheVariants.{NoMemory, BadHead, HeadTooLong, BodyTooLong, Version, Coding, Ended, IoFault}
-use Rattle.hub_http.specs.Offers.{FaultsSoFar, IsShort}
+use Rattle.hub_http.specs.Offers.{FaultsSoFar}
 use Rattle.hub_http.specs.Stream.{Asked, Spells, Faults}
 use Rattle.hub_session.specs.declared.closing.Closing.{Closing}
 use Rattle.hub_session.specs.declared.closing.Closing.TheVariants.{Finished, Fault, Broken}
@@ -17,7 +17,7 @@ use Rattle.hub_session.specs.declared.machine.Step.{Step}
 use Rattle.hub_session.specs.declared.machine.Step.TheVariants as step
 use Rattle.hub_session.specs.Feeds.{IsStreamed, Streams}
 use Rattle.hub_session.specs.Replies.{fault_text}
-use Rattle.hub_session.specs.Rules.{Rules, Moment, moment}
+use Rattle.hub_session.specs.Rules.{Rules, Moment}
 use Rattle.hub_session.specs.Runs.{HasAnswered, IsOfEnd, IsStepped, Seen, Steps, moment_of, place_behind, step_behind}
 use Rattle.hub_session.specs.Sessions.{HasAnswer, IsServed, after_stream, is_broken}
 use Rattle.hub_session.proofs.RunLemmas.{not_end}

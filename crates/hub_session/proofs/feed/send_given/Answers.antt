@@ -1,4 +1,4 @@
-use Rattle.std.proofs.Common.{[], ◌∷◌, true, false, refl}
+use Rattle.std.proofs.Common.{[], ◌∷◌, true, false}
 use Rattle.std.proofs.KnownBytes.{Appends-nil, Appends-kept}
 use Rattle.hub_session.specs.Feeds.{Streams}
 use Rattle.hub_session.proofs.FeedLemmas.{stream_fails, one_sent}

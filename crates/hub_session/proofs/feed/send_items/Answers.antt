@@ -1,4 +1,4 @@
-use Rattle.std.proofs.Common.{arith, [], Err, refl}
+use Rattle.std.proofs.Common.{arith, []}
 use Rattle.std.proofs.KnownBytes.{Appends-nil}
 use Rattle.hub_session.specs.declared.closing.StreamEnd.TheVariants.{Exhausted}
 use Rattle.hub_session.specs.Feeds.{Streams}

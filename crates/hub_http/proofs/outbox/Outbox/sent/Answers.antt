@@ -1,4 +1,4 @@
-use Rattle.std.proofs.Common.{◌++◌, length, ◌≤◌, ap, ◌∙◌, arith}
+use Rattle.std.proofs.Common.{ap, ◌∙◌, arith}
 use Rattle.hub_http.specs.Boxes.{pending_in}
 use Rattle.hub_http.proofs.BoxLemmas.{drop_first, drop_second}
 use Rattle.hub_http.proofs.outbox.Outbox.sent.Goals as goal
