@@ -11,19 +11,22 @@ use Rattle.hub_session.specs.declared.closing.Closing.{Closing}
 use Rattle.changes_hub.specs.Statuses.{EndsWith, status_of}
 
 -- bytes that grew and then stayed have grown
-appends_kept : (old mid new : Option (List ℕ)) (bytes : List ℕ) → Appends old mid bytes → Keeps mid new → Appends old new bytes
+appends_kept : (old mid new : Option (List ℕ)) (bytes : List ℕ) → Appends old mid bytes → Keeps mid new
+    → Appends old new bytes
 appends_kept None mid new bytes grew stays = tt
 appends_kept (Some xs) None new bytes grew stays = absurd grew
 appends_kept (Some xs) (Some ys) None bytes grew stays = absurd stays
 appends_kept (Some xs) (Some ys) (Some zs) bytes grew stays = stays ∙ grew
 
 -- and where the writing broke they have grown by a front
-sends_kept : (broken : Bool) (old mid new : Option (List ℕ)) (bytes : List ℕ) → Sends broken old mid bytes → Keeps mid new → Sends broken old new bytes
+sends_kept : (broken : Bool) (old mid new : Option (List ℕ)) (bytes : List ℕ) → Sends broken old mid bytes
+    → Keeps mid new → Sends broken old new bytes
 sends_kept false old mid new bytes sent stays = appends_kept old mid new bytes sent stays
 sends_kept true old mid new bytes (n, sent) stays = (n, appends_kept old mid new (take n bytes) sent stays)
 
 -- a session goes on being one where what it wrote is flushed
-session_kept : {S : Type 0} (rules : Rules S) (bytes : List ℕ) (closing : Closing) (before : Moment S) (last : S)
+session_kept : {S : Type 0} (rules : Rules S) (bytes : List ℕ) (closing : Closing)
+    (before : Moment S) (last : S)
     (mid new : Option (List ℕ)) → IsSession rules bytes closing before (moment last mid) → Keeps mid new
     → IsSession rules bytes closing before (moment last new)
 session_kept rules bytes closing before last mid new is stays = record {
@@ -35,10 +38,18 @@ session_kept rules bytes closing before last mid new is stays = record {
   written = sends_kept (is_broken closing) is.mid mid new is.last is.written stays;
 }
 
--- a session over known bytes that closed so ends with the status of its closing, also once its answers are flushed
-pub ends_with : (bytes : Option (List ℕ)) (closing : Closing) (status : ℕ) (before mid after : Option (List ℕ))
-    → IfSome bytes (λ bytes. (last : Option Sent) × IsSession connection_rules bytes closing (moment None before) (moment last mid))
-    → Keeps mid after → status ≡ status_of closing → IfSome bytes (λ bytes. EndsWith bytes status before after)
+-- a session over known bytes that closed so ends with the status of its closing, also once its
+-- answers are flushed
+pub ends_with : (bytes : Option (List ℕ)) (closing : Closing) (status : ℕ)
+    (before mid after : Option (List ℕ))
+    → IfSome bytes (λ bytes.
+    (last : Option Sent) × IsSession connection_rules bytes closing (moment None before) (moment last mid))
+    → Keeps mid after → status ≡ status_of closing
+    → IfSome bytes (λ bytes. EndsWith bytes status before after)
 ends_with None closing status before mid after is stays same = tt
-ends_with (Some bytes) closing status before mid after (last, is) stays same =
-    (closing, last, session_kept connection_rules bytes closing (moment None before) last mid after is stays, same)
+ends_with (Some bytes) closing status before mid after (last, is) stays same = (
+  closing,
+  last,
+  session_kept connection_rules bytes closing (moment None before) last mid after is stays,
+  same,
+)

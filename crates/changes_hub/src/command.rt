@@ -3,7 +3,9 @@
 ghost use Rattle.std.specs.Prelude.{◌≡◌, map, option_map, string_bytes};
 ghost use Rattle.std.specs.List.{list_all};
 ghost use Rattle.std.specs.Vec.Iter.{into_iter_items};
-ghost use Rattle.changes_hub.specs.Commands.{asked_by, asked_of, at_most, count_in, is_digit as is_digit_byte, is_numeral as is_numeral_text, number_in, serve_with, stdin_with};
+ghost use Rattle.changes_hub.specs.Commands.{asked_by, asked_of, at_most, count_in};
+ghost use Rattle.changes_hub.specs.Commands.{is_digit as is_digit_byte, is_numeral as is_numeral_text};
+ghost use Rattle.changes_hub.specs.Commands.{number_in, serve_with, stdin_with};
 
 use std::vec::IntoIter;
 

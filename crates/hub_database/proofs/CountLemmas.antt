@@ -32,7 +32,10 @@ any_of (e ∷ es) = true
 
 pub text_turned : (a b : List ℕ) → bytes_eq a b ≡ bytes_eq b a
 text_turned a b =
-    elim (same_text a b) [ inl e ↦ text_same a b e ∙ sym (text_same b a (sym e)) | inr n ↦ text_apart a b n ∙ sym (text_apart b a (λ e. n (sym e))) ]
+    elim (same_text a b) [
+      | inl e ↦ text_same a b e ∙ sym (text_same b a (sym e))
+      | inr n ↦ text_apart a b n ∙ sym (text_apart b a (λ e. n (sym e)))
+    ]
 
 -- a document is edited where it has an edit
 edited_by : (q : List ℕ) (J : List Edit) → is_edited q J ≡ any_of (edits_of J q)
@@ -73,7 +76,8 @@ step : (P : List ℕ → Bool) (n : ℕ) (e : Edit) (J : List Edit)
 step P n e J = from (is_edited e.id J)
   where
     from : (b : Bool)
-        → rows_of P (if b then current_from (n + 1) J else (record { seq = n; id = e.id } ∷ current_from (n + 1) J))
+        → rows_of P
+        (if b then current_from (n + 1) J else (record { seq = n; id = e.id } ∷ current_from (n + 1) J))
         ≡ rows_of P (current_from (n + 1) J) + one_if (not b && P e.id)
     from true = omega arith
     from false = one_more P (record { seq = n; id = e.id }) (current_from (n + 1) J)
@@ -94,10 +98,14 @@ swap P Q q same n (e ∷ J) =
     from : (q ≡ e.id) ⊎ (q ≢ e.id)
         → rows_of P (current_from (n + 1) J) + one_if (is_edited q J && Q q)
         ≡ rows_of Q (current_from (n + 1) J) + one_if (is_edited q J && P q)
-        → rows_of P (current_from (n + 1) J) + one_if (not (is_edited e.id J) && P e.id) + one_if ((bytes_eq q e.id || is_edited q J) && Q q)
-        ≡ rows_of Q (current_from (n + 1) J) + one_if (not (is_edited e.id J) && Q e.id) + one_if ((bytes_eq q e.id || is_edited q J) && P q)
+        → rows_of P (current_from (n + 1) J) + one_if (not (is_edited e.id J) && P e.id)
+        + one_if ((bytes_eq q e.id || is_edited q J) && Q q)
+        ≡ rows_of Q (current_from (n + 1) J) + one_if (not (is_edited e.id J) && Q e.id)
+        + one_if ((bytes_eq q e.id || is_edited q J) && P q)
     from (inl t) h =
-        rw (← t, text_same q q refl) (same_sums (rows_of P (current_from (n + 1) J)) (rows_of Q (current_from (n + 1) J)) (is_edited q J) (P q) (Q q) h)
+        rw (← t, text_same q q refl)
+        (same_sums (rows_of P (current_from (n + 1) J)) (rows_of Q (current_from (n + 1) J))
+        (is_edited q J) (P q) (Q q) h)
     from (inr d) h = rw (text_apart q e.id d, same e.id (λ t. d (sym t))) (omega arith)
 
 -- one edit more
@@ -111,17 +119,23 @@ push : (P : List ℕ → Bool) (n : ℕ) (J : List Edit) (e : Edit)
     ≡ rows_of P (current_from n J) + one_if (P e.id)
 push P n [] e = omega (arith, one_more P (record { seq = n; id = e.id }) [])
 push P n (f ∷ J) e =
-    rw (step P n f (J ++ e ∷ []), step P n f J, list_any-append (λ (g : Edit). bytes_eq f.id g.id) J (e ∷ [])) (from (same_text e.id f.id) (push P (n + 1) J e))
+    rw (step P n f (J ++ e ∷ []), step P n f J, list_any-append (λ (g : Edit). bytes_eq f.id g.id) J (e ∷ []))
+    (from (same_text e.id f.id) (push P (n + 1) J e))
   where
     from : (e.id ≡ f.id) ⊎ (e.id ≢ f.id)
         → rows_of P (current_from (n + 1) (J ++ e ∷ [])) + one_if (is_edited e.id J && P e.id)
         ≡ rows_of P (current_from (n + 1) J) + one_if (P e.id)
-        → rows_of P (current_from (n + 1) (J ++ e ∷ [])) + one_if (not (is_edited f.id J || (bytes_eq f.id e.id || false)) && P f.id) + one_if ((bytes_eq e.id f.id || is_edited e.id J) && P e.id)
+        → rows_of P (current_from (n + 1) (J ++ e ∷ []))
+        + one_if (not (is_edited f.id J || (bytes_eq f.id e.id || false)) && P f.id)
+        + one_if ((bytes_eq e.id f.id || is_edited e.id J) && P e.id)
         ≡ rows_of P (current_from (n + 1) J) + one_if (not (is_edited f.id J) && P f.id) + one_if (P e.id)
     from (inl t) h =
-        rw (← t, text_same e.id e.id refl, or_right (is_edited e.id J) true refl) (push_sums (rows_of P (current_from (n + 1) (J ++ e ∷ []))) (rows_of P (current_from (n + 1) J)) (is_edited e.id J) (P e.id) h)
+        rw (← t, text_same e.id e.id refl, or_right (is_edited e.id J) true refl)
+        (push_sums (rows_of P (current_from (n + 1) (J ++ e ∷ []))) (rows_of P (current_from (n + 1) J))
+        (is_edited e.id J) (P e.id) h)
     from (inr d) h =
-        rw (text_apart e.id f.id d, text_apart f.id e.id (λ t. d (sym t)), or_none (is_edited f.id J)) (omega arith)
+        rw (text_apart e.id f.id d, text_apart f.id e.id (λ t. d (sym t)), or_none (is_edited f.id J))
+        (omega arith)
 
 all_of : (cs : List Current) → rows_of (λ i. true) cs ≡ length cs
 all_of [] = refl
@@ -154,7 +168,9 @@ deleted_if_edited J q = ap (λ b. b && deleted J q) (edited_by q J) ∙ from (ed
 others_stay : (J : List Edit) (e : Edit) (i : List ℕ) → i ≢ e.id → deleted J i ≡ deleted (J ++ e ∷ []) i
 others_stay J e i n =
     ap (λ es. is_deleted (best_first (leaves_among es es)))
-    (sym (filter-append (λ (f : Edit). bytes_eq f.id i) J (e ∷ []) ∙ (ap (λ b. edits_of J i ++ (if b then (e ∷ []) else [])) (text_apart e.id i (λ t. n (sym t))) ∙ append-nil (edits_of J i))))
+    (sym (filter-append (λ (f : Edit). bytes_eq f.id i) J (e ∷ [])
+    ∙ (ap (λ b. edits_of J i ++ (if b then (e ∷ []) else [])) (text_apart e.id i (λ t. n (sym t)))
+    ∙ append-nil (edits_of J i))))
 
 -- how many have a deleted winner, with one edit more
 pub deleted_more : (J : List Edit) (e : Edit)
@@ -173,8 +189,11 @@ pub deleted_some : (J : List Edit) (q : List ℕ) → one_if (is_deleted (leaves
 deleted_some J q =
     omega (
       arith,
-      swap (deleted J) (λ i. not (bytes_eq i q) && deleted J i) q (λ i n. sym (ap (λ b. not b && deleted J i) (text_apart i q n))) 1 J,
-      ap one_if (ap (λ b. is_edited q J && (not b && deleted J q)) (text_same q q refl) ∙ and_false (is_edited q J)),
+      swap (deleted J) (λ i. not (bytes_eq i q) && deleted J i) q
+          (λ i n. sym (ap (λ b. not b && deleted J i) (text_apart i q n))) 1 J,
+      ap one_if
+          (ap (λ b. is_edited q J && (not b && deleted J q)) (text_same q q refl)
+          ∙ and_false (is_edited q J)),
       ap one_if (deleted_if_edited J q),
     )
 
@@ -185,7 +204,11 @@ deleted_few J = count_by-le-length (λ (c : Current). deleted J c.id) (current J
 left_of : (p : Current → Bool) (cs : List Current) → count_by (λ c. not (p c)) cs + count_by p cs ≡ length cs
 left_of p [] = refl
 left_of p (c ∷ cs) =
-    rw (sum_by-cons (λ (c : Current). if not (p c) then 1 else 0) c cs, sum_by-cons (λ (c : Current). if p c then 1 else 0) c cs) (from (p c) (left_of p cs))
+    rw (
+      sum_by-cons (λ (c : Current). if not (p c) then 1 else 0) c cs,
+      sum_by-cons (λ (c : Current). if p c then 1 else 0) c cs,
+    )
+    (from (p c) (left_of p cs))
   where
     from : (b : Bool) → count_by (λ c. not (p c)) cs + count_by p cs ≡ length cs
         → ((if not b then 1 else 0) + count_by (λ c. not (p c)) cs) + ((if b then 1 else 0) + count_by p cs)

@@ -45,7 +45,9 @@ pairs_reverse : {A : Type 0} (R : A → A → Type 0) (xs : List A) → AllPairs
 pairs_reverse R [] pairs = λ i j d a b. absurd (omega arith)
 pairs_reverse R (x ∷ xs) pairs =
     subst (AllPairs (λ a b. R b a)) (sym (reverse-append (x ∷ []) xs))
-    (all_pairs_push (λ a b. R b a) (reverse xs) x (pairs_reverse R xs (of_tail R x xs pairs)) (λ k d l. All-contains (R x) xs (get_or (reverse xs) k d) (of_head R x xs pairs) (contains_reverse xs (get_or (reverse xs) k d) (All-contains_itself (reverse xs) k d l))))
+    (all_pairs_push (λ a b. R b a) (reverse xs) x (pairs_reverse R xs (of_tail R x xs pairs)) (λ k d l.
+    All-contains (R x) xs (get_or (reverse xs) k d) (of_head R x xs pairs)
+    (contains_reverse xs (get_or (reverse xs) k d) (All-contains_itself (reverse xs) k d l))))
 
 take_nothing : {A : Type 0} (n : ℕ) → take {A = A} n [] ≡ []
 take_nothing zero = refl
@@ -55,7 +57,10 @@ contains_take : {A : Type 0} (n : ℕ) (xs : List A) (x : A) → Contains (take 
 contains_take n [] x h = subst (λ ys. Contains ys x) (take_nothing n) h
 contains_take zero (y ∷ xs) x h = absurd (contains_none x h)
 contains_take (suc n) (y ∷ xs) x h =
-    elim (contains_cases y x (take n xs) h) [ inl e ↦ subst (λ z. Contains (y ∷ xs) z) e (contains_here y xs) | inr m ↦ contains_there y x xs (contains_take n xs x m) ]
+    elim (contains_cases y x (take n xs) h) [
+      | inl e ↦ subst (λ z. Contains (y ∷ xs) z) e (contains_here y xs)
+      | inr m ↦ contains_there y x xs (contains_take n xs x m)
+    ]
 
 contains_most : {A : Type 0} (limit : Option ℕ) (xs : List A) (x : A) → Contains (at_most limit xs) x
     → Contains xs x
@@ -80,7 +85,9 @@ module _ (q : Current → Bool) where
   step_some (x ∷ rows) place c falls e =
       elim (cases_Bool (nat_lt x.seq place)) [
         | inl t ↦ here t (same_Some x c (rw t at e))
-        | inr f ↦ there f (rw f at e) (step_some rows place c (of_tail (λ (a b : Current). b.seq < a.seq) x rows falls) (rw f at e))
+        | inr f ↦
+            there f (rw f at e)
+            (step_some rows place c (of_tail (λ (a b : Current). b.seq < a.seq) x rows falls) (rw f at e))
       ]
     where
       lower : (d : Current) → Contains rows d → d.seq < x.seq
@@ -99,7 +106,9 @@ module _ (q : Current → Bool) where
           let rest : below q place rows ≡ below q x.seq rows =
           filter_agree (λ (d : Current). nat_lt d.seq place && q d)
           (λ (d : Current). nat_lt d.seq x.seq && q d) rows
-          (λ d h. let l = lower d h in ap (λ b. b && q d) (lt-ltb d.seq place (omega (arith, l, high)) ∙ sym (lt-ltb d.seq x.seq l))) in
+          (λ d h.
+          let l = lower d h in
+          ap (λ b. b && q d) (lt-ltb d.seq place (omega (arith, l, high)) ∙ sym (lt-ltb d.seq x.seq l))) in
           let own : below q x.seq (x ∷ rows) ≡ below q x.seq rows =
           ap (λ b. if b && q x then (x ∷ below q x.seq rows) else below q x.seq rows) (not_itself x.seq) in
           ap (λ b. if b && q x then (x ∷ below q place rows) else below q place rows) t
@@ -125,7 +134,9 @@ module _ (q : Current → Bool) where
   step_none (x ∷ rows) place e =
       elim (cases_Bool (nat_lt x.seq place)) [
         | inl t ↦ absurd (none-some x (sym (rw t at e)))
-        | inr f ↦ ap (λ b. if b && q x then (x ∷ below q place rows) else below q place rows) f ∙ step_none rows place (rw f at e)
+        | inr f ↦
+            ap (λ b. if b && q x then (x ∷ below q place rows) else below q place rows) f
+            ∙ step_none rows place (rw f at e)
       ]
 
 -- a row that passes, and lies above where the feed begins
@@ -137,7 +148,9 @@ current_few n [] = omega arith
 current_few n (e ∷ J) = from (is_edited e.id J) (current_few (n + 1) J)
   where
     from : (b : Bool) → length (current_from (n + 1) J) ≤ length J
-        → length (if b then current_from (n + 1) J else (record { seq = n; id = e.id } ∷ current_from (n + 1) J)) ≤ length (e ∷ J)
+        → length (if b then current_from (n + 1) J
+        else (record { seq = n; id = e.id } ∷ current_from (n + 1) J))
+        ≤ length (e ∷ J)
     from true h = omega (arith, h)
     from false h = omega (arith, h)
 
@@ -167,8 +180,9 @@ module _ (J : List Edit) (asked : Params) (since : ℕ) where
       let whole : most ≡ most - 0 = omega arith in
       ap (λ cs. map show (take most cs))
       (filter_agree (is_shown asked since) (λ (c : Current). nat_lt c.seq place && is_shown asked since c)
-      (falling_all J)
-      (λ c h. let w = rows_below J c (contains_reverse (current J) c h) in sym (ap (λ b. b && is_shown asked since c) (lt-ltb c.seq place (omega (arith, w, e))))))
+      (falling_all J) (λ c h.
+      let w = rows_below J c (contains_reverse (current J) c h) in
+      sym (ap (λ b. b && is_shown asked since c) (lt-ltb c.seq place (omega (arith, w, e))))))
       ∙ ap (λ n. map show (take n (left place))) whole
 
   module _ (place : ℕ) (c : Current)
@@ -203,12 +217,17 @@ module _ (J : List Edit) (asked : Params) (since : ℕ) where
     pub past_since : c.seq ≤ since → left place ≡ []
     past_since h =
         step
-        ∙ (ap (λ b. if b then (c ∷ left c.seq) else left c.seq) (ap (λ b. b && passes asked.filter c.id) (le-ltb since c.seq h))
-        ∙ filter_nothing (λ (d : Current). nat_lt d.seq c.seq && is_shown asked since d) (falling_all J) (λ d m. low d))
+        ∙ (ap (λ b. if b then (c ∷ left c.seq) else left c.seq)
+        (ap (λ b. b && passes asked.filter c.id) (le-ltb since c.seq h))
+        ∙ filter_nothing (λ (d : Current). nat_lt d.seq c.seq && is_shown asked since d)
+        (falling_all J) (λ d m. low d))
       where
         low : (d : Current) → (nat_lt d.seq c.seq && (nat_lt since d.seq && passes asked.filter d.id)) ≡ false
         low d = elim (cases_Bool (nat_lt d.seq c.seq)) [
-          | inl t ↦ ap (λ b. b && is_shown asked since d) t ∙ ap (λ b. b && passes asked.filter d.id) (le-ltb since d.seq (let l : d.seq < c.seq = ltb-true d.seq c.seq t in omega (arith, l, h)))
+          | inl t ↦
+              ap (λ b. b && is_shown asked since d) t
+              ∙ ap (λ b. b && passes asked.filter d.id)
+              (le-ltb since d.seq (let l : d.seq < c.seq = ltb-true d.seq c.seq t in omega (arith, l, h)))
           | inr f ↦ ap (λ b. b && is_shown asked since d) f
         ]
 
@@ -249,8 +268,11 @@ module _ (J : List Edit) (asked : Params) (since : ℕ) where
       let longer : length rows' ≡ length rows + 1 = ap length more ∙ length_push rows row in
       let one : most - length rows ≡ suc (most - length rows') = omega (arith, longer, few) in
       h
-      ∙ (ap (λ cs. rows ++ map show (take (most - length rows) cs)) e ∙ (ap (λ n. rows ++ map show (take n (c ∷ left c.seq))) one
-      ∙ (sym (append_assoc rows (show c ∷ []) (map show (take (most - length rows') (left c.seq)))) ∙ ap (λ rs. rs ++ map show (take (most - length rows') (left c.seq))) (ap (λ r. rows ++ r ∷ []) (sym is) ∙ sym more))))
+      ∙ (ap (λ cs. rows ++ map show (take (most - length rows) cs)) e
+      ∙ (ap (λ n. rows ++ map show (take n (c ∷ left c.seq))) one
+      ∙ (sym (append_assoc rows (show c ∷ []) (map show (take (most - length rows') (left c.seq))))
+      ∙ ap (λ rs. rs ++ map show (take (most - length rows') (left c.seq)))
+      (ap (λ r. rows ++ r ∷ []) (sym is) ∙ sym more))))
 
   more_than_none : (rows : List ChangeRow) (row : ChangeRow) (more : List ChangeRow) → rows ++ row ∷ more ≡ []
       → ⊥
@@ -264,7 +286,8 @@ module _ (J : List Edit) (asked : Params) (since : ℕ) where
   row_shown most rows place c few h e = λ none.
       let one : most - length rows ≡ suc (most - length rows - 1) = omega (arith, few) in
       more_than_none rows (show c) (map show (take (most - length rows - 1) (left c.seq)))
-      (ap (λ n. rows ++ map show (take n (c ∷ left c.seq))) (sym one) ∙ (ap (λ cs. rows ++ map show (take (most - length rows) cs)) (sym e) ∙ (sym h ∙ none)))
+      (ap (λ n. rows ++ map show (take n (c ∷ left c.seq))) (sym one)
+      ∙ (ap (λ cs. rows ++ map show (take (most - length rows) cs)) (sym e) ∙ (sym h ∙ none)))
 
   -- what is shown in all is the answer
   pub shown_all : all_shown (most_of asked.limit (length J)) ≡ map show (falling_rows J asked since)
@@ -302,10 +325,12 @@ module _ (J : List Edit) (asked : Params) (since : ℕ) where
   nothing_shown (c ∷ cs) e = absurd (cc)
 
   -- and has one where one is due
-  pub answer_some : (life : ℕ) → since ≡ since_of asked.since (length J) life → ¬ (falling_rows J asked since ≡ [])
+  pub answer_some : (life : ℕ) → since ≡ since_of asked.since (length J) life
+      → ¬ (falling_rows J asked since ≡ [])
       → ¬ ((descending J life asked).rows ≡ [])
   answer_some life begin some =
-      λ e. some (nothing_shown (falling_rows J asked since) (ap (λ n. map (row_of J asked.style asked.include_docs) (falling_rows J asked n)) begin ∙ e))
+      λ e. some (nothing_shown (falling_rows J asked since)
+      (ap (λ n. map (row_of J asked.style asked.include_docs) (falling_rows J asked n)) begin ∙ e))
 
   -- and lies above where the feed begins
   pub rows_above : (c : Current) → Contains (falling_rows J asked since) c → since < c.seq
@@ -340,11 +365,24 @@ module _ (J : List Edit) (asked : Params) (since : ℕ) where
     pub answer_is : (life count : ℕ)
         → count ≡ count_by (λ (c : Current). nat_lt since c.seq && nat_lt c.seq last) (current J)
         → since ≡ since_of asked.since (length J) life
-        → ◌≡◌ {A = Descending} (record { rows = rows; last_seq = last; pending = count; life = life }) (descending J life asked)
+        → ◌≡◌ {A = Descending} (record { rows = rows; last_seq = last; pending = count; life = life })
+        (descending J life asked)
     answer_is life count many begin =
         ap (λ (n : ℕ). record { rows = rows; last_seq = last; pending = n; life = life }) many
-        ∙ (ap (λ (n : ℕ). record { rows = rows; last_seq = n; pending = count_by (λ (c : Current). nat_lt since c.seq && nat_lt c.seq n) (current J); life = life }) last_is
-        ∙ (ap (λ (rs : List ChangeRow). record { rows = rs; last_seq = lowest since (falling_rows J asked since); pending = count_by (λ (c : Current). nat_lt since c.seq && nat_lt c.seq (lowest since (falling_rows J asked since))) (current J); life = life }) all
+        ∙ (ap (λ (n : ℕ). record {
+          rows = rows;
+          last_seq = n;
+          pending = count_by (λ (c : Current). nat_lt since c.seq && nat_lt c.seq n) (current J);
+          life = life;
+        }) last_is
+        ∙ (ap (λ (rs : List ChangeRow). record {
+          rows = rs;
+          last_seq = lowest since (falling_rows J asked since);
+          pending =
+              count_by (λ (c : Current).
+              nat_lt since c.seq && nat_lt c.seq (lowest since (falling_rows J asked since))) (current J);
+          life = life;
+        }) all
         ∙ ap (λ (n : ℕ). falling J life asked n (falling_rows J asked n)) begin))
 
 -- the last of falling rows is the lowest
@@ -396,15 +434,21 @@ module _ (since low : ℕ) where
   -- where there is none between
   none_between : since ≡ low → (c : Current) → is_between c ≡ false
   none_between e c = elim (cases_Bool (nat_lt since c.seq)) [
-    | inl t ↦ ap (λ b. b && nat_lt c.seq low) t ∙ le-ltb c.seq low (let l : since < c.seq = ltb-true since c.seq t in omega (arith, l, e))
+    | inl t ↦
+        ap (λ b. b && nat_lt c.seq low) t
+        ∙ le-ltb c.seq low (let l : since < c.seq = ltb-true since c.seq t in omega (arith, l, e))
     | inr f ↦ ap (λ b. b && nat_lt c.seq low) f
   ]
 
   parts : since < low → (c : Current)
       → one (nat_lt since c.seq) ≡ one (is_between c) + one (nat_lt (low - 1) c.seq)
   parts h c = elim (cases_Bool (nat_lt c.seq low)) [
-    | inl t ↦ let l : c.seq < low = ltb-true c.seq low t in rw (t, le-ltb (low - 1) c.seq (omega (arith, l))) (under (nat_lt since c.seq))
-    | inr f ↦ let l : low ≤ c.seq = ltb-false c.seq low f in rw (f, lt-ltb (low - 1) c.seq (omega (arith, l, h)), lt-ltb since c.seq (omega (arith, l, h))) refl
+    | inl t ↦
+        let l : c.seq < low = ltb-true c.seq low t in
+        rw (t, le-ltb (low - 1) c.seq (omega (arith, l))) (under (nat_lt since c.seq))
+    | inr f ↦
+        let l : low ≤ c.seq = ltb-false c.seq low f in
+        rw (f, lt-ltb (low - 1) c.seq (omega (arith, l, h)), lt-ltb since c.seq (omega (arith, l, h))) refl
   ]
     where
       under : (b : Bool) → one b ≡ one (b && true) + 0
@@ -414,11 +458,16 @@ module _ (since low : ℕ) where
   pub between : (xs : List Current) → since ≤ low
       → pending xs since - pending xs (low - 1) ≡ count_by is_between xs
   between xs h = elim (cases_Bool (nat_lt since low)) [
-    | inl t ↦ let s = split_count (λ (c : Current). nat_lt since c.seq) is_between (λ (c : Current). nat_lt (low - 1) c.seq) (parts (ltb-true since low t)) xs in omega (arith, s)
+    | inl t ↦
+        let s =
+        split_count (λ (c : Current). nat_lt since c.seq) is_between (λ (c : Current). nat_lt (low - 1) c.seq)
+        (parts (ltb-true since low t)) xs in
+        omega (arith, s)
     | inr f ↦ let e : since ≡ low = let l : low ≤ since = ltb-false since low f in omega (arith, l, h) in
         let none : count_by is_between xs ≡ 0 = count_nothing xs (none_between e) in
         let few =
-        few_count (λ (c : Current). nat_lt since c.seq) (λ (c : Current). nat_lt (low - 1) c.seq) (lower e) xs in
+        few_count (λ (c : Current). nat_lt since c.seq)
+        (λ (c : Current). nat_lt (low - 1) c.seq) (lower e) xs in
         omega (arith, none, few)
   ]
     where
@@ -429,6 +478,8 @@ module _ (since low : ℕ) where
 
       lower : since ≡ low → (c : Current) → one (nat_lt since c.seq) ≤ one (nat_lt (low - 1) c.seq)
       lower e c = elim (cases_Bool (nat_lt since c.seq)) [
-        | inl t ↦ let l : since < c.seq = ltb-true since c.seq t in rw (t, lt-ltb (low - 1) c.seq (omega (arith, l, e))) (omega arith)
+        | inl t ↦
+            let l : since < c.seq = ltb-true since c.seq t in
+            rw (t, lt-ltb (low - 1) c.seq (omega (arith, l, e))) (omega arith)
         | inr f ↦ rw f (omega arith)
       ]

@@ -33,7 +33,11 @@ adds_grow : (limit : ℕ) (J : List Edit) (e : Edit) → length J ≤ length (ad
 adds_grow limit J e = from (nat_le limit (length J))
   where
     from : (b : Bool)
-        → length J ≤ length (if b then refuses J fault.SequenceFull else record { outcome = outcome.Stored (unwrap_or (head_of e) (record { generation = 0; hash = [] })); journal = J ++ e ∷ [] }).journal
+        → length J ≤ length (if b then refuses J fault.SequenceFull
+        else record {
+          outcome = outcome.Stored (unwrap_or (head_of e) (record { generation = 0; hash = [] }));
+          journal = J ++ e ∷ [];
+        }).journal
     from true = omega arith
     from false = omega (arith, length_push J e)
 
@@ -41,7 +45,8 @@ merges_grow : (limit : ℕ) (J : List Edit) (e : Edit) → length J ≤ length (
 merges_grow limit J e = from (is_head_known J e.id e.path) (is_acceptable J e)
   where
     from : (known acceptable : Bool)
-        → length J ≤ length (if known then record { outcome = outcome.Known; journal = J } else if acceptable then adds limit J e else refuses J fault.Contradicts).journal
+        → length J ≤ length (if known then record { outcome = outcome.Known; journal = J }
+        else if acceptable then adds limit J e else refuses J fault.Contradicts).journal
     from true acceptable = omega arith
     from false true = adds_grow limit J e
     from false false = omega arith
@@ -53,7 +58,8 @@ makes_grow limit J d (Some path) =
     from (nat_le 65535 (generation_of (parent_of path))) (is_known J d.id (made d (parent_of path)))
   where
     from : (last known : Bool)
-        → length J ≤ length (if last then refuses J fault.GenerationLimit else if known then refuses J fault.Conflict else adds limit J (edit_of d path)).journal
+        → length J ≤ length (if last then refuses J fault.GenerationLimit
+        else if known then refuses J fault.Conflict else adds limit J (edit_of d path)).journal
     from true known = omega arith
     from false true = omega arith
     from false false = adds_grow limit J (edit_of d path)
@@ -70,7 +76,8 @@ write_grows new_edits limit J doc o K h =
 
 -- a write changes the journal alone
 pub contents_stay : (J : List Edit) {l l' : List Local} {m m' : Limits} {n n' : ℕ} → l ≡ l' → m ≡ m' → n ≡ n'
-    → ◌≡◌ {A = Contents} (record { journal = J; locals = l; limits = m; life = n }) (record { journal = J; locals = l'; limits = m'; life = n' })
+    → ◌≡◌ {A = Contents} (record { journal = J; locals = l; limits = m; life = n })
+    (record { journal = J; locals = l'; limits = m'; life = n' })
 contents_stay J a d e = rw (a, d, e) refl
 
 -- a deleted database refuses each document
@@ -88,7 +95,8 @@ pub refused_batch : (new_edits deleted : Bool) (limit : ℕ) (J : List Edit) (do
     → writes new_edits deleted limit J (take (length replies) docs)
     ≡ record { outcomes = replies; journal = J }
 refused_batch new_edits deleted limit J docs n replies t e r =
-    rw (t, r, length-replicate {A = Outcome Revision} n (outcome.Refused fault.Deleted), e, take-length docs) (all_refused (stores_doc new_edits limit) J docs)
+    rw (t, r, length-replicate {A = Outcome Revision} n (outcome.Refused fault.Deleted), e, take-length docs)
+    (all_refused (stores_doc new_edits limit) J docs)
 
 item_given : (show : Current → ChangeRow) (rows : List Current) (d : Due) (item : Item ChangeRow)
     → Give item ≡ next_of show rows d → item_of show rows d ≡ Some item

@@ -30,7 +30,11 @@ module _ (limit : ℕ) (numbers : List ℕ → Option ℕ) (documents : List Fil
   -- the document at k has the id and the edits
   pub at_k : (d : Filed) → slice_get documents k ≡ Some d → (d.id ≡ id) × (d.edits ≡ edits)
   at_k d g = ⊎_elim
-      (λ w. let f = st.found id k w.0 in (ap (λ (z : Filed). z.id) (same_Some d f.0 (sym g ∙ f.1)) ∙ f.2, ap (λ (z : Filed). z.edits) (same_Some d w.1.0 (sym g ∙ w.1.1)) ∙ w.1.2))
+      (λ w.
+      let f = st.found id k w.0 in (
+        ap (λ (z : Filed). z.id) (same_Some d f.0 (sym g ∙ f.1)) ∙ f.2,
+        ap (λ (z : Filed). z.edits) (same_Some d w.1.0 (sym g ∙ w.1.1)) ∙ w.1.2,
+      ))
       (λ w. absurd (none-some d (sym w.1 ∙ g))) was
 
   pub apart : (j : ℕ) (d : Filed) → slice_get documents j ≡ Some d → j ≢ k → d.id ≢ id
@@ -40,7 +44,10 @@ module _ (limit : ℕ) (numbers : List ℕ → Option ℕ) (documents : List Fil
 
   pub kept_of : edits_of (journal_of documents entries) id ≡ map (named id) edits
   kept_of = ⊎_elim
-      (λ w. let a = at_k w.1.0 w.1.1 in let k : edits_of (journal_of documents entries) w.1.0.id ≡ map (named w.1.0.id) w.1.0.edits = st.kept k w.1.0 w.1.1 in
+      (λ w.
+      let a = at_k w.1.0 w.1.1 in
+      let k : edits_of (journal_of documents entries) w.1.0.id ≡ map (named w.1.0.id) w.1.0.edits =
+      st.kept k w.1.0 w.1.1 in
       subst (λ es. edits_of (journal_of documents entries) id ≡ map (named id) es) a.1
       (subst (λ i. edits_of (journal_of documents entries) i ≡ map (named i) w.1.0.edits) a.0 k))
       (λ w. st.others id w.0 ∙ sym (ap (map (named id)) w.2)) was
@@ -48,7 +55,8 @@ module _ (limit : ℕ) (numbers : List ℕ → Option ℕ) (documents : List Fil
   module _ (e : Edit) (ok : IsAcceptable (journal_of documents entries) (named id e))
       (room : length entries < limit)
       (numbers' : List ℕ → Option ℕ) (documents' : List Filed)
-      (at : slice_get documents' k ≡ Some (record { id = id; latest = length entries + 1; edits = edits ++ e ∷ [] }))
+      (at : slice_get documents' k
+      ≡ Some (record { id = id; latest = length entries + 1; edits = edits ++ e ∷ [] }))
       (other : (j : ℕ) → j ≢ k → slice_get documents' j ≡ slice_get documents j)
       (this : numbers' id ≡ Some k) (rest : (q : List ℕ) → q ≢ id → numbers' q ≡ numbers q)
       (stay : (d : Filed) → slice_get documents k ≡ Some d → length documents' ≡ length documents)
@@ -74,15 +82,20 @@ module _ (limit : ℕ) (numbers : List ℕ → Option ℕ) (documents : List Fil
             let within : y.revision < length edits = subst (λ es. y.revision < length es) a.1 low in
             ap (λ o. edit_in o y.revision) now
             ∙ (ap (named id) (get_or_append_left edits (e ∷ []) no_edit y.revision within)
-            ∙ sym (ap (λ o. edit_in o y.revision) there ∙ (ap (λ i. named i (get_or d.edits y.revision no_edit)) a.0 ∙ ap (λ es. named id (get_or es y.revision no_edit)) a.1)))
+            ∙ sym (ap (λ o. edit_in o y.revision) there
+            ∙ (ap (λ i. named i (get_or d.edits y.revision no_edit)) a.0
+            ∙ ap (λ es. named id (get_or es y.revision no_edit)) a.1)))
 
     -- the journal has one more edit at its end
     pub journal_is : journal_of documents' (entries ++ entry ∷ [])
         ≡ journal_of documents entries ++ named id e ∷ []
     journal_is =
         map-append (edit_at documents') entries (entry ∷ [])
-        ∙ (ap (λ es. es ++ edit_at documents' entry ∷ []) (maps_agree (edit_at documents') (edit_at documents) entries old_entry)
-        ∙ ap (λ f. journal_of documents entries ++ f ∷ []) (ap (λ o. edit_in o (length edits)) at ∙ ap (named id) (get_or_push edits e no_edit (length edits) refl)))
+        ∙ (ap (λ es. es ++ edit_at documents' entry ∷ [])
+        (maps_agree (edit_at documents') (edit_at documents) entries old_entry)
+        ∙ ap (λ f. journal_of documents entries ++ f ∷ [])
+        (ap (λ o. edit_in o (length edits)) at
+        ∙ ap (named id) (get_or_push edits e no_edit (length edits) refl)))
 
     edits_more : (q : List ℕ)
         → edits_of (journal_of documents' (entries ++ entry ∷ [])) q
@@ -104,7 +117,8 @@ module _ (limit : ℕ) (numbers : List ℕ → Option ℕ) (documents : List Fil
         ≡ map (named id) (edits ++ e ∷ [])
     edits_here =
         edits_more id
-        ∙ (ap (λ b. edits_of (journal_of documents entries) id ++ (if b then (named id e ∷ []) else [])) (text_same id id refl)
+        ∙ (ap (λ b. edits_of (journal_of documents entries) id ++ (if b then (named id e ∷ []) else []))
+        (text_same id id refl)
         ∙ (ap (λ es. es ++ named id e ∷ []) kept_of ∙ sym (map-append (named id) edits (e ∷ []))))
 
     found' : (q : List ℕ) (j : ℕ) → numbers' q ≡ Some j
@@ -144,7 +158,8 @@ module _ (limit : ℕ) (numbers : List ℕ → Option ℕ) (documents : List Fil
             → edits_of (journal_of documents' (entries ++ entry ∷ [])) d.id ≡ map (named d.id) d.edits
         from (inl s) =
             subst
-            (λ (z : Filed). edits_of (journal_of documents' (entries ++ entry ∷ [])) z.id ≡ map (named z.id) z.edits)
+            (λ (z : Filed).
+            edits_of (journal_of documents' (entries ++ entry ∷ [])) z.id ≡ map (named z.id) z.edits)
             (same_Some changed d (sym at ∙ subst (λ i. slice_get documents' i ≡ Some d) s g)) edits_here
         from (inr n) =
             let before : slice_get documents j ≡ Some d = sym (other j n) ∙ g in
@@ -169,7 +184,8 @@ module _ (limit : ℕ) (numbers : List ℕ → Option ℕ) (documents : List Fil
             → (d : Filed) × (slice_get documents' y.document ≡ Some d) × (y.revision < length d.edits)
         newest s =
             subst
-            (λ (z : Entry). (d : Filed) × (slice_get documents' z.document ≡ Some d) × (z.revision < length d.edits))
+            (λ (z : Entry).
+            (d : Filed) × (slice_get documents' z.document ≡ Some d) × (z.revision < length d.edits))
             s (changed, at, omega (arith, longer))
 
         older : ((d : Filed) × (slice_get documents y.document ≡ Some d) × (y.revision < length d.edits))
@@ -177,8 +193,11 @@ module _ (limit : ℕ) (numbers : List ℕ → Option ℕ) (documents : List Fil
             → (d : Filed) × (slice_get documents' y.document ≡ Some d) × (y.revision < length d.edits)
         older (d, there, low) (inl q) =
             let a = at_k d (subst (λ j. slice_get documents j ≡ Some d) q there) in
-            let within : y.revision < length edits = subst (λ es. y.revision < length es) a.1 low in
-            (changed, subst (λ j. slice_get documents' j ≡ Some changed) (sym q) at, omega (arith, longer, within))
+            let within : y.revision < length edits = subst (λ es. y.revision < length es) a.1 low in (
+              changed,
+              subst (λ j. slice_get documents' j ≡ Some changed) (sym q) at,
+              omega (arith, longer, within),
+            )
         older (d, there, low) (inr n) = (d, other y.document n ∙ there, low)
 
         from : (i ≡ length entries) ⊎ (i ≢ length entries)

@@ -13,11 +13,13 @@ use Rattle.hub_database.specs.declared.document.Looked.{Looked}
 use Rattle.hub_database.specs.declared.document.Looked.TheVariants.{Ready}
 
 -- a look that says that an edit with its history is to be stored says that of the edit itself
-by_is : (e0 e : Edit) (known acceptable full : Bool) → Ready e ≡ unless_full full (look_by e0 known acceptable) → e ≡ e0
+by_is : (e0 e : Edit) (known acceptable full : Bool)
+    → Ready e ≡ unless_full full (look_by e0 known acceptable) → e ≡ e0
 by_is e0 e known acceptable full h = grind (arith, common_steps)
 
 -- one that says it of an edit that is made here has a path for it, and a generation
-made_has : (edits : List Edit) (d : Draft) (e : Edit) (o : Option (List Revision)) (full : Bool) → Ready e ≡ unless_full full (look_made (extends_path edits d o))
+made_has : (edits : List Edit) (d : Draft) (e : Edit) (o : Option (List Revision)) (full : Bool)
+    → Ready e ≡ unless_full full (look_made (extends_path edits d o))
     → (path : List Revision) × (o ≡ Some path) × (generation_of (parent_of path) < 65535)
 made_has edits d e o full h = grind (arith, nat_tests, common_steps)
 
@@ -25,11 +27,16 @@ made_has edits d e o full h = grind (arith, nat_tests, common_steps)
 pub not_full : (full : Bool) (l : Looked) (e : Edit) → Ready e ≡ unless_full full l → full ≡ false
 not_full full l e h = grind (arith, common_steps)
 
-needs : (id : List ℕ) (edits : List Edit) (full : Bool) (edit : Incoming) (e : Edit) → IsStorable edits (Ready e) → Ready e ≡ unless_full full (look_at id edits edit) → NeedsRoomFor edits [] edit
+needs : (id : List ℕ) (edits : List Edit) (full : Bool) (edit : Incoming) (e : Edit)
+    → IsStorable edits (Ready e) → Ready e ≡ unless_full full (look_at id edits edit)
+    → NeedsRoomFor edits [] edit
 needs id edits full edit e storable h = grind (arith, nat_tests, common_steps, by_is, made_has)
 
 -- so an error behind such a look is out of memory, where memory is needed
-pub ready_needs : {A E : Type 0} (r : Result A E) (id : List ℕ) (edits : List Edit) (full : Bool) (edit : Incoming) (l : Looked) (e : Edit)
-    → l ≡ Ready e → IsStorable edits l → l ≡ unless_full full (look_at id edits edit) → OnErr r (NeedsRoomFor edits [] edit)
+pub ready_needs : {A E : Type 0} (r : Result A E) (id : List ℕ) (edits : List Edit) (full : Bool)
+    (edit : Incoming) (l : Looked) (e : Edit)
+    → l ≡ Ready e → IsStorable edits l → l ≡ unless_full full (look_at id edits edit)
+    → OnErr r (NeedsRoomFor edits [] edit)
 ready_needs (Ok a) id edits full edit l e is storable looked = tt
-ready_needs (Err f) id edits full edit l e is storable looked = needs id edits full edit e (subst (IsStorable edits) is storable) (sym is ∙ looked)
+ready_needs (Err f) id edits full edit l e is storable looked =
+    needs id edits full edit e (subst (IsStorable edits) is storable) (sym is ∙ looked)

@@ -100,8 +100,8 @@ module _ (limit : ℕ) (numbers : List ℕ → Option ℕ) (documents : List Doc
       → (style : Style) (include_docs : Bool)
       → IfOk result (λ r. r ≡ row_as seq d.id d.tree.edits style include_docs seen)
       → OnOk result (IsRevTree d.tree.edits) → seen ≡ length (journal_of (files documents) entries)
-      → IfOk result (λ r. (c : Current) → Contains (current (journal_of (files documents) entries)) c → c.seq ≡ seq
-      → r ≡ row_of (journal_of (files documents) entries) style include_docs c)
+      → IfOk result (λ r. (c : Current) → Contains (current (journal_of (files documents) entries)) c
+      → c.seq ≡ seq → r ≡ row_of (journal_of (files documents) entries) style include_docs c)
   row_answer (Ok r) seq seen i x s low is d at style include_docs row tree all = λ c h e.
       row
       ∙ (ap (λ (n : ℕ). row_as n d.id d.tree.edits style include_docs seen) (sym e)
@@ -130,7 +130,8 @@ module _ (documents : List Document) (entries : List Entry) (index : List (ℕ �
       → Contains (current (journal_of (files documents) entries)) (record { seq = d.latest; id = d.id })
   document_row k d low is =
       let at = number_there k d low is in
-      row_there (row_in (latest_at (files documents))) index (current (journal_of (files documents) entries)) k
+      row_there (row_in (latest_at (files documents))) index
+      (current (journal_of (files documents) entries)) k
       d.latest d.id ix.rows (ix.key k (d.id, d.latest) at)
       (λ r e. ap (λ (o : Option (List ℕ × ℕ)). record { seq = r.0; id = id_in o })
       (ap (latest_at (files documents)) e ∙ at))
@@ -189,6 +190,7 @@ numbered limit numbers documents entries st id k e =
       low,
       λ d is. ap (λ (f : Filed). f.id)
           (same_Some (filed d) w.0
-          (sym (slice_get-map filed documents k ∙ ap (option_map filed) (at_place documents k d low is)) ∙ w.1))
+          (sym (slice_get-map filed documents k ∙ ap (option_map filed) (at_place documents k d low is))
+          ∙ w.1))
           ∙ w.2,
     )

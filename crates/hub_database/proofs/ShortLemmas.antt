@@ -1,5 +1,6 @@
 -- A call that reads gives up only where it has something to show.
-use Rattle.std.proofs.Common.{◌≡◌, ℕ, List, [], ◌∷◌, ◌++◌, Bool, true, false, inl, inr, ap, refl, sym, ◌∙◌, subst}
+use Rattle.std.proofs.Common.{◌≡◌, ℕ, List, [], ◌∷◌, ◌++◌, Bool, true}
+use Rattle.std.proofs.Common.{false, inl, inr, ap, refl, sym, ◌∙◌, subst}
 use Rattle.std.specs.Prelude.{Contains, Some, None, map, if◌then◌else◌}
 use Rattle.std.proofs.lemmas.Bool.{cases_Bool}
 use Rattle.hub_model.specs.Revision.{Revision}
@@ -24,7 +25,8 @@ map_some f [] some = absurd (some refl)
 map_some f (x ∷ xs) some = λ e. absurd (cc)
 
 -- a document that has an edit has a leaf
-leaves_some : (J : List Edit) (id : List ℕ) → IsLegal J → ¬ (edits_of J id ≡ []) → ¬ (revisions_of (leaves_of J id) ≡ [])
+leaves_some : (J : List Edit) (id : List ℕ) → IsLegal J → ¬ (edits_of J id ≡ [])
+    → ¬ (revisions_of (leaves_of J id) ≡ [])
 leaves_some J id legal some = from (edits_of J id) refl
   where
     from : (es : List Edit) → edits_of J id ≡ es → ¬ (revisions_of (leaves_of J id) ≡ [])
@@ -38,18 +40,25 @@ leaves_some J id legal some = from (edits_of J id) refl
 module _ (J : List Edit) (id : List ℕ) (d : Document) (f : IsFound J id d) (revs : Bool) where
   -- where its tree has an edit a leaf is shown
   pub edits_open : IsLegal J → ¬ (d.tree.edits ≡ []) → ¬ (open_revs J id All revs ≡ [])
-  edits_open legal some = map_some (open_rev J id revs) (revisions_of (leaves_of J id)) (leaves_some J id legal (λ e. map_some (named id) d.tree.edits some (sym f.kept ∙ e)))
+  edits_open legal some =
+      map_some (open_rev J id revs) (revisions_of (leaves_of J id))
+      (leaves_some J id legal (λ e. map_some (named id) d.tree.edits some (sym f.kept ∙ e)))
 
   -- and where there is a leaf
-  pub leaves_open : (rs : List Revision) → rs ≡ revisions_of (leaves_of d.tree.edits []) → ¬ (rs ≡ []) → ¬ (open_revs J id All revs ≡ [])
-  leaves_open rs same some = map_some (open_rev J id revs) (revisions_of (leaves_of J id)) (λ e. some (same ∙ (leaves_same J id d f ∙ e)))
+  pub leaves_open : (rs : List Revision) → rs ≡ revisions_of (leaves_of d.tree.edits []) → ¬ (rs ≡ [])
+      → ¬ (open_revs J id All revs ≡ [])
+  leaves_open rs same some =
+      map_some (open_rev J id revs) (revisions_of (leaves_of J id))
+      (λ e. some (same ∙ (leaves_same J id d f ∙ e)))
 
 -- of each revision that is listed something is shown
-pub listed_open : (J : List Edit) (id : List ℕ) (revs : Bool) (rs : List Revision) → ¬ (rs ≡ []) → ¬ (open_revs J id (Listed rs) revs ≡ [])
+pub listed_open : (J : List Edit) (id : List ℕ) (revs : Bool) (rs : List Revision) → ¬ (rs ≡ [])
+    → ¬ (open_revs J id (Listed rs) revs ≡ [])
 listed_open J id revs rs some = map_some (open_rev J id revs) rs some
 
 -- a document that misses something is told of
-pub diffs_some : (J : List Edit) (before later : List Asked) (a : Asked) → ¬ (wanted_diff J a ≡ None) → ¬ (diffs J (before ++ a ∷ later) ≡ [])
+pub diffs_some : (J : List Edit) (before later : List Asked) (a : Asked) → ¬ (wanted_diff J a ≡ None)
+    → ¬ (diffs J (before ++ a ∷ later) ≡ [])
 diffs_some J [] later a some = from (is_wanted (diff_of J a)) refl
   where
     from : (b : Bool) → is_wanted (diff_of J a) ≡ b → ¬ (diffs J (a ∷ later) ≡ [])

@@ -73,7 +73,8 @@ module _ (d : Document) (r h : Revision) (deleted : Bool) (body : List ℕ) wher
   abbrev edits : List Edit
   edits = d.tree.edits
 
-  module _ (e : Edit) (found : find (is_head r) (edits_of edits []) ≡ Some e) (same : tip h deleted body ≡ tip_of e)
+  module _ (e : Edit) (found : find (is_head r) (edits_of edits []) ≡ Some e)
+      (same : tip h deleted body ≡ tip_of e)
       (count : ℕ) (on : option_map (take count) (path_to edits h) ≡ Some e.path) where
     is : (is_first r e.path ≡ true) × Contains (edits_of edits []) e
     is = find_is (is_head r) (edits_of edits []) e found
@@ -113,20 +114,36 @@ module _ (d : Document) (r h : Revision) (deleted : Bool) (body : List ℕ) wher
         ≡ option_map (doc_shown revs) (shown_in d r)
     doc_of_edit revs history is_so =
         ap
-        (λ (p : Option (List Revision)). Some (record { id = d.id; rev = Some h; path = p; deleted = deleted; body = body }))
+        (λ (p : Option (List Revision)).
+        Some (record { id = d.id; rev = Some h; path = p; deleted = deleted; body = body }))
         (is_so ∙ whole revs)
-        ∙ (ap (λ (o : Option Revision). Some (record { id = d.id; rev = o; path = if revs then Some (line_of edits [] r) else None; deleted = deleted; body = body })) head
-        ∙ (ap (λ (t : Tip). Some (record { id = d.id; rev = slice_get (line_of edits [] r) 0; path = if revs then Some (line_of edits [] r) else None; deleted = t.deleted; body = t.body })) same
-        ∙ ap (λ o. option_map (doc_shown revs) (option_map (named d.id) (shown_of edits [] r o))) (sym found)))
+        ∙ (ap (λ (o : Option Revision). Some (record {
+          id = d.id;
+          rev = o;
+          path = if revs then Some (line_of edits [] r) else None;
+          deleted = deleted;
+          body = body;
+        })) head
+        ∙ (ap (λ (t : Tip). Some (record {
+          id = d.id;
+          rev = slice_get (line_of edits [] r) 0;
+          path = if revs then Some (line_of edits [] r) else None;
+          deleted = t.deleted;
+          body = t.body;
+        })) same
+        ∙ ap (λ o. option_map (doc_shown revs) (option_map (named d.id) (shown_of edits [] r o)))
+        (sym found)))
 
   pub doc_found : Some (tip h deleted body) ≡ option_map tip_of (find (is_head r) (edits_of edits []))
       → (count : ℕ)
-      → Some (option_map (take count) (path_to edits h)) ≡ option_map (λ e. Some e.path) (find (is_head r) (edits_of edits []))
+      → Some (option_map (take count) (path_to edits h))
+      ≡ option_map (λ e. Some e.path) (find (is_head r) (edits_of edits []))
       → (revs : Bool) (history : Option (List Revision)) → history ≡ history_of revs edits r
       → Some (record { id = d.id; rev = Some h; path = history; deleted = deleted; body = body })
       ≡ option_map (doc_shown revs) (shown_in d r)
   doc_found same count on revs history is_so =
-      lent (find (is_head r) (edits_of edits [])) (tip h deleted body) (option_map (take count) (path_to edits h)) same on
+      lent (find (is_head r) (edits_of edits [])) (tip h deleted body)
+      (option_map (take count) (path_to edits h)) same on
       (λ e found tips path. doc_of_edit e found tips count path revs history is_so)
 
 -- what is shown of a leaf is of the edit that it heads
@@ -161,8 +178,12 @@ module _ (J : List Edit) (id : List ℕ) (legal : IsLegal J) where
           let mark : l.edit.deleted ≡ false = ap (λ (z : Winner). z.deleted) same ∙ live in
           let rev : w.rev ≡ l.rev = sym (ap (λ (z : Winner). z.rev) same) in
           ap (λ r. option_map looked.Found (option_map (doc_shown revs) (shown J id r))) rev
-          ∙ (ap (λ o. option_map looked.Found (option_map (doc_shown revs) o)) (leaf_shown l (subst (λ z. Contains z l) (sym q) (contains_here l ls)))
-          ∙ ap (λ b. Some (if b then looked.Deleted else looked.Found (doc_shown revs (record { id = id; path = line_of J id l.rev; deleted = l.edit.deleted; body = l.edit.body })))) (sym mark))
+          ∙ (ap (λ o. option_map looked.Found (option_map (doc_shown revs) o))
+          (leaf_shown l (subst (λ z. Contains z l) (sym q) (contains_here l ls)))
+          ∙ ap (λ b. Some (if b then looked.Deleted
+          else looked.Found (doc_shown revs
+          (record { id = id; path = line_of J id l.rev; deleted = l.edit.deleted; body = l.edit.body }))))
+          (sym mark))
 
   -- it is found
   lookup_found : (revs : Bool) (w : Winner) → Some w ≡ winner_of (leaves_of J id) → w.deleted ≡ false
@@ -173,8 +194,19 @@ module _ (J : List Edit) (id : List ℕ) (legal : IsLegal J) where
           → (doc : Doc) × (lookup_of J id revs ls ≡ looked.Found doc)
       from [] e = absurd (cc)
       from (l ∷ ls) e =
-          let mark : l.edit.deleted ≡ false = ap (λ (z : Winner). z.deleted) (same_Some _ w (sym e)) ∙ live in
-          (doc_shown revs (record { id = id; path = line_of J id l.rev; deleted = l.edit.deleted; body = l.edit.body }), ap (λ b. if b then looked.Deleted else looked.Found (doc_shown revs (record { id = id; path = line_of J id l.rev; deleted = l.edit.deleted; body = l.edit.body }))) mark)
+          let mark : l.edit.deleted ≡ false =
+          ap (λ (z : Winner). z.deleted) (same_Some _ w (sym e)) ∙ live in (
+            doc_shown revs
+                (record { id = id; path = line_of J id l.rev; deleted = l.edit.deleted; body = l.edit.body }),
+            ap (λ b. if b then looked.Deleted
+                else looked.Found (doc_shown revs
+                (record {
+                  id = id;
+                  path = line_of J id l.rev;
+                  deleted = l.edit.deleted;
+                  body = l.edit.body;
+                }))) mark,
+          )
 
   module _ (d : Document) (f : IsFound J id d) (revs : Bool) (w : Winner)
       (is : Some w ≡ winner_of (leaves_of d.tree.edits [])) where

@@ -199,7 +199,8 @@ module _ (limit : ℕ) (numbers : List ℕ → Option ℕ) (documents : List Doc
   leaves_so index index' ix tree (Ready x) room d' entries' s e es is =
       let within : k < length documents = slice_get_within documents k d at in
       let now : slice_get (files (slice_set documents k d')) k ≡ Some (filed d') =
-      slice_get-map filed (slice_set documents k d') k ∙ ap (option_map filed) (get_set documents k d' within) in
+      slice_get-map filed (slice_set documents k d') k
+      ∙ ap (option_map filed) (get_set documents k d' within) in
       rw (es, is) (stores limit numbers (files documents) entries st index ix d.id k d.tree.edits
       (inl (st.own k (filed d) filed_at, (filed d, filed_at, refl))) tree.one x s (room x refl) numbers
       (files (slice_set documents k d'))
@@ -247,8 +248,8 @@ module _ (limit : ℕ) (numbers : List ℕ → Option ℕ) (documents : List Doc
       let answers : stores_edit limit (journal_of (files documents) entries) d.id edit
       ≡ record { outcome = o; journal = journal_of (files (slice_set documents k d')) entries' } =
       said
-      ∙ (ap
-      (λ (a : Outcome Revision). record { outcome = a; journal = journal_after l d.id (journal_of (files documents) entries) })
+      ∙ (ap (λ (a : Outcome Revision).
+      record { outcome = a; journal = journal_after l d.id (journal_of (files documents) entries) })
       (sym x.answer)
       ∙ ap (λ (J : List Edit). record { outcome = o; journal = J }) (sym left.1)) in
       let now : slice_get (files (slice_set documents k d')) k ≡ Some (filed d') =
@@ -268,7 +269,9 @@ module _ (limit : ℕ) (numbers : List ℕ → Option ℕ) (documents : List Doc
       ∙ ap (λ (i : List ℕ). is_deleted (leaves_of (journal_of (files (slice_set documents k d')) entries') i))
       named_now in (
         left.0,
-        subst (λ i. stores_edit limit (journal_of (files documents) entries) i edit ≡ record { outcome = o; journal = journal_of (files (slice_set documents k d')) entries' }) this answers,
+        subst (λ i. stores_edit limit (journal_of (files documents) entries) i edit
+            ≡ record { outcome = o; journal = journal_of (files (slice_set documents k d')) entries' })
+            this answers,
         counted_on (journal_of (files documents) entries)
             (journal_of (files (slice_set documents k d')) entries')
             d.id l left.1 count count' (is_deleted (leaves_of d.tree.edits []))
@@ -314,17 +317,30 @@ module _ (old : Store) (st : IsStore old) (ix : HasRows old) (id : List ℕ)
           stores old.limits.journal (number_by old) (files old.documents.items) old.journal.items st.filed
           old.index ix id (length old.documents.items) [] (inr (absent, past, refl)) refl e s (room e refl)
           numbers' (files old.documents.items ++ new ∷ [])
-          (subst (λ n. slice_get (files old.documents.items ++ new ∷ []) n ≡ Some new) many_files (get_push (files old.documents.items) new))
+          (subst (λ n. slice_get (files old.documents.items ++ new ∷ []) n ≡ Some new) many_files
+          (get_push (files old.documents.items) new))
           (λ j n. get_push_other (files old.documents.items) new j (λ e. n (e ∙ many_files)))
-          (ns id ∙ ap (λ b. if b then Some (length old.documents.items) else number_by old id) (text_same id id refl))
-          (λ q n. ns q ∙ ap (λ b. if b then Some (length old.documents.items) else number_by old q) (text_apart id q (λ e. n (sym e))))
+          (ns id
+          ∙ ap (λ b. if b then Some (length old.documents.items) else number_by old id)
+          (text_same id id refl))
+          (λ q n. ns q
+          ∙ ap (λ b. if b then Some (length old.documents.items) else number_by old q)
+          (text_apart id q (λ e. n (sym e))))
           (λ d g. absurd (none-some d (sym past ∙ g))) (λ g. length_push (files old.documents.items) new)
       at Known s room ns =
-          let same : numbers' ≡ number_by old = λ i q. ns q i in
-          (subst (λ f. IsFiled old.limits.journal f (files old.documents.items) old.journal.items) (sym same) st.filed, refl, ix)
+          let same : numbers' ≡ number_by old = λ i q. ns q i in (
+            subst (λ f. IsFiled old.limits.journal f (files old.documents.items) old.journal.items)
+                (sym same) st.filed,
+            refl,
+            ix,
+          )
       at (Refused fault) s room ns =
-          let same : numbers' ≡ number_by old = λ i q. ns q i in
-          (subst (λ f. IsFiled old.limits.journal f (files old.documents.items) old.journal.items) (sym same) st.filed, refl, ix)
+          let same : numbers' ≡ number_by old = λ i q. ns q i in (
+            subst (λ f. IsFiled old.limits.journal f (files old.documents.items) old.journal.items)
+                (sym same) st.filed,
+            refl,
+            ix,
+          )
 
 -- the count after it
 first_counted : (J J' : List Edit) (id : List ℕ) (l : Looked) (s : Setting) (count count' : ℕ)
@@ -400,9 +416,8 @@ first_stored id edit old new none d look e r number first looked ready storable 
     let s : Setting = first_setting id old in
     let is : look_in old.limits.journal s edit ≡ Ready e =
     sym
-    (ap
-    (λ (z : Filed). unless_full (nat_le old.limits.journal (length old.journal.items)) (look_at z.id z.edits edit))
-    first)
+    (ap (λ (z : Filed).
+    unless_full (nat_le old.limits.journal (length old.journal.items)) (look_at z.id z.edits edit)) first)
     ∙ (sym looked ∙ ready) in
     let filed_now : d ≡ document_after (Ready e) s =
     now
@@ -421,7 +436,8 @@ first_stored id edit old new none d look e r number first looked ready storable 
       entries =
           js
           ∙ (ap (λ n. old.journal.items ++ record { document = n; revision = length none.edits } ∷ []) place
-          ∙ (ap (λ (z : Filed). old.journal.items ++ record { document = length old.documents.items; revision = length z.edits } ∷ []) first
+          ∙ (ap (λ (z : Filed). old.journal.items
+          ++ record { document = length old.documents.items; revision = length z.edits } ∷ []) first
           ∙ sym (ap (λ k. entries_after k s) is)));
       rows =
           rows
@@ -450,7 +466,8 @@ pub inserted_so : (old new : Store) → IsStore old → IsCounted old → HasRow
     → new.limits ≡ old.limits
     → IsStore new
     ×
-    (stores_edit old.limits.journal (edits_of_store old) id edit ≡ record { outcome = o; journal = edits_of_store new })
+    (stores_edit old.limits.journal (edits_of_store old) id edit
+    ≡ record { outcome = o; journal = edits_of_store new })
     × IsCounted new × HasRows new
 inserted_so old new st counted ix id absent edit o x stay =
     let l : Looked =
@@ -469,8 +486,8 @@ inserted_so old new st counted ix id absent edit o x stay =
     (nat_le old.limits.journal (length old.journal.items)) full edit in (
       record { filed = rw stay left.0; order = x.order },
       said
-          ∙ (ap (λ (a : Outcome Revision). record { outcome = a; journal = journal_after l id (edits_of_store old) })
-          (sym x.answer)
+          ∙ (ap (λ (a : Outcome Revision).
+          record { outcome = a; journal = journal_after l id (edits_of_store old) }) (sym x.answer)
           ∙ ap (λ (J : List Edit). record { outcome = o; journal = J }) (sym left.1)),
       first_counted (edits_of_store old) (edits_of_store new) id l (first_setting id old) old.deleted
           new.deleted
@@ -503,7 +520,8 @@ pub inserted_all : (old new : Store) → IsStore old → IsCounted old → HasRo
     → OnErr result (IsSameStore old new) → new.limits ≡ old.limits
     → IsStore new
     × IfOk result
-    (λ o. stores_edit old.limits.journal (edits_of_store old) id edit ≡ record { outcome = o; journal = edits_of_store new })
+    (λ o. stores_edit old.limits.journal (edits_of_store old) id edit
+    ≡ record { outcome = o; journal = edits_of_store new })
     × IsCounted new × HasRows new
 inserted_all old new st counted ix id absent edit (Ok o) x w stay =
     let left = inserted_so old new st counted ix id absent edit o x stay in (left.0, left.1, left.2, left.3)
@@ -578,7 +596,9 @@ store_stays old new k d d' st at same documents numbers filed_now =
     λ q. ap (λ z. number_in z new.numbers q) ids ∙ ap (λ l. number_in (ids_in old) l q) numbers in
     let found : number_by new ≡ number_by old = λ i q. each q i in
     record {
-      filed = subst (λ f. IsFiled new.limits.journal f (files new.documents.items) new.journal.items) (sym found) filed_now;
+      filed =
+          subst (λ f. IsFiled new.limits.journal f (files new.documents.items) new.journal.items)
+          (sym found) filed_now;
       order = rw (ids, numbers) st.order;
     }
 

@@ -1,6 +1,7 @@
 //! What a database keeps: its documents with their journal, and its local documents.
 
-ghost use Rattle.std.specs.Prelude.{◌≡◌, ◌⊎◌, ◌<◌, ◌≤◌, [], false, true, length, take, Err, IfOk, IfErr, IsTrue};
+ghost use Rattle.std.specs.Prelude.{◌≡◌, ◌⊎◌, ◌<◌, ◌≤◌, [], false, true};
+ghost use Rattle.std.specs.Prelude.{length, take, Err, IfOk, IfErr, IsTrue};
 ghost use Rattle.hub_model.specs.Journal.{IsLegal};
 ghost use Rattle.hub_model.specs.Draft.{HasNextRevision, makes};
 ghost use Rattle.hub_model.specs.Outcome.{refuses};

@@ -1,6 +1,7 @@
 //! One database, and its calls but those of its feeds.
 
-ghost use Rattle.std.specs.Prelude.{◌≡◌, ◌⊎◌, ◌<◌, ◌≤◌, ◌^◌, [], false, true, length, take, option_map, replicate, Err, IfOk, IfErr, IsSome, OnErr, OnOk, IsTrue};
+ghost use Rattle.std.specs.Prelude.{◌≡◌, ◌⊎◌, ◌<◌, ◌≤◌, ◌^◌, [], false, true, length, take, option_map};
+ghost use Rattle.std.specs.Prelude.{replicate, Err, IfOk, IfErr, IsSome, OnErr, OnOk, IsTrue};
 ghost use Rattle.hub_model.specs.Descending.{descending};
 ghost use Rattle.hub_model.specs.Draft.{HasNextRevision};
 ghost use Rattle.hub_model.specs.Journal.{IsLegal};
@@ -16,7 +17,8 @@ ghost use Rattle.hub_database.specs.Database.{GivesUp, contents_of, reading_faul
 ghost use Rattle.hub_database.specs.Edits.{StopsAt, draft_of, writes, makes_one};
 ghost use Rattle.hub_database.specs.Feeds.{deleted};
 ghost use Rattle.hub_database.specs.Locals.{local_of, put_local, written};
-ghost use Rattle.hub_database.specs.Reads.{HasDocument, entry_at, entry_doc_of, entry_of, info_of, lookup, open_revs as open_revs_of};
+ghost use Rattle.hub_database.specs.Reads.{HasDocument, entry_at, entry_doc_of, entry_of};
+ghost use Rattle.hub_database.specs.Reads.{info_of, lookup, open_revs as open_revs_of};
 
 use crate::answers::{Diff, Info, Lookup, OpenRev};
 use crate::batch::{Batch, DbFault, Replies};

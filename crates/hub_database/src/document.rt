@@ -1,13 +1,15 @@
 //! One document of a database.
 
-ghost use Rattle.std.specs.Prelude.{[], ◌∷◌, ◌++◌, None, Some, ◌≡◌, ◌+◌, ◌<◌, ◌≤◌, ◌^◌, length, vec_len, vec_capacity, IfOk, OnErr};
+ghost use Rattle.std.specs.Prelude.{[], ◌∷◌, ◌++◌, None, Some, ◌≡◌, ◌+◌, ◌<◌, ◌≤◌};
+ghost use Rattle.std.specs.Prelude.{◌^◌, length, vec_len, vec_capacity, IfOk, OnErr};
 ghost use Rattle.std.specs.List.{All};
 ghost use Rattle.hub_index.specs.Rows.{seq_of};
 ghost use Rattle.hub_model.specs.Journal.{IsAcceptable, head_of};
 ghost use Rattle.hub_model.specs.Leaves.{leaves_of};
 ghost use Rattle.hub_model.specs.Row.{is_deleted};
 ghost use Rattle.hub_revtree.specs.Tree.{IsRevTree};
-ghost use Rattle.hub_database.specs.Looked.{IsStorable, IsWritten, NeedsRoomFrom, NeedsRoomFor, HasRoom, look_from, look_at, look_in, unless_full};
+ghost use Rattle.hub_database.specs.Looked.{IsStorable, IsWritten, NeedsRoomFrom, NeedsRoomFor};
+ghost use Rattle.hub_database.specs.Looked.{HasRoom, look_from, look_at, look_in, unless_full};
 ghost use Rattle.hub_database.specs.Store.{filed, setting_of};
 ghost use Rattle.hub_database.specs.declared.document.Origin.TheVariants.{Elsewhere, Here};
 

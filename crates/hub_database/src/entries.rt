@@ -18,7 +18,8 @@ impl Store {
         requires { IsStore self.now }
         ensures edit { option_map (λ p. bare_doc p.0.now.id p.1.rev p.1.deleted p.1.body.now) result
             ≡ option_map (doc_shown false) (entry_at (edits_of_store self.now) seq) }
-        ensures path { option_map (λ p. option_map (take p.1.count) (path_to p.0.now.tree.edits p.1.rev)) result
+        ensures path { option_map (λ p. option_map (take p.1.count) (path_to p.0.now.tree.edits p.1.rev))
+            result
             ≡ option_map (λ e. Some e.path) (entry_at (edits_of_store self.now) seq) }
         ensures some { IfSome result (λ p. 1 ≤ p.1.count) }
     {

@@ -4,7 +4,8 @@ ghost use Rattle.std.specs.Prelude.{◌≡◌, ◌⊎◌, Some, None, Err, optio
 ghost use Rattle.hub_model.specs.Current.{current};
 ghost use Rattle.hub_model.specs.Entries.{entry_in};
 ghost use Rattle.hub_model.specs.Row.{ChangeRow as Shown};
-ghost use Rattle.hub_feed.specs.Host.{is_full, refuses, opened, is_beat_due, expired, item_due, answered, behind_answer, handed, finished, due_to};
+ghost use Rattle.hub_feed.specs.Host.{is_full, refuses, opened, is_beat_due, expired, item_due};
+ghost use Rattle.hub_feed.specs.Host.{answered, behind_answer, handed, finished, due_to};
 ghost use Rattle.hub_feed.specs.Mark.{mark_of};
 ghost use Rattle.hub_feed.specs.Next.{IsRowDue};
 ghost use Rattle.hub_feed.specs.Reach.{IsFirst};

@@ -12,7 +12,8 @@ impl FeedHost for DbState {
     ghost use Rattle.hub_database.specs.Handing.{IsFitting, IsRightFor};
     ghost use Rattle.hub_database.specs.Hosting.{hosted_of, with_hosted};
     ghost use Rattle.hub_database.specs.Laid.{rows_below};
-    ghost use Rattle.hub_feed.proofs.Handing.{fitting_beat, fitting_expired, fitting_handed, fitting_nothing, fitting_right};
+    ghost use Rattle.hub_feed.proofs.Handing.{fitting_beat, fitting_expired, fitting_handed};
+    ghost use Rattle.hub_feed.proofs.Handing.{fitting_nothing, fitting_right};
     ghost use Rattle.hub_model.specs.Journal.{IsLegal};
     ghost use Rattle.hub_model.specs.RowKind.{change_rows};
     ghost use Rattle.hub_model.proofs.Laws.{rows_rise};

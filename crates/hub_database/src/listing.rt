@@ -1,6 +1,7 @@
 //! The rows of a feed of listed documents, kept in order while nothing is written.
 
-ghost use Rattle.std.specs.Prelude.{◌≡◌, ◌<◌, ◌&&◌, ◌++◌, ℕ, [], find, map, nat_lt, string_bytes, Contains, None, Some, IsTrue, OnOk, OnErr};
+ghost use Rattle.std.specs.Prelude.{◌≡◌, ◌<◌, ◌&&◌, ◌++◌, ℕ, [], find, map, nat_lt};
+ghost use Rattle.std.specs.Prelude.{string_bytes, Contains, None, Some, IsTrue, OnOk, OnErr};
 ghost use Rattle.std.specs.List.{AllPairs, cons_option, filter_map};
 ghost use Rattle.hub_model.specs.Feed.{is_within};
 ghost use Rattle.hub_model.specs.Filter.{DocIds};

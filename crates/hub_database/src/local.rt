@@ -1,6 +1,7 @@
 //! Local documents.
 
-ghost use Rattle.std.specs.Prelude.{◌≡◌, ◌⊎◌, ◌<◌, ◌≤◌, ◌^◌, option_map, Err, IfSome, IfNone, IfOk, IfErr, OnOk, OnErr};
+ghost use Rattle.std.specs.Prelude.{◌≡◌, ◌⊎◌, ◌<◌, ◌≤◌, ◌^◌, option_map, Err};
+ghost use Rattle.std.specs.Prelude.{IfSome, IfNone, IfOk, IfErr, OnOk, OnErr};
 ghost use Rattle.hub_model.specs.declared.outcomes.Fault.TheVariants.{SequenceFull};
 ghost use Rattle.hub_database.specs.Kept.{kept};
 ghost use Rattle.hub_database.specs.Locals.{local_of, next_count, put_local, written};

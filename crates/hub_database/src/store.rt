@@ -1,13 +1,15 @@
 //! Documents with their trees, and the journal.
 
-ghost use Rattle.std.specs.Prelude.{[], ◌∷◌, ◌++◌, false, ◌≡◌, ◌+◌, ◌<◌, ◌≤◌, ◌^◌, length, None, IfOk, OnOk, OnErr};
+ghost use Rattle.std.specs.Prelude.{[], ◌∷◌, ◌++◌, false, ◌≡◌, ◌+◌, ◌<◌, ◌≤◌};
+ghost use Rattle.std.specs.Prelude.{◌^◌, length, None, IfOk, OnOk, OnErr};
 ghost use Rattle.std.specs.List.{All};
 ghost use Rattle.hub_index.specs.Order.{IsOrder, number_in, with_number};
 ghost use Rattle.hub_index.specs.Rows.{seq_of, moved};
 ghost use Rattle.hub_database.specs.Edits.{NeedsRoom, stores_doc};
 ghost use Rattle.hub_database.specs.Looked.{NeedsRoomFor, look_in, stores_edit};
 ghost use Rattle.hub_database.specs.Filed.{ids_of};
-ghost use Rattle.hub_database.specs.Store.{IsStore, IsCounted, HasRows, IsSameStore, IsInserted, edits_of_store, files, first_setting, ids_in, number_by, one_if};
+ghost use Rattle.hub_database.specs.Store.{IsStore, IsCounted, HasRows, IsSameStore, IsInserted};
+ghost use Rattle.hub_database.specs.Store.{edits_of_store, files, first_setting, ids_in, number_by, one_if};
 
 use crate::document::{Document, Incoming, Looked, Origin, look};
 use crate::entry::Entry;

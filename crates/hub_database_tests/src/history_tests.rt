@@ -158,9 +158,11 @@ const DELETED: &[Step] = &[
         "a",
         true,
         Ok(&[
-            Found(
-                r#"{"_id":"a","_rev":"4-e4e0d18c32e6aa308b581d5741ad8080","_revisions":{"start":4,"ids":["e4e0d18c32e6aa308b581d5741ad8080","c","b"]}}"#,
-            ),
+            Found(concat!(
+                r#"{"_id":"a","_rev":"4-e4e0d18c32e6aa308b581d5741ad8080","#,
+                r#""_revisions":{"start":4,"ids":["e4e0d18c32e6aa308b581d5741ad8080","c","#,
+                r#""b"]}}"#
+            )),
             Found(
                 r#"{"_id":"a","_rev":"4-d","_deleted":true,"_revisions":{"start":4,"ids":["d","c","b"]}}"#,
             ),
@@ -171,7 +173,10 @@ const DELETED: &[Step] = &[
         Some((
             "a",
             ON_C,
-            r#"{"_id":"a","_rev":"4-e4e0d18c32e6aa308b581d5741ad8080","_revisions":{"start":4,"ids":["e4e0d18c32e6aa308b581d5741ad8080","c"]}}"#,
+            concat!(
+                r#"{"_id":"a","_rev":"4-e4e0d18c32e6aa308b581d5741ad8080","#,
+                r#""_revisions":{"start":4,"ids":["e4e0d18c32e6aa308b581d5741ad8080","c"]}}"#
+            ),
         )),
     )),
 ];

@@ -9,11 +9,15 @@ use hub_model::Outcome::Stored;
 
 // Of documents 1 to 300, each at the sequence of its number, every fifteenth, and one that is not
 // there.
-const WAITS: &str =
-    r#"feed=continuous&filter=_doc_ids&doc_ids=["15","30","45","60","75","90","105","120","135","150","165","180","195","210","225","240","255","270","285","300","x"]"#;
+const WAITS: &str = concat!(
+    r#"feed=continuous&filter=_doc_ids&doc_ids=["15","30","45","60","75","90","105","120","#,
+    r#""135","150","165","180","195","210","225","240","255","270","285","300","x"]"#
+);
 
-const ENDS: &str =
-    r#"filter=_doc_ids&doc_ids=["15","30","45","60","75","90","105","120","135","150","165","180","195","210","225","240","255","270","285","300","x"]"#;
+const ENDS: &str = concat!(
+    r#"filter=_doc_ids&doc_ids=["15","30","45","60","75","90","105","120","135","150","#,
+    r#""165","180","195","210","225","240","255","270","285","300","x"]"#
+);
 
 // Every hundredth, the last first.
 const OTHER: &str = r#"filter=_doc_ids&doc_ids=["300","200","100","200"]"#;

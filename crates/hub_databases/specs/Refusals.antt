@@ -2,7 +2,8 @@
 use Rattle.std.specs.Prelude.{ℕ, ◌≤◌, ◌<◌, List, length, Contains}
 use Rattle.hub_databases.specs.Kept.{NamesState}
 use Rattle.hub_databases.specs.declared.fault.HubFault.{HubFault}
-use Rattle.hub_databases.specs.declared.fault.HubFault.TheVariants.{NoMemory, BadName, Exists, Absent, TooMany}
+use Rattle.hub_databases.specs.declared.fault.HubFault.TheVariants.{NoMemory, BadName}
+use Rattle.hub_databases.specs.declared.fault.HubFault.TheVariants.{Exists, Absent, TooMany}
 use Rattle.hub_databases.specs.declared.fault.HubFault.TheVariants.{SequenceFull}
 
 -- there is no such name yet, and room for it

@@ -1,6 +1,7 @@
 //! A hub of databases behind locks.
 
-ghost use Rattle.std.specs.Prelude.{◌≡◌, ◌⊎◌, ◌<◌, ◌-◌, ◌^◌, [], true, false, Err, length, map, string_bytes, Contains, IfErr, IfOk, IsSome, OnErr, OnOk};
+ghost use Rattle.std.specs.Prelude.{◌≡◌, ◌⊎◌, ◌<◌, ◌-◌, ◌^◌, [], true, false, Err, length, map};
+ghost use Rattle.std.specs.Prelude.{string_bytes, Contains, IfErr, IfOk, IsSome, OnErr, OnOk};
 ghost use Rattle.std.specs.Arc.{arc_value};
 ghost use Rattle.hub_databases.specs.Kept.{AreNames, most_databases, with_made, with_name, without_name};
 ghost use Rattle.hub_databases.specs.Names.{is_name as is_database_name};

@@ -1,6 +1,7 @@
 //! What stands under each name.
 
-ghost use Rattle.std.specs.Prelude.{◌≡◌, ◌↔◌, ◌<◌, ◌≤◌, ◌+◌, ◌-◌, ◌^◌, ℕ, List, [], true, Err, length, map, string_bytes, Contains, IsSome, OnOk, OnErr, IfErr, IfOk, IfSome};
+ghost use Rattle.std.specs.Prelude.{◌≡◌, ◌↔◌, ◌<◌, ◌≤◌, ◌+◌, ◌-◌, ◌^◌, ℕ, List, [], true, Err, length, map};
+ghost use Rattle.std.specs.Prelude.{string_bytes, Contains, IsSome, OnOk, OnErr, IfErr, IfOk, IfSome};
 ghost use Rattle.hub_databases.specs.Kept.{AreNames, most_databases, with_name, without_name};
 ghost use Rattle.hub_databases.specs.Names.{is_name as is_database_name};
 ghost use Rattle.hub_databases.specs.Refusals.{IsCreationFault};

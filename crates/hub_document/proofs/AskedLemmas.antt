@@ -1,5 +1,6 @@
 -- What is asked of members.
-use Rattle.std.proofs.Common.{◌≡◌, ℕ, ◌<◌, List, [], ◌∷◌, length, Option, Some, None, option_and_then, is_some, true, Ok, String, string_bytes, arith, sym, true≢false}
+use Rattle.std.proofs.Common.{◌≡◌, ℕ, ◌<◌, List, [], ◌∷◌, length, Option, Some, None, option_and_then}
+use Rattle.std.proofs.Common.{is_some, true, Ok, String, string_bytes, arith, sym, true≢false}
 use Rattle.std.specs.Prelude.{IsOkAnd}
 use Rattle.std.specs.declared.alloc.Global.{Global}
 use Rattle.hub_model.specs.Missing.{Asked}
@@ -14,17 +15,20 @@ use Rattle.hub_document.specs.declared.doc.DocFault.TheVariants.{BadRev}
 abbrev AsksSome : Option (List Asked) → Type 0
 AsksSome asked = IsOkAnd (or_fault asked BadRev Ok) (λ v. 0 < length v)
 
-one_in_front : (a : Asked) (rest : Option (List Asked)) → is_some (in_front a rest) ≡ true → AsksSome (in_front a rest)
+one_in_front : (a : Asked) (rest : Option (List Asked)) → is_some (in_front a rest) ≡ true
+    → AsksSome (in_front a rest)
 one_in_front a None h = absurd (true≢false (sym h))
 one_in_front a (Some others) h = let some : 0 < length (a ∷ others) = omega arith in some
 
-one_more : (id : List ℕ) (revs : Option (List Revision)) (rest : Option (List Asked)) → is_some (option_and_then (λ r. in_front (record { id = id; revs = r }) rest) revs) ≡ true
+one_more : (id : List ℕ) (revs : Option (List Revision)) (rest : Option (List Asked))
+    → is_some (option_and_then (λ r. in_front (record { id = id; revs = r }) rest) revs) ≡ true
     → AsksSome (option_and_then (λ r. in_front (record { id = id; revs = r }) rest) revs)
 one_more id None rest h = absurd (true≢false (sym h))
 one_more id (Some revs) rest h = one_in_front (record { id = id; revs = revs }) rest h
 
 -- one member asks for one
-pub asks_some : (entries : List (String Global × Value)) → 0 < length entries → is_some (asked_of (members_view entries)) ≡ true
+pub asks_some : (entries : List (String Global × Value)) → 0 < length entries
+    → is_some (asked_of (members_view entries)) ≡ true
     → IsOkAnd (or_fault (asked_of (members_view entries)) BadRev Ok) (λ v. 0 < length v)
 asks_some [] some h = absurd (omega (arith, some))
 asks_some (m ∷ ms) some h = one_more (string_bytes m.0) (revs_in (view m.1)) (asked_of (members_view ms)) h

@@ -1,5 +1,7 @@
 -- A digest and the text of it.
-use Rattle.std.proofs.Common.{◌⊎◌, inl, inr, ◌≡◌, ℕ, ◌+◌, ◌-◌, ◌*◌, ◌/◌, ◌%◌, ◌<◌, ◌≤◌, ◌^◌, Bool, true, false, ◌&&◌, List, ◌∷◌, ◌++◌, length, drop, take, replicate, slice_index, refl, sym, ap, ◌∙◌, subst, arith, [], append_assoc, decimal}
+use Rattle.std.proofs.Common.{◌⊎◌, inl, inr, ◌≡◌, ℕ, ◌+◌, ◌-◌, ◌*◌, ◌/◌, ◌%◌, ◌<◌, ◌≤◌, ◌^◌, Bool, true}
+use Rattle.std.proofs.Common.{false, ◌&&◌, List, ◌∷◌, ◌++◌, length, drop, take, replicate, slice_index}
+use Rattle.std.proofs.Common.{refl, sym, ap, ◌∙◌, subst, arith, [], append_assoc, decimal}
 use Rattle.std.specs.Prelude.{nat_eq, Option, Some, None, Result}
 use Rattle.std.specs.Str.{bytes_eq}
 use Rattle.std.proofs.lemmas.Bool.{both_ways, cases_Bool, eqb-true}
@@ -24,27 +26,43 @@ pub text_length : (d : List ℕ) → length d ≡ 16 → length (encode_lower d)
 text_length d sized = length-encode_with lower_digits d ∙ ap (λ n. 2 * n) sized
 
 -- with zeros after it, it is laid out well
-pub text_laid_out : (n : ℕ) (d out : List ℕ) → 1 ≤ n → n < 2 ^ 16 → IsBytes d → length d ≡ 16 → out ≡ encode_lower d → IsLaidOut n 32 (out ++ replicate 32 0)
+pub text_laid_out : (n : ℕ) (d out : List ℕ) → 1 ≤ n → n < 2 ^ 16 → IsBytes d → length d ≡ 16
+    → out ≡ encode_lower d → IsLaidOut n 32 (out ++ replicate 32 0)
 text_laid_out n d out low high fits sized written =
-    rw written (subst (λ k. IsLaidOut n k (encode_lower d ++ replicate (64 - k) 0)) (text_length d sized) (laid_out n (encode_lower d) low high (is_hash_of d fits sized)))
+    rw written
+    (subst (λ k. IsLaidOut n k (encode_lower d ++ replicate (64 - k) 0)) (text_length d sized)
+    (laid_out n (encode_lower d) low high (is_hash_of d fits sized)))
 
 -- and is the hash of a revision, whose text in quotes is made of these parts
-pub digest_quoted : (o d out new : List ℕ) (n : ℕ) → 1 ≤ n → n < 2 ^ 16 → IsBytes d → length d ≡ 16 → out ≡ encode_lower d
+pub digest_quoted : (o d out new : List ℕ) (n : ℕ) → 1 ≤ n → n < 2 ^ 16 → IsBytes d → length d ≡ 16
+    → out ≡ encode_lower d
     → new ≡ ((((o ++ 34 ∷ []) ++ decimal n) ++ 45 ∷ []) ++ out) ++ 34 ∷ []
     → new ≡ o ++ quoted (text_of (record { generation = n; hash = encode_lower d }))
 digest_quoted o d out new n low high fits sized written parts =
-    rw (quoted_text (record { generation = n; hash = encode_lower d }) (hash_revision n (encode_lower d) low high (is_hash_of d fits sized)), ← written)
-    (parts ∙ five_parts o (34 ∷ []) (decimal n) (45 ∷ []) out (34 ∷ []) ∙ ap (λ l. o ++ 34 ∷ l) (sym (append_assoc (decimal n) (45 ∷ out) (34 ∷ []))))
+    rw (
+      quoted_text (record { generation = n; hash = encode_lower d })
+          (hash_revision n (encode_lower d) low high (is_hash_of d fits sized)),
+      ← written,
+    )
+    (parts
+    ∙ five_parts o (34 ∷ []) (decimal n) (45 ∷ []) out (34 ∷ [])
+    ∙ ap (λ l. o ++ 34 ∷ l) (sym (append_assoc (decimal n) (45 ∷ out) (34 ∷ []))))
 
 -- and is the hash there
-pub text_kept : (d out zeros : List ℕ) → length d ≡ 16 → out ≡ encode_lower d → take 32 (out ++ zeros) ≡ encode_lower d
+pub text_kept : (d out zeros : List ℕ) → length d ≡ 16 → out ≡ encode_lower d
+    → take 32 (out ++ zeros) ≡ encode_lower d
 text_kept d out zeros sized written =
-    rw written (subst (λ k. take k (encode_lower d ++ zeros) ≡ encode_lower d) (text_length d sized) (take-append_seam (encode_lower d) zeros))
+    rw written
+    (subst (λ k. take k (encode_lower d ++ zeros) ≡ encode_lower d) (text_length d sized)
+    (take-append_seam (encode_lower d) zeros))
 
 -- the letters from a byte on beside those of the digest
-module _ (letters digest : List ℕ) (k : ℕ) (low : 2 * k + 1 < length letters) (within : k < length digest) where
+module _ (letters digest : List ℕ) (k : ℕ) (low : 2 * k + 1 < length letters)
+    (within : k < length digest) where
   abbrev here : Bool
-  here = nat_eq (slice_index letters (2 * k)) (slice_index lower_digits (slice_index digest k / 16)) && nat_eq (slice_index letters (2 * k + 1)) (slice_index lower_digits (slice_index digest k % 16))
+  here =
+      nat_eq (slice_index letters (2 * k)) (slice_index lower_digits (slice_index digest k / 16))
+      && nat_eq (slice_index letters (2 * k + 1)) (slice_index lower_digits (slice_index digest k % 16))
 
   abbrev rest : Bool
   rest = bytes_eq (drop (2 * (k + 1)) letters) (encode_lower (drop (k + 1) digest))
@@ -53,49 +71,65 @@ module _ (letters digest : List ℕ) (k : ℕ) (low : 2 * k + 1 < length letters
   and_assoc true b c = refl
   and_assoc false b c = refl
 
-  two : drop (2 * k) letters ≡ slice_index letters (2 * k) ∷ slice_index letters (2 * k + 1) ∷ drop (2 * (k + 1)) letters
+  two : drop (2 * k) letters
+      ≡ slice_index letters (2 * k) ∷ slice_index letters (2 * k + 1) ∷ drop (2 * (k + 1)) letters
   two =
       let next : 2 * k + 1 + 1 ≡ 2 * (k + 1) = omega arith in
       drop_more letters (2 * k) 0 (omega arith)
-      ∙ ap (λ z. slice_index letters (2 * k) ∷ z) (drop_more letters (2 * k + 1) 0 low ∙ ap (λ n. slice_index letters (2 * k + 1) ∷ drop n letters) next)
+      ∙ ap (λ z. slice_index letters (2 * k) ∷ z)
+      (drop_more letters (2 * k + 1) 0 low ∙ ap (λ n. slice_index letters (2 * k + 1) ∷ drop n letters) next)
 
   step : bytes_eq (drop (2 * k) letters) (encode_lower (drop k digest)) ≡ (here && rest)
   step = rw (two, encode_with-drop lower_digits digest k within) (and_assoc _ _ rest)
 
-  pub more_text : (b same : Bool) → b ≡ here → b ≡ true → same ≡ bytes_eq (drop (2 * k) letters) (encode_lower (drop k digest)) → same ≡ rest
+  pub more_text : (b same : Bool) → b ≡ here → b ≡ true
+      → same ≡ bytes_eq (drop (2 * k) letters) (encode_lower (drop k digest)) → same ≡ rest
   more_text b same is t so = so ∙ step ∙ ap (λ x. x && rest) (sym is ∙ t)
 
-  pub no_text : (b same : Bool) → b ≡ here → b ≡ false → same ≡ bytes_eq (drop (2 * k) letters) (encode_lower (drop k digest)) → false ≡ same
+  pub no_text : (b same : Bool) → b ≡ here → b ≡ false
+      → same ≡ bytes_eq (drop (2 * k) letters) (encode_lower (drop k digest)) → false ≡ same
   no_text b same is f so = sym (so ∙ step ∙ ap (λ x. x && rest) (sym is ∙ f))
 
 -- past the last byte
-pub all_text : (letters digest : List ℕ) (k : ℕ) (same : Bool) → 16 ≤ k → length letters ≡ 32 → length digest ≡ 16 → same ≡ bytes_eq (drop (2 * k) letters) (encode_lower (drop k digest)) → true ≡ same
+pub all_text : (letters digest : List ℕ) (k : ℕ) (same : Bool) → 16 ≤ k → length letters ≡ 32
+    → length digest ≡ 16 → same ≡ bytes_eq (drop (2 * k) letters) (encode_lower (drop k digest)) → true ≡ same
 unfolding encode_with
-all_text letters digest k same past long sized so = sym (so ∙ rw (drop_all (2 * k) letters (omega (arith, past, long)), drop_all k digest (omega (arith, past, sized))) refl)
+all_text letters digest k same past long sized so =
+    sym (so
+    ∙ rw (
+      drop_all (2 * k) letters (omega (arith, past, long)),
+      drop_all k digest (omega (arith, past, sized)),
+    ) refl)
 
 -- a text of another length is no digest's
-pub other_length : (hash bytes d : List ℕ) (len : ℕ) → hash ≡ take len bytes → len ≤ length bytes → ¬ (len ≡ 32) → length d ≡ 16 → nat_eq len 32 ≡ bytes_eq hash (encode_lower d)
-other_length hash bytes d len kept room other sized = no (cases_Bool (nat_eq len 32)) ∙ sym (elim (cases_Bool (bytes_eq hash (encode_lower d))) [
-  | inl t ↦
-      let long : length hash ≡ 32 = ap length ((bytes_eq-Decides hash (encode_lower d)).0 t) ∙ text_length d sized in
-      let own : length hash ≡ len = ap length kept ∙ length-take-le len bytes room in
-      absurd (other (sym own ∙ long))
-  | inr f ↦ f
-])
+pub other_length : (hash bytes d : List ℕ) (len : ℕ) → hash ≡ take len bytes → len ≤ length bytes
+    → ¬ (len ≡ 32) → length d ≡ 16 → nat_eq len 32 ≡ bytes_eq hash (encode_lower d)
+other_length hash bytes d len kept room other sized =
+    no (cases_Bool (nat_eq len 32)) ∙ sym (elim (cases_Bool (bytes_eq hash (encode_lower d))) [
+      | inl t ↦
+          let long : length hash ≡ 32 =
+          ap length ((bytes_eq-Decides hash (encode_lower d)).0 t) ∙ text_length d sized in
+          let own : length hash ≡ len = ap length kept ∙ length-take-le len bytes room in
+          absurd (other (sym own ∙ long))
+      | inr f ↦ f
+    ])
   where
     no : (nat_eq len 32 ≡ true) ⊎ (nat_eq len 32 ≡ false) → nat_eq len 32 ≡ false
     no (inl t) = absurd (other (eqb-true len 32 t))
     no (inr f) = f
 
 -- what reads a text of hexadecimal digits reads a digest's text as the digest
-module _ (hash : List ℕ) (read : Result (List ℕ) FromHexError) (is : read ≡ decode_sized hash 16) (d : List ℕ) (sized : length d ≡ 16) (fits : IsBytes d) (same : hash ≡ encode_lower d) where
+module _ (hash : List ℕ) (read : Result (List ℕ) FromHexError) (is : read ≡ decode_sized hash 16) (d : List ℕ)
+    (sized : length d ≡ 16) (fits : IsBytes d) (same : hash ≡ encode_lower d) where
   text_read : result_ok read ≡ Some d
   text_read = ap result_ok (is ∙ ap (λ h. decode_sized h 16) same ∙ decode_sized-encode_lower d 16 sized fits)
 
   pub not_read : None ≡ result_ok read → ⊥
   not_read none = absurd (let e : ◌≡◌ {A = Option (List ℕ)} None (Some d) = none ∙ text_read in cc)
 
-  pub other_read : (found : List ℕ) (b : Bool) → Some found ≡ result_ok read → b ≡ bytes_eq hash (encode_lower found) → b ≡ false → ⊥
+  pub other_read : (found : List ℕ) (b : Bool) → Some found ≡ result_ok read
+      → b ≡ bytes_eq hash (encode_lower found) → b ≡ false → ⊥
   other_read found b got says other =
       let one : found ≡ d = same_Some found d (got ∙ text_read) in
-      both_ways _ (sym says ∙ other) ((bytes_eq-Decides hash (encode_lower found)).1 (same ∙ ap encode_lower (sym one)))
+      both_ways _ (sym says ∙ other)
+      ((bytes_eq-Decides hash (encode_lower found)).1 (same ∙ ap encode_lower (sym one)))

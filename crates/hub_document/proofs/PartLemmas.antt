@@ -1,5 +1,7 @@
 -- The parts of a document's text, and the text that they make together.
-use Rattle.std.proofs.Common.{◌≡◌, ℕ, ◌<◌, ◌≤◌, ◌^◌, List, [], ◌∷◌, ◌++◌, length, map, take, take_all, refl, sym, ap, ◌∙◌, arith, append_assoc, append-nil, decimal, codes, true, false, eqb, Some, Result, Ok, Err, OnOk}
+use Rattle.std.proofs.Common.{◌≡◌, ℕ, ◌<◌, ◌≤◌, ◌^◌, List, [], ◌∷◌, ◌++◌, length, map, take}
+use Rattle.std.proofs.Common.{take_all, refl, sym, ap, ◌∙◌, arith, append_assoc, append-nil}
+use Rattle.std.proofs.Common.{decimal, codes, true, false, eqb, Some, Result, Ok, Err, OnOk}
 use Rattle.std.proofs.lemmas.Bool.Decides.{nat_tests}
 use Rattle.std.specs.Prelude.{flat_map, is_ok, if◌then◌else◌}
 use Rattle.std.specs.List.{join_with_byte}
@@ -7,7 +9,8 @@ use Rattle.json.specs.Print.{escape_byte, quoted}
 use Rattle.hub_model.specs.Revision.{Revision, text_of}
 use Rattle.hub_model.specs.Draft.{generation_of, parent_of}
 use Rattle.hub_document.specs.declared.doc.Doc.{Doc}
-use Rattle.hub_document.specs.DocText.{member_text, rev_member, deleted_member, history_member, history_text, inside, if_some, doc_text, local_text}
+use Rattle.hub_document.specs.DocText.{member_text, rev_member, deleted_member, history_member}
+use Rattle.hub_document.specs.DocText.{history_text, inside, if_some, doc_text, local_text}
 use Rattle.hub_document.specs.Joined.{after_commas, head_text, ids_text, start_text, count_text, rest_text}
 use Rattle.hub_document.specs.SpecialText.{special_text}
 use Rattle.hub_document.proofs.WriteLemmas.{quoted_count, three_parts}
@@ -40,17 +43,25 @@ unfolding head_text
 head_is id = ap (λ l. 123 ∷ l) (id_name (quoted id))
 
 pub rev_is : (r : Revision) → after_commas (rev_member (Some r)) ≡ codes ",\"_rev\":" ++ quoted (text_of r)
-rev_is r = one_after (member_text (codes "_rev") (quoted (text_of r))) ∙ ap (λ l. 44 ∷ l) (rev_name (quoted (text_of r)))
+rev_is r =
+    one_after (member_text (codes "_rev") (quoted (text_of r)))
+    ∙ ap (λ l. 44 ∷ l) (rev_name (quoted (text_of r)))
 
 pub deleted_is : after_commas (deleted_member true) ≡ codes ",\"_deleted\":true"
-deleted_is = one_after (member_text (codes "_deleted") (codes "true")) ∙ ap (λ l. 44 ∷ l) (deleted_name (codes "true"))
+deleted_is =
+    one_after (member_text (codes "_deleted") (codes "true")) ∙ ap (λ l. 44 ∷ l) (deleted_name (codes "true"))
 
-pub history_is : (path : List Revision) → after_commas (history_member (Some path)) ≡ codes ",\"_revisions\":" ++ history_text path
-history_is path = one_after (member_text (codes "_revisions") (history_text path)) ∙ ap (λ l. 44 ∷ l) (revisions_name (history_text path))
+pub history_is : (path : List Revision)
+    → after_commas (history_member (Some path)) ≡ codes ",\"_revisions\":" ++ history_text path
+history_is path =
+    one_after (member_text (codes "_revisions") (history_text path))
+    ∙ ap (λ l. 44 ∷ l) (revisions_name (history_text path))
 
 pub count_is : (n : ℕ) → n < 2 ^ 64 → count_text n ≡ codes ",\"_rev\":\"0-" ++ (decimal n ++ codes "\"")
 unfolding count_text
-count_is n small = ap (λ l. 44 ∷ l) (rev_name (quoted (codes "0-" ++ decimal n)) ∙ ap (λ l. codes "\"_rev\":" ++ l) (quoted_count n small))
+count_is n small =
+    ap (λ l. 44 ∷ l)
+    (rev_name (quoted (codes "0-" ++ decimal n)) ∙ ap (λ l. codes "\"_rev\":" ++ l) (quoted_count n small))
 
 pub rest_none : (body : List ℕ) → inside body ≡ [] → rest_text body ≡ codes "}"
 unfolding rest_text
@@ -60,21 +71,28 @@ rest_if : (i : List ℕ) → 0 < length i → after_commas (if_some i) ≡ 44 �
 rest_if [] some = absurd (omega arith)
 rest_if (b ∷ bs) some = one_after (b ∷ bs)
 
-pub rest_some : (body : List ℕ) → 0 < length (inside body) → rest_text body ≡ codes "," ++ (inside body ++ codes "}")
+pub rest_some : (body : List ℕ) → 0 < length (inside body)
+    → rest_text body ≡ codes "," ++ (inside body ++ codes "}")
 unfolding rest_text
 rest_some body some = ap (λ l. l ++ codes "}") (rest_if (inside body) some)
 
 -- an object without members of its own
-pub nothing_inside : {E : Type 0} (r : Result (Unit {0}) E) (held new body i : List ℕ) → i ≡ inside body → eqb (length i) 0 ≡ true → new ≡ (if is_ok r then held ++ codes "}" else held) → OnOk r (new ≡ held ++ rest_text body)
+pub nothing_inside : {E : Type 0} (r : Result (Unit {0}) E) (held new body i : List ℕ)
+    → i ≡ inside body → eqb (length i) 0 ≡ true → new ≡ (if is_ok r then held ++ codes "}" else held)
+    → OnOk r (new ≡ held ++ rest_text body)
 nothing_inside (Ok u) held new body [] is none h = h ∙ ap (λ l. held ++ l) (sym (rest_none body (sym is)))
 nothing_inside (Ok u) held new body (b ∷ bs) is none h = absurd (grind (arith, nat_tests))
 nothing_inside (Err e) held new body i is none h = tt
 
 -- and one with some
-pub rest_written : (held new body i : List ℕ) → i ≡ inside body → eqb (length i) 0 ≡ false → new ≡ ((held ++ codes ",") ++ i) ++ codes "}" → new ≡ held ++ rest_text body
+pub rest_written : (held new body i : List ℕ) → i ≡ inside body → eqb (length i) 0 ≡ false
+    → new ≡ ((held ++ codes ",") ++ i) ++ codes "}" → new ≡ held ++ rest_text body
 rest_written held new body i is some h =
     let there : 0 < length (inside body) = rw (← is) (grind (arith, nat_tests)) in
-    h ∙ three_parts held (codes ",") i (codes "}") ∙ ap (λ l. held ++ (codes "," ++ (l ++ codes "}"))) is ∙ ap (λ l. held ++ l) (sym (rest_some body there))
+    h
+    ∙ three_parts held (codes ",") i (codes "}")
+    ∙ ap (λ l. held ++ (codes "," ++ (l ++ codes "}"))) is
+    ∙ ap (λ l. held ++ l) (sym (rest_some body there))
 
 -- ---- what stands between commas
 
@@ -82,13 +100,16 @@ joined : (p : List ℕ) (ms : List (List ℕ)) → join_with_byte 44 (p ∷ ms) 
 joined p [] = sym (append-nil p)
 joined p (m ∷ ms) = ap (λ l. p ++ 44 ∷ l) (joined m ms)
 
-later_hashes : (rs : List Revision) → after_commas (map (λ r. quoted r.hash) rs) ≡ flat_map (λ r. 44 ∷ quoted r.hash) rs
+later_hashes : (rs : List Revision)
+    → after_commas (map (λ r. quoted r.hash) rs) ≡ flat_map (λ r. 44 ∷ quoted r.hash) rs
 later_hashes [] = refl
 later_hashes (r ∷ rs) = ap (λ l. (44 ∷ quoted r.hash) ++ l) (later_hashes rs)
 
-all_hashes : (r : Revision) (rs : List Revision) → ids_text (r ∷ rs) ≡ quoted r.hash ++ flat_map (λ s. 44 ∷ quoted s.hash) rs
+all_hashes : (r : Revision) (rs : List Revision)
+    → ids_text (r ∷ rs) ≡ quoted r.hash ++ flat_map (λ s. 44 ∷ quoted s.hash) rs
 unfolding ids_text
-all_hashes r rs = joined (quoted r.hash) (map (λ s. quoted s.hash) rs) ∙ ap (λ l. quoted r.hash ++ l) (later_hashes rs)
+all_hashes r rs =
+    joined (quoted r.hash) (map (λ s. quoted s.hash) rs) ∙ ap (λ l. quoted r.hash ++ l) (later_hashes rs)
 
 pub no_hashes : (held : List ℕ) (rs : List Revision) → length rs ≡ 0 → held ≡ held ++ ids_text rs
 unfolding ids_text
@@ -96,54 +117,89 @@ no_hashes held [] e = sym (append-nil held)
 no_hashes held (r ∷ rs) e = absurd (omega (arith, e))
 
 -- the first one, and then all the others
-pub hashes_written : (held mid new : List ℕ) (r : Revision) (rs all : List Revision) (i : ℕ) → all ≡ r ∷ rs → mid ≡ held ++ quoted r.hash
+pub hashes_written : (held mid new : List ℕ) (r : Revision) (rs all : List Revision) (i : ℕ) → all ≡ r ∷ rs
+    → mid ≡ held ++ quoted r.hash
     → new ≡ mid ++ flat_map (λ s. 44 ∷ quoted s.hash) (take i rs) → length rs ≤ i → new ≡ held ++ ids_text all
 hashes_written held mid new r rs all i e first later end =
-    later ∙ ap (λ l. mid ++ flat_map (λ s. 44 ∷ quoted s.hash) l) (take_all i rs end) ∙ ap (λ l. l ++ flat_map (λ s. 44 ∷ quoted s.hash) rs) first
-    ∙ append_assoc held (quoted r.hash) (flat_map (λ s. 44 ∷ quoted s.hash) rs) ∙ ap (λ l. held ++ l) (sym (ap ids_text e ∙ all_hashes r rs))
+    later
+    ∙ ap (λ l. mid ++ flat_map (λ s. 44 ∷ quoted s.hash) l) (take_all i rs end)
+    ∙ ap (λ l. l ++ flat_map (λ s. 44 ∷ quoted s.hash) rs) first
+    ∙ append_assoc held (quoted r.hash) (flat_map (λ s. 44 ∷ quoted s.hash) rs)
+    ∙ ap (λ l. held ++ l) (sym (ap ids_text e ∙ all_hashes r rs))
 
-pub history_parts : (path : List Revision) → history_text path ≡ start_text (generation_of (parent_of path)) ++ (ids_text path ++ codes "]}")
+pub history_parts : (path : List Revision)
+    → history_text path ≡ start_text (generation_of (parent_of path)) ++ (ids_text path ++ codes "]}")
 unfolding history_text ids_text
 history_parts path =
-    sym (append_assoc (codes "{\"start\":") (decimal (generation_of (parent_of path)) ++ codes ",\"ids\":[") (ids_text path ++ codes "]}")
-    ∙ ap (λ l. codes "{\"start\":" ++ l) (append_assoc (decimal (generation_of (parent_of path))) (codes ",\"ids\":[") (ids_text path ++ codes "]}")))
+    sym (append_assoc (codes "{\"start\":") (decimal (generation_of (parent_of path)) ++ codes ",\"ids\":[")
+    (ids_text path ++ codes "]}")
+    ∙ ap (λ l. codes "{\"start\":" ++ l)
+    (append_assoc (decimal (generation_of (parent_of path))) (codes ",\"ids\":[")
+    (ids_text path ++ codes "]}")))
 
 -- ---- the whole texts
 
 split_commas : (xs ys : List (List ℕ)) → after_commas (xs ++ ys) ≡ after_commas xs ++ after_commas ys
 split_commas [] ys = refl
-split_commas (x ∷ xs) ys = ap (λ l. (44 ∷ x) ++ l) (split_commas xs ys) ∙ sym (append_assoc (44 ∷ x) (after_commas xs) (after_commas ys))
+split_commas (x ∷ xs) ys =
+    ap (λ l. (44 ∷ x) ++ l) (split_commas xs ys)
+    ∙ sym (append_assoc (44 ∷ x) (after_commas xs) (after_commas ys))
 
 -- an object that begins with an id
-object_parts : (id : List ℕ) (ms : List (List ℕ)) → codes "{" ++ (join_with_byte 44 (member_text (codes "_id") (quoted id) ∷ ms) ++ codes "}") ≡ head_text id ++ (after_commas ms ++ codes "}")
+object_parts : (id : List ℕ) (ms : List (List ℕ))
+    → codes "{" ++ (join_with_byte 44 (member_text (codes "_id") (quoted id) ∷ ms) ++ codes "}")
+    ≡ head_text id ++ (after_commas ms ++ codes "}")
 unfolding head_text
 object_parts id ms =
     ap (λ l. codes "{" ++ (l ++ codes "}")) (joined (member_text (codes "_id") (quoted id)) ms)
-    ∙ ap (λ l. codes "{" ++ l) (append_assoc (member_text (codes "_id") (quoted id)) (after_commas ms) (codes "}"))
+    ∙ ap (λ l. codes "{" ++ l)
+    (append_assoc (member_text (codes "_id") (quoted id)) (after_commas ms) (codes "}"))
 
-four_commas : (a b c d : List (List ℕ)) (z : List ℕ) → after_commas (a ++ (b ++ (c ++ d))) ++ z ≡ after_commas a ++ (after_commas b ++ (after_commas c ++ (after_commas d ++ z)))
+four_commas : (a b c d : List (List ℕ)) (z : List ℕ)
+    → after_commas (a ++ (b ++ (c ++ d))) ++ z
+    ≡ after_commas a ++ (after_commas b ++ (after_commas c ++ (after_commas d ++ z)))
 four_commas a b c d z =
-    ap (λ l. l ++ z) (split_commas a (b ++ (c ++ d)) ∙ ap (λ l. after_commas a ++ l) (split_commas b (c ++ d) ∙ ap (λ l. after_commas b ++ l) (split_commas c d)))
+    ap (λ l. l ++ z)
+    (split_commas a (b ++ (c ++ d))
+    ∙ ap (λ l. after_commas a ++ l)
+    (split_commas b (c ++ d) ∙ ap (λ l. after_commas b ++ l) (split_commas c d)))
     ∙ append_assoc (after_commas a) (after_commas b ++ (after_commas c ++ after_commas d)) z
-    ∙ ap (λ l. after_commas a ++ l) (append_assoc (after_commas b) (after_commas c ++ after_commas d) z ∙ ap (λ l. after_commas b ++ l) (append_assoc (after_commas c) (after_commas d) z))
+    ∙ ap (λ l. after_commas a ++ l)
+    (append_assoc (after_commas b) (after_commas c ++ after_commas d) z
+    ∙ ap (λ l. after_commas b ++ l) (append_assoc (after_commas c) (after_commas d) z))
 
-doc_parts : (d : Doc) → doc_text d ≡ head_text d.id ++ (after_commas (rev_member d.rev) ++ (after_commas (deleted_member d.deleted) ++ (after_commas (history_member d.path) ++ rest_text d.body)))
+doc_parts : (d : Doc)
+    → doc_text d ≡ head_text d.id ++ (after_commas (rev_member d.rev)
+    ++ (after_commas (deleted_member d.deleted)
+    ++ (after_commas (history_member d.path) ++ rest_text d.body)))
 unfolding doc_text rest_text
 doc_parts d =
-    object_parts d.id (rev_member d.rev ++ (deleted_member d.deleted ++ (history_member d.path ++ if_some (inside d.body))))
-    ∙ ap (λ l. head_text d.id ++ l) (four_commas (rev_member d.rev) (deleted_member d.deleted) (history_member d.path) (if_some (inside d.body)) (codes "}"))
+    object_parts d.id
+    (rev_member d.rev ++ (deleted_member d.deleted ++ (history_member d.path ++ if_some (inside d.body))))
+    ∙ ap (λ l. head_text d.id ++ l)
+    (four_commas (rev_member d.rev) (deleted_member d.deleted) (history_member d.path)
+    (if_some (inside d.body)) (codes "}"))
 
 -- the front of it, and then the rest
-pub doc_written : (held mid new : List ℕ) (d : Doc) → mid ≡ held ++ special_text d → new ≡ mid ++ rest_text d.body → new ≡ held ++ doc_text d
+pub doc_written : (held mid new : List ℕ) (d : Doc) → mid ≡ held ++ special_text d
+    → new ≡ mid ++ rest_text d.body → new ≡ held ++ doc_text d
 doc_written held mid new d front rest =
     let h = head_text d.id in
     let r = after_commas (rev_member d.rev) in
     let m = after_commas (deleted_member d.deleted) in
     let p = after_commas (history_member d.path) in
     rest ∙ ap (λ l. l ++ rest_text d.body) front ∙ append_assoc held (special_text d) (rest_text d.body)
-    ∙ ap (λ l. held ++ l) (append_assoc h (r ++ (m ++ p)) (rest_text d.body) ∙ ap (λ l. h ++ l) (append_assoc r (m ++ p) (rest_text d.body) ∙ ap (λ l. r ++ l) (append_assoc m p (rest_text d.body))))
+    ∙ ap (λ l. held ++ l)
+    (append_assoc h (r ++ (m ++ p)) (rest_text d.body)
+    ∙ ap (λ l. h ++ l)
+    (append_assoc r (m ++ p) (rest_text d.body) ∙ ap (λ l. r ++ l) (append_assoc m p (rest_text d.body))))
     ∙ ap (λ l. held ++ l) (sym (doc_parts d))
 
-pub local_parts : (id : List ℕ) (n : ℕ) (body : List ℕ) → local_text id n body ≡ head_text id ++ (count_text n ++ rest_text body)
+pub local_parts : (id : List ℕ) (n : ℕ) (body : List ℕ)
+    → local_text id n body ≡ head_text id ++ (count_text n ++ rest_text body)
 unfolding local_text count_text rest_text
-local_parts id n body = object_parts id (member_text (codes "_rev") (quoted (codes "0-" ++ decimal n)) ∷ if_some (inside body)) ∙ ap (λ l. head_text id ++ l) (append_assoc (44 ∷ member_text (codes "_rev") (quoted (codes "0-" ++ decimal n))) (after_commas (if_some (inside body))) (codes "}"))
+local_parts id n body =
+    object_parts id (member_text (codes "_rev") (quoted (codes "0-" ++ decimal n)) ∷ if_some (inside body))
+    ∙ ap (λ l. head_text id ++ l)
+    (append_assoc (44 ∷ member_text (codes "_rev") (quoted (codes "0-" ++ decimal n)))
+    (after_commas (if_some (inside body))) (codes "}"))

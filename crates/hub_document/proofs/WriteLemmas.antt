@@ -1,5 +1,7 @@
 -- The texts that are written part by part.
-use Rattle.std.proofs.Common.{◌≡◌, ℕ, suc, ◌+◌, ◌%◌, ◌<◌, ◌≤◌, ◌^◌, List, [], ◌∷◌, ◌++◌, length, take, All, IsTrue, refl, sym, ap, ◌∙◌, arith, append_assoc, append-nil, decimal, Result, Ok, Err, OnOk}
+use Rattle.std.proofs.Common.{◌≡◌, ℕ, suc, ◌+◌, ◌%◌, ◌<◌, ◌≤◌, ◌^◌, List, [], ◌∷◌, ◌++◌}
+use Rattle.std.proofs.Common.{length, take, All, IsTrue, refl, sym, ap, ◌∙◌, arith}
+use Rattle.std.proofs.Common.{append_assoc, append-nil, decimal, Result, Ok, Err, OnOk}
 use Rattle.std.proofs.lemmas.Bool.Decides.{nat_tests}
 use Rattle.std.proofs.lemmas.Grind.{common_steps}
 use Rattle.std.proofs.lemmas.Fmt.{decimal_by_steps}
@@ -13,17 +15,24 @@ print_string : (s : List ℕ) → print (string s ∷ []) ≡ quoted s
 unfolding print_from
 print_string s = append-nil (quoted s)
 
-pub string_written : {E : Type 0} (r : Result (Unit {0}) E) (s held before new : List ℕ) (old tokens : List Token) → before ≡ held → old ≡ [] → new ≡ before ++ print tokens
+pub string_written : {E : Type 0} (r : Result (Unit {0}) E) (s held before new : List ℕ)
+    (old tokens : List Token)
+    → before ≡ held → old ≡ [] → new ≡ before ++ print tokens
     → OnOk r (tokens ≡ old ++ string s ∷ []) → OnOk r (new ≡ held ++ quoted s)
 string_written (Ok u) s held before new old tokens b o n t =
-    n ∙ ap (λ l. before ++ print l) (t ∙ ap (λ l. l ++ string s ∷ []) o) ∙ ap (λ l. before ++ l) (print_string s) ∙ ap (λ l. l ++ quoted s) b
+    n
+    ∙ ap (λ l. before ++ print l) (t ∙ ap (λ l. l ++ string s ∷ []) o)
+    ∙ ap (λ l. before ++ l) (print_string s)
+    ∙ ap (λ l. l ++ quoted s) b
 string_written (Err e) s held before new old tokens b o n t = tt
 
 -- ---- texts that need no escape
 
 escape-append : (xs ys : List ℕ) → escape (xs ++ ys) ≡ escape xs ++ escape ys
 escape-append [] ys = refl
-escape-append (x ∷ xs) ys = ap (λ l. escape_byte x ++ l) (escape-append xs ys) ∙ sym (append_assoc (escape_byte x) (escape xs) (escape ys))
+escape-append (x ∷ xs) ys =
+    ap (λ l. escape_byte x ++ l) (escape-append xs ys)
+    ∙ sym (append_assoc (escape_byte x) (escape xs) (escape ys))
 
 one_plain : (b : ℕ) → 32 ≤ b → (b ≡ 34 → ⊥) → (b ≡ 92 → ⊥) → escape (b ∷ []) ≡ b ∷ []
 one_plain b l q s = ap (λ bs. bs ++ []) (escape_byte_plain b q s l)
@@ -35,7 +44,9 @@ digit_plain d small = one_plain (48 + d) (omega arith) (λ e. omega arith) (λ e
 decimal_plain : (n : ℕ) → n < 2 ^ 64 → escape (decimal n) ≡ decimal n
 decimal_plain n small =
     decimal_by_steps (λ _ ds. escape ds ≡ ds) digit_plain
-    (λ m ds _ ih. escape-append ds ((48 + m % 10) ∷ []) ∙ ap (λ l. l ++ escape ((48 + m % 10) ∷ [])) ih ∙ ap (λ l. ds ++ l) (digit_plain (m % 10) (omega arith)))
+    (λ m ds _ ih. escape-append ds ((48 + m % 10) ∷ [])
+    ∙ ap (λ l. l ++ escape ((48 + m % 10) ∷ [])) ih
+    ∙ ap (λ l. ds ++ l) (digit_plain (m % 10) (omega arith)))
     n small
 
 record IsPlainByte (b : ℕ) : Type 0 where
@@ -59,7 +70,9 @@ quoted_plain s plain = ap (λ l. 34 ∷ (l ++ 34 ∷ [])) plain
 
 -- a number after a dash
 dashed_plain : (bs : List ℕ) → escape bs ≡ bs → escape (45 ∷ bs) ≡ 45 ∷ bs
-dashed_plain bs plain = ap (λ l. l ++ escape bs) (escape_byte_plain 45 (λ e. omega arith) (λ e. omega arith) (omega arith)) ∙ ap (λ l. 45 ∷ l) plain
+dashed_plain bs plain =
+    ap (λ l. l ++ escape bs) (escape_byte_plain 45 (λ e. omega arith) (λ e. omega arith) (omega arith))
+    ∙ ap (λ l. 45 ∷ l) plain
 
 -- so a hash stands between its quotes as it is
 pub quoted_hash : (r : Revision) → IsRevision r → quoted r.hash ≡ 34 ∷ (r.hash ++ 34 ∷ [])
@@ -70,14 +83,18 @@ pub quoted_text : (r : Revision) → IsRevision r → quoted (text_of r) ≡ 34 
 quoted_text r good =
     let dash : escape (45 ∷ r.hash) ≡ 45 ∷ r.hash = dashed_plain r.hash (letters_plain r.hash good.letters) in
     let whole : escape (text_of r) ≡ text_of r =
-    escape-append (decimal r.generation) (45 ∷ r.hash) ∙ ap (λ l. l ++ escape (45 ∷ r.hash)) (decimal_plain r.generation (omega (arith, good.below))) ∙ ap (λ l. decimal r.generation ++ l) dash in
+    escape-append (decimal r.generation) (45 ∷ r.hash)
+    ∙ ap (λ l. l ++ escape (45 ∷ r.hash)) (decimal_plain r.generation (omega (arith, good.below)))
+    ∙ ap (λ l. decimal r.generation ++ l) dash in
     ap (λ l. 34 ∷ (l ++ 34 ∷ [])) whole
 
 -- and so does the revision of a local document
 pub quoted_count : (n : ℕ) → n < 2 ^ 64 → quoted (48 ∷ 45 ∷ decimal n) ≡ 34 ∷ 48 ∷ 45 ∷ (decimal n ++ 34 ∷ [])
 quoted_count n small =
     let whole : escape (48 ∷ 45 ∷ decimal n) ≡ 48 ∷ 45 ∷ decimal n =
-    ap (λ l. l ++ escape (45 ∷ decimal n)) (escape_byte_plain 48 (λ e. omega arith) (λ e. omega arith) (omega arith)) ∙ ap (λ l. 48 ∷ l) (dashed_plain (decimal n) (decimal_plain n small)) in
+    ap (λ l. l ++ escape (45 ∷ decimal n))
+    (escape_byte_plain 48 (λ e. omega arith) (λ e. omega arith) (omega arith))
+    ∙ ap (λ l. 48 ∷ l) (dashed_plain (decimal n) (decimal_plain n small)) in
     ap (λ l. 34 ∷ (l ++ 34 ∷ [])) whole
 
 -- ---- bytes that grow part by part
@@ -88,9 +105,11 @@ three_parts o a b c = append_assoc (o ++ a) b c ∙ append_assoc o a (b ++ c)
 pub four_parts : (o a b c d : List ℕ) → (((o ++ a) ++ b) ++ c) ++ d ≡ o ++ (a ++ (b ++ (c ++ d)))
 four_parts o a b c d = append_assoc ((o ++ a) ++ b) c d ∙ three_parts o a b (c ++ d)
 
-pub five_parts : (o a b c d e : List ℕ) → ((((o ++ a) ++ b) ++ c) ++ d) ++ e ≡ o ++ (a ++ (b ++ (c ++ (d ++ e))))
+pub five_parts : (o a b c d e : List ℕ)
+    → ((((o ++ a) ++ b) ++ c) ++ d) ++ e ≡ o ++ (a ++ (b ++ (c ++ (d ++ e))))
 five_parts o a b c d e = append_assoc (((o ++ a) ++ b) ++ c) d e ∙ four_parts o a b c (d ++ e)
 
 -- what stands at the front of a front stands at the front
-pub front-front : (old mid new more : List ℕ) → mid ≡ old ++ more → take (length mid) new ≡ mid → take (length old) new ≡ old
+pub front-front : (old mid new more : List ℕ) → mid ≡ old ++ more → take (length mid) new ≡ mid
+    → take (length old) new ≡ old
 front-front old mid new more e h = grind (arith, common_steps, e, h, ap length e, ap (take (length old)) h)

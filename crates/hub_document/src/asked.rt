@@ -1,9 +1,11 @@
 //! Revisions of several documents that are asked for.
 
-ghost use Rattle.std.specs.Prelude.{◌≡◌, ◌⊎◌, ◌<◌, length, is_some, IfOk, IfErr, IsOkAnd, Ok, Err, option_map};
+ghost use Rattle.std.specs.Prelude.{◌≡◌, ◌⊎◌, ◌<◌, length, is_some, IfOk};
+ghost use Rattle.std.specs.Prelude.{IfErr, IsOkAnd, Ok, Err, option_map};
 ghost use Rattle.serde_json.specs.View.{view, items_view, members_view};
 ghost use Rattle.serde_json.specs.Find.{as_array};
-ghost use Rattle.hub_document.specs.Asking.{asked_in, asked_of as asked_of_members, are_lists as are_lists_of, are_texts as are_texts_of};
+ghost use Rattle.hub_document.specs.Asking.{asked_in, asked_of as asked_of_members};
+ghost use Rattle.hub_document.specs.Asking.{are_lists as are_lists_of, are_texts as are_texts_of};
 
 use crate::doc::DocFault;
 use crate::open_revs::{are_revs, revs_in};

@@ -34,7 +34,14 @@ impl Model for ChangeRow {
 
     ghost Value = { Row };
 
-    ghost view = { λ a. record { seq = a.seq; id = a.id; changes = a.changes; deleted = a.deleted; doc = a.doc; seen = a.seen } };
+    ghost view = { λ a. record {
+      seq = a.seq;
+      id = a.id;
+      changes = a.changes;
+      deleted = a.deleted;
+      doc = a.doc;
+      seen = a.seen;
+    } };
 }
 
 fn copied_body(alloc: Global, body: &Option<Body>) -> Result<Option<Body>, AllocError>
@@ -48,7 +55,8 @@ fn copied_body(alloc: Global, body: &Option<Body>) -> Result<Option<Body>, Alloc
 
 // The revision of the document, which is the first that the row lists, if it lists one.
 fn put_winner(out: &mut Vec<u8>, changes: &Changes) -> Result<(), AllocError>
-    ensures ok { OnOk result (out.new.items ≡ out.old.items ++ after_commas (rev_member (slice_get changes.now 0))) }
+    ensures ok { OnOk result
+        (out.new.items ≡ out.old.items ++ after_commas (rev_member (slice_get changes.now 0))) }
     ensures front { take (length out.old.items) out.new.items ≡ out.old.items }
 {
     match changes.lent() {

@@ -2,7 +2,9 @@
 
 ghost use Rattle.std.specs.Prelude.{◌≡◌, IfOk, IfSome, IfNone, None, is_some, option_map, option_and_then};
 ghost use Rattle.serde_json.specs.View.{view, items_view};
-ghost use Rattle.hub_document.specs.Histories.{rev_of as rev_in, hashed_at, falling, starting, history_in, is_head as is_head_of, if_head, alone as alone_of, path_of as path_in};
+ghost use Rattle.hub_document.specs.Histories.{rev_of as rev_in, hashed_at, falling, starting};
+ghost use Rattle.hub_document.specs.Histories.{history_in, is_head as is_head_of, if_head};
+ghost use Rattle.hub_document.specs.Histories.{alone as alone_of, path_of as path_in};
 
 use crate::path::Path;
 use crate::revision::RevId;
@@ -75,7 +77,8 @@ fn falling_from(
 // The generation that a history of these hashes starts from, where it is within the limits and there is one
 // hash at least. None is a fault.
 fn start_of(start: u64, ids: &Vec<Value>) -> Option<u16>
-    ensures some { IfSome result (λ n. falling n (items_view ids.now.items) ≡ starting start (items_view ids.now.items)) }
+    ensures some { IfSome result
+        (λ n. falling n (items_view ids.now.items) ≡ starting start (items_view ids.now.items)) }
     ensures none { IfNone result (starting start (items_view ids.now.items) ≡ None) }
 {
     if ids.is_empty() {

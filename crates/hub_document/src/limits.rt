@@ -20,7 +20,8 @@ pub struct Limits {
     /// The items that wait for a feed's subscriber: 64. Read where its lane is made (`Locked::begin`,
     /// `World::apply`).
     pub lane: u64,
-    /// The items that a feed is handed in one holding of the lock: 64. Read where it is handed (`hub_shared`).
+    /// The items that a feed is handed in one holding of the lock: 64. Read where it is handed
+    /// (`hub_shared`).
     pub hold: u64,
     /// The edits of a database: 4,294,967,295. Read where one is stored (`DbState::write_edits` and
     /// `write_one`).

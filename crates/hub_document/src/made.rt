@@ -76,7 +76,8 @@ pub fn rev_of_edit(
     body: &Body,
 ) -> Result<DigestRev, AllocError>
     requires { generation_in parent < 65535 }
-    ensures { IfOk result (λ r. r ≡ made (record { id = id.now; rev = parent; deleted = deleted; body = body.now }) parent) }
+    ensures { IfOk result
+        (λ r. r ≡ made (record { id = id.now; rev = parent; deleted = deleted; body = body.now }) parent) }
 {
     let front = draft_front(alloc, deleted, parent, id.as_str())?;
     let digest = digest_of(front.as_slice(), body.as_bytes());

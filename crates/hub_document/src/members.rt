@@ -3,7 +3,9 @@
 ghost use Rattle.std.specs.Prelude.{◌≡◌};
 ghost use Rattle.serde_json.specs.View.{view, members_view};
 ghost use Rattle.hub_document.specs.BodyText.{is_hidden as is_hidden_key};
-ghost use Rattle.hub_document.specs.SpecialMembers.{is_listed as is_listed_key, is_good_member as is_good, are_good_members as are_good, is_empty_object as is_empty, deleted_of};
+ghost use Rattle.hub_document.specs.SpecialMembers.{is_listed as is_listed_key, is_good_member as is_good};
+ghost use Rattle.hub_document.specs.SpecialMembers.{are_good_members as are_good};
+ghost use Rattle.hub_document.specs.SpecialMembers.{is_empty_object as is_empty, deleted_of};
 
 use serde_json::{Map, Value};
 

@@ -2,7 +2,9 @@
 
 ghost use Rattle.std.specs.Prelude.{◌≡◌};
 ghost use Rattle.serde_json.specs.View.{view, items_view, members_view};
-ghost use Rattle.serde_json.specs.Written.{has_float as data_has_float, items_have_float as data_items_have_float, members_have_float as data_members_have_float};
+ghost use Rattle.serde_json.specs.Written.{has_float as data_has_float};
+ghost use Rattle.serde_json.specs.Written.{items_have_float as data_items_have_float};
+ghost use Rattle.serde_json.specs.Written.{members_have_float as data_members_have_float};
 
 use serde_json::{Map, Value};
 

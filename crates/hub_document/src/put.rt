@@ -50,10 +50,16 @@ fn put_from(
     value: &Value,
     members: &Map<String, Value>,
 ) -> Result<Doc, DocFault>
-    ensures ok { IfOk result (λ d. put_of id.now (option_map (λ s. s.now) rev.entry) new_edits (view value.now) (members_view members.now.entries) ≡ Ok d) }
+    ensures ok { IfOk result (λ d. put_of id.now (option_map (λ s. s.now) rev.entry) new_edits
+        (view value.now) (members_view members.now.entries)
+        ≡ Ok d) }
     ensures err { IfErr result (λ e. (e ≡ DocFault.NoMemory)
-        ⊎ (put_of id.now (option_map (λ s. s.now) rev.entry) new_edits (view value.now) (members_view members.now.entries) ≡ Err e)) }
-    ensures memory { IfErr result (λ e. e ≡ DocFault.NoMemory → IsOk (put_of id.now (option_map (λ s. s.now) rev.entry) new_edits (view value.now) (members_view members.now.entries))) }
+        ⊎ (put_of id.now (option_map (λ s. s.now) rev.entry) new_edits (view value.now)
+        (members_view members.now.entries)
+        ≡ Err e)) }
+    ensures memory { IfErr result (λ e. e ≡ DocFault.NoMemory
+        → IsOk (put_of id.now (option_map (λ s. s.now) rev.entry) new_edits (view value.now)
+        (members_view members.now.entries))) }
 {
     if members_have_float(members) {
         return Err(DocFault::BadNumber);
@@ -82,7 +88,8 @@ impl Doc {
         new_edits: bool,
         bytes: &[u8],
     ) -> Result<Doc, DocFault>
-        ensures ok { IfOk result (λ d. put_in id.now (option_map (λ s. s.now) rev.entry) new_edits bytes.now ≡ Ok d) }
+        ensures ok { IfOk result
+            (λ d. put_in id.now (option_map (λ s. s.now) rev.entry) new_edits bytes.now ≡ Ok d) }
         ensures err { IfErr result (λ e. (e ≡ DocFault.NoMemory)
             ⊎ (put_in id.now (option_map (λ s. s.now) rev.entry) new_edits bytes.now ≡ Err e)) }
     {

@@ -1,9 +1,12 @@
 //! Documents from JSON texts and values.
 
-ghost use Rattle.std.specs.Prelude.{is_some, not, IfSome, ◌≡◌, ◌<◌, length, nat_lt, if◌then◌else◌, ◌⊎◌, IfOk, IfErr, IsOk, Ok, Err, Some, None, true, false};
+ghost use Rattle.std.specs.Prelude.{is_some, not, IfSome, ◌≡◌, ◌<◌, length, nat_lt, if◌then◌else◌};
+ghost use Rattle.std.specs.Prelude.{◌⊎◌, IfOk, IfErr, IsOk, Ok, Err, Some, None, true, false};
 ghost use Rattle.hub_document.specs.Ids.{is_id};
 ghost use Rattle.serde_json.specs.View.{view, members_view};
-ghost use Rattle.hub_document.specs.Read.{with_path as path_gives, with_rev as rev_gives, with_id as id_gives, document_of, history_of as history_in, doc_of, doc_in, json_of};
+ghost use Rattle.hub_document.specs.Read.{with_path as path_gives, with_rev as rev_gives};
+ghost use Rattle.hub_document.specs.Read.{with_id as id_gives, document_of};
+ghost use Rattle.hub_document.specs.Read.{history_of as history_in, doc_of, doc_in, json_of};
 ghost use Rattle.hub_document.specs.SpecialMembers.{are_good_members as are_good};
 ghost use Rattle.serde_json.specs.Written.{members_have_float as members_have_float_in};
 
@@ -45,7 +48,8 @@ fn history_of(
 // The first of the faults that are looked for last.
 fn last_fault(members: &Map<String, Value>, id: &str) -> Option<DocFault>
     ensures { result ≡ (if are_good (members_view members.now.entries)
-        then (if nat_lt 512 (length id.now) then Some DocFault.TooLong else None) else Some DocFault.BadMember) }
+        then (if nat_lt 512 (length id.now) then Some DocFault.TooLong else None)
+        else Some DocFault.BadMember) }
 {
     if !are_good_members(members) {
         return Some(DocFault::BadMember);
@@ -67,10 +71,12 @@ pub(crate) fn with_path(
 ) -> Result<Doc, DocFault>
     requires whole { members_have_float_in (members_view members.now.entries) ≡ false }
     requires id { is_id id.now ≡ true }
-    ensures ok { IfOk result (λ d. path_gives (view value.now) (members_view members.now.entries) id.now rev path ≡ Ok d) }
+    ensures ok { IfOk result
+        (λ d. path_gives (view value.now) (members_view members.now.entries) id.now rev path ≡ Ok d) }
     ensures err { IfErr result (λ e. (e ≡ DocFault.NoMemory)
         ⊎ (path_gives (view value.now) (members_view members.now.entries) id.now rev path ≡ Err e)) }
-    ensures memory { IfErr result (λ e. e ≡ DocFault.NoMemory → IsOk (path_gives (view value.now) (members_view members.now.entries) id.now rev path)) }
+    ensures memory { IfErr result (λ e. e ≡ DocFault.NoMemory
+        → IsOk (path_gives (view value.now) (members_view members.now.entries) id.now rev path)) }
     ensures history { IfOk result (λ d. d.path ≡ path) }
 {
     if let Some(fault) = last_fault(members, id) {
@@ -121,10 +127,12 @@ fn with_rev(
 ) -> Result<Doc, DocFault>
     requires whole { members_have_float_in (members_view members.now.entries) ≡ false }
     requires id { is_id id.now ≡ true }
-    ensures ok { IfOk result (λ d. rev_gives new_edits (view value.now) (members_view members.now.entries) id.now rev ≡ Ok d) }
+    ensures ok { IfOk result
+        (λ d. rev_gives new_edits (view value.now) (members_view members.now.entries) id.now rev ≡ Ok d) }
     ensures err { IfErr result (λ e. (e ≡ DocFault.NoMemory)
         ⊎ (rev_gives new_edits (view value.now) (members_view members.now.entries) id.now rev ≡ Err e)) }
-    ensures memory { IfErr result (λ e. e ≡ DocFault.NoMemory → IsOk (rev_gives new_edits (view value.now) (members_view members.now.entries) id.now rev)) }
+    ensures memory { IfErr result (λ e. e ≡ DocFault.NoMemory
+        → IsOk (rev_gives new_edits (view value.now) (members_view members.now.entries) id.now rev)) }
     ensures history { IfOk result (λ d. is_some d.path ≡ not new_edits) }
 {
     let history = match history_of(alloc, new_edits, rev, value) {
@@ -147,10 +155,12 @@ fn with_id(
 ) -> Result<Doc, DocFault>
     requires whole { members_have_float_in (members_view members.now.entries) ≡ false }
     requires id { is_id id.now ≡ true }
-    ensures ok { IfOk result (λ d. id_gives new_edits (view value.now) (members_view members.now.entries) id.now ≡ Ok d) }
+    ensures ok { IfOk result
+        (λ d. id_gives new_edits (view value.now) (members_view members.now.entries) id.now ≡ Ok d) }
     ensures err { IfErr result (λ e. (e ≡ DocFault.NoMemory)
         ⊎ (id_gives new_edits (view value.now) (members_view members.now.entries) id.now ≡ Err e)) }
-    ensures memory { IfErr result (λ e. e ≡ DocFault.NoMemory → IsOk (id_gives new_edits (view value.now) (members_view members.now.entries) id.now)) }
+    ensures memory { IfErr result (λ e. e ≡ DocFault.NoMemory
+        → IsOk (id_gives new_edits (view value.now) (members_view members.now.entries) id.now)) }
     ensures history { IfOk result (λ d. is_some d.path ≡ not new_edits) }
 {
     let Some(rev) = rev_of(value, new_edits) else {
@@ -166,10 +176,12 @@ fn document_from(
     value: &Value,
     members: &Map<String, Value>,
 ) -> Result<Doc, DocFault>
-    ensures ok { IfOk result (λ d. document_of new_edits (view value.now) (members_view members.now.entries) ≡ Ok d) }
+    ensures ok { IfOk result
+        (λ d. document_of new_edits (view value.now) (members_view members.now.entries) ≡ Ok d) }
     ensures err { IfErr result (λ e. (e ≡ DocFault.NoMemory)
         ⊎ (document_of new_edits (view value.now) (members_view members.now.entries) ≡ Err e)) }
-    ensures memory { IfErr result (λ e. e ≡ DocFault.NoMemory → IsOk (document_of new_edits (view value.now) (members_view members.now.entries))) }
+    ensures memory { IfErr result (λ e. e ≡ DocFault.NoMemory
+        → IsOk (document_of new_edits (view value.now) (members_view members.now.entries))) }
     ensures history { IfOk result (λ d. is_some d.path ≡ not new_edits) }
 {
     if members_have_float(members) {
@@ -210,7 +222,8 @@ impl Doc {
         ensures ok { IfOk result (λ d. doc_of new_edits (view value.now) ≡ Ok d) }
         ensures err { IfErr result (λ e. (e ≡ DocFault.NoMemory)
             ⊎ (doc_of new_edits (view value.now) ≡ Err e)) }
-        ensures memory { IfErr result (λ e. e ≡ DocFault.NoMemory → IsOk (doc_of new_edits (view value.now))) }
+        ensures memory { IfErr result
+            (λ e. e ≡ DocFault.NoMemory → IsOk (doc_of new_edits (view value.now))) }
         ensures history { IfOk result (λ d. is_some d.path ≡ not new_edits) }
     {
         let Some(members) = value.as_object() else {

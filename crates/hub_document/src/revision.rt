@@ -3,10 +3,12 @@
 mod digest;
 mod digest_rev;
 
-ghost use Rattle.std.specs.Prelude.{◌≡◌, ◌≤◌, ◌-◌, ◌<◌, ◌^◌, ◌++◌, length, take, replicate, option_map, IfSome, IfNone, OnOk, OnErr};
+ghost use Rattle.std.specs.Prelude.{◌≡◌, ◌≤◌, ◌-◌, ◌<◌, ◌^◌, ◌++◌, length, take};
+ghost use Rattle.std.specs.Prelude.{replicate, option_map, IfSome, IfNone, OnOk, OnErr};
 ghost use Rattle.std.specs.List.{list_all};
 ghost use Rattle.json.specs.Print.{quoted};
-ghost use Rattle.hub_model.specs.Revision.{IsRevision, text_of, is_hash_byte as is_letter, is_same as is_same_revision};
+ghost use Rattle.hub_model.specs.Revision.{IsRevision, text_of, is_hash_byte as is_letter};
+ghost use Rattle.hub_model.specs.Revision.{is_same as is_same_revision};
 ghost use Rattle.hub_document.specs.RevisionLaws.{TextsRead, ReadsAreTexts};
 ghost use Rattle.hub_document.specs.RevisionText.{number_of, is_hash as is_hash_text, with_hash, revision_of};
 

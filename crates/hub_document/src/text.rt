@@ -2,8 +2,10 @@
 
 ghost use Rattle.std.specs.Prelude.{◌≡◌, ◌++◌, length, take, OnOk, Some};
 ghost use Rattle.json.specs.Print.{escape, quoted};
-ghost use Rattle.hub_document.specs.DocText.{rev_member, deleted_member, history_member, history_text, inside};
-ghost use Rattle.hub_document.specs.Joined.{after_commas, head_text, ids_text, start_text, count_text, rest_text};
+ghost use Rattle.hub_document.specs.DocText.{rev_member, deleted_member};
+ghost use Rattle.hub_document.specs.DocText.{history_member, history_text, inside};
+ghost use Rattle.hub_document.specs.Joined.{after_commas, head_text, ids_text};
+ghost use Rattle.hub_document.specs.Joined.{start_text, count_text, rest_text};
 
 use crate::body::Body;
 use crate::path::Path;

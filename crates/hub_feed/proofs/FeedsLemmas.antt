@@ -1,17 +1,22 @@
 -- The feeds that something keeps: how they change, and that they stay behind the last edit.
-use Rattle.std.proofs.Common.{◌≡◌, ◌∙◌, sym, inl, inr, All, ℕ, suc, ◌<◌, ◌≤◌, List, [], ◌∷◌, ◌++◌, Bool, true, false, not, refl, subst, arith, find, map, nat_eq, Contains, AllPairs, IfSome}
-use Rattle.std.specs.Prelude.{IfOk, OnErr, Result, Ok, Err, Option, Some, None, slice_set, get_or, position, nat_lt, ◌&&◌, if◌then◌else◌}
+use Rattle.std.proofs.Common.{◌≡◌, ◌∙◌, sym, inl, inr, All, ℕ, suc, ◌<◌, ◌≤◌, List, [], ◌∷◌, ◌++◌, Bool, true}
+use Rattle.std.proofs.Common.{false, not, refl, subst, arith, find, map, nat_eq, Contains, AllPairs, IfSome}
+use Rattle.std.specs.Prelude.{IfOk, OnErr, Result, Ok, Err, Option, Some, None}
+use Rattle.std.specs.Prelude.{slice_set, get_or, position, nat_lt, ◌&&◌, if◌then◌else◌}
 use Rattle.std.proofs.lemmas.Bool.{cases_Bool, ltb-true, ltb-false}
 use Rattle.std.proofs.lemmas.List.Elements.{All-map, All-filter, All-push}
 use Rattle.std.proofs.lemmas.List.Kept.{AllPairs-cons}
 use Rattle.std.proofs.lemmas.Option.{none-some}
 use Rattle.hub_model.specs.Current.{Current}
 use Rattle.hub_model.specs.Entries.{changed, entry_in, without, AreRising}
-use Rattle.hub_model.specs.Feed.{Feed, Params, Status, Open, Ending, Ended, Finished, Due, DueRow, DueEnd, DueNothing, DueGone, begin, due, due_at, due_open, is_in_reach, is_open, waits, expire, end, bound_of, bound_after, after_due, after_nothing}
+use Rattle.hub_model.specs.Feed.{Feed, Params, Status, Open, Ending, Ended, Finished, Due, DueRow, DueEnd}
+use Rattle.hub_model.specs.Feed.{DueNothing, DueGone, begin, due, due_at, due_open, is_in_reach, is_open}
+use Rattle.hub_model.specs.Feed.{waits, expire, end, bound_of, bound_after, after_due, after_nothing}
 use Rattle.hub_model.specs.declared.feeds.Mode.{Mode}
 use Rattle.hub_model.specs.declared.feeds.Mode.TheVariants.{Normal, Longpoll, Continuous}
 use Rattle.hub_model.proofs.Fitting.{since_within}
-use Rattle.hub_model.proofs.Entries.{changed_here, none_above, stays_here, rising_changed, rising_without, below_changed, below_without}
+use Rattle.hub_model.proofs.Entries.{changed_here, none_above, stays_here, rising_changed}
+use Rattle.hub_model.proofs.Entries.{rising_without, below_changed, below_without}
 use Rattle.hub_model.proofs.Shown.{find_is}
 use Rattle.hub_feed.specs.Feeds.{AreBehind, AreNumbered, IsBehind, ended}
 use Rattle.hub_feed.specs.Host.{feeds_behind}
@@ -19,19 +24,25 @@ use Rattle.hub_feed.specs.Next.{after_next, next_of}
 use Rattle.hub_feed.specs.declared.next.Next.{Next}
 
 -- one feed goes
-pub numbered_left : (next id : ℕ) (feeds : List (ℕ × Feed)) → AreNumbered next feeds → AreNumbered next (without id feeds)
-numbered_left next id feeds x = record { rising = rising_without id feeds x.rising; given = below_without id next feeds x.given }
+pub numbered_left : (next id : ℕ) (feeds : List (ℕ × Feed)) → AreNumbered next feeds
+    → AreNumbered next (without id feeds)
+numbered_left next id feeds x =
+    record { rising = rising_without id feeds x.rising; given = below_without id next feeds x.given }
 
-pub behind_left : (len id : ℕ) (feeds : List (ℕ × Feed)) → AreBehind len feeds → AreBehind len (without id feeds)
-behind_left len id feeds behind = All-filter (λ (p : ℕ × Feed). not (nat_eq p.0 id)) (λ (p : ℕ × Feed). IsBehind len p.1) feeds behind
+pub behind_left : (len id : ℕ) (feeds : List (ℕ × Feed)) → AreBehind len feeds
+    → AreBehind len (without id feeds)
+behind_left len id feeds behind =
+    All-filter (λ (p : ℕ × Feed). not (nat_eq p.0 id)) (λ (p : ℕ × Feed). IsBehind len p.1) feeds behind
 
 -- a feed that is there has a number that was given
-pub entry_given : (next id : ℕ) (feeds : List (ℕ × Feed)) (f : Feed) → All (λ (p : ℕ × Feed). p.0 < next) feeds → entry_in id feeds ≡ Some f → id < next
+pub entry_given : (next id : ℕ) (feeds : List (ℕ × Feed)) (f : Feed)
+    → All (λ (p : ℕ × Feed). p.0 < next) feeds → entry_in id feeds ≡ Some f → id < next
 entry_given next id feeds f given there =
     elim (cases_Bool (nat_lt id next)) [
       | inl low ↦ ltb-true id next low
       | inr high ↦ let above : next ≤ id = ltb-false id next high in
-          absurd (none-some f (sym (none_above id feeds (λ k d l. let h = given k d l in omega (arith, h, above))) ∙ there))
+          absurd (none-some f
+          (sym (none_above id feeds (λ k d l. let h = given k d l in omega (arith, h, above))) ∙ there))
     ]
 
 -- one feed changes
@@ -39,18 +50,27 @@ module _ (id : ℕ) (change : Feed → Feed) where
   abbrev changed_one : ℕ × Feed → ℕ × Feed
   changed_one p = if nat_eq p.0 id then (p.0, change p.1) else p
 
-  one_behind : (len : ℕ) → ((f : Feed) → IsBehind len f → IsBehind len (change f)) → (p : ℕ × Feed) → IsBehind len p.1 → IsBehind len (changed_one p).1
+  one_behind : (len : ℕ) → ((f : Feed) → IsBehind len f → IsBehind len (change f)) → (p : ℕ × Feed)
+      → IsBehind len p.1 → IsBehind len (changed_one p).1
   one_behind len keeps p h = from (nat_eq p.0 id)
     where
       from : (b : Bool) → IsBehind len (if b then (p.0, change p.1) else p).1
       from true = keeps p.1 h
       from false = h
 
-  pub numbered_changed : (next : ℕ) (feeds : List (ℕ × Feed)) → AreNumbered next feeds → AreNumbered next (changed id change feeds)
-  numbered_changed next feeds x = record { rising = rising_changed id change feeds x.rising; given = below_changed id change next feeds x.given }
+  pub numbered_changed : (next : ℕ) (feeds : List (ℕ × Feed)) → AreNumbered next feeds
+      → AreNumbered next (changed id change feeds)
+  numbered_changed next feeds x = record {
+    rising = rising_changed id change feeds x.rising;
+    given = below_changed id change next feeds x.given;
+  }
 
-  pub behind_changed : (len : ℕ) (feeds : List (ℕ × Feed)) → ((f : Feed) → IsBehind len f → IsBehind len (change f)) → AreBehind len feeds → AreBehind len (changed id change feeds)
-  behind_changed len feeds keeps behind = All-map (λ (p : ℕ × Feed). IsBehind len p.1) changed_one feeds (λ k d l. one_behind len keeps (get_or feeds k d) (behind k d l))
+  pub behind_changed : (len : ℕ) (feeds : List (ℕ × Feed))
+      → ((f : Feed) → IsBehind len f → IsBehind len (change f)) → AreBehind len feeds
+      → AreBehind len (changed id change feeds)
+  behind_changed len feeds keeps behind =
+      All-map (λ (p : ℕ × Feed). IsBehind len p.1) changed_one feeds
+      (λ k d l. one_behind len keeps (get_or feeds k d) (behind k d l))
 
 -- a feed that is opened begins behind the last edit
 bound_behind : (mode : Mode) (len : ℕ) → IfSome (bound_of mode len) (λ bound. bound ≤ len)
@@ -58,12 +78,15 @@ bound_behind Normal len = omega arith
 bound_behind Longpoll len = tt
 bound_behind Continuous len = tt
 
-pub behind_opened : (len life number : ℕ) (params : Params) (feeds : List (ℕ × Feed)) → AreBehind len feeds → AreBehind len (feeds ++ (number, begin params len life) ∷ [])
+pub behind_opened : (len life number : ℕ) (params : Params) (feeds : List (ℕ × Feed)) → AreBehind len feeds
+    → AreBehind len (feeds ++ (number, begin params len life) ∷ [])
 behind_opened len life number params feeds behind =
-    All-push (λ (p : ℕ × Feed). IsBehind len p.1) feeds (number, begin params len life) behind (since_within params.since len life, bound_behind params.mode len)
+    All-push (λ (p : ℕ × Feed). IsBehind len p.1) feeds (number, begin params len life) behind
+    (since_within params.since len life, bound_behind params.mode len)
 
 -- a feed that looks, or goes on, stays behind it
-behind_bound : (len : ℕ) (mode : Mode) (bound : Option ℕ) → IfSome bound (λ b. b ≤ len) → IfSome (bound_after mode bound len) (λ b. b ≤ len)
+behind_bound : (len : ℕ) (mode : Mode) (bound : Option ℕ) → IfSome bound (λ b. b ≤ len)
+    → IfSome (bound_after mode bound len) (λ b. b ≤ len)
 behind_bound len Normal bound h = h
 behind_bound len Longpoll None h = omega arith
 behind_bound len Longpoll (Some bound) h = h
@@ -75,11 +98,14 @@ looks_behind len (DueEnd last_seq) f h = h
 looks_behind len DueNothing f h = (omega arith, h.1)
 looks_behind len DueGone f h = h
 
-pub goes_behind : (rows : List Current) (len : ℕ) → ((c : Current) → Contains rows c → c.seq ≤ len) → (f : Feed) → IsBehind len f → IsBehind len (after_due f (due rows f) len)
+pub goes_behind : (rows : List Current) (len : ℕ) → ((c : Current) → Contains rows c → c.seq ≤ len)
+    → (f : Feed) → IsBehind len f → IsBehind len (after_due f (due rows f) len)
 goes_behind rows len within f h = from f.status
   where
-    opened : (o : Option Current) (bound : Option ℕ) → find (is_in_reach f) rows ≡ o → f.bound ≡ bound → IsBehind len (after_due f (due_open o bound) len)
-    opened (Some c) bound e q = (within c (find_is (is_in_reach f) rows c e).1, behind_bound len f.params.mode f.bound h.1)
+    opened : (o : Option Current) (bound : Option ℕ) → find (is_in_reach f) rows ≡ o → f.bound ≡ bound
+        → IsBehind len (after_due f (due_open o bound) len)
+    opened (Some c) bound e q =
+        (within c (find_is (is_in_reach f) rows c e).1, behind_bound len f.params.mode f.bound h.1)
     opened None (Some bound) e q = (subst (λ o. IfSome o (λ b. b ≤ len)) q h.1, h.1)
     opened None None e q = (omega arith, h.1)
 
@@ -105,38 +131,51 @@ ended_behind len f h = from (is_open f.status)
     from false = h
 
 -- what holds of each element and a later one, of what a map gives
-pub pairs_map : {A B : Type 0} (R : B → B → Type 0) (f : A → B) (xs : List A) → AllPairs (λ a b. R (f a) (f b)) xs → AllPairs R (map f xs)
+pub pairs_map : {A B : Type 0} (R : B → B → Type 0) (f : A → B) (xs : List A)
+    → AllPairs (λ a b. R (f a) (f b)) xs → AllPairs R (map f xs)
 pairs_map R f [] pairs = λ i j d a b. absurd (omega arith)
 pairs_map R f (x ∷ xs) pairs =
-    AllPairs-cons R (f x) (map f xs) (All-map (R (f x)) f xs (λ k d l. pairs 0 (suc k) d (omega arith) (omega arith)))
+    AllPairs-cons R (f x) (map f xs)
+    (All-map (R (f x)) f xs (λ k d l. pairs 0 (suc k) d (omega arith) (omega arith)))
     (pairs_map R f xs (λ i j d l m. pairs (suc i) (suc j) d (omega arith) (omega arith)))
 
-pub numbered_ended : (next : ℕ) (feeds : List (ℕ × Feed)) → AreNumbered next feeds → AreNumbered next (map ended feeds)
+pub numbered_ended : (next : ℕ) (feeds : List (ℕ × Feed)) → AreNumbered next feeds
+    → AreNumbered next (map ended feeds)
 numbered_ended next feeds x = record {
   rising = pairs_map (λ (a b : ℕ × Feed). a.0 < b.0) ended feeds x.rising;
   given = All-map (λ (p : ℕ × Feed). p.0 < next) ended feeds x.given;
 }
 
 pub behind_ended : (len : ℕ) (feeds : List (ℕ × Feed)) → AreBehind len feeds → AreBehind len (map ended feeds)
-behind_ended len feeds behind = All-map (λ (p : ℕ × Feed). IsBehind len p.1) ended feeds (λ k d l. ended_behind len (get_or feeds k d).1 (behind k d l))
+behind_ended len feeds behind =
+    All-map (λ (p : ℕ × Feed). IsBehind len p.1) ended feeds
+    (λ k d l. ended_behind len (get_or feeds k d).1 (behind k d l))
 
 -- the feed of this number stands here
-module _ {R : Type 0} (id : ℕ) (feeds : List (ℕ × Feed)) (at : ℕ) (placed : Some at ≡ position (λ (p : ℕ × Feed). nat_eq p.0 id) feeds) (p : ℕ × Feed) (is : p ≡ get_or feeds at p) where
+module _ {R : Type 0} (id : ℕ) (feeds : List (ℕ × Feed))
+    (at : ℕ) (placed : Some at ≡ position (λ (p : ℕ × Feed). nat_eq p.0 id) feeds) (p : ℕ × Feed)
+    (is : p ≡ get_or feeds at p) where
   -- the feeds behind what the feed there answers
-  pub behind_here : (show : Current → R) (rows : List Current) (len : ℕ) (new : Feed) → AreRising feeds → (d : Due) (next : Next R)
-      → next ≡ next_of show rows d → new ≡ after_next p.1 d len → slice_set feeds at (p.0, new) ≡ feeds_behind id len next feeds
+  pub behind_here : (show : Current → R) (rows : List Current) (len : ℕ) (new : Feed) → AreRising feeds
+      → (d : Due) (next : Next R)
+      → next ≡ next_of show rows d → new ≡ after_next p.1 d len
+      → slice_set feeds at (p.0, new) ≡ feeds_behind id len next feeds
   behind_here show rows len new rising (DueRow c) next e h = rw e (stays_here id feeds at placed p is new h)
-  behind_here show rows len new rising (DueEnd last_seq) next e h = rw e (stays_here id feeds at placed p is new h)
-  behind_here show rows len new rising DueNothing next e h = rw e (changed_here id feeds at placed p is (λ f. after_nothing f len) new rising h)
+  behind_here show rows len new rising (DueEnd last_seq) next e h =
+      rw e (stays_here id feeds at placed p is new h)
+  behind_here show rows len new rising DueNothing next e h =
+      rw e (changed_here id feeds at placed p is (λ f. after_nothing f len) new rising h)
   behind_here show rows len new rising DueGone next e h = rw e (stays_here id feeds at placed p is new h)
 
 -- of a result, what two facts give
-pub both_ok : {T E : Type 0} {P Q R : T → Type 0} (r : Result T E) → ((x : T) → P x → Q x → R x) → IfOk r P → IfOk r Q → IfOk r R
+pub both_ok : {T E : Type 0} {P Q R : T → Type 0} (r : Result T E) → ((x : T) → P x → Q x → R x)
+    → IfOk r P → IfOk r Q → IfOk r R
 both_ok (Ok x) f p q = f x p q
 both_ok (Err e) f p q = tt
 
 -- what holds in either case
-pub ok_or_err : {T E P W : Type 0} {Q : T → Type 0} (r : Result T E) → ((x : T) → Q x → P) → (W → P) → IfOk r Q → OnErr r W → P
+pub ok_or_err : {T E P W : Type 0} {Q : T → Type 0} (r : Result T E) → ((x : T) → Q x → P) → (W → P)
+    → IfOk r Q → OnErr r W → P
 ok_or_err (Ok x) f g q w = f x q
 ok_or_err (Err e) f g q w = g w
 

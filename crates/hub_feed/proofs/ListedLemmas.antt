@@ -1,5 +1,8 @@
 -- The first row of several listed documents is the first of the first rows of each.
-use Rattle.std.proofs.Common.{◌≡◌, ℕ, ◌+◌, ◌<◌, List, [], ◌∷◌, ◌++◌, length, map, take, get_or, min, Bool, true, false, ◌&&◌, ◌||◌, nat_lt, inl, inr, refl, sym, ◌∙◌, ap, subst, Option, Some, None, find, option_map, Contains, AllPairs, String, Global, string_bytes, arith}
+use Rattle.std.proofs.Common.{◌≡◌, ℕ, ◌+◌, ◌<◌, List, [], ◌∷◌, ◌++◌, length, map, take}
+use Rattle.std.proofs.Common.{get_or, min, Bool, true, false, ◌&&◌, ◌||◌, nat_lt, inl, inr}
+use Rattle.std.proofs.Common.{refl, sym, ◌∙◌, ap, subst, Option, Some, None, find, option_map}
+use Rattle.std.proofs.Common.{Contains, AllPairs, String, Global, string_bytes, arith}
 use Rattle.std.specs.List.{list_any}
 use Rattle.std.specs.Str.{bytes_eq}
 use Rattle.std.proofs.lemmas.Bool.{cases_Bool, both_ways, and_parts}
@@ -17,22 +20,29 @@ abbrev seq_in : (Current → Bool) → List Current → Option ℕ
 seq_in p rows = option_map (λ (c : Current). c.seq) (find p rows)
 
 -- a first row is before what is found behind it
-first_low : (p : Current → Bool) (d : Current) (rows : List Current) → AllPairs (λ (a b : Current). a.seq < b.seq) (d ∷ rows) → lesser (Some d.seq) (seq_in p rows) ≡ Some d.seq
+first_low : (p : Current → Bool) (d : Current) (rows : List Current)
+    → AllPairs (λ (a b : Current). a.seq < b.seq) (d ∷ rows)
+    → lesser (Some d.seq) (seq_in p rows) ≡ Some d.seq
 first_low p d rows rise = from (find p rows) refl
   where
-    from : (o : Option Current) → find p rows ≡ o → lesser (Some d.seq) (option_map (λ (c : Current). c.seq) o) ≡ Some d.seq
+    from : (o : Option Current) → find p rows ≡ o
+        → lesser (Some d.seq) (option_map (λ (c : Current). c.seq) o) ≡ Some d.seq
     from None e = refl
     from (Some c) e = let above = above_first d rows rise c (find_is p rows c e).1 in ap Some (omega arith)
 
-second_low : (p : Current → Bool) (d : Current) (rows : List Current) → AllPairs (λ (a b : Current). a.seq < b.seq) (d ∷ rows) → lesser (seq_in p rows) (Some d.seq) ≡ Some d.seq
+second_low : (p : Current → Bool) (d : Current) (rows : List Current)
+    → AllPairs (λ (a b : Current). a.seq < b.seq) (d ∷ rows)
+    → lesser (seq_in p rows) (Some d.seq) ≡ Some d.seq
 second_low p d rows rise = from (find p rows) refl
   where
-    from : (o : Option Current) → find p rows ≡ o → lesser (option_map (λ (c : Current). c.seq) o) (Some d.seq) ≡ Some d.seq
+    from : (o : Option Current) → find p rows ≡ o
+        → lesser (option_map (λ (c : Current). c.seq) o) (Some d.seq) ≡ Some d.seq
     from None e = refl
     from (Some c) e = let above = above_first d rows rise c (find_is p rows c e).1 in ap Some (omega arith)
 
 -- what passes one of two tests first is the first of what passes each
-either_first : (p q : Current → Bool) (rows : List Current) → AllPairs (λ (a b : Current). a.seq < b.seq) rows → lesser (seq_in p rows) (seq_in q rows) ≡ seq_in (λ c. p c || q c) rows
+either_first : (p q : Current → Bool) (rows : List Current) → AllPairs (λ (a b : Current). a.seq < b.seq) rows
+    → lesser (seq_in p rows) (seq_in q rows) ≡ seq_in (λ c. p c || q c) rows
 either_first p q [] rise = refl
 either_first p q (d ∷ rows) rise =
     elim (cases_Bool (p d)) [
@@ -52,27 +62,46 @@ shared true false x y = refl
 shared false b x y = refl
 
 -- a row of listed documents is of the first ones, or of the last
-listed_more : (place : ℕ) (bound : Option ℕ) (ids : List (List ℕ)) (id : List ℕ) (c : Current) → is_listed_within place bound (ids ++ id ∷ []) c ≡ (is_listed_within place bound ids c || is_listed_within place bound (id ∷ []) c)
+listed_more : (place : ℕ) (bound : Option ℕ) (ids : List (List ℕ)) (id : List ℕ) (c : Current)
+    → is_listed_within place bound (ids ++ id ∷ []) c
+    ≡ (is_listed_within place bound ids c || is_listed_within place bound (id ∷ []) c)
 listed_more place bound ids id c =
-    ap (λ b. nat_lt place c.seq && (is_within bound c.seq && b)) (list_any-append (bytes_eq c.id) ids (id ∷ []))
-    ∙ shared (nat_lt place c.seq) (is_within bound c.seq) (list_any (bytes_eq c.id) ids) (list_any (bytes_eq c.id) (id ∷ []))
+    ap (λ b. nat_lt place c.seq && (is_within bound c.seq && b))
+    (list_any-append (bytes_eq c.id) ids (id ∷ []))
+    ∙ shared (nat_lt place c.seq) (is_within bound c.seq) (list_any (bytes_eq c.id) ids)
+    (list_any (bytes_eq c.id) (id ∷ []))
 
 -- one more listed document
-pub listed_step : (place : ℕ) (bound : Option ℕ) (rows : List Current) → AllPairs (λ (a b : Current). a.seq < b.seq) rows
-    → (texts : List (String Global)) (i : ℕ) (d : String Global) → i < length texts → (first second : Option ℕ)
-    → first ≡ option_map (λ (c : Current). c.seq) (first_listed place bound (map string_bytes (take i texts)) rows)
-    → second ≡ option_map (λ (c : Current). c.seq) (first_listed place bound (string_bytes (get_or texts i d) ∷ []) rows)
-    → lesser first second ≡ option_map (λ (c : Current). c.seq) (first_listed place bound (map string_bytes (take (i + 1) texts)) rows)
+pub listed_step : (place : ℕ) (bound : Option ℕ) (rows : List Current)
+    → AllPairs (λ (a b : Current). a.seq < b.seq) rows
+    → (texts : List (String Global)) (i : ℕ) (d : String Global) → i < length texts
+    → (first second : Option ℕ)
+    → first ≡ option_map (λ (c : Current). c.seq)
+    (first_listed place bound (map string_bytes (take i texts)) rows)
+    → second ≡ option_map (λ (c : Current). c.seq)
+    (first_listed place bound (string_bytes (get_or texts i d) ∷ []) rows)
+    → lesser first second
+    ≡ option_map (λ (c : Current). c.seq)
+    (first_listed place bound (map string_bytes (take (i + 1) texts)) rows)
 listed_step place bound rows rise texts i d low first second before here =
     let ids = map string_bytes (take i texts) in
     let id = string_bytes (get_or texts i d) in
-    let more : map string_bytes (take (i + 1) texts) ≡ ids ++ id ∷ [] = ap (map string_bytes) (take_more texts i d low) ∙ map-append string_bytes (take i texts) (get_or texts i d ∷ []) in
-    let same = find_same (is_listed_within place bound (ids ++ id ∷ [])) (λ c. is_listed_within place bound ids c || is_listed_within place bound (id ∷ []) c) rows (λ c h. listed_more place bound ids id c) in
-    rw (before, here, more, same) (either_first (is_listed_within place bound ids) (is_listed_within place bound (id ∷ [])) rows rise)
+    let more : map string_bytes (take (i + 1) texts) ≡ ids ++ id ∷ [] =
+    ap (map string_bytes) (take_more texts i d low)
+    ∙ map-append string_bytes (take i texts) (get_or texts i d ∷ []) in
+    let same =
+    find_same (is_listed_within place bound (ids ++ id ∷ []))
+    (λ c. is_listed_within place bound ids c || is_listed_within place bound (id ∷ []) c) rows
+    (λ c h. listed_more place bound ids id c) in
+    rw (before, here, more, same)
+    (either_first (is_listed_within place bound ids) (is_listed_within place bound (id ∷ [])) rows rise)
 
 -- of no documents there is none
-pub listed_none : (place : ℕ) (bound : Option ℕ) (rows : List Current) → None ≡ option_map (λ (c : Current). c.seq) (first_listed place bound [] rows)
-listed_none place bound rows = rw (find_nothing (is_listed_within place bound []) rows (λ c h t. never (nat_lt place c.seq) (is_within bound c.seq) t)) refl
+pub listed_none : (place : ℕ) (bound : Option ℕ) (rows : List Current)
+    → None ≡ option_map (λ (c : Current). c.seq) (first_listed place bound [] rows)
+listed_none place bound rows =
+    rw (find_nothing (is_listed_within place bound []) rows
+    (λ c h t. never (nat_lt place c.seq) (is_within bound c.seq) t)) refl
   where
     never : (a b : Bool) → (a && (b && false)) ≡ true → ⊥
     never true true t = absurd (cc)
@@ -80,7 +109,9 @@ listed_none place bound rows = rw (find_nothing (is_listed_within place bound []
     never false b t = absurd (cc)
 
 -- a row of one listed document lies in reach, and has its id
-pub one_parts : (place : ℕ) (bound : Option ℕ) (id : List ℕ) (c : Current) → is_listed_within place bound (id ∷ []) c ≡ true → ((nat_lt place c.seq && is_within bound c.seq) ≡ true) × (c.id ≡ id)
+pub one_parts : (place : ℕ) (bound : Option ℕ) (id : List ℕ) (c : Current)
+    → is_listed_within place bound (id ∷ []) c ≡ true
+    → ((nat_lt place c.seq && is_within bound c.seq) ≡ true) × (c.id ≡ id)
 one_parts place bound id c t =
     let p = and_parts (nat_lt place c.seq) (is_within bound c.seq && list_any (bytes_eq c.id) (id ∷ [])) t in
     let q = and_parts (is_within bound c.seq) (list_any (bytes_eq c.id) (id ∷ [])) p.1 in
@@ -90,30 +121,46 @@ one_parts place bound id c t =
     last true t = refl
     last false t = t
 
-one_from : (place : ℕ) (bound : Option ℕ) (id : List ℕ) (seq : ℕ) → (nat_lt place seq && is_within bound seq) ≡ true → is_listed_within place bound (id ∷ []) (record { seq = seq; id = id }) ≡ true
+one_from : (place : ℕ) (bound : Option ℕ) (id : List ℕ) (seq : ℕ)
+    → (nat_lt place seq && is_within bound seq) ≡ true
+    → is_listed_within place bound (id ∷ []) (record { seq = seq; id = id }) ≡ true
 one_from place bound id seq t =
     let p = and_parts (nat_lt place seq) (is_within bound seq) t in
     let same : bytes_eq id id ≡ true = (bytes_eq-Decides id id).1 refl in
     rw (p.0, p.1, same) refl
 
 -- The row of a document that stands once, where it lies above the place and not above the bound, ..
-pub only_row : (place : ℕ) (bound : Option ℕ) (id : List ℕ) (seq : ℕ) (rows : List Current) → Contains rows (record { seq = seq; id = id }) → ((c : Current) → Contains rows c → c.id ≡ id → c.seq ≡ seq)
-    → (nat_lt place seq && is_within bound seq) ≡ true → Some seq ≡ option_map (λ (c : Current). c.seq) (first_listed place bound (id ∷ []) rows)
+pub only_row : (place : ℕ) (bound : Option ℕ) (id : List ℕ) (seq : ℕ) (rows : List Current)
+    → Contains rows (record { seq = seq; id = id })
+    → ((c : Current) → Contains rows c → c.id ≡ id → c.seq ≡ seq)
+    → (nat_lt place seq && is_within bound seq) ≡ true
+    → Some seq ≡ option_map (λ (c : Current). c.seq) (first_listed place bound (id ∷ []) rows)
 only_row place bound id seq rows here one ahead = from (first_listed place bound (id ∷ []) rows) refl
   where
-    from : (o : Option Current) → first_listed place bound (id ∷ []) rows ≡ o → Some seq ≡ option_map (λ (c : Current). c.seq) o
-    from None e = absurd (find_not (is_listed_within place bound (id ∷ [])) rows e (record { seq = seq; id = id }) here (one_from place bound id seq ahead))
+    from : (o : Option Current) → first_listed place bound (id ∷ []) rows ≡ o
+        → Some seq ≡ option_map (λ (c : Current). c.seq) o
+    from None e =
+        absurd (find_not (is_listed_within place bound (id ∷ [])) rows e (record { seq = seq; id = id }) here
+        (one_from place bound id seq ahead))
     from (Some c) e =
         let i = find_is (is_listed_within place bound (id ∷ [])) rows c e in
         ap Some (sym (one c i.1 (one_parts place bound id c i.0).1))
 
 -- .. and where it does not
-pub row_apart : (place : ℕ) (bound : Option ℕ) (id : List ℕ) (seq : ℕ) (rows : List Current) → ((c : Current) → Contains rows c → c.id ≡ id → c.seq ≡ seq)
-    → (nat_lt place seq && is_within bound seq) ≡ false → None ≡ option_map (λ (c : Current). c.seq) (first_listed place bound (id ∷ []) rows)
+pub row_apart : (place : ℕ) (bound : Option ℕ) (id : List ℕ) (seq : ℕ) (rows : List Current)
+    → ((c : Current) → Contains rows c → c.id ≡ id → c.seq ≡ seq)
+    → (nat_lt place seq && is_within bound seq) ≡ false
+    → None ≡ option_map (λ (c : Current). c.seq) (first_listed place bound (id ∷ []) rows)
 row_apart place bound id seq rows one apart =
-    rw (find_nothing (is_listed_within place bound (id ∷ [])) rows (λ c h t. let p = one_parts place bound id c t in both_ways _ apart (subst (λ (n : ℕ). (nat_lt place n && is_within bound n) ≡ true) (one c h p.1) p.0))) refl
+    rw (find_nothing (is_listed_within place bound (id ∷ [])) rows (λ c h t.
+    let p = one_parts place bound id c t in
+    both_ways _ apart (subst (λ (n : ℕ). (nat_lt place n && is_within bound n) ≡ true) (one c h p.1) p.0)))
+    refl
 
 -- and of a document that is not there
-pub no_row : (place : ℕ) (bound : Option ℕ) (id : List ℕ) (rows : List Current) → ((c : Current) → Contains rows c → c.id ≡ id → ⊥) → None ≡ option_map (λ (c : Current). c.seq) (first_listed place bound (id ∷ []) rows)
+pub no_row : (place : ℕ) (bound : Option ℕ) (id : List ℕ) (rows : List Current)
+    → ((c : Current) → Contains rows c → c.id ≡ id → ⊥)
+    → None ≡ option_map (λ (c : Current). c.seq) (first_listed place bound (id ∷ []) rows)
 no_row place bound id rows none =
-    rw (find_nothing (is_listed_within place bound (id ∷ [])) rows (λ c h t. none c h (one_parts place bound id c t).1)) refl
+    rw (find_nothing (is_listed_within place bound (id ∷ [])) rows
+    (λ c h t. none c h (one_parts place bound id c t).1)) refl

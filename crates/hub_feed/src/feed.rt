@@ -1,7 +1,9 @@
 //! A feed's state.
 
-ghost use Rattle.std.specs.Prelude.{◌≡◌, ◌<◌, ◌≤◌, map, option_map, find, Some, string_bytes, IfSome, IfOk, OnErr};
-ghost use Rattle.hub_model.specs.Feed.{Open, begin, due, is_in_reach, is_open, bound_of, bound_after, status_after, after_due, after_row, beat_due, expire, end};
+ghost use Rattle.std.specs.Prelude.{◌≡◌, ◌<◌, ◌≤◌, map, option_map, find};
+ghost use Rattle.std.specs.Prelude.{Some, string_bytes, IfSome, IfOk, OnErr};
+ghost use Rattle.hub_model.specs.Feed.{Open, begin, due, is_in_reach, is_open, bound_of, bound_after};
+ghost use Rattle.hub_model.specs.Feed.{status_after, after_due, after_row, beat_due, expire, end};
 ghost use Rattle.hub_model.specs.Hand.{item_of};
 ghost use Rattle.hub_model.specs.declared.feeds.Item.TheVariants.{End};
 ghost use Rattle.hub_model.specs.Current.{pending};
@@ -68,7 +70,14 @@ impl Model for FeedState {
     ghost use Rattle.hub_params.specs.FeedModel.{params_of};
     ghost use Rattle.hub_feed.specs.Shown.{status_of};
 
-    ghost view = { λ f. record { params = params_of f.params; since = f.since; bound = f.bound; place = f.place; rows = f.rows; status = status_of f.status } };
+    ghost view = { λ f. record {
+      params = params_of f.params;
+      since = f.since;
+      bound = f.bound;
+      place = f.place;
+      rows = f.rows;
+      status = status_of f.status;
+    } };
 
     ghost invariant = { λ f. (f.since + f.rows ≤ f.place) × IfSome f.bound (λ bound. f.place ≤ bound) };
 }
@@ -131,7 +140,8 @@ fn lesser(first: Option<u64>, second: Option<u64>) -> Option<u64>
 // The sequence of the first row above a place and not above the bound of the documents with these
 // ids. It costs what `Source::next_of` does for each.
 fn first_of<S: Source>(source: &S, ids: &[String], place: u64, bound: Option<u64>) -> Option<u64>
-    ensures { result ≡ option_map (λ c. c.seq) (first_listed place bound (map string_bytes ids.now) (S.current source.now)) }
+    ensures { result ≡ option_map (λ c. c.seq)
+        (first_listed place bound (map string_bytes ids.now) (S.current source.now)) }
 {
     let mut first = None;
     for id in ids {
@@ -161,8 +171,10 @@ impl FeedState {
     // The sequence of the first row in reach, if it is found before a place of which no row is looked
     // at behind. One step of the source for each row that does not pass, and one more.
     fn first_until<S: Source>(&self, source: &S, until: u64) -> Option<u64>
-        ensures found { IfSome result (λ seq. Some seq ≡ option_map (λ c. c.seq) (find (is_in_reach self.now) (S.current source.now))) }
-        ensures whole { S.length source.now ≤ until → result ≡ option_map (λ c. c.seq) (find (is_in_reach self.now) (S.current source.now)) }
+        ensures found { IfSome result
+            (λ seq. Some seq ≡ option_map (λ c. c.seq) (find (is_in_reach self.now) (S.current source.now))) }
+        ensures whole { S.length source.now ≤ until
+            → result ≡ option_map (λ c. c.seq) (find (is_in_reach self.now) (S.current source.now)) }
     {
         let mut place = self.place;
         for _ in self.place..until {
@@ -198,7 +210,8 @@ impl FeedState {
 
     /// The sequence of the first row in reach of a feed that is open. It costs what `next_item` says.
     pub(crate) fn first_of_open<S: Source>(&self, source: &S) -> Option<u64>
-        ensures { self.now.status ≡ Open → result ≡ option_map (λ c. c.seq) (find (is_in_reach self.now) (S.current source.now)) }
+        ensures { self.now.status ≡ Open
+            → result ≡ option_map (λ c. c.seq) (find (is_in_reach self.now) (S.current source.now)) }
     {
         match self.status {
             Status::Open => self.first_in_reach(source),
@@ -214,9 +227,13 @@ impl FeedState {
     ) -> Result<Next<S::Row>, AllocError>
         requires open { self.old.status ≡ Open }
         requires reached { self.old.place ≤ S.length source.now }
-        requires first { first ≡ option_map (λ c. c.seq) (find (is_in_reach self.old) (S.current source.now)) }
-        ensures ok { IfOk result (λ next. next ≡ next_of (S.shown source.now self.old.params.style self.old.params.include_docs) (S.current source.now) (due (S.current source.now) self.old)) }
-        ensures new { IfOk result (λ next. self.new ≡ after_next self.old (due (S.current source.now) self.old) (S.length source.now)) }
+        requires first { first ≡ option_map (λ c. c.seq)
+            (find (is_in_reach self.old) (S.current source.now)) }
+        ensures ok { IfOk result (λ next.
+            next ≡ next_of (S.shown source.now self.old.params.style self.old.params.include_docs)
+            (S.current source.now) (due (S.current source.now) self.old)) }
+        ensures new { IfOk result (λ next.
+            self.new ≡ after_next self.old (due (S.current source.now) self.old) (S.length source.now)) }
         ensures err { OnErr result ((self.new ≡ self.old) × IsRowDue (due (S.current source.now) self.old)) }
     {
         if let Some(seq) = first {
@@ -239,8 +256,11 @@ impl FeedState {
     /// listed ids there are so many steps at most as ids, and then a `Source::next_of` for each.
     pub fn next_item<S: Source>(&mut self, source: &S) -> Result<Next<S::Row>, AllocError>
         requires reached { self.old.place ≤ S.length source.now }
-        ensures ok { IfOk result (λ next. next ≡ next_of (S.shown source.now self.old.params.style self.old.params.include_docs) (S.current source.now) (due (S.current source.now) self.old)) }
-        ensures new { IfOk result (λ next. self.new ≡ after_next self.old (due (S.current source.now) self.old) (S.length source.now)) }
+        ensures ok { IfOk result (λ next.
+            next ≡ next_of (S.shown source.now self.old.params.style self.old.params.include_docs)
+            (S.current source.now) (due (S.current source.now) self.old)) }
+        ensures new { IfOk result (λ next.
+            self.new ≡ after_next self.old (due (S.current source.now) self.old) (S.length source.now)) }
         ensures err { OnErr result ((self.new ≡ self.old) × IsRowDue (due (S.current source.now) self.old)) }
     {
         let first = self.first_of_open(source);
@@ -255,9 +275,13 @@ impl FeedState {
         first: Option<u64>,
     ) -> Result<Next<S::Row>, AllocError>
         requires reached { self.old.place ≤ S.length source.now }
-        requires first { self.old.status ≡ Open → first ≡ option_map (λ c. c.seq) (find (is_in_reach self.old) (S.current source.now)) }
-        ensures ok { IfOk result (λ next. next ≡ next_of (S.shown source.now self.old.params.style self.old.params.include_docs) (S.current source.now) (due (S.current source.now) self.old)) }
-        ensures new { IfOk result (λ next. self.new ≡ after_next self.old (due (S.current source.now) self.old) (S.length source.now)) }
+        requires first { self.old.status ≡ Open
+            → first ≡ option_map (λ c. c.seq) (find (is_in_reach self.old) (S.current source.now)) }
+        ensures ok { IfOk result (λ next.
+            next ≡ next_of (S.shown source.now self.old.params.style self.old.params.include_docs)
+            (S.current source.now) (due (S.current source.now) self.old)) }
+        ensures new { IfOk result (λ next.
+            self.new ≡ after_next self.old (due (S.current source.now) self.old) (S.length source.now)) }
         ensures err { OnErr result ((self.new ≡ self.old) × IsRowDue (due (S.current source.now) self.old)) }
     {
         match self.status {
@@ -282,7 +306,9 @@ impl FeedState {
 
     /// Goes on behind the item that `next_item` gives now. It takes no memory, and constant time.
     pub fn accept_item<S: Source>(&mut self, source: &S, item: &Item<S::Row>)
-        requires due { item_of (S.shown source.now self.old.params.style self.old.params.include_docs) (S.current source.now) (due (S.current source.now) self.old) ≡ Some item.now }
+        requires due { item_of (S.shown source.now self.old.params.style self.old.params.include_docs)
+            (S.current source.now) (due (S.current source.now) self.old)
+            ≡ Some item.now }
         ensures { self.new ≡ after_due self.old (due (S.current source.now) self.old) (S.length source.now) }
     {
         self.accept_marked(source, Mark::of::<S>(item));
@@ -291,7 +317,10 @@ impl FeedState {
     /// Goes on behind the item that `next_item` gives now, of which this is the mark. It takes no
     /// memory, and constant time.
     pub fn accept_marked<S: Source>(&mut self, source: &S, mark: Mark)
-        requires due { option_map (mark_of S.seq_of) (item_of (S.shown source.now self.old.params.style self.old.params.include_docs) (S.current source.now) (due (S.current source.now) self.old)) ≡ Some mark }
+        requires due { option_map (mark_of S.seq_of)
+            (item_of (S.shown source.now self.old.params.style self.old.params.include_docs)
+            (S.current source.now) (due (S.current source.now) self.old))
+            ≡ Some mark }
         ensures { self.new ≡ after_due self.old (due (S.current source.now) self.old) (S.length source.now) }
     {
         match mark {

@@ -1,6 +1,7 @@
 //! The feeds that something keeps, by their numbers.
 
-ghost use Rattle.std.specs.Prelude.{◌≡◌, ◌<◌, ◌^◌, ◌+◌, ◌-◌, ◌||◌, ◌++◌, ◌∷◌, [], ℕ, length, map, nat_le, Some, None, option_map, IfSome, IfOk, OnOk, OnErr};
+ghost use Rattle.std.specs.Prelude.{◌≡◌, ◌<◌, ◌^◌, ◌+◌, ◌-◌, ◌||◌, ◌++◌, ◌∷◌, [], ℕ, length, map};
+ghost use Rattle.std.specs.Prelude.{nat_le, Some, None, option_map, IfSome, IfOk, OnOk, OnErr};
 ghost use Rattle.hub_model.specs.Entries.{changed, entry_in, without};
 ghost use Rattle.hub_model.specs.Feed.{begin, expire};
 ghost use Rattle.hub_params.specs.FeedModel.{params_of};
@@ -109,8 +110,8 @@ impl Feeds {
         requires behind { AreBehind (S.length source.now) self.old.feeds }
         ensures ok { IfOk result (λ next. next ≡ answered
             (over (S.length source.now) (S.current source.now) (S.shown source.now) self.old) feed.number) }
-        ensures new { IfOk result (λ next. self.new ≡ feeds_of (behind_answer
-            (over (S.length source.now) (S.current source.now) (S.shown source.now) self.old) feed.number next)) }
+        ensures new { IfOk result (λ next. self.new ≡ feeds_of (behind_answer (over (S.length source.now)
+            (S.current source.now) (S.shown source.now) self.old) feed.number next)) }
         ensures err { OnErr result ((self.new ≡ self.old) × IsRowDue (due_to
             (over (S.length source.now) (S.current source.now) (S.shown source.now) self.old) feed.number)) }
         ensures behind { AreBehind (S.length source.now) self.new.feeds }
@@ -136,8 +137,8 @@ impl Feeds {
         requires first { IsFirst first (S.current source.now) (entry_in feed.number self.old.feeds) }
         ensures ok { IfOk result (λ next. next ≡ answered
             (over (S.length source.now) (S.current source.now) (S.shown source.now) self.old) feed.number) }
-        ensures new { IfOk result (λ next. self.new ≡ feeds_of (behind_answer
-            (over (S.length source.now) (S.current source.now) (S.shown source.now) self.old) feed.number next)) }
+        ensures new { IfOk result (λ next. self.new ≡ feeds_of (behind_answer (over (S.length source.now)
+            (S.current source.now) (S.shown source.now) self.old) feed.number next)) }
         ensures err { OnErr result ((self.new ≡ self.old) × IsRowDue (due_to
             (over (S.length source.now) (S.current source.now) (S.shown source.now) self.old) feed.number)) }
         ensures behind { AreBehind (S.length source.now) self.new.feeds }

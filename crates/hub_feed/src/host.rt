@@ -1,6 +1,7 @@
 //! What keeps feeds.
 
-ghost use Rattle.std.specs.Prelude.{◌≡◌, ◌<◌, ◌≤◌, ◌++◌, ◌∷◌, [], ℕ, List, Bool, true, Some, None, Contains, option_map, IfOk, IfErr, OnOk, OnErr};
+ghost use Rattle.std.specs.Prelude.{◌≡◌, ◌<◌, ◌≤◌, ◌++◌, ◌∷◌, [], ℕ, List, Bool, true, Some};
+ghost use Rattle.std.specs.Prelude.{None, Contains, option_map, IfOk, IfErr, OnOk, OnErr};
 ghost use Rattle.std.specs.List.{AllPairs};
 ghost use Rattle.hub_model.specs.Current.{Current};
 ghost use Rattle.hub_model.specs.Entries.{entry_in};
@@ -11,7 +12,9 @@ ghost use Rattle.hub_model.specs.declared.feeds.Style.{Style as Listing};
 ghost use Rattle.hub_params.specs.FeedModel.{params_of};
 ghost use Rattle.hub_feed.specs.Mark.{mark_of};
 ghost use Rattle.hub_feed.specs.Next.{IsRowDue};
-ghost use Rattle.hub_feed.specs.Host.{Hosted, with_feeds, refuses, opening_fault, opened, due_to, answered, item_for, item_due, behind_answer, behind_due, handed, is_beat_due, expired, finished};
+ghost use Rattle.hub_feed.specs.Host.{Hosted, with_feeds, refuses, opening_fault, opened};
+ghost use Rattle.hub_feed.specs.Host.{due_to, answered, item_for, item_due, behind_answer};
+ghost use Rattle.hub_feed.specs.Host.{behind_due, handed, is_beat_due, expired, finished};
 
 use crate::mark::Mark;
 use crate::next::Next;
@@ -80,15 +83,18 @@ pub trait FeedHost {
         ensures free { OnOk result (refuses (hosted self.old) ≡ None) }
         ensures new { IfOk result (λ id. entry_in id.number (hosted self.old).feeds ≡ None) }
         ensures number { IfOk result (λ id. id.number ≡ (hosted self.old).next_feed) }
-        ensures ok { OnOk result (self.new ≡ with_hosted self.old (opened (hosted self.old) (params_of params))) }
+        ensures ok { OnOk result
+            (self.new ≡ with_hosted self.old (opened (hosted self.old) (params_of params))) }
         ensures err { IfErr result (λ e. (self.new ≡ self.old) × (e ≡ opening_fault (hosted self.old))) };
 
     /// What a feed has to hand now. An item is made and nothing changes: `accept_item` goes on. A
     /// feed that has nothing to hand goes to the length of what it follows. Only a row takes memory.
     fn next_item(&mut self, feed: FeedId) -> Result<Next<Self::Row>, AllocError>
         ensures ok { IfOk result (λ next. next ≡ answered (hosted self.old) feed.number) }
-        ensures new { IfOk result (λ next. self.new ≡ with_hosted self.old (behind_answer (hosted self.old) feed.number next)) }
-        ensures err { OnErr result ((self.new ≡ self.old) × IsRowDue (due_to (hosted self.old) feed.number)) };
+        ensures new { IfOk result
+            (λ next. self.new ≡ with_hosted self.old (behind_answer (hosted self.old) feed.number next)) }
+        ensures err { OnErr result
+            ((self.new ≡ self.old) × IsRowDue (due_to (hosted self.old) feed.number)) };
 
     /// Where the feed that `next_item` was asked for last stands among the feeds, as far as is known:
     /// feeds by their numbers stand so in other lists, too, and are found there sooner. Nothing else
@@ -133,29 +139,39 @@ pub trait FeedHost {
     ghost within: { (s : Self) (c : Current) → Contains (hosted s).current c → c.seq ≤ (hosted s).length };
 
     /// A row that is handed has the sequence of its own.
-    ghost keeps: { (s : Self) (style : Listing) (include_docs : Bool) (c : Current) → seq_of ((hosted s).shown style include_docs c) ≡ c.seq };
+    ghost keeps: { (s : Self) (style : Listing) (include_docs : Bool) (c : Current)
+        → seq_of ((hosted s).shown style include_docs c) ≡ c.seq };
 
     /// With its own feeds it is the same.
     ghost same: { (s : Self) → with_hosted s (hosted s) ≡ s };
 
     /// With other feeds it is seen with just those.
-    ghost hosts: { (s : Self) (feeds : List (ℕ × Feed)) (next : ℕ) → hosted (with_hosted s (with_feeds (hosted s) feeds next)) ≡ with_feeds (hosted s) feeds next };
+    ghost hosts: { (s : Self) (feeds : List (ℕ × Feed)) (next : ℕ)
+        → hosted (with_hosted s (with_feeds (hosted s) feeds next)) ≡ with_feeds (hosted s) feeds next };
 
     /// A list that fits a feed is right for it.
-    ghost rightly: { (s : Self) (f : Feed) (items : List (Handed Self.Row)) → fits s f items → right f.params f.since items };
+    ghost rightly: { (s : Self) (f : Feed) (items : List (Handed Self.Row)) → fits s f items
+        → right f.params f.since items };
 
     /// It fits whatever other feeds there are.
-    ghost stays: { (s : Self) (h : Hosted Self.Row) (f : Feed) (items : List (Handed Self.Row)) → fits s f items → fits (with_hosted s h) f items };
+    ghost stays: { (s : Self) (h : Hosted Self.Row) (f : Feed) (items : List (Handed Self.Row))
+        → fits s f items → fits (with_hosted s h) f items };
 
     /// With the item that is due it fits the feed that handed that.
-    ghost handed_fits: { (s : Self) (f : Feed) (items : List (Handed Self.Row)) (item : Handed Self.Row) → item_for (hosted s) f ≡ Some item → fits s f items → fits s (behind_due (hosted s) f) (items ++ item ∷ []) };
+    ghost handed_fits: { (s : Self) (f : Feed) (items : List (Handed Self.Row)) (item : Handed Self.Row)
+        → item_for (hosted s) f ≡ Some item → fits s f items
+        → fits s (behind_due (hosted s) f) (items ++ item ∷ []) };
 
     /// It fits the feed that was found to have nothing to hand.
-    ghost waiting_fits: { (s : Self) (f : Feed) (items : List (Handed Self.Row)) → due (hosted s).current f ≡ DueNothing → fits s f items → fits s (after_nothing f (hosted s).length) items };
+    ghost waiting_fits: { (s : Self) (f : Feed) (items : List (Handed Self.Row))
+        → due (hosted s).current f ≡ DueNothing → fits s f items
+        → fits s (after_nothing f (hosted s).length) items };
 
     /// It fits with a heartbeat that may be handed.
-    ghost beat_fits: { (s : Self) (f : Feed) (items : List (Handed Self.Row)) → beat_due f ≡ true → fits s f items → fits s f (items ++ Beat ∷ []) };
+    ghost beat_fits: { (s : Self) (f : Feed) (items : List (Handed Self.Row)) → beat_due f ≡ true
+        → fits s f items → fits s f (items ++ Beat ∷ []) };
 
     /// It fits the feed whose time is over.
-    ghost expired_fits: { (s : Self) (f : Feed) (items : List (Handed Self.Row)) → fits s f items → fits s (expire f) items };
+    ghost expired_fits: { (s : Self) (f : Feed) (items : List (Handed Self.Row)) → fits s f items
+        → fits s (expire f) items };
 }

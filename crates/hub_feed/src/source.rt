@@ -1,6 +1,7 @@
 //! What feeds follow.
 
-ghost use Rattle.std.specs.Prelude.{◌≡◌, ◌<◌, ◌≤◌, ◌&&◌, ℕ, List, [], ◌∷◌, Bool, nat_lt, Contains, option_map, IfOk};
+ghost use Rattle.std.specs.Prelude.{◌≡◌, ◌<◌, ◌≤◌, ◌&&◌, ℕ, List, [], ◌∷◌};
+ghost use Rattle.std.specs.Prelude.{Bool, nat_lt, Contains, option_map, IfOk};
 ghost use Rattle.std.specs.List.{AllPairs};
 ghost use Rattle.hub_model.specs.Current.{Current, pending};
 ghost use Rattle.hub_model.specs.Feed.{is_within};
@@ -51,12 +52,14 @@ pub trait Source {
     /// The first current row above a place and not above the bound, if there is one: its sequence
     /// and its id. It takes no memory.
     fn next_after(&self, place: u64, bound: Option<u64>) -> Option<(u64, &str)>
-        ensures { option_map (λ p. record { seq = p.0; id = p.1.now }) result ≡ first_within place bound (current self.now) };
+        ensures { option_map (λ p. record { seq = p.0; id = p.1.now }) result
+            ≡ first_within place bound (current self.now) };
 
     /// The first current row above a place and not above the bound of the document with this id, if
     /// there is one: its sequence. It takes no memory.
     fn next_of(&self, id: &str, place: u64, bound: Option<u64>) -> Option<u64>
-        ensures { result ≡ option_map (λ c. c.seq) (first_listed place bound (id.now ∷ []) (current self.now)) };
+        ensures { result ≡ option_map (λ c. c.seq)
+            (first_listed place bound (id.now ∷ []) (current self.now)) };
 
     /// How many current rows lie above a place. It takes no memory.
     fn count_after(&self, place: u64) -> u64
@@ -65,7 +68,8 @@ pub trait Source {
     /// The current row of this sequence, as it is shown now.
     fn row(&self, seq: u64, style: Style, include_docs: bool) -> Result<Self::Row, AllocError>
         requires { (c : Current) × Contains (current self.now) c × (c.seq ≡ seq) }
-        ensures { IfOk result (λ r. (c : Current) → Contains (current self.now) c → c.seq ≡ seq → r ≡ shown self.now style include_docs c) };
+        ensures { IfOk result (λ r. (c : Current) → Contains (current self.now) c → c.seq ≡ seq
+            → r ≡ shown self.now style include_docs c) };
 
     /// The sequence of a row.
     fn seq(row: &Self::Row) -> u64
@@ -78,5 +82,6 @@ pub trait Source {
     ghost within: { (s : Self) (c : Current) → Contains (current s) c → c.seq ≤ length s };
 
     /// A row that is shown has the sequence of its own.
-    ghost keeps: { (s : Self) (style : Listing) (include_docs : Bool) (c : Current) → seq_of (shown s style include_docs c) ≡ c.seq };
+    ghost keeps: { (s : Self) (style : Listing) (include_docs : Bool) (c : Current)
+        → seq_of (shown s style include_docs c) ≡ c.seq };
 }

@@ -1,5 +1,7 @@
 -- Texts in byte order: there is one such list of them.
-use Rattle.std.proofs.Common.{◌≡◌, ℕ, suc, ◌+◌, ◌<◌, ◌≤◌, List, [], ◌∷◌, map, length, get_or, string_bytes, String, Global, true, false, cond, inl, inr, sym, ◌∙◌, ap, refl, Ordering, arith}
+use Rattle.std.proofs.Common.{◌≡◌, ℕ, suc, ◌+◌, ◌<◌, ◌≤◌, List, [], ◌∷◌, map, length}
+use Rattle.std.proofs.Common.{get_or, string_bytes, String, Global, true, false, cond}
+use Rattle.std.proofs.Common.{inl, inr, sym, ◌∙◌, ap, refl, Ordering, arith}
 use Rattle.std.specs.List.{All, sum_by}
 use Rattle.std.specs.List.Sorted.{IsPermutation, IsSorted}
 use Rattle.std.specs.String.{string_cmp}
@@ -56,7 +58,8 @@ up_to_more : (x y : List ℕ) (ys : List (List ℕ)) → is_gt (order x y) ≡ f
 up_to_more x y [] l u = tt
 up_to_more x y (z ∷ zs) l u = (upto nat_list_cmp_total x y z l u.0, up_to_more x y zs l u.1)
 
-put_up_to : (x id : List ℕ) (ys : List (List ℕ)) → is_gt (order x id) ≡ false → UpTo x ys → UpTo x (put_in id ys)
+put_up_to : (x id : List ℕ) (ys : List (List ℕ)) → is_gt (order x id) ≡ false → UpTo x ys
+    → UpTo x (put_in id ys)
 put_up_to x id [] l u = (l, tt)
 put_up_to x id (y ∷ ys) l u =
     elim (cases_Bool (is_gt (order id y))) [
@@ -68,7 +71,8 @@ put_rises : (id : List ℕ) (ys : List (List ℕ)) → Rises ys → Rises (put_i
 put_rises id [] r = (tt, tt)
 put_rises id (y ∷ ys) r =
     elim (cases_Bool (is_gt (order id y))) [
-      | inl t ↦ rw t (put_up_to y id ys (not_gt (order id y) (order y id) (turned y id) t) r.0, put_rises id ys r.1)
+      | inl t ↦
+          rw t (put_up_to y id ys (not_gt (order id y) (order y id) (turned y id) t) r.0, put_rises id ys r.1)
       | inr f ↦ rw f ((f, up_to_more id y ys f r.0), r)
     ]
 
@@ -101,16 +105,19 @@ none_below x (y ∷ ys) u =
     omega (arith, sum_by-cons (below x) y ys, here, none_below x ys u.1)
 
 -- the first of a rising list is above no text of a list with the same texts
-first_up_to : (x : List ℕ) (xs : List (List ℕ)) (y : List ℕ) (ys : List (List ℕ)) → UpTo x xs → sum_by (below x) (x ∷ xs) ≡ sum_by (below x) (y ∷ ys) → is_gt (order x y) ≡ false
+first_up_to : (x : List ℕ) (xs : List (List ℕ)) (y : List ℕ) (ys : List (List ℕ)) → UpTo x xs
+    → sum_by (below x) (x ∷ xs) ≡ sum_by (below x) (y ∷ ys) → is_gt (order x y) ≡ false
 first_up_to x xs y ys u same =
     let here : below x x ≡ 0 = rw (tied_itself nat_list_cmp_total x) refl in
-    let there : below x y ≡ 0 = omega (arith, here, sum_by-cons (below x) x xs, none_below x xs u, same, sum_by-cons (below x) y ys) in
+    let there : below x y ≡ 0 =
+    omega (arith, here, sum_by-cons (below x) x xs, none_below x xs u, same, sum_by-cons (below x) y ys) in
     elim (cases_Bool (is_gt (order x y))) [
       | inl t ↦ absurd (omega (arith, rw t at there))
       | inr f ↦ f
     ]
 
-one_rises : (xs ys : List (List ℕ)) → Rises xs → Rises ys → ((f : List ℕ → ℕ) → sum_by f xs ≡ sum_by f ys) → xs ≡ ys
+one_rises : (xs ys : List (List ℕ)) → Rises xs → Rises ys → ((f : List ℕ → ℕ) → sum_by f xs ≡ sum_by f ys)
+    → xs ≡ ys
 one_rises [] [] r s same = refl
 one_rises [] (y ∷ ys) r s same = absurd (omega (arith, same (λ _. 1), sum_by-cons (λ _. 1) y ys))
 one_rises (x ∷ xs) [] r s same = absurd (omega (arith, same (λ _. 1), sum_by-cons (λ _. 1) x xs))
@@ -118,19 +125,25 @@ one_rises (x ∷ xs) (y ∷ ys) r s same =
     let low = first_up_to x xs y ys r.0 (same (below x)) in
     let high = first_up_to y ys x xs s.0 (sym (same (below y))) in
     let first : x ≡ y = exact_bytes x y (tied (order x y) (order y x) (turned y x) low high) in
-    let rest : xs ≡ ys = one_rises xs ys r.1 s.1 (λ f. omega (arith, same f, sum_by-cons f x xs, sum_by-cons f y ys, ap f first)) in
+    let rest : xs ≡ ys =
+    one_rises xs ys r.1 s.1
+    (λ f. omega (arith, same f, sum_by-cons f x xs, sum_by-cons f y ys, ap f first)) in
     cc
 
 -- ---- sorted texts
 
-sorted_up_to : (x : String Global) (ys : List (String Global)) → All (λ y. is_lt (string_cmp y x) ≡ false) ys → UpTo (string_bytes x) (map string_bytes ys)
+sorted_up_to : (x : String Global) (ys : List (String Global)) → All (λ y. is_lt (string_cmp y x) ≡ false) ys
+    → UpTo (string_bytes x) (map string_bytes ys)
 sorted_up_to x [] all = tt
 sorted_up_to x (y ∷ ys) all = (
   not_lt (string_cmp y x) (string_cmp x y) (turned (string_bytes x) (string_bytes y)) (all 0 y (omega arith)),
   sorted_up_to x ys (All-tail (λ y. is_lt (string_cmp y x) ≡ false) y ys all),
 )
 
-sorted_rises : (xs : List (String Global)) → ((i j : ℕ) (d : String Global) → i ≤ j → j < length xs → is_lt (string_cmp (get_or xs j d) (get_or xs i d)) ≡ false) → Rises (map string_bytes xs)
+sorted_rises : (xs : List (String Global))
+    → ((i j : ℕ) (d : String Global) → i ≤ j → j < length xs
+    → is_lt (string_cmp (get_or xs j d) (get_or xs i d)) ≡ false)
+    → Rises (map string_bytes xs)
 sorted_rises [] far = tt
 sorted_rises (x ∷ xs) far = (
   sorted_up_to x xs (λ k d l. far 0 (suc k) d (omega arith) (omega arith)),
@@ -138,7 +151,12 @@ sorted_rises (x ∷ xs) far = (
 )
 
 -- a sorted permutation is the list in order
-pub sorted_is : (xs ys : List (String Global)) → IsPermutation xs ys → IsSorted string_cmp ys → map string_bytes ys ≡ in_order (map string_bytes xs)
+pub sorted_is : (xs ys : List (String Global)) → IsPermutation xs ys → IsSorted string_cmp ys
+    → map string_bytes ys ≡ in_order (map string_bytes xs)
 sorted_is xs ys same sorted =
-    one_rises (map string_bytes ys) (in_order (map string_bytes xs)) (sorted_rises ys (sorted_far (λ a b. is_lt (string_cmp a b)) (ranks_by nat_list_cmp_total string_bytes) ys sorted)) (order_rises (map string_bytes xs))
-    (λ f. sum_by-IsPermutation f _ _ (IsPermutation-map string_bytes xs ys same) ∙ sym (order_sum f (map string_bytes xs)))
+    one_rises (map string_bytes ys) (in_order (map string_bytes xs))
+    (sorted_rises ys
+    (sorted_far (λ a b. is_lt (string_cmp a b)) (ranks_by nat_list_cmp_total string_bytes) ys sorted))
+    (order_rises (map string_bytes xs))
+    (λ f. sum_by-IsPermutation f _ _ (IsPermutation-map string_bytes xs ys same)
+    ∙ sym (order_sum f (map string_bytes xs)))

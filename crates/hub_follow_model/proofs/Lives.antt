@@ -1,15 +1,21 @@
 -- No event changes the source's life.
 use Rattle.std.proofs.Common.{◌≡◌, ◌∙◌, ℕ, List, Option, Some, None, MatchOption, inl, inr, ap}
-use Rattle.hub_follow_model.specs.Follower.{Source, Target, Call, LocalGet, Changes, RevsDiff, OpenRevs, Merge, LocalPut, Answer, LogAnswer, ChangesAnswer, RevsDiffAnswer, OpenRevsAnswer, MergeAnswer, PutAnswer, Follower, next_call, after_answer, after_failure}
+use Rattle.hub_follow_model.specs.Follower.{Source, Target, Call, LocalGet, Changes, RevsDiff, OpenRevs}
+use Rattle.hub_follow_model.specs.Follower.{Merge, LocalPut, Answer, LogAnswer, ChangesAnswer}
+use Rattle.hub_follow_model.specs.Follower.{RevsDiffAnswer, OpenRevsAnswer, MergeAnswer, PutAnswer}
+use Rattle.hub_follow_model.specs.Follower.{Follower, next_call, after_answer, after_failure}
 use Rattle.hub_follow_model.specs.Laws.{LifeStays}
-use Rattle.hub_follow_model.specs.World.{World, IsAnswered, IsPartialMerge, IsChangesReply, Write, InteractiveWrite, Start, Round, Checkpoint, Reply, ChangesReply, LossBefore, LossAfter, PartialMerge, Restart}
+use Rattle.hub_follow_model.specs.World.{World, IsAnswered, IsPartialMerge, IsChangesReply, Write}
+use Rattle.hub_follow_model.specs.World.{InteractiveWrite, Start, Round, Checkpoint, Reply}
+use Rattle.hub_follow_model.specs.World.{ChangesReply, LossBefore, LossAfter, PartialMerge, Restart}
 use Rattle.hub_model.specs.RightlyHanded.{ChangeItem}
 
 abbrev life_of : World → ℕ
 life_of w = w.life
 
 -- an answered call keeps it
-answered : (w : World) (call : Call) (answer : Answer) (mid : World) → IsAnswered w call answer mid → mid.life ≡ w.life
+answered : (w : World) (call : Call) (answer : Answer) (mid : World) → IsAnswered w call answer mid
+    → mid.life ≡ w.life
 answered w (LocalGet side) (LogAnswer log) mid h = ap life_of h.1
 answered w (Changes since) (ChangesAnswer rows last life) mid h = ap life_of h.2
 answered w (RevsDiff asked) (RevsDiffAnswer missed) mid h = ap life_of h.1
@@ -21,13 +27,15 @@ answered w call answer mid h = absurd h
 
 -- whatever becomes of its answer
 behind : (w : World) (next : Option Call) (after : Answer → Follower) (new : World)
-    → MatchOption next (new ≡ w) (λ call. (answer : Answer) × (mid : World) × IsAnswered w call answer mid × (new ≡ record mid { follower = after answer }))
+    → MatchOption next (new ≡ w) (λ call. (answer : Answer) × (mid : World) × IsAnswered w call answer mid
+    × (new ≡ record mid { follower = after answer }))
     → new.life ≡ w.life
 behind w None after new h = ap life_of h
 behind w (Some call) after new (answer, mid, h, e) = ap life_of e ∙ answered w call answer mid h
 
 -- and so does a merge that stops
-stopped : (w : World) (next : Option Call) (count : ℕ) (new : World) → IsPartialMerge w next count new → new.life ≡ w.life
+stopped : (w : World) (next : Option Call) (count : ℕ) (new : World) → IsPartialMerge w next count new
+    → new.life ≡ w.life
 stopped w (Some (Merge docs)) count new h = ap life_of h
 stopped w None count new h = ap life_of h
 stopped w (Some (LocalGet side)) count new h = ap life_of h
@@ -37,7 +45,8 @@ stopped w (Some (OpenRevs id revs)) count new h = ap life_of h
 stopped w (Some (LocalPut side log)) count new h = ap life_of h
 
 -- and items that come for changes
-handed : (w : World) (next : Option Call) (items : List ChangeItem) (new : World) → IsChangesReply w next items new → new.life ≡ w.life
+handed : (w : World) (next : Option Call) (items : List ChangeItem) (new : World)
+    → IsChangesReply w next items new → new.life ≡ w.life
 handed w (Some (Changes since)) items new (inl (rows, last, right, e)) = ap life_of e
 handed w (Some (Changes since)) items new (inr (wrong, e)) = ap life_of e
 handed w None items new h = ap life_of h

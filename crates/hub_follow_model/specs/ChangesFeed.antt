@@ -59,7 +59,8 @@ IsChangesAnswer J since items rows last =
 -- some items are an answer of these rows
 abbrev pub HasChangesAnswer : List Edit → ℕ → List ChangeRow → ℕ → Type 0
 HasChangesAnswer J since rows last =
-    (pending : ℕ) × RightlyHanded change_rows J (ended_feed since last (length rows)) (items_of rows last pending)
+    (pending : ℕ)
+    × RightlyHanded change_rows J (ended_feed since last (length rows)) (items_of rows last pending)
 
 -- the law: whatever a feed that a follower asked for has handed once it ended is an answer
 abbrev pub EndedFeedIsAnswer : Type 0

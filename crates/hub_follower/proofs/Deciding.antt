@@ -1,12 +1,17 @@
 -- What is decided of items is whether they are an answer to a follower that asks for changes.
-use Rattle.std.proofs.Common.{◌≡◌, ◌∙◌, ℕ, zero, suc, ◌+◌, ◌<◌, ◌≤◌, List, [], ◌∷◌, ◌++◌, length, drop, map, take, get_or, Contains, ◌⊎◌, inl, inr, ⊎_elim, Bool, true, false, refl, sym, ap, subst, arith, Option, Some, None}
-use Rattle.std.proofs.lemmas.Bool.{and_parts, and_from, or_cases, or_left, or_right, ltb-true, leb-true, lt-ltb, le-leb, eqb-true, eq-eqb, cases_lt, cases_Bool, both_ways}
-use Rattle.std.proofs.lemmas.List.Elements.{All-nil, All-cons, All-head, All-tail, All-weaker, All-contains, Contains-get_or}
+use Rattle.std.proofs.Common.{◌≡◌, ◌∙◌, ℕ, zero, suc, ◌+◌, ◌<◌, ◌≤◌, List, [], ◌∷◌, ◌++◌, length}
+use Rattle.std.proofs.Common.{drop, map, take, get_or, Contains, ◌⊎◌, inl, inr, ⊎_elim, Bool}
+use Rattle.std.proofs.Common.{true, false, refl, sym, ap, subst, arith, Option, Some, None}
+use Rattle.std.proofs.lemmas.Bool.{and_parts, and_from, or_cases, or_left, or_right, ltb-true, leb-true}
+use Rattle.std.proofs.lemmas.Bool.{lt-ltb, le-leb, eqb-true, eq-eqb, cases_lt, cases_Bool, both_ways}
+use Rattle.std.proofs.lemmas.List.Elements.{All-nil, All-cons, All-head, All-tail}
+use Rattle.std.proofs.lemmas.List.Elements.{All-weaker, All-contains, Contains-get_or}
 use Rattle.std.proofs.lemmas.List.Kept.{AllPairs-cons}
 use Rattle.std.proofs.lemmas.Option.{same_Some, none-some}
 use Rattle.std.proofs.lemmas.Slice.Eq.{bytes_eq-Decides}
 use Rattle.std.specs.List.{list_all, list_any}
-use Rattle.std.specs.Prelude.{All, AllPairs, IfSome, OnErr, Result, Ok, Err, IsTrue, is_some, slice_get, option_and_then, ◌&&◌, ◌||◌, ◌↔◌, if◌then◌else◌, nat_eq, nat_le, nat_lt}
+use Rattle.std.specs.Prelude.{All, AllPairs, IfSome, OnErr, Result, Ok, Err, IsTrue, is_some, slice_get}
+use Rattle.std.specs.Prelude.{option_and_then, ◌&&◌, ◌||◌, ◌↔◌, if◌then◌else◌, nat_eq, nat_le, nat_lt}
 use Rattle.std.specs.Str.{bytes_eq}
 use Rattle.hub_model.specs.Current.{Current, current}
 use Rattle.hub_model.specs.declared.feeds.Item.TheVariants.{Row, Beat, End}
@@ -22,7 +27,9 @@ use Rattle.hub_model.proofs.Rows.{current_within}
 use Rattle.hub_model.proofs.Tests.{any_at, at_any, all_at, at_all, filter_in, in_filter, same_is, same_self}
 use Rattle.hub_follow_model.specs.ChangesFeed.{ended_feed, items_of, IsChangesAnswer}
 use Rattle.hub_follow_model.proofs.Done.{rows_of-items, contains_map, map_contains}
-use Rattle.hub_follower.specs.Handed.{IsNumbered, end_of, is_after, are_rising, is_numbered, numbered_end, same_revs, same_doc, same_mark, same_row, is_shown, has_sequence, are_listed}
+use Rattle.hub_follower.specs.Handed.{IsNumbered, end_of, is_after, are_rising, is_numbered}
+use Rattle.hub_follower.specs.Handed.{numbered_end, same_revs, same_doc, same_mark}
+use Rattle.hub_follower.specs.Handed.{same_row, is_shown, has_sequence, are_listed}
 use Rattle.hub_follower.specs.Listing.{rows_above, all_above}
 
 -- ---- rows that are one
@@ -48,7 +55,8 @@ lengths_differ rs ss h =
     ]
 
 -- where each of two lists has one at a place, what is left is compared so
-pub same_step : (rs ss : List Revision) (k : ℕ) (r s : Revision) → slice_get rs k ≡ Some r → slice_get ss k ≡ Some s
+pub same_step : (rs ss : List Revision) (k : ℕ) (r s : Revision) → slice_get rs k ≡ Some r
+    → slice_get ss k ≡ Some s
     → same_revs (drop k rs) (drop k ss) ≡ (is_same r s && same_revs (drop (k + 1) rs) (drop (k + 1) ss))
 same_step rs ss k r s a b =
     let next : suc k ≡ k + 1 = omega arith in
@@ -86,8 +94,11 @@ mark_self : (a : Bool) → same_mark a a ≡ true
 mark_self true = refl
 mark_self false = refl
 
-abbrev made : (seq : ℕ) (id : List ℕ) (changes : List Revision) (deleted : Bool) (doc : Option (List ℕ)) (seen : ℕ) → ChangeRow
-made seq id changes deleted doc seen = record { seq = seq; id = id; changes = changes; deleted = deleted; doc = doc; seen = seen }
+abbrev made : (seq : ℕ) (id : List ℕ) (changes : List Revision) (deleted : Bool)
+    (doc : Option (List ℕ)) (seen : ℕ)
+    → ChangeRow
+made seq id changes deleted doc seen =
+    record { seq = seq; id = id; changes = changes; deleted = deleted; doc = doc; seen = seen }
 
 pub row_is : (a b : ChangeRow) → same_row a b ≡ true → a ≡ b
 row_is a b h =
@@ -113,9 +124,11 @@ row_self a =
 
 -- ---- rows and their end
 
-shape : (items : List ChangeItem) (last : ℕ) → end_of items ≡ Some last → (pending : ℕ) × (items ≡ items_of (rows_of items) last pending)
+shape : (items : List ChangeItem) (last : ℕ) → end_of items ≡ Some last
+    → (pending : ℕ) × (items ≡ items_of (rows_of items) last pending)
 shape [] last e = absurd (none-some last e)
-shape (Row row ∷ items) last e = let i = shape items last e in (i.0, ap (λ (z : List ChangeItem). Row row ∷ z) i.1)
+shape (Row row ∷ items) last e =
+    let i = shape items last e in (i.0, ap (λ (z : List ChangeItem). Row row ∷ z) i.1)
 shape (Beat ∷ items) last e = absurd (none-some last e)
 shape (End l p ∷ []) last e = (p, ap (λ z. End z p ∷ []) (same_Some l last e))
 shape (End l p ∷ x ∷ items) last e = absurd (none-some last e)
@@ -124,13 +137,15 @@ shaped : (rows : List ChangeRow) (last pending : ℕ) → end_of (items_of rows 
 shaped [] last pending = refl
 shaped (row ∷ rows) last pending = shaped rows last pending
 
-length_items : (rows : List ChangeRow) (last pending : ℕ) → length (items_of rows last pending) ≡ suc (length rows)
+length_items : (rows : List ChangeRow) (last pending : ℕ)
+    → length (items_of rows last pending) ≡ suc (length rows)
 length_items [] last pending = refl
 length_items (row ∷ rows) last pending = ap suc (length_items rows last pending)
 
 beats_of : (rows : List ChangeRow) (last pending : ℕ) → All (IsAsked false) (items_of rows last pending)
 beats_of [] last pending = All-cons (IsAsked false) (End last pending) [] tt (All-nil (IsAsked false))
-beats_of (row ∷ rows) last pending = All-cons (IsAsked false) (Row row) (items_of rows last pending) tt (beats_of rows last pending)
+beats_of (row ∷ rows) last pending =
+    All-cons (IsAsked false) (Row row) (items_of rows last pending) tt (beats_of rows last pending)
 
 ends_of : (rows : List ChangeRow) (last pending : ℕ) → EndsAt last (items_of rows last pending)
 ends_of [] last pending = (refl, refl)
@@ -141,32 +156,45 @@ ends_of (row ∷ rows) last pending = ends_of rows last pending
 abbrev IsAfter : (last seq seen : ℕ) → ChangeRow → Type 0
 IsAfter last seq seen row = (seq < row.seq) × (row.seq ≤ last) × (seen ≤ row.seen)
 
-after_is : (last seq seen : ℕ) (row : ChangeRow) → is_after last seq seen row ≡ true → IsAfter last seq seen row
+after_is : (last seq seen : ℕ) (row : ChangeRow) → is_after last seq seen row ≡ true
+    → IsAfter last seq seen row
 after_is last seq seen row h =
     let p = and_parts (nat_lt seq row.seq) _ h in
     let q = and_parts (nat_le row.seq last) (nat_le seen row.seen) p.1 in
     (ltb-true seq row.seq p.0, leb-true row.seq last q.0, leb-true seen row.seen q.1)
 
-is_after_from : (last seq seen : ℕ) (row : ChangeRow) → IsAfter last seq seen row → is_after last seq seen row ≡ true
+is_after_from : (last seq seen : ℕ) (row : ChangeRow) → IsAfter last seq seen row
+    → is_after last seq seen row ≡ true
 is_after_from last seq seen row (a, b, c) =
-    and_from (nat_lt seq row.seq) _ (lt-ltb seq row.seq a) (and_from (nat_le row.seq last) (nat_le seen row.seen) (le-leb row.seq last b) (le-leb seen row.seen c))
+    and_from (nat_lt seq row.seq) _ (lt-ltb seq row.seq a)
+    (and_from (nat_le row.seq last) (nat_le seen row.seen) (le-leb row.seq last b) (le-leb seen row.seen c))
 
-rising_is : (last seq seen : ℕ) (rows : List ChangeRow) → are_rising last seq seen rows ≡ true → AllPairs (Follows change_rows) rows × All (IsAfter last seq seen) rows
+rising_is : (last seq seen : ℕ) (rows : List ChangeRow) → are_rising last seq seen rows ≡ true
+    → AllPairs (Follows change_rows) rows × All (IsAfter last seq seen) rows
 rising_is last seq seen [] h = (λ i j d a b. absurd (omega (arith, b)), All-nil (IsAfter last seq seen))
 rising_is last seq seen (row ∷ rows) h =
     let p = and_parts (is_after last seq seen row) (are_rising last row.seq row.seen rows) h in
     let a = after_is last seq seen row p.0 in
     let i = rising_is last row.seq row.seen rows p.1 in (
-      AllPairs-cons (Follows change_rows) row rows (All-weaker (IsAfter last row.seq row.seen) (Follows change_rows row) (λ r q. record { rises = q.0; later = q.2 }) rows i.1) i.0,
-      All-cons (IsAfter last seq seen) row rows a (All-weaker (IsAfter last row.seq row.seen) (IsAfter last seq seen) (λ r q. let (u, v, w) = q in let (x, y, z) = a in (omega (arith, u, x), v, omega (arith, w, z))) rows i.1),
+      AllPairs-cons (Follows change_rows) row rows
+          (All-weaker (IsAfter last row.seq row.seen) (Follows change_rows row)
+          (λ r q. record { rises = q.0; later = q.2 }) rows i.1) i.0,
+      All-cons (IsAfter last seq seen) row rows a
+          (All-weaker (IsAfter last row.seq row.seen) (IsAfter last seq seen)
+          (λ r q. let (u, v, w) = q in let (x, y, z) = a in (omega (arith, u, x), v, omega (arith, w, z)))
+          rows i.1),
     )
 
-is_rising : (last seq seen : ℕ) (rows : List ChangeRow) → AllPairs (Follows change_rows) rows → All (IsAfter last seq seen) rows → are_rising last seq seen rows ≡ true
+is_rising : (last seq seen : ℕ) (rows : List ChangeRow) → AllPairs (Follows change_rows) rows
+    → All (IsAfter last seq seen) rows → are_rising last seq seen rows ≡ true
 is_rising last seq seen [] p a = refl
 is_rising last seq seen (row ∷ rows) p a =
-    and_from (is_after last seq seen row) (are_rising last row.seq row.seen rows) (is_after_from last seq seen row (All-head (IsAfter last seq seen) row rows a))
-    (is_rising last row.seq row.seen rows (λ i j d u v. p (suc i) (suc j) d (omega (arith, u)) (omega (arith, v)))
-    (λ k d l. let f = p 0 (suc k) d (omega arith) (omega (arith, l)) in let q = All-tail (IsAfter last seq seen) row rows a k d l in (f.rises, q.1, f.later)))
+    and_from (is_after last seq seen row) (are_rising last row.seq row.seen rows)
+    (is_after_from last seq seen row (All-head (IsAfter last seq seen) row rows a))
+    (is_rising last row.seq row.seen rows
+    (λ i j d u v. p (suc i) (suc j) d (omega (arith, u)) (omega (arith, v))) (λ k d l.
+    let f = p 0 (suc k) d (omega arith) (omega (arith, l)) in
+    let q = All-tail (IsAfter last seq seen) row rows a k d l in (f.rises, q.1, f.later)))
 
 -- ---- the numbers
 
@@ -194,19 +222,27 @@ module _ (edits since : ℕ) (items : List ChangeItem) (last : ℕ) where
   pub has_numbers : numbered_end edits since items ≡ Some last → HasNumbers
   has_numbers h = by (end_of items) refl h
     where
-      chosen : (l : ℕ) (b : Bool) → is_numbered edits since l items ≡ b → end_of items ≡ Some l → (if b then Some l else None) ≡ Some last → HasNumbers
-      chosen l true t e k = let same = same_Some l last k in numbers_of (e ∙ ap (λ z. Some z) same) (subst (λ z. is_numbered edits since z items ≡ true) same t)
+      chosen : (l : ℕ) (b : Bool) → is_numbered edits since l items ≡ b → end_of items ≡ Some l
+          → (if b then Some l else None) ≡ Some last → HasNumbers
+      chosen l true t e k =
+          let same = same_Some l last k in
+          numbers_of (e ∙ ap (λ z. Some z) same) (subst (λ z. is_numbered edits since z items ≡ true) same t)
       chosen l false t e k = absurd (none-some last k)
 
-      by : (o : Option ℕ) → end_of items ≡ o → option_and_then (λ l. if is_numbered edits since l items then Some l else None) o ≡ Some last → HasNumbers
+      by : (o : Option ℕ) → end_of items ≡ o
+          → option_and_then (λ l. if is_numbered edits since l items then Some l else None) o ≡ Some last
+          → HasNumbers
       by None e k = absurd (none-some last k)
       by (Some l) e k = chosen l (is_numbered edits since l items) refl e k
 
   pub numbered : HasNumbers → numbered_end edits since items ≡ Some last
   numbered h =
       ap (option_and_then (λ l. if is_numbered edits since l items then Some l else None)) h.ends
-      ∙ ap (λ b. if b then Some last else None) (and_from (nat_le (length items) 101) _ (le-leb (length items) 101 h.few)
-      (and_from (nat_le since last) _ (le-leb since last h.from) (and_from (nat_le last edits) (are_rising last since 0 (rows_of items)) (le-leb last edits h.to) h.rise)))
+      ∙ ap (λ b. if b then Some last else None)
+      (and_from (nat_le (length items) 101) _ (le-leb (length items) 101 h.few)
+      (and_from (nat_le since last) _ (le-leb since last h.from)
+      (and_from (nat_le last edits) (are_rising last since 0 (rows_of items))
+      (le-leb last edits h.to) h.rise)))
 
   pub is_numbered_so : numbered_end edits since items ≡ Some last → IsNumbered edits since items
   is_numbered_so h =
@@ -219,7 +255,9 @@ module _ (edits since : ℕ) (items : List ChangeItem) (last : ℕ) where
 
 -- ---- rows that were current
 
-pub shown_is : (J : List Edit) (row : ChangeRow) → is_shown J row ≡ true → (c : Current) × Contains (current (take row.seen J)) c × (row ≡ row_of (take row.seen J) AllDocs false c)
+pub shown_is : (J : List Edit) (row : ChangeRow) → is_shown J row ≡ true
+    → (c : Current) × Contains (current (take row.seen J)) c
+    × (row ≡ row_of (take row.seen J) AllDocs false c)
 shown_is J row h =
     let K = take row.seen J in
     let a = any_at (same_row row) (all_above K 0) h in
@@ -227,51 +265,72 @@ shown_is J row h =
     let f = filter_in (λ (c : Current). nat_lt 0 c.seq && passes Everything c.id) (current K) m.0 m.1 in
     (m.0, f.0, row_is row a.0 a.2 ∙ sym m.2)
 
-listed_above : (J : List Edit) (since : ℕ) (c : Current) → Contains (current J) c → since < c.seq → Contains (all_above J since) (row_of J AllDocs false c)
+listed_above : (J : List Edit) (since : ℕ) (c : Current) → Contains (current J) c → since < c.seq
+    → Contains (all_above J since) (row_of J AllDocs false c)
 listed_above J since c m up =
     contains_map (row_of J AllDocs false) c (rows_above J since)
-    (in_filter (λ (d : Current). nat_lt since d.seq && passes Everything d.id) (current J) c m (and_from (nat_lt since c.seq) true (lt-ltb since c.seq up) refl))
+    (in_filter (λ (d : Current). nat_lt since d.seq && passes Everything d.id) (current J) c m
+    (and_from (nat_lt since c.seq) true (lt-ltb since c.seq up) refl))
 
-is_shown_from : (J : List Edit) (row : ChangeRow) (c : Current) → Contains (current (take row.seen J)) c → row ≡ row_of (take row.seen J) AllDocs false c → is_shown J row ≡ true
+is_shown_from : (J : List Edit) (row : ChangeRow) (c : Current) → Contains (current (take row.seen J)) c
+    → row ≡ row_of (take row.seen J) AllDocs false c → is_shown J row ≡ true
 is_shown_from J row c m e =
     let K = take row.seen J in
     let w = current_within 1 K c m in
-    at_any (same_row row) (all_above K 0) (row_of K AllDocs false c) (listed_above K 0 c m (let low = w.0 in omega (arith, low)))
+    at_any (same_row row) (all_above K 0) (row_of K AllDocs false c)
+    (listed_above K 0 c m (let low = w.0 in omega (arith, low)))
     (subst (λ z. same_row row z ≡ true) e (row_self row))
 
 -- ---- rows of which none is left out
 
-listed_is : (J : List Edit) (since last : ℕ) (rows : List ChangeRow) → are_listed last rows (all_above J since) ≡ true
-    → (c : Current) → Contains (current J) c → since < c.seq → c.seq ≤ last → Contains (map (λ (row : ChangeRow). row.seq) rows) c.seq
+listed_is : (J : List Edit) (since last : ℕ) (rows : List ChangeRow)
+    → are_listed last rows (all_above J since) ≡ true
+    → (c : Current) → Contains (current J) c → since < c.seq → c.seq ≤ last
+    → Contains (map (λ (row : ChangeRow). row.seq) rows) c.seq
 listed_is J since last rows h c m up low =
-    ⊎_elim (λ (t : nat_lt last c.seq ≡ true). let above = ltb-true last c.seq t in absurd (omega (arith, above, low)))
-    (λ (t : has_sequence rows c.seq ≡ true). let a = any_at (λ (row : ChangeRow). nat_eq row.seq c.seq) rows t in
-    subst (λ z. Contains (map (λ (row : ChangeRow). row.seq) rows) z) (eqb-true a.0.seq c.seq a.2) (contains_map (λ (row : ChangeRow). row.seq) a.0 rows a.1))
-    (or_cases (nat_lt last c.seq) (has_sequence rows c.seq) (at_all (λ (row : ChangeRow). nat_lt last row.seq || has_sequence rows row.seq) (all_above J since) h (row_of J AllDocs false c) (listed_above J since c m up)))
+    ⊎_elim (λ (t : nat_lt last c.seq ≡ true).
+    let above = ltb-true last c.seq t in absurd (omega (arith, above, low)))
+    (λ (t : has_sequence rows c.seq ≡ true).
+    let a = any_at (λ (row : ChangeRow). nat_eq row.seq c.seq) rows t in
+    subst (λ z. Contains (map (λ (row : ChangeRow). row.seq) rows) z) (eqb-true a.0.seq c.seq a.2)
+    (contains_map (λ (row : ChangeRow). row.seq) a.0 rows a.1))
+    (or_cases (nat_lt last c.seq) (has_sequence rows c.seq)
+    (at_all (λ (row : ChangeRow). nat_lt last row.seq || has_sequence rows row.seq) (all_above J since) h
+    (row_of J AllDocs false c) (listed_above J since c m up)))
 
 is_listed_from : (J : List Edit) (since last : ℕ) (rows : List ChangeRow)
-    → ((c : Current) → Contains (current J) c → since < c.seq → c.seq ≤ last → Contains (map (λ (row : ChangeRow). row.seq) rows) c.seq)
+    → ((c : Current) → Contains (current J) c → since < c.seq → c.seq ≤ last
+    → Contains (map (λ (row : ChangeRow). row.seq) rows) c.seq)
     → are_listed last rows (all_above J since) ≡ true
-is_listed_from J since last rows whole = all_at (λ (row : ChangeRow). nat_lt last row.seq || has_sequence rows row.seq) (all_above J since) each
+is_listed_from J since last rows whole =
+    all_at (λ (row : ChangeRow). nat_lt last row.seq || has_sequence rows row.seq) (all_above J since) each
   where
-    each : (row : ChangeRow) → Contains (all_above J since) row → (nat_lt last row.seq || has_sequence rows row.seq) ≡ true
+    each : (row : ChangeRow) → Contains (all_above J since) row
+        → (nat_lt last row.seq || has_sequence rows row.seq) ≡ true
     each row m =
         let q = map_contains (row_of J AllDocs false) (rows_above J since) row m in
         let c = q.0 in
         let f = filter_in (λ (d : Current). nat_lt since d.seq && passes Everything d.id) (current J) c q.1 in
         let up = ltb-true since c.seq (and_parts (nat_lt since c.seq) true f.1).0 in
         subst (λ (z : ChangeRow). (nat_lt last z.seq || has_sequence rows z.seq) ≡ true) q.2
-        (⊎_elim (λ (over : last < c.seq). or_left (nat_lt last c.seq) (has_sequence rows c.seq) (lt-ltb last c.seq over))
-        (λ (low : c.seq ≤ last). or_right (nat_lt last c.seq) (has_sequence rows c.seq) (among c.seq (whole c f.0 up low)))
+        (⊎_elim (λ (over : last < c.seq).
+        or_left (nat_lt last c.seq) (has_sequence rows c.seq) (lt-ltb last c.seq over))
+        (λ (low : c.seq ≤ last).
+        or_right (nat_lt last c.seq) (has_sequence rows c.seq) (among c.seq (whole c f.0 up low)))
         (cases_lt last c.seq))
       where
         among : (n : ℕ) → Contains (map (λ (row : ChangeRow). row.seq) rows) n → has_sequence rows n ≡ true
-        among n k = let p = map_contains (λ (row : ChangeRow). row.seq) rows n k in at_any (λ (row : ChangeRow). nat_eq row.seq n) rows p.0 p.1 (eq-eqb p.0.seq n p.2)
+        among n k =
+            let p = map_contains (λ (row : ChangeRow). row.seq) rows n k in
+            at_any (λ (row : ChangeRow). nat_eq row.seq n) rows p.0 p.1 (eq-eqb p.0.seq n p.2)
 
 -- ---- the answer
 
 module _ (J : List Edit) (since : ℕ) (items : List ChangeItem) where
-  pub decided : (last : ℕ) → numbered_end (length J) since items ≡ Some last → list_all (is_shown J) (rows_of items) ≡ true → are_listed last (rows_of items) (all_above J since) ≡ true → IsChangesAnswer J since items (rows_of items) last
+  pub decided : (last : ℕ)
+      → numbered_end (length J) since items ≡ Some last → list_all (is_shown J) (rows_of items) ≡ true
+      → are_listed last (rows_of items) (all_above J since) ≡ true
+      → IsChangesAnswer J since items (rows_of items) last
   decided last numbers shown listed =
       let n = has_numbers (length J) since items last numbers in
       let rows = rows_of items in
@@ -283,12 +342,16 @@ module _ (J : List Edit) (since : ℕ) (items : List ChangeItem) where
         s.1,
         record {
           rising = rise.0;
-          rows = λ k d l. let row = get_or rows k d in let m = Contains-get_or rows k d l in let c = shown_is J row (at_all (is_shown J) rows shown row m) in let a = rise.1 k d l in record {
-            shown = (c.0, c.1, c.2, refl);
-            above = a.0;
-            reached = a.1;
-            bounded = a.1;
-          };
+          rows = λ k d l.
+              let row = get_or rows k d in
+              let m = Contains-get_or rows k d l in
+              let c = shown_is J row (at_all (is_shown J) rows shown row m) in
+              let a = rise.1 k d l in record {
+                shown = (c.0, c.1, c.2, refl);
+                above = a.0;
+                reached = a.1;
+                bounded = a.1;
+              };
           from_since = n.from;
           to_length = n.to;
           ends = subst (λ z. EndsAt last z) (sym s.1) (ends_of rows last s.0);
@@ -316,30 +379,46 @@ module _ (J : List Edit) (since : ℕ) (items : List ChangeItem) where
           few = omega (arith, len, few, many);
           from = right.from_since;
           to = right.to_length;
-          rise = is_rising last since 0 (rows_of items) right.rising (λ k d l. let r = all k d l in (r.above, r.reached, omega arith));
+          rise =
+              is_rising last since 0 (rows_of items) right.rising
+              (λ k d l. let r = all k d l in (r.above, r.reached, omega arith));
         });
-        shown = all_at (is_shown J) (rows_of items) (λ row m. let r = All-contains (IsRowOf change_rows J (ended_feed since last (length rows))) (rows_of items) row all m in let (c, now, e, p) = r.shown in is_shown_from J row c now e);
+        shown = all_at (is_shown J) (rows_of items) (λ row m.
+            let r =
+            All-contains (IsRowOf change_rows J (ended_feed since last (length rows)))
+            (rows_of items) row all m in
+            let (c, now, e, p) = r.shown in is_shown_from J row c now e);
         listed = is_listed_from J since last (rows_of items) (λ c now up low. right.whole c now refl up low);
       }
 
   -- where a test fails there is none
-  pub not_numbered : None ≡ numbered_end (length J) since items → (rows : List ChangeRow) (last : ℕ) → ¬ IsChangesAnswer J since items rows last
+  pub not_numbered : None ≡ numbered_end (length J) since items → (rows : List ChangeRow) (last : ℕ)
+      → ¬ IsChangesAnswer J since items rows last
   not_numbered h rows last a = none-some last (h ∙ (answered rows last a).numbers)
 
-  pub not_shown : list_all (is_shown J) (rows_of items) ≡ false → (rows : List ChangeRow) (last : ℕ) → ¬ IsChangesAnswer J since items rows last
+  pub not_shown : list_all (is_shown J) (rows_of items) ≡ false → (rows : List ChangeRow) (last : ℕ)
+      → ¬ IsChangesAnswer J since items rows last
   not_shown h rows last a = both_ways _ h (answered rows last a).shown
 
-  pub not_listed : (end : ℕ) → numbered_end (length J) since items ≡ Some end → are_listed end (rows_of items) (all_above J since) ≡ false → (rows : List ChangeRow) (last : ℕ) → ¬ IsChangesAnswer J since items rows last
+  pub not_listed : (end : ℕ) → numbered_end (length J) since items ≡ Some end
+      → are_listed end (rows_of items) (all_above J since) ≡ false → (rows : List ChangeRow) (last : ℕ)
+      → ¬ IsChangesAnswer J since items rows last
   not_listed end n h rows last a =
       let d = answered rows last a in
-      both_ways _ h (subst (λ z. are_listed z (rows_of items) (all_above J since) ≡ true) (same_Some last end (sym d.numbers ∙ n)) d.listed)
+      both_ways _ h
+      (subst (λ z. are_listed z (rows_of items) (all_above J since) ≡ true)
+      (same_Some last end (sym d.numbers ∙ n)) d.listed)
 
-  pub end_decides : (end : Option ℕ) → IfSome end (λ last. IsChangesAnswer J since items (rows_of items) last) → (end ≡ None → (rows : List ChangeRow) (last : ℕ) → ¬ IsChangesAnswer J since items rows last)
-      → IsTrue (is_some end) ↔ ((rows : List ChangeRow) × (last : ℕ) × IsChangesAnswer J since items rows last)
+  pub end_decides : (end : Option ℕ) → IfSome end (λ last. IsChangesAnswer J since items (rows_of items) last)
+      → (end ≡ None → (rows : List ChangeRow) (last : ℕ) → ¬ IsChangesAnswer J since items rows last)
+      → IsTrue (is_some end)
+      ↔ ((rows : List ChangeRow) × (last : ℕ) × IsChangesAnswer J since items rows last)
   end_decides None right wrong = (λ (h : false ≡ true). absurd (cc), λ p. absurd (wrong refl p.0 p.1 p.2))
   end_decides (Some last) right wrong = (λ h. (rows_of items, last, right), λ p. refl)
 
   -- memory may run out once the numbers are those of an answer
-  pub licensed : {A E : Type 0} (r : Result A E) (last : ℕ) → 0 < length J → numbered_end (length J) since items ≡ Some last → OnErr r ((0 < length J) × IsNumbered (length J) since items)
+  pub licensed : {A E : Type 0} (r : Result A E) (last : ℕ)
+      → 0 < length J → numbered_end (length J) since items ≡ Some last
+      → OnErr r ((0 < length J) × IsNumbered (length J) since items)
   licensed (Ok x) last some h = tt
   licensed (Err e) last some h = (some, is_numbered_so (length J) since items last h)

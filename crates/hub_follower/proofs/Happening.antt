@@ -1,5 +1,6 @@
 -- What may happen to two databases and a follower, step by step.
-use Rattle.std.proofs.Common.{◌≡◌, ◌∙◌, ℕ, ◌≤◌, List, [], ◌∷◌, ◌++◌, refl, sym, ap, subst, inr, ⊎_elim, Contains, true, false, Option, Some, None, option_map}
+use Rattle.std.proofs.Common.{◌≡◌, ◌∙◌, ℕ, ◌≤◌, List, [], ◌∷◌, ◌++◌, refl, sym, ap, subst, inr}
+use Rattle.std.proofs.Common.{⊎_elim, Contains, true, false, Option, Some, None, option_map}
 use Rattle.std.proofs.lemmas.Map.Views.{Contains-from_any}
 use Rattle.std.proofs.lemmas.Slice.Eq.{bytes_eq-Decides}
 use Rattle.std.specs.List.{list_any}
@@ -16,16 +17,21 @@ use Rattle.hub_follower.specs.Worlds.{IsWithinNext, HasPlace, HasAnswered}
 use Rattle.hub_follower.specs.declared.call.Answer.{Answer}
 
 -- one event more
-pub run_more : (events : List world.Event) (e : world.Event) (w mid new : world.World) → world.Run w events mid → world.Step mid e new → world.Run w (events ++ e ∷ []) new
+pub run_more : (events : List world.Event) (e : world.Event) (w mid new : world.World)
+    → world.Run w events mid → world.Step mid e new → world.Run w (events ++ e ∷ []) new
 run_more [] e w mid new r s = (new, subst (λ (z : world.World). world.Step z e new) r s, refl)
 run_more (x ∷ events) e w mid new (m, step, rest) s = (m, step, run_more events e m mid new rest s)
 
 -- behind every run the place is a sequence that the source has
-pub place_within : (limit : ℕ) (events : List world.Event) (w : world.World) → world.Run (world.empty_world limit) events w → HasPlace w
-place_within limit events w r c e = claimed_within limit events w r c.n (inr (inr (ap (option_map (λ (place : Seq). place.n)) e)))
+pub place_within : (limit : ℕ) (events : List world.Event) (w : world.World)
+    → world.Run (world.empty_world limit) events w → HasPlace w
+place_within limit events w r c e =
+    claimed_within limit events w r c.n (inr (inr (ap (option_map (λ (place : Seq). place.n)) e)))
 
 -- so changes are asked for within
-pub within_next : (follower : follow.Follower) (len : ℕ) → ((c : Seq) → world.place_of follower ≡ Some c → c.n ≤ len) → IsWithinNext len (follow.next_call follower)
+pub within_next : (follower : follow.Follower) (len : ℕ)
+    → ((c : Seq) → world.place_of follower ≡ Some c → c.n ≤ len)
+    → IsWithinNext len (follow.next_call follower)
 within_next follow.Down len h = tt
 within_next (follow.SourceStart session_id) len h = tt
 within_next (follow.TargetStart session_id source) len h = tt
@@ -38,7 +44,8 @@ within_next (follow.Busy s follow.SourceCheckpoint) len h = tt
 within_next (follow.Busy s follow.TargetCheckpoint) len h = tt
 
 -- an answer to the next call is one that the follower takes
-pub answered_fits : (w mid : world.World) (next : Option follow.Call) (a : Answer) → HasAnswered w next (Some a) mid → follow.IsAnswerToNext next (answer_of a) × AnswerHasPaths a
+pub answered_fits : (w mid : world.World) (next : Option follow.Call) (a : Answer)
+    → HasAnswered w next (Some a) mid → follow.IsAnswerToNext next (answer_of a) × AnswerHasPaths a
 answered_fits w mid None a h = absurd h
 answered_fits w mid (Some call) a h = (answers_fit w mid call (answer_of a) h.0, h.1)
 
@@ -50,12 +57,16 @@ any_in q xs h = Contains-from_any (λ x y. (bytes_eq-Decides x y).0) q xs h
 in_any : (q : List ℕ) (xs : List (List ℕ)) → Contains xs q → list_any (bytes_eq q) xs ≡ true
 in_any q [] h = absurd (contains_none q h)
 in_any q (x ∷ xs) h =
-    ⊎_elim (λ (e : x ≡ q). or_left (bytes_eq q x) (list_any (bytes_eq q) xs) ((bytes_eq-Decides q x).1 (sym e)))
+    ⊎_elim (λ (e : x ≡ q).
+    or_left (bytes_eq q x) (list_any (bytes_eq q) xs) ((bytes_eq-Decides q x).1 (sym e)))
     (λ m. or_right (bytes_eq q x) (list_any (bytes_eq q) xs) (in_any q xs m)) (contains_cases x q xs h)
 
 -- a session begins where no call is due and none had its id
-pub free_for : (w : world.World) (id : List ℕ) → world.is_free w.follower ≡ true → list_any (bytes_eq id) w.sessions ≡ false → world.IsFreeFor w id
-free_for w id f u = (f, λ h. let e = in_any id w.sessions h in let k : true ≡ false = sym e ∙ u in absurd (cc))
+pub free_for : (w : world.World) (id : List ℕ) → world.is_free w.follower ≡ true
+    → list_any (bytes_eq id) w.sessions ≡ false → world.IsFreeFor w id
+free_for w id f u =
+    (f, λ h. let e = in_any id w.sessions h in let k : true ≡ false = sym e ∙ u in absurd (cc))
 
-pub used_before : (w : world.World) (id : List ℕ) → list_any (bytes_eq id) w.sessions ≡ true → ¬ world.IsFreeFor w id
+pub used_before : (w : world.World) (id : List ℕ) → list_any (bytes_eq id) w.sessions ≡ true
+    → ¬ world.IsFreeFor w id
 used_before w id u (free, new) = new (any_in id w.sessions u)

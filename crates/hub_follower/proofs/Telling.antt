@@ -1,5 +1,6 @@
 -- How a fault goes on to be told.
-use Rattle.std.proofs.Common.{◌≡◌, ◌∙◌, ◌≤◌, ◌<◌, ◌⊎◌, inl, inr, ⊎_elim, arith, ℕ, List, ap, sym, refl, subst, Option, Some, Result, Ok, Err}
+use Rattle.std.proofs.Common.{◌≡◌, ◌∙◌, ◌≤◌, ◌<◌, ◌⊎◌, inl, inr, ⊎_elim, arith, ℕ, List}
+use Rattle.std.proofs.Common.{ap, sym, refl, subst, Option, Some, Result, Ok, Err}
 use Rattle.hub_model.specs.Journal.{Edit}
 use Rattle.hub_model.specs.Missing.{Asked}
 use Rattle.std.specs.Prelude.{IfErr}
@@ -7,14 +8,17 @@ use Rattle.hub_follow_model.specs.Follower as follow
 use Rattle.hub_follow_model.proofs.Fitting.{fitting_is_taken}
 use Rattle.hub_follower.specs.declared.fault.FollowFault.{FollowFault}
 use Rattle.hub_follower.specs.declared.fault.FollowFault.TheVariants.{NoMemory, BadLogId, Peer, Refused, Lost}
-use Rattle.hub_follower.specs.Peers.{IsOwnFault, IsCountedOf, IsCountedOfBoth, IsCountedFault, IsCallFault, Rose}
+use Rattle.hub_follower.specs.Peers.{IsOwnFault, IsCountedOf, IsCountedOfBoth}
+use Rattle.hub_follower.specs.Peers.{IsCountedFault, IsCallFault, Rose}
 use Rattle.hub_follower.specs.declared.peer.CallFault.{CallFault}
 use Rattle.hub_follower.specs.declared.peer.CallFault.TheVariants as call_fault
 use Rattle.hub_follower.specs.Views.{IsFaultOf}
 
 -- an answer to the call that was made is no peer's fault
-pub own_fault : {A : Type 0} (r : Result A FollowFault) (P : FollowFault → Type 0) (follower : follow.Follower) (answer : follow.Answer)
-    → follow.IsAnswerToNext (follow.next_call follower) answer → IfErr r (λ e. P e × IsFaultOf e (follow.answer_result follower answer)) → IfErr r IsOwnFault
+pub own_fault : {A : Type 0} (r : Result A FollowFault) (P : FollowFault → Type 0)
+    (follower : follow.Follower) (answer : follow.Answer)
+    → follow.IsAnswerToNext (follow.next_call follower) answer
+    → IfErr r (λ e. P e × IsFaultOf e (follow.answer_result follower answer)) → IfErr r IsOwnFault
 own_fault (Ok x) P follower answer f t = tt
 own_fault (Err NoMemory) P follower answer f t = tt
 own_fault (Err BadLogId) P follower answer f (p, t) = t

@@ -1,5 +1,6 @@
 -- How it is decided whether items are an answer to a follower that asks for changes (own).
-use Rattle.std.specs.Prelude.{◌≡◌, ◌≤◌, ℕ, List, [], ◌∷◌, length, take, AllPairs, Bool, true, false, ◌&&◌, ◌||◌, nat_eq, nat_le, nat_lt}
+use Rattle.std.specs.Prelude.{◌≡◌, ◌≤◌, ℕ, List, [], ◌∷◌, length, take, AllPairs}
+use Rattle.std.specs.Prelude.{Bool, true, false, ◌&&◌, ◌||◌, nat_eq, nat_le, nat_lt}
 use Rattle.std.specs.Prelude.{Option, Some, None, option_and_then, if◌then◌else◌}
 use Rattle.std.specs.List.{list_all, list_any}
 use Rattle.std.specs.Str.{bytes_eq}
@@ -12,8 +13,9 @@ use Rattle.hub_model.specs.RowKind.{change_rows}
 use Rattle.hub_follow_model.specs.ChangesFeed.{items_of}
 use Rattle.hub_follower.specs.Listing.{all_above}
 
--- The items have the shape of an answer of a database of so many edits: rows, at most 100, and then their end;
--- the rows rise, each made no earlier than those before it, and the end lies between `since` and the last edit.
+-- The items have the shape of an answer of a database of so many edits: rows, at most 100, and then
+-- their end; the rows rise, each made no earlier than those before it, and the end lies between
+-- `since` and the last edit.
 abbrev pub IsNumbered : (edits since : ℕ) → List ChangeItem → Type 0
 IsNumbered edits since items =
     (rows : List ChangeRow) × (last : ℕ) × (pending : ℕ) × (items ≡ items_of rows last pending)

@@ -1,5 +1,6 @@
 -- The changes of a journal above a sequence, in one list (own).
-use Rattle.std.specs.Prelude.{◌≡◌, ◌≤◌, ◌<◌, ℕ, List, length, map, take, filter, get_or, nat_lt, ◌&&◌, false, None}
+use Rattle.std.specs.Prelude.{◌≡◌, ◌≤◌, ◌<◌, ℕ, List, length, map, take}
+use Rattle.std.specs.Prelude.{filter, get_or, nat_lt, ◌&&◌, false, None}
 use Rattle.hub_model.specs.Current.{Current, current}
 use Rattle.hub_model.specs.Feed.{Params}
 use Rattle.hub_model.specs.Filter.{passes, Everything}

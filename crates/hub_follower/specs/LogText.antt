@@ -58,7 +58,8 @@ short_history history = if nat_le (length history) 50 then Some history else Non
 
 abbrev pub history_in : Data → Option (List HistoryEntry)
 history_in d =
-    option_and_then short_history (option_and_then entries_in (option_and_then as_array (get (codes "history") d)))
+    option_and_then short_history
+    (option_and_then entries_in (option_and_then as_array (get (codes "history") d)))
 
 -- the log of this version: 3 alone is known
 abbrev pub log_of_version : Data → ℕ → Option ReplicationLog

@@ -57,7 +57,8 @@ abbrev pub HasAnswered : world.World → Option follow.Call → Option Answer �
 HasAnswered w None None new = new ≡ w
 HasAnswered w None (Some answer) new = ⊥
 HasAnswered w (Some call) None new = ⊥
-HasAnswered w (Some call) (Some answer) new = world.IsAnswered w call (answer_of answer) new × AnswerHasPaths answer
+HasAnswered w (Some call) (Some answer) new =
+    world.IsAnswered w call (answer_of answer) new × AnswerHasPaths answer
 
 -- the sequence above which changes are asked for next, where they are
 abbrev pub changes_asked : Option follow.Call → Option Seq

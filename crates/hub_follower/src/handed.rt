@@ -1,11 +1,13 @@
 //! Whether items are an answer to a follower that asks for changes.
 
-ghost use Rattle.std.specs.Prelude.{◌≡◌, ◌≤◌, ◌<◌, ◌&&◌, ◌↔◌, ℕ, List, [], length, nat_le, nat_lt, None, IfOk, IfSome, OnOk, OnErr, IsTrue};
+ghost use Rattle.std.specs.Prelude.{◌≡◌, ◌≤◌, ◌<◌, ◌&&◌, ◌↔◌, ℕ, List, [], length, nat_le};
+ghost use Rattle.std.specs.Prelude.{nat_lt, None, IfOk, IfSome, OnOk, OnErr, IsTrue};
 ghost use Rattle.std.specs.List.{list_all, list_any};
 ghost use Rattle.hub_model.specs.RightlyHanded.{rows_of};
 ghost use Rattle.hub_model.specs.Row.{ChangeRow as Row};
 ghost use Rattle.hub_follow_model.specs.ChangesFeed.{IsChangesAnswer};
-ghost use Rattle.hub_follower.specs.Handed.{are_listed, are_rising, end_of, has_sequence, is_after, is_shown, numbered_end, IsNumbered};
+ghost use Rattle.hub_follower.specs.Handed.{are_listed, are_rising, end_of, has_sequence};
+ghost use Rattle.hub_follower.specs.Handed.{is_after, is_shown, numbered_end, IsNumbered};
 ghost use Rattle.hub_follower.specs.Rebuilt.{IsRebuilt};
 ghost use Rattle.hub_follower.specs.Worlds.{IsAnswerOf};
 
@@ -146,8 +148,8 @@ fn are_listed(rows: &[ChangeRow], last: u64, items: &[Item<ChangeRow>]) -> bool
     true
 }
 
-// The sequence that these items end at, where they are an answer to a follower that asks for the changes above
-// `since`.
+// The sequence that these items end at, where they are an answer to a follower that asks for the
+// changes above `since`.
 fn answer_end(
     alloc: Global,
     db: &DbState,
@@ -177,11 +179,11 @@ fn answer_end(
     Ok(None)
 }
 
-/// Whether these items are an answer to a follower that asks for the changes above `since`: all that a normal
-/// feed of every leaf, with a limit of 100, may have handed by now, its end included. How many rows are pending
-/// is not looked at. Of a deleted database it is the journal that it had which decides. It costs the storing of
-/// each edit in a copy, and for each row a list of all current rows: it is meant for tests and for
-/// `FollowWorld`, not for serving.
+/// Whether these items are an answer to a follower that asks for the changes above `since`: all
+/// that a normal feed of every leaf, with a limit of 100, may have handed by now, its end included.
+/// How many rows are pending is not looked at. Of a deleted database it is the journal that it had
+/// which decides. It costs the storing of each edit in a copy, and for each row a list of all
+/// current rows: it is meant for tests and for `FollowWorld`, not for serving.
 pub fn rightly_handed(
     alloc: Global,
     db: &DbState,

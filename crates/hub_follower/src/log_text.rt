@@ -2,7 +2,8 @@
 
 ghost use Rattle.std.specs.Prelude.{◌≡◌, ◌⊎◌, ◌++◌, ◌≤◌, length, Some, None, option_map, decimal, IfOk, OnOk};
 ghost use Rattle.serde_json.specs.View.{view, items_view};
-ghost use Rattle.hub_follower.specs.LogText.{entry_in, entries_in, history_in, log_of, log_in, seq_at, seq_text, seq_value};
+ghost use Rattle.hub_follower.specs.LogText.{entry_in, entries_in, history_in, log_of};
+ghost use Rattle.hub_follower.specs.LogText.{log_in, seq_at, seq_text, seq_value};
 ghost use Rattle.hub_follower.specs.LogText.{entry_text, later_entries_text, entries_text, log_text};
 
 use crate::log::{HistoryEntry, Log};

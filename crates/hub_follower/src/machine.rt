@@ -6,7 +6,8 @@ ghost use Rattle.hub_follow_model.specs.World as world;
 ghost use Rattle.hub_database.specs.Edits.{edit_of};
 ghost use Rattle.hub_follower.specs.Peers.{calls_left, IsOwnFault};
 ghost use Rattle.hub_follower.specs.Views.{answer_of, call_of, follower_of, phase_of, follower_behind};
-ghost use Rattle.hub_follower.specs.Views.{StateHasPaths, PhaseHasPaths, NextHasPaths, HasPath, AnswerHasPaths};
+ghost use Rattle.hub_follower.specs.Views.{StateHasPaths, PhaseHasPaths};
+ghost use Rattle.hub_follower.specs.Views.{NextHasPaths, HasPath, AnswerHasPaths};
 ghost use Rattle.hub_follower.specs.Views.{IsFaultOf};
 
 use crate::call::{Answer, Call};
@@ -93,8 +94,8 @@ fn missing(
         follow.phase_result session.now (follow.Comparison asked.items last) (answer_of answer)
         ≡ Ok (follower_behind session.now goes)) }
     ensures paths { IfOk result NextHasPaths }
-    ensures err { IfErr result (λ e.
-        IsFaultOf e (follow.phase_result session.now (follow.Comparison asked.items last) (answer_of answer))) }
+    ensures err { IfErr result (λ e. IsFaultOf e
+        (follow.phase_result session.now (follow.Comparison asked.items last) (answer_of answer))) }
 {
     match answer {
         Answer::RevsDiff(diffs) => Ok(phase::first_retrieval(alloc, diffs, last)?),
@@ -397,8 +398,8 @@ impl FollowCore {
     }
 
     /// Takes the answer to the owed call, which fits it. `Refused` comes only of an answer that
-    /// refuses that document, `Lost` only of one that misses that revision, and no other but `NoMemory`. After
-    /// an error the phase is dropped, and the place stays.
+    /// refuses that document, `Lost` only of one that misses that revision, and no other but
+    /// `NoMemory`. After an error the phase is dropped, and the place stays.
     pub fn accept(&mut self, alloc: Global, answer: Answer) -> Result<(), FollowFault>
         requires fits { follow.IsAnswerToNext (follow.next_call self.old) (answer_of answer) }
         requires brings { AnswerHasPaths answer }

@@ -114,8 +114,8 @@ impl Pair {
     // What the target misses.
     fn missing(&self, asked: &[Asked]) -> Result<Answer, AllocError>
         ensures answered { IfOk result (λ answer. (sessions : List (List ℕ)) (follower : follow.Follower)
-            → world.IsAnswered (world_of self.now sessions follower) (follow.RevsDiff asked.now) (answer_of answer)
-            (world_of self.now sessions follower)) }
+            → world.IsAnswered (world_of self.now sessions follower) (follow.RevsDiff asked.now)
+            (answer_of answer) (world_of self.now sessions follower)) }
         ensures paths { IfOk result AnswerHasPaths }
     {
         match serving::missing(self.alloc, &self.target, asked) {

@@ -115,7 +115,8 @@ pub trait Peer {
     fn local_get(&mut self, log_id: &str) -> Result<Option<Log>, CallFault>
         ensures ok { IfOk result (λ log. (side : follow.Side)
             → gives self.old (follow.LocalGet side) (follow.LogAnswer log) self.new) }
-        ensures lost { IfErr result (λ _. (side : follow.Side) → loses self.old (follow.LocalGet side) self.new) }
+        ensures lost { IfErr result
+            (λ _. (side : follow.Side) → loses self.old (follow.LocalGet side) self.new) }
         ensures fault { IfErr result (λ e. IsCountedFault e (fault_count self.old) (fault_count self.new)) }
         ensures counts { fault_count self.old ≤ fault_count self.new };
 

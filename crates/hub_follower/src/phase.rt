@@ -1,10 +1,12 @@
 //! What a round or a checkpoint is at.
 
-ghost use Rattle.std.specs.Prelude.{◌≡◌, ◌++◌, ℕ, List, [], length, map, Ok, Err, IfOk, IfErr, IfSome, IfNone, Some, None, All};
+ghost use Rattle.std.specs.Prelude.{◌≡◌, ◌++◌, ℕ, List, [], length, map, Ok, Err};
+ghost use Rattle.std.specs.Prelude.{IfOk, IfErr, IfSome, IfNone, Some, None, All};
 ghost use Rattle.hub_follow_model.specs.Follower as follow;
 ghost use Rattle.hub_model.specs.Journal.{Edit};
 ghost use Rattle.hub_database.specs.Edits.{edit_of};
-ghost use Rattle.hub_follower.specs.Views.{follower_behind, found_edit, IsFaultOf, HasPath, FoundHasPath, NextHasPaths};
+ghost use Rattle.hub_follower.specs.Views.{follower_behind, found_edit, IsFaultOf};
+ghost use Rattle.hub_follower.specs.Views.{HasPath, FoundHasPath, NextHasPaths};
 
 use crate::fault::FollowFault;
 use hub_database::{Diff, OpenRev};
@@ -63,7 +65,8 @@ pub(crate) fn comparison_or_ready(
 ) -> Result<Next, AllocError>
     ensures paths { IfOk result NextHasPaths }
     ensures value { IfOk result (λ goes. (s : follow.Session)
-        → follower_behind s goes ≡ follow.comparison_or_ready s (map follow.revisions_of_row rows.items) last) }
+        → follower_behind s goes
+        ≡ follow.comparison_or_ready s (map follow.revisions_of_row rows.items) last) }
 {
     let asked = revisions_of_rows(alloc, rows)?;
     if asked.is_empty() {

@@ -242,7 +242,8 @@ impl FollowWorld {
     /// document has at the target the source's known revisions, leaves, winner, marks and bodies; where
     /// that is the source's last sequence, every document has.
     pub fn run(alloc: Global, events: Vec<FollowEvent>) -> Result<FollowWorld, AllocError>
-        ensures run { IfOk result (λ w. world.Run (world.empty_world 4294967295) (map event_of events.items) w) }
+        ensures run { IfOk result
+            (λ w. world.Run (world.empty_world 4294967295) (map event_of events.items) w) }
         ensures faithful { IfOk result IsFaithful }
     {
         let mut world = FollowWorld::new(alloc);

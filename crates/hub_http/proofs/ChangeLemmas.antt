@@ -1,5 +1,6 @@
 -- The texts of rows of changes.
-use Rattle.std.proofs.Common.{◌≡◌, ℕ, ◌≤◌, List, [], ◌∷◌, ◌++◌, length, map, take, take_all, sym, ap, ◌∙◌, arith, append_assoc, append-nil, codes}
+use Rattle.std.proofs.Common.{◌≡◌, ℕ, ◌≤◌, List, [], ◌∷◌, ◌++◌, length, map, take, take_all}
+use Rattle.std.proofs.Common.{sym, ap, ◌∙◌, arith, append_assoc, append-nil, codes}
 use Rattle.std.specs.List.{flat_map, join_with_byte}
 use Rattle.hub_model.specs.Revision.{Revision}
 use Rattle.json.specs.Print.{escape, quoted}
@@ -7,15 +8,18 @@ use Rattle.hub_document.proofs.WriteLemmas.{three_parts}
 use Rattle.hub_http.specs.ChangeTexts.{revision_text, revisions_text}
 
 -- the later ones have a comma before each
-joined : (p : List ℕ) (rs : List Revision) → join_with_byte 44 (p ∷ map revision_text rs) ≡ p ++ flat_map (λ r. 44 ∷ revision_text r) rs
+joined : (p : List ℕ) (rs : List Revision)
+    → join_with_byte 44 (p ∷ map revision_text rs) ≡ p ++ flat_map (λ r. 44 ∷ revision_text r) rs
 joined p [] = sym (append-nil p)
 joined p (r ∷ rs) = ap (λ l. p ++ 44 ∷ l) (joined (revision_text r) rs)
 
-all_revisions : (r : Revision) (rs : List Revision) → revisions_text (r ∷ rs) ≡ revision_text r ++ flat_map (λ s. 44 ∷ revision_text s) rs
+all_revisions : (r : Revision) (rs : List Revision)
+    → revisions_text (r ∷ rs) ≡ revision_text r ++ flat_map (λ s. 44 ∷ revision_text s) rs
 unfolding revisions_text
 all_revisions r rs = joined (revision_text r) rs
 
-pub one_revision : (held new : List ℕ) (all : List Revision) (r : Revision) → r ∷ [] ≡ all → new ≡ held ++ revision_text r → new ≡ held ++ revisions_text all
+pub one_revision : (held new : List ℕ) (all : List Revision) (r : Revision) → r ∷ [] ≡ all
+    → new ≡ held ++ revision_text r → new ≡ held ++ revisions_text all
 unfolding revisions_text
 one_revision held new all r is written = written ∙ ap (λ l. held ++ revisions_text l) is
 
@@ -25,15 +29,21 @@ no_revisions held [] e = sym (append-nil held)
 no_revisions held (r ∷ rs) e = absurd (omega (arith, e))
 
 -- the first one, and then all the others
-pub revisions_written : (held mid new : List ℕ) (r : Revision) (rs all : List Revision) (i : ℕ) → all ≡ r ∷ rs → mid ≡ held ++ revision_text r
-    → new ≡ mid ++ flat_map (λ s. 44 ∷ revision_text s) (take i rs) → length rs ≤ i → new ≡ held ++ revisions_text all
+pub revisions_written : (held mid new : List ℕ) (r : Revision) (rs all : List Revision) (i : ℕ) → all ≡ r ∷ rs
+    → mid ≡ held ++ revision_text r
+    → new ≡ mid ++ flat_map (λ s. 44 ∷ revision_text s) (take i rs) → length rs ≤ i
+    → new ≡ held ++ revisions_text all
 revisions_written held mid new r rs all i e first later end =
-    later ∙ ap (λ l. mid ++ flat_map (λ s. 44 ∷ revision_text s) l) (take_all i rs end) ∙ ap (λ l. l ++ flat_map (λ s. 44 ∷ revision_text s) rs) first
-    ∙ append_assoc held (revision_text r) (flat_map (λ s. 44 ∷ revision_text s) rs) ∙ ap (λ l. held ++ l) (sym (ap revisions_text e ∙ all_revisions r rs))
+    later
+    ∙ ap (λ l. mid ++ flat_map (λ s. 44 ∷ revision_text s) l) (take_all i rs end)
+    ∙ ap (λ l. l ++ flat_map (λ s. 44 ∷ revision_text s) rs) first
+    ∙ append_assoc held (revision_text r) (flat_map (λ s. 44 ∷ revision_text s) rs)
+    ∙ ap (λ l. held ++ l) (sym (ap revisions_text e ∙ all_revisions r rs))
 
 -- an id that needs no escape: its quotes go with what stands round them
 pub plain_id : (held id : List ℕ) → escape id ≡ id
-    → ((held ++ codes ",\"id\":\"") ++ id) ++ codes "\",\"changes\":[" ≡ held ++ (codes ",\"id\":" ++ (quoted id ++ codes ",\"changes\":["))
+    → ((held ++ codes ",\"id\":\"") ++ id) ++ codes "\",\"changes\":["
+    ≡ held ++ (codes ",\"id\":" ++ (quoted id ++ codes ",\"changes\":["))
 plain_id held id e =
     three_parts held (codes ",\"id\":\"") id (codes "\",\"changes\":[")
     ∙ ap (λ l. held ++ (codes ",\"id\":\"" ++ l)) (sym (append_assoc id (34 ∷ []) (codes ",\"changes\":[")))

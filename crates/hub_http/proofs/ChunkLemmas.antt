@@ -1,5 +1,7 @@
 -- The head of a chunk, written from its end.
-use Rattle.std.proofs.Common.{◌≡◌, ℕ, zero, suc, ◌+◌, ◌-◌, ◌*◌, ◌/◌, ◌%◌, ◌^◌, ◌<◌, ◌≤◌, ◌==◌, Bool, true, false, cond, List, [], ◌∷◌, ◌++◌, length, take, drop, refl, sym, ap, subst, ◌∙◌, arith}
+use Rattle.std.proofs.Common.{◌≡◌, ℕ, zero, suc, ◌+◌, ◌-◌, ◌*◌, ◌/◌, ◌%◌, ◌^◌, ◌<◌}
+use Rattle.std.proofs.Common.{◌≤◌, ◌==◌, Bool, true, false, cond, List, [], ◌∷◌, ◌++◌}
+use Rattle.std.proofs.Common.{length, take, drop, refl, sym, ap, subst, ◌∙◌, arith}
 use Rattle.std.proofs.lemmas.Bool.Decides.{nat_tests}
 use Rattle.std.proofs.lemmas.List.{drop-set, drop-append-le, length-drop, length-set}
 use Rattle.std.proofs.Math.ListN.{set}
@@ -11,7 +13,8 @@ use Rattle.hub_http.specs.Texts.{chunk_text}
 use Rattle.hub_http.specs.Chunks.{text_chunks}
 
 -- what follows the digits
-onto_more : (k n : ℕ) (acc more : List ℕ) → digits_onto k 16 false n (acc ++ more) ≡ digits_onto k 16 false n acc ++ more
+onto_more : (k n : ℕ) (acc more : List ℕ)
+    → digits_onto k 16 false n (acc ++ more) ≡ digits_onto k 16 false n acc ++ more
 onto_more zero n acc more = refl
 onto_more (suc k) n acc more =
     by_test (n / 16 == 0) _ _ _ more (onto_more k (n / 16) (digit_glyph false (n % 16) ∷ acc) more)
@@ -25,16 +28,19 @@ pub none_written : (n : ℕ) (rest : List ℕ) → digits_onto 64 16 false n res
 unfolding digits
 none_written n rest = onto_more 64 n [] rest
 
-one_more : (k n : ℕ) (acc : List ℕ) → 16 ≤ n → digits_onto (suc k) 16 false n acc ≡ digits_onto k 16 false (n / 16) (digit_glyph false (n % 16) ∷ acc)
+one_more : (k n : ℕ) (acc : List ℕ) → 16 ≤ n
+    → digits_onto (suc k) 16 false n acc ≡ digits_onto k 16 false (n / 16) (digit_glyph false (n % 16) ∷ acc)
 one_more k n acc big =
     let e : (n / 16 == 0) ≡ false = grind (arith, nat_tests) in
-    ap (λ b. cond b (digit_glyph false (n % 16) ∷ acc) (digits_onto k 16 false (n / 16) (digit_glyph false (n % 16) ∷ acc))) e
+    ap (λ b. cond b (digit_glyph false (n % 16) ∷ acc)
+    (digits_onto k 16 false (n / 16) (digit_glyph false (n % 16) ∷ acc))) e
 
 last_one : (k n : ℕ) (acc : List ℕ) → n < 16 → digits_onto (suc k) 16 false n acc ≡ digit_glyph false n ∷ acc
 last_one k n acc small =
     let e : (n / 16 == 0) ≡ true = grind (arith, nat_tests) in
     let m : n % 16 ≡ n = omega arith in
-    ap (λ b. cond b (digit_glyph false (n % 16) ∷ acc) (digits_onto k 16 false (n / 16) (digit_glyph false (n % 16) ∷ acc))) e
+    ap (λ b. cond b (digit_glyph false (n % 16) ∷ acc)
+    (digits_onto k 16 false (n / 16) (digit_glyph false (n % 16) ∷ acc))) e
     ∙ ap (λ d. digit_glyph false d ∷ acc) m
 
 -- the digits of what is left stand before those that are written behind `at`
@@ -65,8 +71,11 @@ next_digit k left bytes whole big h = record {
       let f : suc k + 1 ≡ suc (suc k) = omega arith in
       let d : 49 + suc k ≡ suc (49 + k) = omega arith in
       let room : suc k < length bytes = omega (arith, h.place, h.room) in
-      ap (λ j. digits_onto (49 + k) 16 false (left / 16) (drop j (set bytes (suc k) (digit_glyph false (left % 16))))) e
-      ∙ ap (digits_onto (49 + k) 16 false (left / 16)) (drop-set bytes (suc k) (digit_glyph false (left % 16)) room)
+      ap (λ j.
+      digits_onto (49 + k) 16 false (left / 16) (drop j (set bytes (suc k) (digit_glyph false (left % 16)))))
+      e
+      ∙ ap (digits_onto (49 + k) 16 false (left / 16))
+      (drop-set bytes (suc k) (digit_glyph false (left % 16)) room)
       ∙ sym (one_more (49 + k) left (drop (suc k + 1) bytes) big)
       ∙ ap (λ j. digits_onto j 16 false left (drop (suc k + 1) bytes)) (sym d)
       ∙ h.written;
@@ -77,7 +86,8 @@ pub one_digit : (at left : ℕ) (bytes whole : List ℕ) → 16 ≤ left → Siz
 one_digit zero left bytes whole big h = absurd (omega (arith, (above_zero zero left big h.fits).1))
 one_digit (suc k) left bytes whole big h =
     let e : suc k - 1 ≡ k = omega arith in
-    subst (λ j. SizeLeft j (left / 16) (set bytes (suc k) (digit_glyph false (left % 16))) whole) (sym e) (next_digit k left bytes whole big h)
+    subst (λ j. SizeLeft j (left / 16) (set bytes (suc k) (digit_glyph false (left % 16))) whole) (sym e)
+    (next_digit k left bytes whole big h)
 
 pub last_digit : (at left : ℕ) (bytes whole : List ℕ) → left < 16 → SizeLeft at left bytes whole
     → drop at (set bytes at (digit_glyph false left)) ≡ whole
@@ -89,7 +99,8 @@ last_digit at left bytes whole small h =
     ∙ h.written
 
 -- CR and LF, and then what stands behind the room
-pub two_set : (bytes : List ℕ) → 18 ≤ length bytes → drop 16 (set (set bytes 17 10) 16 13) ≡ 13 ∷ 10 ∷ drop 18 bytes
+pub two_set : (bytes : List ℕ) → 18 ≤ length bytes
+    → drop 16 (set (set bytes 17 10) 16 13) ≡ 13 ∷ 10 ∷ drop 18 bytes
 two_set bytes room =
     drop-set (set bytes 17 10) 16 13 (omega (arith, length-set bytes 17 10))
     ∙ ap (λ l. 13 ∷ l) (drop-set bytes 17 10 (omega arith))
@@ -98,15 +109,18 @@ some_text : (text : List ℕ) → 0 < length text → text_chunks text ≡ chunk
 some_text [] h = absurd (omega arith)
 some_text (b ∷ bs) h = refl
 
-ended : (text : List ℕ) (size : ℕ) → length text ≡ size → digits 16 false size ++ (13 ∷ 10 ∷ (text ++ 13 ∷ 10 ∷ [])) ≡ chunk_text text
+ended : (text : List ℕ) (size : ℕ) → length text ≡ size
+    → digits 16 false size ++ (13 ∷ 10 ∷ (text ++ 13 ∷ 10 ∷ [])) ≡ chunk_text text
 unfolding chunk_text
 ended text size e =
     ap (λ n. digits 16 false n ++ (13 ∷ 10 ∷ (text ++ 13 ∷ 10 ∷ []))) (sym e)
     ∙ sym (three_parts (digits 16 false (length text)) (13 ∷ 10 ∷ []) text (13 ∷ 10 ∷ []))
 
 -- the whole chunk
-pub chunk_made : (held ext new : List ℕ) (start size : ℕ) → 18 < length held → ext ≡ held ++ 13 ∷ 10 ∷ [] → size ≡ length held
-    → drop start new ≡ digits 16 false (size - 18) ++ (13 ∷ 10 ∷ drop 18 ext) → drop start new ≡ text_chunks (drop 18 held)
+pub chunk_made : (held ext new : List ℕ) (start size : ℕ) → 18 < length held → ext ≡ held ++ 13 ∷ 10 ∷ []
+    → size ≡ length held
+    → drop start new ≡ digits 16 false (size - 18) ++ (13 ∷ 10 ∷ drop 18 ext)
+    → drop start new ≡ text_chunks (drop 18 held)
 chunk_made held ext new start size room e long h =
     let n : length (drop 18 held) ≡ size - 18 = omega (arith, length-drop 18 held) in
     let le : 18 ≤ length held = omega arith in
@@ -116,5 +130,7 @@ chunk_made held ext new start size room e long h =
     ∙ sym (some_text (drop 18 held) (omega (arith, length-drop 18 held)))
 
 -- a part that was lent is all that is held
-pub lent_whole : (ys rest text : List ℕ) (n start : ℕ) → length ys ≡ n → drop start ys ≡ text → drop start (take n (ys ++ rest)) ≡ text
-lent_whole ys rest text n start long e = ap (drop start) (ap (λ k. take k (ys ++ rest)) (sym long) ∙ take-append_seam ys rest) ∙ e
+pub lent_whole : (ys rest text : List ℕ) (n start : ℕ) → length ys ≡ n → drop start ys ≡ text
+    → drop start (take n (ys ++ rest)) ≡ text
+lent_whole ys rest text n start long e =
+    ap (drop start) (ap (λ k. take k (ys ++ rest)) (sym long) ∙ take-append_seam ys rest) ∙ e

@@ -1,15 +1,19 @@
 -- What the same bytes cannot be at once.
-use Rattle.std.proofs.Common.{◌≡◌, ℕ, zero, suc, ◌<◌, ◌≤◌, ◌⊎◌, inl, inr, List, [], ◌++◌, length, Option, Some, Result, Ok, Err, unwrap_or, refl, sym, ap, subst, ◌∙◌, append-nil, codes, arith}
+use Rattle.std.proofs.Common.{◌≡◌, ℕ, zero, suc, ◌<◌, ◌≤◌, ◌⊎◌, inl, inr, List, []}
+use Rattle.std.proofs.Common.{◌++◌, length, Option, Some, Result, Ok, Err, unwrap_or}
+use Rattle.std.proofs.Common.{refl, sym, ap, subst, ◌∙◌, append-nil, codes, arith}
 use Rattle.std.proofs.lemmas.Grind.{common_steps}
 use Rattle.std.proofs.lemmas.List.Sums.{AllPass-from_list_all}
 use Rattle.std.proofs.lemmas.List.Elements.{All-nil}
 use Rattle.std.proofs.lemmas.Str.{IsUtf8-from_ascii}
 use Rattle.std.specs.Str.{IsAscii}
-use Rattle.httparse.specs.Grammar.{crlf, IsField, RequestHead, IsRequestHead, print_request, ReadsRequest, HasNoRequest, is_token_byte, is_uri_byte}
+use Rattle.httparse.specs.Grammar.{crlf, IsField, RequestHead, IsRequestHead, print_request}
+use Rattle.httparse.specs.Grammar.{ReadsRequest, HasNoRequest, is_token_byte, is_uri_byte}
 use Rattle.httparse.proofs.GrammarLemmas.{request_unique}
 use Rattle.httparse.proofs.OnLiterals.{httparse_on_literals}
 use Rattle.hub_http.specs.declared.fault.HttpFault.{HttpFault}
-use Rattle.hub_http.specs.declared.fault.HttpFault.TheVariants.{NoMemory, BadHead, HeadTooLong, BodyTooLong, Version, Coding, Ended, IoFault}
+use Rattle.hub_http.specs.declared.fault.HttpFault.TheVariants.{NoMemory, BadHead, HeadTooLong, BodyTooLong}
+use Rattle.hub_http.specs.declared.fault.HttpFault.TheVariants.{Version, Coding, Ended, IoFault}
 use Rattle.hub_http.specs.Heads.{Begins, BeginsFaulty, length_by, pairs_of}
 use Rattle.hub_http.specs.Stream.{Asked, Spells, IsCut, Faults}
 use Rattle.hub_http.specs.Exclusions.{IsOutside, IsHeadFault, IsOpenFault}
@@ -31,30 +35,42 @@ Says h rest e =
     ⊎ (((e ≡ HeadTooLong) × (IsWithinLimits h → ⊥))
     ⊎ (IsWithinLimits h × ((length_by h ≡ Err e) ⊎ ((e ≡ Ended) × Lacks h rest))))
 
-within : (bytes : List ℕ) (h k : RequestHead) (rest more : List ℕ) → ReadsRequest bytes h rest → Begins bytes k more → IsWithinLimits h
+within : (bytes : List ℕ) (h k : RequestHead) (rest more : List ℕ) → ReadsRequest bytes h rest
+    → Begins bytes k more → IsWithinLimits h
 within bytes h k rest more r b =
     let same = request_unique bytes k h more rest b.reads r in
     subst IsWithinLimits same.0 (record { len = b.len; fields = b.fields })
 
-faulty : (bytes : List ℕ) (h : RequestHead) (rest : List ℕ) (e : HttpFault) → ReadsRequest bytes h rest → BeginsFaulty bytes e → Says h rest e
+faulty : (bytes : List ℕ) (h : RequestHead) (rest : List ℕ) (e : HttpFault) → ReadsRequest bytes h rest
+    → BeginsFaulty bytes e → Says h rest e
 faulty bytes h rest e r b =
     let same = request_unique bytes b.0 h b.1 rest b.2.reads r in
     inr (inr (within bytes h b.0 rest b.1 r b.2, inl (sym (ap length_by same.0) ∙ b.3)))
 
-cut : (bytes : List ℕ) (h : RequestHead) (rest : List ℕ) → ReadsRequest bytes h rest → IsCut bytes → Says h rest Ended
+cut : (bytes : List ℕ) (h : RequestHead) (rest : List ℕ) → ReadsRequest bytes h rest → IsCut bytes
+    → Says h rest Ended
 cut bytes h rest r x =
     let same = request_unique bytes x.0 h x.1 rest x.3.reads r in
-    inr (inr (within bytes h x.0 rest x.1 r x.3, inr (refl, (x.2, sym (ap length_by same.0) ∙ x.4, rw same.1 at x.5))))
+    inr (inr (
+      within bytes h x.0 rest x.1 r x.3,
+      inr (refl, (x.2, sym (ap length_by same.0) ∙ x.4, rw same.1 at x.5)),
+    ))
 
 -- bytes are themselves and then nothing
-itself : (bytes : List ℕ) (h : RequestHead) (rest : List ℕ) → ReadsRequest bytes h rest → ReadsRequest (bytes ++ []) h rest
+itself : (bytes : List ℕ) (h : RequestHead) (rest : List ℕ) → ReadsRequest bytes h rest
+    → ReadsRequest (bytes ++ []) h rest
 itself bytes h rest r = subst (λ (l : List ℕ). ReadsRequest l h rest) (sym (append-nil bytes)) r
 
-says : (bytes : List ℕ) (h : RequestHead) (rest : List ℕ) (e : HttpFault) → ReadsRequest bytes h rest → Faults bytes e → Says h rest e
+says : (bytes : List ℕ) (h : RequestHead) (rest : List ℕ) (e : HttpFault) → ReadsRequest bytes h rest
+    → Faults bytes e → Says h rest e
 says bytes h rest NoMemory r f = inl (inl refl)
-says bytes h rest BadHead r f = elim f [ inl x ↦ absurd (x [] h rest (itself bytes h rest r)) | inr x ↦ faulty bytes h rest BadHead r x ]
+says bytes h rest BadHead r f =
+    elim f [ inl x ↦ absurd (x [] h rest (itself bytes h rest r)) | inr x ↦ faulty bytes h rest BadHead r x ]
 says bytes h rest HeadTooLong r f =
-    inr (inl (refl, λ w. f.0 [] h rest (record { reads = itself bytes h rest r; len = w.len; fields = w.fields })))
+    inr (inl (
+      refl,
+      λ w. f.0 [] h rest (record { reads = itself bytes h rest r; len = w.len; fields = w.fields }),
+    ))
 says bytes h rest BodyTooLong r f = faulty bytes h rest BodyTooLong r f
 says bytes h rest Version r f = faulty bytes h rest Version r f
 says bytes h rest Coding r f = faulty bytes h rest Coding r f
@@ -67,18 +83,23 @@ errors_same r e f x y = let both : Err e ≡ Err f = sym x ∙ y in cc
 no_error : (r : Result (Option ℕ) HttpFault) (n : Option ℕ) (e : HttpFault) → r ≡ Ok n → r ≡ Err e → ⊥
 no_error r n e x y = absurd (cc)
 
-said_once : (h : RequestHead) (rest : List ℕ) (e f : HttpFault) → Says h rest e → Says h rest f → IsOutside e ⊎ (IsOutside f ⊎ (e ≡ f))
+said_once : (h : RequestHead) (rest : List ℕ) (e f : HttpFault) → Says h rest e → Says h rest f
+    → IsOutside e ⊎ (IsOutside f ⊎ (e ≡ f))
 said_once h rest e f (inl x) y = inl x
 said_once h rest e f (inr x) (inl y) = inr (inl y)
 said_once h rest e f (inr (inl x)) (inr (inl y)) = inr (inr (x.0 ∙ sym y.0))
 said_once h rest e f (inr (inl x)) (inr (inr y)) = absurd (x.1 y.0)
 said_once h rest e f (inr (inr x)) (inr (inl y)) = absurd (y.1 x.0)
-said_once h rest e f (inr (inr (w, inl x))) (inr (inr (v, inl y))) = inr (inr (errors_same (length_by h) e f x y))
-said_once h rest e f (inr (inr (w, inl x))) (inr (inr (v, inr y))) = absurd (no_error (length_by h) (Some y.1.0) e y.1.1 x)
-said_once h rest e f (inr (inr (w, inr x))) (inr (inr (v, inl y))) = absurd (no_error (length_by h) (Some x.1.0) f x.1.1 y)
+said_once h rest e f (inr (inr (w, inl x))) (inr (inr (v, inl y))) =
+    inr (inr (errors_same (length_by h) e f x y))
+said_once h rest e f (inr (inr (w, inl x))) (inr (inr (v, inr y))) =
+    absurd (no_error (length_by h) (Some y.1.0) e y.1.1 x)
+said_once h rest e f (inr (inr (w, inr x))) (inr (inr (v, inl y))) =
+    absurd (no_error (length_by h) (Some x.1.0) f x.1.1 y)
 said_once h rest e f (inr (inr (w, inr x))) (inr (inr (v, inr y))) = inr (inr (x.0 ∙ sym y.0))
 
-pub one_fault : (bytes : List ℕ) (h : RequestHead) (rest : List ℕ) (e f : HttpFault) → ReadsRequest bytes h rest
+pub one_fault : (bytes : List ℕ) (h : RequestHead) (rest : List ℕ) (e f : HttpFault)
+    → ReadsRequest bytes h rest
     → Faults bytes e → Faults bytes f → IsOutside e ⊎ (IsOutside f ⊎ (e ≡ f))
 one_fault bytes h rest e f r x y = said_once h rest e f (says bytes h rest e r x) (says bytes h rest f r y)
 
@@ -90,7 +111,8 @@ one_head_fault bytes e f x y =
 pub head_fault : (bytes : List ℕ) (e : HttpFault) → BeginsFaulty bytes e → IsHeadFault e
 head_fault bytes e x = asked_faults x.0.minor x.0.target (pairs_of x.0) e x.3
 
-full : (h : RequestHead) (body rest : List ℕ) (l : Option ℕ) → length_by h ≡ Ok l → length body ≡ unwrap_or l 0 → Lacks h (body ++ rest) → ⊥
+full : (h : RequestHead) (body rest : List ℕ) (l : Option ℕ) → length_by h ≡ Ok l
+    → length body ≡ unwrap_or l 0 → Lacks h (body ++ rest) → ⊥
 full h body rest l e b x =
     let ok : Option ℕ → Result (Option ℕ) HttpFault = λ k. Ok k in
     let both : ok l ≡ ok (Some x.0) = sym e ∙ x.1 in
@@ -99,17 +121,20 @@ full h body rest l e b x =
     let short = x.2 in
     grind (arith, common_steps)
 
-spelled_says : (h : RequestHead) (body rest : List ℕ) (l : Option ℕ) (e : HttpFault) → IsWithinLimits h → length_by h ≡ Ok l
+spelled_says : (h : RequestHead) (body rest : List ℕ) (l : Option ℕ) (e : HttpFault) → IsWithinLimits h
+    → length_by h ≡ Ok l
     → length body ≡ unwrap_or l 0 → Says h (body ++ rest) e → IsOutside e
 spelled_says h body rest l e w k b (inl x) = x
 spelled_says h body rest l e w k b (inr (inl x)) = absurd (x.1 w)
 spelled_says h body rest l e w k b (inr (inr (v, inl x))) = absurd (no_error (length_by h) l e k x)
 spelled_says h body rest l e w k b (inr (inr (v, inr x))) = absurd (full h body rest l k b x.1)
 
-pub spelled_no_fault : (bytes : List ℕ) (a : Asked) (rest : List ℕ) (e : HttpFault) → Spells bytes a rest → Faults bytes e → IsOutside e
+pub spelled_no_fault : (bytes : List ℕ) (a : Asked) (rest : List ℕ) (e : HttpFault) → Spells bytes a rest
+    → Faults bytes e → IsOutside e
 spelled_no_fault bytes a rest e x f =
     let b = x.1.begins in
-    spelled_says x.0 a.body rest x.1.length e (record { len = b.len; fields = b.fields }) x.1.length_is x.1.body
+    spelled_says x.0 a.body rest x.1.length e
+    (record { len = b.len; fields = b.fields }) x.1.length_is x.1.body
     (says bytes x.0 (a.body ++ rest) e b.reads f)
 
 -- the shortest of heads
@@ -159,7 +184,10 @@ no_faulty e x = no_head x.0 x.1 x.2.reads
 pub nothing_faults : (e : HttpFault) → Faults [] e → e ≡ IoFault
 nothing_faults NoMemory f = absurd (omega (arith, f))
 nothing_faults BadHead f =
-    elim f [ inl x ↦ absurd (x (print_request short_head) short_head [] short_head_begins.reads) | inr x ↦ absurd (no_faulty BadHead x) ]
+    elim f [
+      | inl x ↦ absurd (x (print_request short_head) short_head [] short_head_begins.reads)
+      | inr x ↦ absurd (no_faulty BadHead x)
+    ]
 nothing_faults HeadTooLong f = absurd (f.0 (print_request short_head) short_head [] short_head_begins)
 nothing_faults BodyTooLong f = absurd (no_faulty BodyTooLong f)
 nothing_faults Version f = absurd (no_faulty Version f)
@@ -171,7 +199,8 @@ nothing_faults IoFault f = refl
 no_begin : (bytes : List ℕ) (e : HttpFault) → HasNoRequest bytes → BeginsFaulty bytes e → ⊥
 no_begin bytes e n x = n x.0 x.1 x.2.reads
 
-pub open_faults : (bytes : List ℕ) (e : HttpFault) → HasNoRequest bytes → Faults bytes e → IsOutside e ⊎ IsOpenFault e
+pub open_faults : (bytes : List ℕ) (e : HttpFault) → HasNoRequest bytes → Faults bytes e
+    → IsOutside e ⊎ IsOpenFault e
 open_faults bytes NoMemory n f = inl (inl refl)
 open_faults bytes BadHead n f = inr (inl refl)
 open_faults bytes HeadTooLong n f = inr (inr (inl refl))

@@ -1,5 +1,6 @@
 -- What the writes of parts have written of the whole.
-use Rattle.std.proofs.Common.{◌≡◌, ℕ, ◌-◌, List, ◌++◌, length, take, drop, Option, sym, subst, ap, ◌∙◌, append_assoc, take-append-drop, arith}
+use Rattle.std.proofs.Common.{◌≡◌, ℕ, ◌-◌, List, ◌++◌, length, take, drop, Option, sym}
+use Rattle.std.proofs.Common.{subst, ap, ◌∙◌, append_assoc, take-append-drop, arith}
 use Rattle.std.proofs.lemmas.Grind.{common_steps}
 use lib.Seq.{take-append_seam}
 use Rattle.std.specs.Io.KnownBytes.{Appends}
@@ -9,10 +10,12 @@ use Rattle.hub_http.specs.Counts.{AppendsFront}
 
 -- a front of the bytes was written, and then nothing more
 pub front_kept : (old mid new : Option (List ℕ)) (bytes rest : List ℕ)
-    → ((done : List ℕ) × (bytes ≡ done ++ rest) × Appends old mid done) → Keeps mid new → AppendsFront old new bytes
+    → ((done : List ℕ) × (bytes ≡ done ++ rest) × Appends old mid done) → Keeps mid new
+    → AppendsFront old new bytes
 front_kept old mid new bytes rest x k = (
   length x.0,
-  subst (Appends old new) (sym (ap (take (length x.0)) x.1 ∙ take-append_seam x.0 rest)) (Appends-kept old mid new x.0 x.2 k),
+  subst (Appends old new) (sym (ap (take (length x.0)) x.1 ∙ take-append_seam x.0 rest))
+      (Appends-kept old mid new x.0 x.2 k),
 )
 
 pub front_of : (old new : Option (List ℕ)) (bytes rest : List ℕ)
@@ -30,7 +33,9 @@ pub next_part : (old mid new : Option (List ℕ)) (bytes rest : List ℕ) (n : �
     → (done : List ℕ) × (bytes ≡ done ++ take (length rest - n) (drop n rest)) × Appends old new done
 next_part old mid new bytes rest n x more = (
   x.0 ++ take n rest,
-  x.1 ∙ ap (λ l. x.0 ++ l) (sym (take-append-drop n rest)) ∙ sym (append_assoc x.0 (take n rest) (drop n rest))
+  x.1
+      ∙ ap (λ l. x.0 ++ l) (sym (take-append-drop n rest))
+      ∙ sym (append_assoc x.0 (take n rest) (drop n rest))
       ∙ ap (λ l. (x.0 ++ take n rest) ++ l) (sym (rest_is rest n)),
   Appends-trans old mid new x.0 (take n rest) x.2 more,
 )

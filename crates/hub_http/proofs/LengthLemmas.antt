@@ -1,5 +1,8 @@
 -- The length that the fields of a head give.
-use Rattle.std.proofs.Common.{◌≡◌, ℕ, ◌+◌, ◌*◌, ◌<◌, min, Bool, true, false, ◌&&◌, cond, List, [], ◌∷◌, ◌++◌, length, map, take, drop, get_or, Option, Some, None, Result, Ok, Err, refl, sym, ap, ◌∙◌, arith, nat_le, nat_lt, append_assoc, append-nil, bytes_eq, drop-cons, add-one}
+use Rattle.std.proofs.Common.{◌≡◌, ℕ, ◌+◌, ◌*◌, ◌<◌, min, Bool, true, false, ◌&&◌, cond, List}
+use Rattle.std.proofs.Common.{[], ◌∷◌, ◌++◌, length, map, take, drop, get_or, Option, Some}
+use Rattle.std.proofs.Common.{None, Result, Ok, Err, refl, sym, ap, ◌∙◌, arith, nat_le}
+use Rattle.std.proofs.Common.{nat_lt, append_assoc, append-nil, bytes_eq, drop-cons, add-one}
 use Rattle.std.specs.List.{list_all}
 use Rattle.std.specs.Char.{is_ascii_digit}
 use Rattle.std.specs.Str.Parse.{digits_value}
@@ -14,11 +17,13 @@ use Rattle.hub_http.specs.declared.fault.HttpFault.TheVariants.{BadHead, BodyToo
 use Rattle.hub_http.specs.Heads.{is_named, values_named, is_digits, body_limit, length_of}
 use Rattle.hub_http.specs.Looking.{length_in, SoFar}
 
-all_snoc : (p : List ℕ → Bool) (xs : List (List ℕ)) (w : List ℕ) → list_all p xs ≡ true → p w ≡ true → list_all p (xs ++ w ∷ []) ≡ true
+all_snoc : (p : List ℕ → Bool) (xs : List (List ℕ)) (w : List ℕ) → list_all p xs ≡ true → p w ≡ true
+    → list_all p (xs ++ w ∷ []) ≡ true
 all_snoc p xs w a b = list_all-append p xs (w ∷ []) ∙ and_from _ _ a (and_from _ _ b refl)
 
 -- one more value that is the same
-pub keeps_one : (v w : List ℕ) (all rest : List (List ℕ)) → bytes_eq w v ≡ true → SoFar (Some v) all (w ∷ rest) → SoFar (Some v) all rest
+pub keeps_one : (v w : List ℕ) (all rest : List (List ℕ)) → bytes_eq w v ≡ true
+    → SoFar (Some v) all (w ∷ rest) → SoFar (Some v) all rest
 keeps_one v w all rest e x = (
   x.0 ++ w ∷ [],
   x.1 ∙ ap (λ l. v ∷ l) (sym (append_assoc x.0 (w ∷ []) rest)),
@@ -26,7 +31,8 @@ keeps_one v w all rest e x = (
 )
 
 -- one more value that differs
-pub differs : (v w : List ℕ) (all rest : List (List ℕ)) → bytes_eq w v ≡ false → SoFar (Some v) all (w ∷ rest) → length_of all ≡ Err BadHead
+pub differs : (v w : List ℕ) (all rest : List (List ℕ)) → bytes_eq w v ≡ false → SoFar (Some v) all (w ∷ rest)
+    → length_of all ≡ Err BadHead
 unfolding length_of
 differs v w all rest e x =
     let fails : list_all (λ u. bytes_eq u v) (x.0 ++ w ∷ rest) ≡ false =
@@ -43,7 +49,8 @@ in_some (Ok n) = Ok (Some n)
 in_some (Err e) = Err e
 
 choose : (a b c : Bool) (n : ℕ) → c ≡ true
-    → in_some (cond a (cond b (Ok n) (Err BodyTooLong)) (Err BadHead)) ≡ cond (a && c) (cond b (Ok (Some n)) (Err BodyTooLong)) (Err BadHead)
+    → in_some (cond a (cond b (Ok n) (Err BodyTooLong)) (Err BadHead))
+    ≡ cond (a && c) (cond b (Ok (Some n)) (Err BodyTooLong)) (Err BadHead)
 choose true true true n e = refl
 choose true false true n e = refl
 choose false b true n e = refl
@@ -51,44 +58,58 @@ choose true true false n e = absurd (cc)
 choose true false false n e = absurd (cc)
 choose false b false n e = absurd (cc)
 
-pub one_length : (v : List ℕ) (all : List (List ℕ)) → SoFar (Some v) all [] → in_some (length_in v) ≡ length_of all
+pub one_length : (v : List ℕ) (all : List (List ℕ)) → SoFar (Some v) all []
+    → in_some (length_in v) ≡ length_of all
 unfolding length_of length_in
 one_length v all x =
-    let same : list_all (λ u. bytes_eq u v) (x.0 ++ []) ≡ true = ap (list_all (λ u. bytes_eq u v)) (append-nil x.0) ∙ x.2 in
-    choose (is_digits v) (nat_le (digits_value 10 v) body_limit) (list_all (λ u. bytes_eq u v) (x.0 ++ [])) (digits_value 10 v) same
+    let same : list_all (λ u. bytes_eq u v) (x.0 ++ []) ≡ true =
+    ap (list_all (λ u. bytes_eq u v)) (append-nil x.0) ∙ x.2 in
+    choose (is_digits v) (nat_le (digits_value 10 v) body_limit) (list_all (λ u. bytes_eq u v) (x.0 ++ []))
+    (digits_value 10 v) same
     ∙ sym (ap length_of x.1)
 
 -- the values from an index on
-pub values_skip : (name buf : List ℕ) (hs : List HeaderSpan) (i : ℕ) (d : HeaderSpan) → i < length hs → is_named name (header_bytes buf (get_or hs i d)) ≡ false
-    → values_named name (map (header_bytes buf) (drop i hs)) ≡ values_named name (map (header_bytes buf) (drop (i + 1) hs))
+pub values_skip : (name buf : List ℕ) (hs : List HeaderSpan) (i : ℕ) (d : HeaderSpan) → i < length hs
+    → is_named name (header_bytes buf (get_or hs i d)) ≡ false
+    → values_named name (map (header_bytes buf) (drop i hs))
+    ≡ values_named name (map (header_bytes buf) (drop (i + 1) hs))
 values_skip name buf hs i d inside other =
     ap (λ l. values_named name (map (header_bytes buf) l)) (drop-cons hs i d inside) ∙ cond-false _ _ _ other
     ∙ ap (λ k. values_named name (map (header_bytes buf) (drop k hs))) (sym (add-one i))
 
-pub values_take : (name buf : List ℕ) (hs : List HeaderSpan) (i : ℕ) (d : HeaderSpan) → i < length hs → is_named name (header_bytes buf (get_or hs i d)) ≡ true
-    → values_named name (map (header_bytes buf) (drop i hs)) ≡ (header_bytes buf (get_or hs i d)).1 ∷ values_named name (map (header_bytes buf) (drop (i + 1) hs))
+pub values_take : (name buf : List ℕ) (hs : List HeaderSpan) (i : ℕ) (d : HeaderSpan) → i < length hs
+    → is_named name (header_bytes buf (get_or hs i d)) ≡ true
+    → values_named name (map (header_bytes buf) (drop i hs))
+    ≡ (header_bytes buf (get_or hs i d)).1 ∷ values_named name (map (header_bytes buf) (drop (i + 1) hs))
 values_take name buf hs i d inside same =
     ap (λ l. values_named name (map (header_bytes buf) l)) (drop-cons hs i d inside) ∙ cond-true _ _ _ same
-    ∙ ap (λ k. (header_bytes buf (get_or hs i d)).1 ∷ values_named name (map (header_bytes buf) (drop k hs))) (sym (add-one i))
+    ∙ ap (λ k. (header_bytes buf (get_or hs i d)).1 ∷ values_named name (map (header_bytes buf) (drop k hs)))
+    (sym (add-one i))
 
 pub not_digits : (v : List ℕ) → is_digits v ≡ false → Err BadHead ≡ length_in v
 unfolding length_in
 not_digits v e = sym (cond-false _ _ _ e)
 
-pub too_large : (v : List ℕ) → is_digits v ≡ true → nat_le (digits_value 10 v) 8388608 ≡ false → Err BodyTooLong ≡ length_in v
+pub too_large : (v : List ℕ) → is_digits v ≡ true → nat_le (digits_value 10 v) 8388608 ≡ false
+    → Err BodyTooLong ≡ length_in v
 unfolding length_in
 too_large v e l = sym (cond-true _ _ _ e ∙ cond-false _ _ _ l)
 
-pub is_length : (v : List ℕ) (n : ℕ) → is_digits v ≡ true → nat_le (digits_value 10 v) 8388608 ≡ true → n ≡ digits_value 10 v → Ok n ≡ length_in v
+pub is_length : (v : List ℕ) (n : ℕ) → is_digits v ≡ true → nat_le (digits_value 10 v) 8388608 ≡ true
+    → n ≡ digits_value 10 v → Ok n ≡ length_in v
 unfolding length_in
 is_length v n e l s = ap (λ k. Ok k) s ∙ sym (cond-true _ _ _ e ∙ cond-true _ _ _ l)
 
-pub capped : (value n digit next : ℕ) → n ≡ min value 8388609 → next ≡ value * 10 + digit → min (n * 10 + digit) 8388609 ≡ min next 8388609
+pub capped : (value n digit next : ℕ) → n ≡ min value 8388609 → next ≡ value * 10 + digit
+    → min (n * 10 + digit) 8388609 ≡ min next 8388609
 capped value n digit next e f = omega arith
 
-pub all_more : (p : ℕ → Bool) (xs : List ℕ) (i : ℕ) → i < length xs → list_all p (take i xs) ≡ true → p (get_or xs i 0) ≡ true → list_all p (take (i + 1) xs) ≡ true
+pub all_more : (p : ℕ → Bool) (xs : List ℕ) (i : ℕ) → i < length xs → list_all p (take i xs) ≡ true
+    → p (get_or xs i 0) ≡ true → list_all p (take (i + 1) xs) ≡ true
 all_more p xs i inside before here =
-    ap (list_all p) (take_more xs i 0 inside) ∙ list_all-append p (take i xs) _ ∙ and_from _ _ before (and_from _ _ here refl)
+    ap (list_all p) (take_more xs i 0 inside)
+    ∙ list_all-append p (take i xs) _
+    ∙ and_from _ _ before (and_from _ _ here refl)
 
 pub some_digits : (v : List ℕ) → 0 < length v → list_all is_ascii_digit v ≡ true → is_digits v ≡ true
 some_digits v some all =

@@ -1,5 +1,8 @@
 -- From what is held to the bytes that are told.
-use Rattle.std.proofs.Common.{◌≡◌, ℕ, ◌+◌, ◌<◌, ◌≤◌, ◌⊎◌, Bool, true, false, ◌&&◌, cond, List, [], ◌∷◌, ◌++◌, length, take, drop, Option, Some, None, Result, Ok, Err, IfSome, is_some, unwrap_or, refl, sym, ap, subst, ◌∙◌, arith, nat_le, append_assoc, append-nil, inl, inr, take-append-drop, codes, bytes_eq, ◌^◌}
+use Rattle.std.proofs.Common.{◌≡◌, ℕ, ◌+◌, ◌<◌, ◌≤◌, ◌⊎◌, Bool, true, false, ◌&&◌, cond, List, [], ◌∷◌}
+use Rattle.std.proofs.Common.{◌++◌, length, take, drop, Option, Some, None, Result, Ok, Err, IfSome}
+use Rattle.std.proofs.Common.{is_some, unwrap_or, refl, sym, ap, subst, ◌∙◌, arith, nat_le, append_assoc}
+use Rattle.std.proofs.Common.{append-nil, inl, inr, take-append-drop, codes, bytes_eq, ◌^◌}
 use borrow.Author.Tests.{leb-true}
 use Rattle.std.proofs.lemmas.Grind.{common_steps}
 use Rattle.std.proofs.lemmas.List.{drop-drop, drop_at}
@@ -9,10 +12,13 @@ use Rattle.std.specs.Io.KnownBytes.{Keeps, prepend_known}
 use Rattle.httparse.specs.Grammar.{RequestHead, print_request, ReadsRequest, HasNoRequest, NeverHasRequest}
 use Rattle.httparse.proofs.GrammarLemmas.{ReadsRequest-append}
 use Rattle.hub_http.specs.declared.fault.HttpFault.{HttpFault}
-use Rattle.hub_http.specs.declared.fault.HttpFault.TheVariants.{NoMemory, BadHead, HeadTooLong, BodyTooLong, Version, Coding, Ended, IoFault}
+use Rattle.hub_http.specs.declared.fault.HttpFault.TheVariants.{NoMemory, BadHead, HeadTooLong, BodyTooLong}
+use Rattle.hub_http.specs.declared.fault.HttpFault.TheVariants.{Version, Coding, Ended, IoFault}
 use Rattle.hub_http.specs.declared.head.Head.{Head}
 use Rattle.hub_http.specs.declared.request.Request.{Request}
-use Rattle.hub_http.specs.Heads.{Pair, Begins, BeginsFaulty, BeginsTooLong, GoesOn, NeverHasHead, HasHeadFault, IsPartOfHead, length_of, asked, is_digits, is_target, values_named, pairs_of, body_limit}
+use Rattle.hub_http.specs.Heads.{Pair, Begins, BeginsFaulty, BeginsTooLong, GoesOn}
+use Rattle.hub_http.specs.Heads.{NeverHasHead, HasHeadFault, IsPartOfHead, length_of, asked}
+use Rattle.hub_http.specs.Heads.{is_digits, is_target, values_named, pairs_of, body_limit}
 use Rattle.hub_http.proofs.HeadLemmas.{head_has_bytes}
 use Rattle.hub_http.specs.Stream.{Spells, asked_by, Leaves}
 use Rattle.hub_http.specs.Looking.{IsHeadAt, FindFaults}
@@ -37,15 +43,19 @@ never_after_part held long none more h rest b =
     let cut = splits (print_request h) rest held more (sym b.reads.1) (omega (arith, b.len)) in
     none h cut.0 (b.reads.0, cut.1)
 
-pub goes_on_too_long : (held : List ℕ) → 16384 ≤ length held → GoesOn held → NeverHasHead held × BeginsTooLong held
-goes_on_too_long held long on = (never_after_part held long on.0, inr (inr (held, [], sym (append-nil held), long, on)))
+pub goes_on_too_long : (held : List ℕ) → 16384 ≤ length held → GoesOn held
+    → NeverHasHead held × BeginsTooLong held
+goes_on_too_long held long on =
+    (never_after_part held long on.0, inr (inr (held, [], sym (append-nil held), long, on)))
 
 -- what is said of a front of the bytes is said of the bytes
 never_more : (held y : List ℕ) → NeverHasHead held → NeverHasHead (held ++ y)
-never_more held y never more h rest b = never (y ++ more) h rest (subst (λ (l : List ℕ). Begins l h rest) (append_assoc held y more) b)
+never_more held y never more h rest b =
+    never (y ++ more) h rest (subst (λ (l : List ℕ). Begins l h rest) (append_assoc held y more) b)
 
 never_request_more : (held y : List ℕ) → NeverHasRequest held → NeverHasRequest (held ++ y)
-never_request_more held y never more h rest r = never (y ++ more) h rest (subst (λ (l : List ℕ). ReadsRequest l h rest) (append_assoc held y more) r)
+never_request_more held y never more h rest r =
+    never (y ++ more) h rest (subst (λ (l : List ℕ). ReadsRequest l h rest) (append_assoc held y more) r)
 
 faulty_more : (held y : List ℕ) (e : HttpFault) → BeginsFaulty held e → BeginsFaulty (held ++ y) e
 faulty_more held y e b = (
@@ -66,7 +76,8 @@ too_long_more held y b =
     ]
 
 pub head_fault_more : (held y : List ℕ) (e : HttpFault) → HasHeadFault held e → HasHeadFault (held ++ y) e
-head_fault_more held y BadHead f = elim f [ inl x ↦ inl (never_request_more held y x) | inr x ↦ inr (faulty_more held y BadHead x) ]
+head_fault_more held y BadHead f =
+    elim f [ inl x ↦ inl (never_request_more held y x) | inr x ↦ inr (faulty_more held y BadHead x) ]
 head_fault_more held y HeadTooLong f = (never_more held y f.0, too_long_more held y f.1)
 head_fault_more held y BodyTooLong f = faulty_more held y BodyTooLong f
 head_fault_more held y Version f = faulty_more held y Version f
@@ -75,24 +86,30 @@ head_fault_more held y NoMemory f = f
 head_fault_more held y Ended f = f
 head_fault_more held y IoFault f = f
 
-faults_more : (held y : List ℕ) (e : HttpFault) → FindFaults held (Some y) e → Leaves (held ++ y) (Err e) (Some (held ++ y))
+faults_more : (held y : List ℕ) (e : HttpFault) → FindFaults held (Some y) e
+    → Leaves (held ++ y) (Err e) (Some (held ++ y))
 faults_more held y NoMemory f = (refl, f)
 faults_more held y Ended f =
-    let same : held ++ y ≡ held = ap (λ l. held ++ l) f.1 ∙ append-nil held in inl (subst IsPartOfHead (sym same) f.0)
+    let same : held ++ y ≡ held = ap (λ l. held ++ l) f.1 ∙ append-nil held in
+    inl (subst IsPartOfHead (sym same) f.0)
 faults_more held y IoFault f = tt
 faults_more held y e f = head_fault_more held y e f
 
 -- a fault of looking for a head is one of the bytes
-pub told_fault : (a0 left : Option (List ℕ)) (held : List ℕ) (e : HttpFault) → Keeps a0 (prepend_known held left) → FindFaults held left e
+pub told_fault : (a0 left : Option (List ℕ)) (held : List ℕ) (e : HttpFault)
+    → Keeps a0 (prepend_known held left) → FindFaults held left e
     → IfSome a0 (λ bytes. Leaves bytes (Err e) (prepend_known held left))
 told_fault a0 None held e k f = keeps_some a0 None (λ bytes. Leaves bytes (Err e) None) k tt
 told_fault a0 (Some y) held e k f =
-    keeps_some a0 (Some (held ++ y)) (λ bytes. Leaves bytes (Err e) (Some (held ++ y))) k (faults_more held y e f)
+    keeps_some a0 (Some (held ++ y)) (λ bytes. Leaves bytes (Err e) (Some (held ++ y))) k
+    (faults_more held y e f)
 
-pub spelled : (held1 held2 held3 y : List ℕ) (f : Head) (q : Request) (n : ℕ) (x : (h : RequestHead) × IsHeadAt held1 f h)
+pub spelled : (held1 held2 held3 y : List ℕ) (f : Head) (q : Request)
+    (n : ℕ) (x : (h : RequestHead) × IsHeadAt held1 f h)
     → ((more : List ℕ) × (held2 ≡ held1 ++ more)) → f.len + n ≤ length held2 → n ≡ unwrap_or f.length 0
     → q.body.items ≡ take n (drop f.len held2) → held3 ≡ drop (f.len + n) held2
-    → q.method.items ≡ f.method.items → q.target.items ≡ f.target.items → q.has_length ≡ is_some f.length → q.close ≡ f.close
+    → q.method.items ≡ f.method.items → q.target.items ≡ f.target.items → q.has_length ≡ is_some f.length
+    → q.close ≡ f.close
     → Spells (held2 ++ y) (asked_by q) (held3 ++ y)
 spelled held1 held2 held3 y f q n x grown room size body left method target has close =
     let h = x.0 in
@@ -102,13 +119,22 @@ spelled held1 held2 held3 y f q n x grown room size body left method target has 
     let whole : drop f.len held2 ≡ drop f.len held1 ++ grown.0 =
     ap (drop f.len) r1.1 ∙ drop_at (print_request h) (drop f.len held1 ++ grown.0) f.len (sym at.len) in
     let parts : q.body.items ++ held3 ≡ drop f.len held1 ++ grown.0 =
-    ap (λ l. l ++ held3) body ∙ ap (λ l. take n (drop f.len held2) ++ l) (left ∙ sym (drop-drop n f.len held2)) ∙ take-append-drop n (drop f.len held2) ∙ whole in
-    let r2 : ReadsRequest (held2 ++ y) h ((drop f.len held1 ++ grown.0) ++ y) = ReadsRequest-append held2 h _ y r1 in
-    let tail : (drop f.len held1 ++ grown.0) ++ y ≡ q.body.items ++ (held3 ++ y) = ap (λ l. l ++ y) (sym parts) ∙ append_assoc q.body.items held3 y in
+    ap (λ l. l ++ held3) body
+    ∙ ap (λ l. take n (drop f.len held2) ++ l) (left ∙ sym (drop-drop n f.len held2))
+    ∙ take-append-drop n (drop f.len held2)
+    ∙ whole in
+    let r2 : ReadsRequest (held2 ++ y) h ((drop f.len held1 ++ grown.0) ++ y) =
+    ReadsRequest-append held2 h _ y r1 in
+    let tail : (drop f.len held1 ++ grown.0) ++ y ≡ q.body.items ++ (held3 ++ y) =
+    ap (λ l. l ++ y) (sym parts) ∙ append_assoc q.body.items held3 y in
     let sized : length (take n (drop f.len held2)) ≡ n = grind (arith, common_steps) in (
       h,
       record {
-        begins = record { reads = (r2.0, r2.1 ∙ ap (λ l. print_request h ++ l) tail); len = at.begins.len; fields = at.begins.fields };
+        begins = record {
+          reads = (r2.0, r2.1 ∙ ap (λ l. print_request h ++ l) tail);
+          len = at.begins.len;
+          fields = at.begins.fields;
+        };
         length = f.length;
         length_is = at.length;
         method = method ∙ at.method;
@@ -119,45 +145,56 @@ spelled held1 held2 held3 y f q n x grown room size body left method target has 
       },
     )
 
-pub told_request : (a0 left1 left2 : Option (List ℕ)) (held1 held2 held3 : List ℕ) (f : Head) (q : Request) (n : ℕ)
+pub told_request : (a0 left1 left2 : Option (List ℕ)) (held1 held2 held3 : List ℕ)
+    (f : Head) (q : Request) (n : ℕ)
     → Keeps a0 (prepend_known held1 left1) → ((h : RequestHead) × IsHeadAt held1 f h)
-    → Keeps (prepend_known held1 left1) (prepend_known held2 left2) → ((more : List ℕ) × (held2 ≡ held1 ++ more))
+    → Keeps (prepend_known held1 left1) (prepend_known held2 left2)
+    → ((more : List ℕ) × (held2 ≡ held1 ++ more))
     → f.len + n ≤ length held2 → n ≡ unwrap_or f.length 0
     → q.body.items ≡ take n (drop f.len held2) → held3 ≡ drop (f.len + n) held2
-    → q.method.items ≡ f.method.items → q.target.items ≡ f.target.items → q.has_length ≡ is_some f.length → q.close ≡ f.close
+    → q.method.items ≡ f.method.items → q.target.items ≡ f.target.items → q.has_length ≡ is_some f.length
+    → q.close ≡ f.close
     → IfSome a0 (λ bytes. Leaves bytes (Ok (Some q)) (prepend_known held3 left2))
 told_request a0 left1 None held1 held2 held3 f q n k1 x k2 grown room size body left method target has close =
     keeps_some a0 (prepend_known held1 left1) (λ bytes. Leaves bytes (Ok (Some q)) None) k1
     (keeps_some (prepend_known held1 left1) None (λ bytes. Leaves bytes (Ok (Some q)) None) k2 tt)
-told_request a0 left1 (Some y) held1 held2 held3 f q n k1 x k2 grown room size body left method target has close =
+told_request a0 left1
+    (Some y) held1 held2 held3 f q n k1 x k2 grown room size body left method target has close =
     keeps_some a0 (prepend_known held1 left1) (λ bytes. Leaves bytes (Ok (Some q)) (Some (held3 ++ y))) k1
-    (keeps_some (prepend_known held1 left1) (Some (held2 ++ y)) (λ bytes. Leaves bytes (Ok (Some q)) (Some (held3 ++ y))) k2
+    (keeps_some (prepend_known held1 left1)
+    (Some (held2 ++ y)) (λ bytes. Leaves bytes (Ok (Some q)) (Some (held3 ++ y))) k2
     (spelled held1 held2 held3 y f q n x grown room size body left method target has close))
 
 -- behind a head that was found no memory was found, or the reader failed
-some_bytes : (held1 held2 y : List ℕ) (f : Head) → ((h : RequestHead) × IsHeadAt held1 f h) → ((more : List ℕ) × (held2 ≡ held1 ++ more)) → 0 < length (held2 ++ y)
+some_bytes : (held1 held2 y : List ℕ) (f : Head) → ((h : RequestHead) × IsHeadAt held1 f h)
+    → ((more : List ℕ) × (held2 ≡ held1 ++ more)) → 0 < length (held2 ++ y)
 some_bytes held1 held2 y f x grown =
     let some = head_has_bytes held1 x.0 (drop f.len held1) x.1.begins.reads in
     let size = ap length grown.1 in
     grind (arith, common_steps)
 
-left_so : (bytes : List ℕ) (e : HttpFault) → (e ≡ NoMemory) ⊎ (e ≡ IoFault) → 0 < length bytes → Leaves bytes (Err e) (Some bytes)
-left_so bytes e (inl p) some = subst (λ (f : HttpFault). Leaves bytes (Err f) (Some bytes)) (sym p) (refl, some)
+left_so : (bytes : List ℕ) (e : HttpFault) → (e ≡ NoMemory) ⊎ (e ≡ IoFault) → 0 < length bytes
+    → Leaves bytes (Err e) (Some bytes)
+left_so bytes e (inl p) some =
+    subst (λ (f : HttpFault). Leaves bytes (Err f) (Some bytes)) (sym p) (refl, some)
 left_so bytes e (inr p) some = subst (λ (f : HttpFault). Leaves bytes (Err f) (Some bytes)) (sym p) tt
 
 pub told_memory : (a0 left1 left2 : Option (List ℕ)) (held1 held2 : List ℕ) (f : Head) (e : HttpFault)
     → Keeps a0 (prepend_known held1 left1) → ((h : RequestHead) × IsHeadAt held1 f h)
-    → Keeps (prepend_known held1 left1) (prepend_known held2 left2) → ((more : List ℕ) × (held2 ≡ held1 ++ more))
+    → Keeps (prepend_known held1 left1) (prepend_known held2 left2)
+    → ((more : List ℕ) × (held2 ≡ held1 ++ more))
     → (e ≡ NoMemory) ⊎ (e ≡ IoFault) → IfSome a0 (λ bytes. Leaves bytes (Err e) (prepend_known held2 left2))
 told_memory a0 left1 None held1 held2 f e k1 x k2 grown w =
     keeps_some a0 (prepend_known held1 left1) (λ bytes. Leaves bytes (Err e) None) k1
     (keeps_some (prepend_known held1 left1) None (λ bytes. Leaves bytes (Err e) None) k2 tt)
 told_memory a0 left1 (Some y) held1 held2 f e k1 x k2 grown w =
     keeps_some a0 (prepend_known held1 left1) (λ bytes. Leaves bytes (Err e) (Some (held2 ++ y))) k1
-    (keeps_some (prepend_known held1 left1) (Some (held2 ++ y)) (λ bytes. Leaves bytes (Err e) (Some (held2 ++ y))) k2
+    (keeps_some (prepend_known held1 left1)
+    (Some (held2 ++ y)) (λ bytes. Leaves bytes (Err e) (Some (held2 ++ y))) k2
     (left_so (held2 ++ y) e w (some_bytes held1 held2 y f x grown)))
 
-one_bound : (a b : Bool) (m : ℕ) (l : Option ℕ) → (b ≡ true → m ≤ 8388608) → cond a (cond b (Ok (Some m)) (Err BodyTooLong)) (Err BadHead) ≡ Ok l → unwrap_or l 0 ≤ 8388608
+one_bound : (a b : Bool) (m : ℕ) (l : Option ℕ) → (b ≡ true → m ≤ 8388608)
+    → cond a (cond b (Ok (Some m)) (Err BodyTooLong)) (Err BadHead) ≡ Ok l → unwrap_or l 0 ≤ 8388608
 one_bound true true m l e h =
     let same : Some m ≡ l = cc in subst (λ (o : Option ℕ). unwrap_or o 0 ≤ 8388608) same (e refl)
 one_bound true false m l e h = absurd (cc)
@@ -168,22 +205,27 @@ unfolding length_of
 length_of_bound [] l h =
     let same : None ≡ l = cc in subst (λ (o : Option ℕ). unwrap_or o 0 ≤ 8388608) same (omega arith)
 length_of_bound (v ∷ vs) l h =
-    one_bound (is_digits v && list_all (λ w. bytes_eq w v) vs) (nat_le (digits_value 10 v) body_limit) (digits_value 10 v) l
+    one_bound (is_digits v && list_all (λ w. bytes_eq w v) vs)
+    (nat_le (digits_value 10 v) body_limit) (digits_value 10 v) l
     (λ (t : nat_le (digits_value 10 v) 8388608 ≡ true). leb-true (digits_value 10 v) 8388608 t) h
 
-asked_bound_choice : (a b c : Bool) (r : Result (Option ℕ) HttpFault) (l : Option ℕ) → (r ≡ Ok l → unwrap_or l 0 ≤ 8388608)
+asked_bound_choice : (a b c : Bool) (r : Result (Option ℕ) HttpFault) (l : Option ℕ)
+    → (r ≡ Ok l → unwrap_or l 0 ≤ 8388608)
     → cond a (cond b (Err Coding) (cond c r (Err BadHead))) (Err Version) ≡ Ok l → unwrap_or l 0 ≤ 8388608
 asked_bound_choice true true c r l f h = absurd (cc)
 asked_bound_choice true false true r l f h = f h
 asked_bound_choice true false false r l f h = absurd (cc)
 asked_bound_choice false b c r l f h = absurd (cc)
 
-asked_bound : (minor : ℕ) (target : List ℕ) (pairs : List Pair) (l : Option ℕ) → asked minor target pairs ≡ Ok l → unwrap_or l 0 ≤ 8388608
+asked_bound : (minor : ℕ) (target : List ℕ) (pairs : List Pair) (l : Option ℕ)
+    → asked minor target pairs ≡ Ok l → unwrap_or l 0 ≤ 8388608
 unfolding asked
 asked_bound minor target pairs l h =
-    asked_bound_choice _ _ (is_target target) (length_of (values_named (codes "content-length") pairs)) l (length_of_bound _ l) h
+    asked_bound_choice _ _ (is_target target)
+    (length_of (values_named (codes "content-length") pairs)) l (length_of_bound _ l) h
 
-pub head_fits : (held : List ℕ) (f : Head) (n : ℕ) → ((h : RequestHead) × IsHeadAt held f h) → n ≡ unwrap_or f.length 0 → f.len + n < 2 ^ 64
+pub head_fits : (held : List ℕ) (f : Head) (n : ℕ) → ((h : RequestHead) × IsHeadAt held f h)
+    → n ≡ unwrap_or f.length 0 → f.len + n < 2 ^ 64
 head_fits held f n x e =
     let body = asked_bound x.0.minor x.0.target (pairs_of x.0) f.length x.1.length in
     omega (arith, body, e, x.1.len, x.1.begins.len)

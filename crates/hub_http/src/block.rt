@@ -1,5 +1,6 @@
 //! The block that a reader's bytes come in.
-ghost use Rattle.std.specs.Prelude.{◌≡◌, ◌<◌, ◌≤◌, ℕ, [], ◌++◌, length, min, take, drop, IfOk, IfErr, OnErr, IsTrue, IsFalse};
+ghost use Rattle.std.specs.Prelude.{◌≡◌, ◌<◌, ◌≤◌, ℕ, [], ◌++◌, length, min, take};
+ghost use Rattle.std.specs.Prelude.{drop, IfOk, IfErr, OnErr, IsTrue, IsFalse};
 ghost use Rattle.std.specs.Io.KnownBytes.{Keeps, IsAtEnd, prepend_known};
 ghost use Rattle.hub_http.specs.Counts.{Rose, GaveUp};
 ghost use Rattle.hub_http.specs.Stream.{to_read};

@@ -1,6 +1,7 @@
 //! Chunks to a writer.
 
-ghost use Rattle.std.specs.Prelude.{◌≡◌, ◌-◌, ◌<◌, ◌≤◌, [], ◌∷◌, ◌++◌, drop, false, length, IfOk, IsErrOf, OnOk};
+ghost use Rattle.std.specs.Prelude.{◌≡◌, ◌-◌, ◌<◌, ◌≤◌, [], ◌∷◌, ◌++◌, drop};
+ghost use Rattle.std.specs.Prelude.{false, length, IfOk, IsErrOf, OnOk};
 ghost use Rattle.std.specs.Fmt.{digit_glyph, digits};
 ghost use Rattle.hub_http.specs.Counts.{Rose, GaveUp};
 ghost use Rattle.hub_http.specs.Chunks.{Writes, head_room, text_chunks};
@@ -68,7 +69,8 @@ fn put_head(bytes: &mut [u8], size: usize) -> usize
 // Writes what stands round a text in its chunk, and answers where the chunk begins.
 fn close_chunk(buffer: &mut Vec<u8>) -> Result<usize, AllocError>
     requires { head_room < length buffer.old.items }
-    ensures made { IfOk result (λ start. drop start buffer.new.items ≡ text_chunks (drop head_room buffer.old.items)) }
+    ensures made { IfOk result
+        (λ start. drop start buffer.new.items ≡ text_chunks (drop head_room buffer.old.items)) }
     ensures start { IfOk result (λ start. start < length buffer.new.items) }
 {
     let size = buffer.len() - ROOM;
@@ -114,7 +116,8 @@ impl ChunkWriter {
     /// is flushed. It costs the text's length, and memory for the first chunk and where one is longer
     /// than each before. Where no memory is found the writer is not called either.
     pub fn write<T: Text, W: Output>(&mut self, writer: &mut W, text: &T) -> Result<(), ChunkFault>
-        ensures bytes { Writes (text_chunks (T.bytes text.now)) result (W.written writer.old) (W.written writer.new) }
+        ensures bytes { Writes (text_chunks (T.bytes text.now)) result (W.written writer.old)
+            (W.written writer.new) }
         ensures memory { IsErrOf result ChunkFault.NoMemory → writer.new ≡ writer.old }
         ensures empty { T.bytes text.now ≡ []
             → (writer.new ≡ writer.old) × ¬ (IsErrOf result ChunkFault.IoFault) }

@@ -12,15 +12,19 @@ pub fn no_memory_text(head_only: bool, close: bool) -> &'static str
 {
     if close {
         if head_only {
-            "HTTP/1.1 503 Service Unavailable\r\nContent-Type: application/json\r\nContent-Length: 51\r\nConnection: close\r\n\r\n"
+            "HTTP/1.1 503 Service Unavailable\r\nContent-Type: application/json\r\n\
+            Content-Length: 51\r\nConnection: close\r\n\r\n"
         } else {
-            "HTTP/1.1 503 Service Unavailable\r\nContent-Type: application/json\r\nContent-Length: 51\r\nConnection: close\r\n\r\n{\"error\":\"out_of_memory\",\"reason\":\"out of memory\"}\n"
+            "HTTP/1.1 503 Service Unavailable\r\nContent-Type: application/json\r\n\
+            Content-Length: 51\r\nConnection: close\r\n\r\n\
+            {\"error\":\"out_of_memory\",\"reason\":\"out of memory\"}\n"
         }
     } else {
         if head_only {
             "HTTP/1.1 503 Service Unavailable\r\nContent-Type: application/json\r\nContent-Length: 51\r\n\r\n"
         } else {
-            "HTTP/1.1 503 Service Unavailable\r\nContent-Type: application/json\r\nContent-Length: 51\r\n\r\n{\"error\":\"out_of_memory\",\"reason\":\"out of memory\"}\n"
+            "HTTP/1.1 503 Service Unavailable\r\nContent-Type: application/json\r\n\
+            Content-Length: 51\r\n\r\n{\"error\":\"out_of_memory\",\"reason\":\"out of memory\"}\n"
         }
     }
 }
@@ -30,7 +34,8 @@ pub fn stream_head_text(close: bool) -> &'static str
     ensures { result.now ≡ head_text 200 chunked_line close }
 {
     if close {
-        "HTTP/1.1 200 OK\r\nContent-Type: application/json\r\nTransfer-Encoding: chunked\r\nConnection: close\r\n\r\n"
+        "HTTP/1.1 200 OK\r\nContent-Type: application/json\r\n\
+        Transfer-Encoding: chunked\r\nConnection: close\r\n\r\n"
     } else {
         "HTTP/1.1 200 OK\r\nContent-Type: application/json\r\nTransfer-Encoding: chunked\r\n\r\n"
     }

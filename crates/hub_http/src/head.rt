@@ -40,7 +40,8 @@ pub(crate) fn same_word(a: &[u8], b: &[u8]) -> bool
 /// Whether a field is a `Transfer-Encoding`.
 fn has_coding(buf: &[u8], headers: &[HeaderSpan]) -> bool
     requires { All (IsHeaderWithin (length buf.now)) headers.now }
-    ensures { result ≡ list_any (is_named (codes "transfer-encoding")) (map (header_bytes buf.now) headers.now) }
+    ensures { result ≡ list_any (is_named (codes "transfer-encoding"))
+        (map (header_bytes buf.now) headers.now) }
 {
     for header in headers {
         if same_word(header.name.of(buf), b"transfer-encoding") {

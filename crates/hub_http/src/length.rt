@@ -1,5 +1,6 @@
 //! The length of a body that a head names.
-ghost use Rattle.std.specs.Prelude.{◌≡◌, ℕ, List, ◌∷◌, length, map, codes, All, [], Err, MatchResult, option_copied};
+ghost use Rattle.std.specs.Prelude.{◌≡◌, ℕ, List, ◌∷◌, length, map, codes};
+ghost use Rattle.std.specs.Prelude.{All, [], Err, MatchResult, option_copied};
 ghost use Rattle.httparse.specs.Spans.{IsHeaderWithin, header_bytes};
 ghost use Rattle.hub_http.specs.Heads.{values_named, length_of};
 ghost use Rattle.hub_http.specs.Looking.{SoFar, length_in};
@@ -71,7 +72,8 @@ fn length_in(digits: &[u8]) -> Result<u64, HttpFault>
 /// The length that the fields give.
 pub(crate) fn length_of(buf: &[u8], headers: &[HeaderSpan]) -> Result<Option<u64>, HttpFault>
     requires { All (IsHeaderWithin (length buf.now)) headers.now }
-    ensures { result ≡ length_of (values_named (codes "content-length") (map (header_bytes buf.now) headers.now)) }
+    ensures { result ≡ length_of (values_named (codes "content-length")
+        (map (header_bytes buf.now) headers.now)) }
 {
     match one_value(buf, headers)? {
         None => Ok(None),

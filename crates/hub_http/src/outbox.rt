@@ -1,5 +1,6 @@
 //! Texts that are to go.
-ghost use Rattle.std.specs.Prelude.{◌≡◌, ◌<◌, ◌≤◌, ◌++◌, ℕ, List, [], length, drop, Some, IfOk, IsTrue, IsFalse, OnOk, OnErr};
+ghost use Rattle.std.specs.Prelude.{◌≡◌, ◌<◌, ◌≤◌, ◌++◌, ℕ, List, [], length, drop};
+ghost use Rattle.std.specs.Prelude.{Some, IfOk, IsTrue, IsFalse, OnOk, OnErr};
 ghost use Rattle.hub_http.specs.Boxes.{Hands, pending_in, faults_in};
 
 use crate::output::{Output, is_interrupted};

@@ -1,9 +1,11 @@
 //! Where replies go.
-ghost use Rattle.std.specs.Prelude.{◌≡◌, ◌<◌, ◌≤◌, ℕ, List, Option, is_err, length, IfOk, IfNone, IfSome, OnOk, OnErr, take};
+ghost use Rattle.std.specs.Prelude.{◌≡◌, ◌<◌, ◌≤◌, ℕ, List, Option, is_err, length};
+ghost use Rattle.std.specs.Prelude.{IfOk, IfNone, IfSome, OnOk, OnErr, take};
 ghost use Rattle.std.specs.Io.{WritesAtMost};
 ghost use Rattle.std.specs.IoError.{error_kind};
 ghost use Rattle.std.specs.Io.KnownBytes.{Keeps, Appends, WriteAppends};
-ghost use Rattle.hub_http.specs.Counts.{bumped_if, write_faulted, write_failed, call_failed, is_interruption, GaveUp, Rose, AppendsFront, Sends};
+ghost use Rattle.hub_http.specs.Counts.{bumped_if, write_faulted, write_failed, call_failed};
+ghost use Rattle.hub_http.specs.Counts.{is_interruption, GaveUp, Rose, AppendsFront, Sends};
 
 use std::io;
 use std::io::ErrorKind;
@@ -24,8 +26,10 @@ pub trait Output {
     fn write(&mut self, buf: &[u8]) -> io::Result<usize>
         ensures bound { WritesAtMost result buf.now }
         ensures bytes { WriteAppends (written self.old) (written self.new) result buf.now }
-        ensures faults { fault_count self.new ≡ bumped_if (write_faulted result buf.now) (fault_count self.old) }
-        ensures failures { failure_count self.new ≡ bumped_if (write_failed result buf.now) (failure_count self.old) };
+        ensures faults { fault_count self.new
+            ≡ bumped_if (write_faulted result buf.now) (fault_count self.old) }
+        ensures failures { failure_count self.new
+            ≡ bumped_if (write_failed result buf.now) (failure_count self.old) };
 
     /// Takes all of the bytes as written and keeps their memory, or gives them back. A writer that has
     /// no use for it gives them back, as this body does.

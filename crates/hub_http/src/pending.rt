@@ -1,5 +1,6 @@
 //! Bytes that are taken from their front.
-ghost use Rattle.std.specs.Prelude.{◌≡◌, ◌<◌, ◌≤◌, ◌+◌, ◌++◌, [], length, take, drop, IfOk, IsTrue, IsFalse, OnOk, OnErr};
+ghost use Rattle.std.specs.Prelude.{◌≡◌, ◌<◌, ◌≤◌, ◌+◌, ◌++◌, [], length, take};
+ghost use Rattle.std.specs.Prelude.{drop, IfOk, IsTrue, IsFalse, OnOk, OnErr};
 
 use crate::block::BLOCK;
 use crate::requests::{copy_of, split_body};

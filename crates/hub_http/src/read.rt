@@ -1,5 +1,6 @@
 //! Reading into a buffer.
-ghost use Rattle.std.specs.Prelude.{◌≡◌, ◌<◌, ◌≤◌, ◌+◌, ◌⊎◌, ℕ, List, [], ◌++◌, length, Err, IfOk, OnErr, IfErr};
+ghost use Rattle.std.specs.Prelude.{◌≡◌, ◌<◌, ◌≤◌, ◌+◌, ◌⊎◌, ℕ, List, []};
+ghost use Rattle.std.specs.Prelude.{◌++◌, length, Err, IfOk, OnErr, IfErr};
 ghost use Rattle.std.specs.Io.KnownBytes.{Keeps, IsAtEnd, prepend_known};
 ghost use Rattle.hub_http.specs.Counts.{Rose, GaveUp};
 ghost use Rattle.hub_http.specs.Stream.{to_read};
@@ -21,7 +22,8 @@ pub(crate) fn read_more<R: Input>(
     requires { 0 < most }
     ensures kept { Keeps (prepend_known held.old.items (to_read block.old (R.left reader.old)))
         (prepend_known held.new.items (to_read block.new (R.left reader.new))) }
-    ensures grown { (more : List ℕ) × (held.new.items ≡ held.old.items ++ more) × IfOk result (λ n. n ≡ length more) }
+    ensures grown { (more : List ℕ) × (held.new.items ≡ held.old.items ++ more)
+        × IfOk result (λ n. n ≡ length more) }
     ensures len { IfOk result (λ n. length held.new.items ≡ length held.old.items + n) }
     ensures most { IfOk result (λ n. n ≤ most) }
     ensures same { OnErr result (held.new.items ≡ held.old.items) }
@@ -30,9 +32,11 @@ pub(crate) fn read_more<R: Input>(
     ensures memory { result ≡ Err HttpFault.NoMemory → 0 < length block.new }
     ensures monotone { R.fault_count reader.old ≤ R.fault_count reader.new }
     ensures failures_monotone { R.failure_count reader.old ≤ R.failure_count reader.new }
-    ensures fault { IfErr result (λ e. e ≡ HttpFault.IoFault → Rose (R.fault_count reader.old) (R.fault_count reader.new)) }
-    ensures tried { IfErr result (λ e. e ≡ HttpFault.IoFault → GaveUp (R.failure_count reader.old) (R.failure_count reader.new)
-        (R.fault_count reader.old) (R.fault_count reader.new)) }
+    ensures fault { IfErr result
+        (λ e. e ≡ HttpFault.IoFault → Rose (R.fault_count reader.old) (R.fault_count reader.new)) }
+    ensures tried { IfErr result (λ e. e ≡ HttpFault.IoFault
+        → GaveUp (R.failure_count reader.old) (R.failure_count reader.new) (R.fault_count reader.old)
+        (R.fault_count reader.new)) }
 {
     match block.refill(reader, most) {
         Ok(()) => {}

@@ -2,7 +2,8 @@
 
 ghost use Rattle.std.specs.Prelude.{◌≡◌, ◌++◌, IfOk, OnOk};
 ghost use Rattle.http.specs.StatusCode.{reason_phrase};
-ghost use Rattle.hub_http.specs.Texts.{phrase_or_empty, close_line, length_line, status_line, head_text, refusal_body, answer_text, reply_text};
+ghost use Rattle.hub_http.specs.Texts.{phrase_or_empty, close_line, length_line, status_line};
+ghost use Rattle.hub_http.specs.Texts.{head_text, refusal_body, answer_text, reply_text};
 
 use crate::refusal::Refusal;
 use http::StatusCode;

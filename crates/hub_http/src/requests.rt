@@ -1,9 +1,12 @@
 //! The requests that a reader's bytes spell.
-ghost use Rattle.std.specs.Prelude.{◌≡◌, ◌<◌, ◌≤◌, ◌+◌, ◌⊎◌, ℕ, List, ◌++◌, length, min, max, take, drop, IfOk, IfErr, IfSome, OnOk, IsTrue, IsFalse};
+ghost use Rattle.std.specs.Prelude.{◌≡◌, ◌<◌, ◌≤◌, ◌+◌, ◌⊎◌, ℕ, List, ◌++◌, length, min, max};
+ghost use Rattle.std.specs.Prelude.{take, drop, IfOk, IfErr, IfSome, OnOk, IsTrue, IsFalse};
 ghost use Rattle.std.specs.Io.KnownBytes.{Keeps, IsAtEnd, prepend_known};
 ghost use Rattle.hub_http.specs.Counts.{Rose, GaveUp};
 ghost use Rattle.hub_http.specs.Stream.{Asked, Leaves, Spells, known, to_read};
-ghost use Rattle.hub_http.specs.Exclusions.{SpelledHasNoFault, NothingSpellsNothing, NothingHasNoFault, HeadHasOneFault, HeadFaultIsNamed, WholeHeadHasOneFault, OtherFaultsAreOpen};
+ghost use Rattle.hub_http.specs.Exclusions.{SpelledHasNoFault, NothingSpellsNothing};
+ghost use Rattle.hub_http.specs.Exclusions.{NothingHasNoFault, HeadHasOneFault, HeadFaultIsNamed};
+ghost use Rattle.hub_http.specs.Exclusions.{WholeHeadHasOneFault, OtherFaultsAreOpen};
 ghost use Rattle.hub_http.specs.Looking.{Finds};
 ghost use Rattle.hub_http.specs.Heads.{HasHeadFault};
 ghost use Rattle.hub_http.specs.Offers.{SpellsAll};
@@ -29,7 +32,8 @@ fn find_head<R: Input>(
     ensures found { Finds held.new.items (to_read block.new (R.left reader.new)) result }
     ensures monotone { R.fault_count reader.old ≤ R.fault_count reader.new }
     ensures failures_monotone { R.failure_count reader.old ≤ R.failure_count reader.new }
-    ensures fault { IfErr result (λ e. e ≡ HttpFault.IoFault → Rose (R.fault_count reader.old) (R.fault_count reader.new)) }
+    ensures fault { IfErr result
+        (λ e. e ≡ HttpFault.IoFault → Rose (R.fault_count reader.old) (R.fault_count reader.new)) }
     ensures tried { IfErr result (λ e. e ≡ HttpFault.IoFault → GaveUp
         (R.failure_count reader.old) (R.failure_count reader.new)
         (R.fault_count reader.old) (R.fault_count reader.new)) }
@@ -78,11 +82,13 @@ fn fill_room<R: Input>(
         (prepend_known held.new.items (to_read block.new (R.left reader.new))) }
     ensures grown { (more : List ℕ) × (held.new.items ≡ held.old.items ++ more) }
     ensures full { IfOk result (λ full. IsTrue full → wanted ≤ length held.new.items) }
-    ensures cut { IfOk result (λ full. IsFalse full → (length held.new.items < wanted) × IsAtEnd (to_read block.new (R.left reader.new))) }
+    ensures cut { IfOk result (λ full.
+        IsFalse full → (length held.new.items < wanted) × IsAtEnd (to_read block.new (R.left reader.new))) }
     ensures err { IfErr result (λ e. (e ≡ HttpFault.NoMemory) ⊎ (e ≡ HttpFault.IoFault)) }
     ensures monotone { R.fault_count reader.old ≤ R.fault_count reader.new }
     ensures failures_monotone { R.failure_count reader.old ≤ R.failure_count reader.new }
-    ensures fault { IfErr result (λ e. e ≡ HttpFault.IoFault → Rose (R.fault_count reader.old) (R.fault_count reader.new)) }
+    ensures fault { IfErr result
+        (λ e. e ≡ HttpFault.IoFault → Rose (R.fault_count reader.old) (R.fault_count reader.new)) }
     ensures tried { IfErr result (λ e. e ≡ HttpFault.IoFault → GaveUp
         (R.failure_count reader.old) (R.failure_count reader.new)
         (R.fault_count reader.old) (R.fault_count reader.new)) }
@@ -115,11 +121,13 @@ pub(crate) fn fill<R: Input>(
         (prepend_known held.new.items (to_read block.new (R.left reader.new))) }
     ensures grown { (more : List ℕ) × (held.new.items ≡ held.old.items ++ more) }
     ensures full { IfOk result (λ full. IsTrue full → wanted ≤ length held.new.items) }
-    ensures cut { IfOk result (λ full. IsFalse full → (length held.new.items < wanted) × IsAtEnd (to_read block.new (R.left reader.new))) }
+    ensures cut { IfOk result (λ full.
+        IsFalse full → (length held.new.items < wanted) × IsAtEnd (to_read block.new (R.left reader.new))) }
     ensures err { IfErr result (λ e. (e ≡ HttpFault.NoMemory) ⊎ (e ≡ HttpFault.IoFault)) }
     ensures monotone { R.fault_count reader.old ≤ R.fault_count reader.new }
     ensures failures_monotone { R.failure_count reader.old ≤ R.failure_count reader.new }
-    ensures fault { IfErr result (λ e. e ≡ HttpFault.IoFault → Rose (R.fault_count reader.old) (R.fault_count reader.new)) }
+    ensures fault { IfErr result
+        (λ e. e ≡ HttpFault.IoFault → Rose (R.fault_count reader.old) (R.fault_count reader.new)) }
     ensures tried { IfErr result (λ e. e ≡ HttpFault.IoFault → GaveUp
         (R.failure_count reader.old) (R.failure_count reader.new)
         (R.fault_count reader.old) (R.fault_count reader.new)) }
@@ -205,7 +213,8 @@ fn take_body(
     requires { len + body ≤ length held.old.items }
     ensures ok { IfOk result (λ v. (v.items ≡ take body (drop len held.old.items))
         × (held.new.items ≡ drop (len + body) held.old.items)) }
-    ensures err { IfErr result (λ e. (e ≡ HttpFault.NoMemory) × (held.new.items ≡ held.old.items) × (0 < body)) }
+    ensures err { IfErr result
+        (λ e. (e ≡ HttpFault.NoMemory) × (held.new.items ≡ held.old.items) × (0 < body)) }
 {
     if body > BLOCK {
         return split_body(alloc, held, len, body);
@@ -230,7 +239,8 @@ fn read_request<R: Input>(
         (λ bytes. Leaves bytes result (known held.new.items (to_read block.new (R.left reader.new)))) }
     ensures monotone { R.fault_count reader.old ≤ R.fault_count reader.new }
     ensures failures_monotone { R.failure_count reader.old ≤ R.failure_count reader.new }
-    ensures fault { IfErr result (λ e. e ≡ HttpFault.IoFault → Rose (R.fault_count reader.old) (R.fault_count reader.new)) }
+    ensures fault { IfErr result
+        (λ e. e ≡ HttpFault.IoFault → Rose (R.fault_count reader.old) (R.fault_count reader.new)) }
     ensures tried { IfErr result (λ e. e ≡ HttpFault.IoFault → GaveUp
         (R.failure_count reader.old) (R.failure_count reader.new)
         (R.fault_count reader.old) (R.fault_count reader.new)) }
@@ -332,7 +342,8 @@ impl<R: Input> Requests<R> {
         ensures ended { HasEnded self.old → (result ≡ Err HttpFault.Ended) × (self.new ≡ self.old) }
 
         ensures monotone { faults_of R.fault_count self.old ≤ faults_of R.fault_count self.new }
-        ensures failures_monotone { failures_of R.failure_count self.old ≤ failures_of R.failure_count self.new }
+        ensures failures_monotone { failures_of R.failure_count self.old
+            ≤ failures_of R.failure_count self.new }
         ensures fault { IfErr result (λ e. e ≡ HttpFault.IoFault
             → Rose (faults_of R.fault_count self.old) (faults_of R.fault_count self.new)) }
         ensures tried { IfErr result (λ e. e ≡ HttpFault.IoFault → GaveUp
@@ -360,7 +371,8 @@ impl<R: Input> Requests<R> {
 
 /// Bytes spell at most one request at their front.
 pub fn one_reading()
-    ensures { (bytes : List ℕ) (a b : Asked) (r q : List ℕ) → Spells bytes a r → Spells bytes b q → (a ≡ b) × (r ≡ q) }
+    ensures { (bytes : List ℕ) (a b : Asked) (r q : List ℕ) → Spells bytes a r → Spells bytes b q
+        → (a ≡ b) × (r ≡ q) }
 {}
 
 /// Bytes that spell a request have no fault, nor have no bytes; bytes that begin with a whole head

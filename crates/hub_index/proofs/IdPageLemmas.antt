@@ -1,17 +1,22 @@
 -- Pages of numbers in the order of their ids: the page of an id, and what a page that changes leaves of all.
-use Rattle.std.proofs.Common.{◌≡◌, ◌≢◌, ℕ, zero, suc, ◌+◌, ◌-◌, ◌<◌, ◌≤◌, List, [], ◌∷◌, ◌++◌, length, get_or, Bool, true}
-use Rattle.std.proofs.Common.{false, not, ap, refl, sym, ◌∙◌, subst, arith, take, drop, set, filter, find, Contains}
+use Rattle.std.proofs.Common.{◌≡◌, ◌≢◌, ℕ, zero, suc, ◌+◌, ◌-◌, ◌<◌, ◌≤◌}
+use Rattle.std.proofs.Common.{List, [], ◌∷◌, ◌++◌, length, get_or, Bool, true}
+use Rattle.std.proofs.Common.{false, not, ap, refl, sym, ◌∙◌, subst, arith}
+use Rattle.std.proofs.Common.{take, drop, set, filter, find, Contains}
 use Rattle.std.specs.Prelude.{IsSomeAnd, Some, slice_get, Vec, Result, Ok, Err, OnOk, OnErr}
 use Rattle.std.specs.List.{All, AllPairs, AllWithin, flat_map, insert}
 use Rattle.std.specs.List.Sorted.{IsPartitionedBy}
 use Rattle.std.specs.Ordering.{is_lt, is_le, is_gt}
 use Rattle.std.specs.declared.cmp.Ordering.{Ordering}
 use Rattle.std.specs.declared.cmp.Ordering.TheVariants.{Less, Equal, Greater}
-use Rattle.std.proofs.lemmas.List.{take-append-drop, drop_more, get_or_default, append_assoc, get_or-drop, length-drop}
-use Rattle.std.proofs.lemmas.List.{set_split, length-append, take-append-le, drop-append-le, append-nil, take_at}
+use Rattle.std.proofs.lemmas.List.{take-append-drop, drop_more, get_or_default}
+use Rattle.std.proofs.lemmas.List.{append_assoc, get_or-drop, length-drop}
+use Rattle.std.proofs.lemmas.List.{set_split, length-append, take-append-le}
+use Rattle.std.proofs.lemmas.List.{drop-append-le, append-nil, take_at}
 use Rattle.std.proofs.lemmas.List.{get_or_append_left, get_or-take, length-take-le, take_more}
 use Rattle.std.proofs.lemmas.List.Concat.{flat_map-append}
-use Rattle.std.proofs.lemmas.List.Elements.{All-nil, All-cons, All-head, All-tail, All-append, All-take, All-drop}
+use Rattle.std.proofs.lemmas.List.Elements.{All-nil, All-cons, All-head, All-tail}
+use Rattle.std.proofs.lemmas.List.Elements.{All-append, All-take, All-drop}
 use Rattle.std.proofs.lemmas.List.Elements.{Contains-get_or, Contains-append_left, Contains-append_right}
 use Rattle.std.proofs.lemmas.List.Elements.{All-weaker, filter-append}
 use Rattle.hub_index.specs.Order.{IsOrder, id_at, id_cmp, has_id, number_in, lies_below, with_number}
@@ -33,7 +38,8 @@ module _ {A : Type 0} (f : A → List ℕ) where
       (all_pages P xs (All-tail (λ y. All P (f y)) x xs all))
 
   -- the number of a page is one of all
-  pub page_has : (pages : List A) (j : ℕ) (d : A) (n : ℕ) → j < length pages → Contains (f (get_or pages j d)) n
+  pub page_has : (pages : List A) (j : ℕ) (d : A) (n : ℕ) → j < length pages
+      → Contains (f (get_or pages j d)) n
       → Contains (flat_map f pages) n
   page_has [] j d n l there = absurd (omega arith)
   page_has (x ∷ xs) zero d n l there = Contains-append_left (f x) (flat_map f xs) n there
@@ -44,7 +50,9 @@ module _ {A : Type 0} (f : A → List ℕ) where
   pub cut_at : (pages : List A) (k : ℕ) (x : A) → k < length pages → x ≡ get_or pages k x
       → flat_map f pages ≡ flat_map f (take k pages) ++ (f x ++ flat_map f (drop (k + 1) pages))
   cut_at pages k x l is =
-      ap (flat_map f) (sym (take-append-drop k pages) ∙ ap (λ ys. take k pages ++ ys) (drop_more pages k x l ∙ ap (λ y. y ∷ drop (k + 1) pages) (sym is)))
+      ap (flat_map f)
+      (sym (take-append-drop k pages)
+      ∙ ap (λ ys. take k pages ++ ys) (drop_more pages k x l ∙ ap (λ y. y ∷ drop (k + 1) pages) (sym is)))
       ∙ flat_map-append f (take k pages) (x ∷ drop (k + 1) pages)
 
   module _ (ids : List (List ℕ)) where
@@ -62,7 +70,9 @@ module _ {A : Type 0} (f : A → List ℕ) where
       begins_before [] ys some rises h = absurd (omega arith)
       begins_before (m ∷ xs) [] some rises h = absurd (cc)
       begins_before (m ∷ xs) (n ∷ ys) some rises h =
-          up_to (id_cmp ids id m) (less_up_to (id_at ids m) (id_at ids n) id (rises m n (0, omega arith, refl) (0, omega arith, refl)) h)
+          up_to (id_cmp ids id m)
+          (less_up_to (id_at ids m) (id_at ids n) id
+          (rises m n (0, omega arith, refl) (0, omega arith, refl)) h)
         where
           up_to : (o : Ordering) → o ≡ Less → is_le o ≡ true
           up_to o e = ap is_le e
@@ -74,7 +84,8 @@ module _ {A : Type 0} (f : A → List ℕ) where
       firsts_parted (x ∷ xs) some rising (suc i) zero d i≤j l h = absurd (omega arith)
       firsts_parted (x ∷ xs) some rising zero (suc j) d i≤j l h =
           begins_before (f x) (f (get_or xs j d)) (All-head (λ y. 0 < length (f y)) x xs some)
-          (λ m n a b. pairs_across (Rises ids) (f x) (flat_map f xs) rising m n a (page_has xs j d n (omega arith) b)) h
+          (λ m n a b.
+          pairs_across (Rises ids) (f x) (flat_map f xs) rising m n a (page_has xs j d n (omega arith) b)) h
       firsts_parted (x ∷ xs) some rising (suc i) (suc j) d i≤j l h =
           firsts_parted xs (All-tail (λ y. 0 < length (f y)) x xs some)
           (pairs_right (Rises ids) (f x) (flat_map f xs) rising) i j d (omega arith) (omega arith) h
@@ -86,7 +97,8 @@ module _ {A : Type 0} (f : A → List ℕ) where
       page_above (m ∷ xs) some rising h =
           let first : is_gt (id_cmp ids id m) ≡ true = greater (id_cmp ids id m) h in
           All-cons (λ n. is_gt (id_cmp ids id n) ≡ true) m xs first
-          (λ k d l. greater_less (id_at ids m) (id_at ids (get_or xs k d)) id first (of_head (Rises ids) m xs rising k d l))
+          (λ k d l. greater_less (id_at ids m) (id_at ids (get_or xs k d)) id first
+          (of_head (Rises ids) m xs rising k d l))
         where
           greater : (o : Ordering) → is_le o ≡ false → is_gt o ≡ true
           greater Less e = absurd (cc)
@@ -101,7 +113,9 @@ module _ {A : Type 0} (f : A → List ℕ) where
           all_pages (λ n. is_gt (id_cmp ids id n) ≡ true) (drop k pages)
           (λ j d l.
           let there : k + j < length pages = omega (arith, length-drop k pages) in
-          rw get_or-drop (page_above (f (get_or pages (k + j) d)) (some (k + j) d there) (each_order pages order (k + j) d there).rising (high (k + j) d (omega arith) there)))
+          rw get_or-drop
+          (page_above (f (get_or pages (k + j) d)) (some (k + j) d there)
+          (each_order pages order (k + j) d there).rising (high (k + j) d (omega arith) there)))
 
       -- the pages before one that begins with the id or below it lie below it
       pub below_page : (pages : List A) (k : ℕ) (x : A) → k < length pages → x ≡ get_or pages k x
@@ -111,11 +125,15 @@ module _ {A : Type 0} (f : A → List ℕ) where
           below (flat_map f (take k pages)) (f x) (flat_map f (drop (k + 1) pages))
           (subst (AllPairs (Rises ids)) (cut_at pages k x l is) rising) h
         where
-          below : (xs ys zs : List ℕ) → AllPairs (Rises ids) (xs ++ (ys ++ zs)) → begins_up_to ids id ys ≡ true
+          below : (xs ys zs : List ℕ) → AllPairs (Rises ids) (xs ++ (ys ++ zs))
+              → begins_up_to ids id ys ≡ true
               → All (λ n. lies_below ids id n ≡ true) xs
           below xs [] zs pairs e j d m<l = absurd (cc)
           below xs (m ∷ ys) zs pairs e j d m<l =
-              ap is_lt (less_up_to (id_at ids (get_or xs j d)) (id_at ids m) id (pairs_across (Rises ids) xs (m ∷ (ys ++ zs)) pairs (get_or xs j d) m (Contains-get_or xs j d m<l) (0, omega arith, refl)) e)
+              ap is_lt
+              (less_up_to (id_at ids (get_or xs j d)) (id_at ids m) id
+              (pairs_across (Rises ids) xs (m ∷ (ys ++ zs)) pairs (get_or xs j d) m
+              (Contains-get_or xs j d m<l) (0, omega arith, refl)) e)
 
       -- where the pages that begin with the id or below it are the first k: what lies before the last of them
       pub before_page : (pages : List A) (k : ℕ) → k ≤ length pages → AllPairs (Rises ids) (flat_map f pages)
@@ -126,7 +144,9 @@ module _ {A : Type 0} (f : A → List ℕ) where
       before_page (p ∷ ps) (suc k) l rising low =
           let x = get_or (p ∷ ps) k p in
           let here : k < length (p ∷ ps) = omega arith in
-          rw suc_less (below_page (p ∷ ps) k x here (get_or_default (p ∷ ps) k p x here) rising (low k p (omega arith) (omega arith)))
+          rw suc_less
+          (below_page (p ∷ ps) k x here (get_or_default (p ∷ ps) k p x here) rising
+          (low k p (omega arith) (omega arith)))
         where
           suc_less : suc k - 1 ≡ k
           suc_less = omega arith
@@ -239,7 +259,8 @@ module _ {A : Type 0} (f : A → List ℕ) (pages : List A) (k : ℕ) (x y lower
   kept : y ≡ x
   kept =
       there
-      ∙ (get_or_append_left (take (k + 1) pages) (upper ∷ drop (k + 1) pages) y k (omega (arith, length-take-le (k + 1) pages (omega arith)))
+      ∙ (get_or_append_left (take (k + 1) pages) (upper ∷ drop (k + 1) pages) y k
+      (omega (arith, length-take-le (k + 1) pages (omega arith)))
       ∙ (get_or-take (k + 1) pages k y (omega arith) ∙ (get_or_default pages k y x l ∙ sym is)))
 
   two : set (insert pages (k + 1) upper) k lower ≡ take k pages ++ lower ∷ upper ∷ drop (k + 1) pages
@@ -255,8 +276,10 @@ module _ {A : Type 0} (f : A → List ℕ) (pages : List A) (k : ℕ) (x y lower
   cut_numbers =
       ap (flat_map f) two
       ∙ (flat_map-append f (take k pages) (lower ∷ upper ∷ drop (k + 1) pages)
-      ∙ (ap (λ l. flat_map f (take k pages) ++ l) (sym (append_assoc (f lower) (f upper) (flat_map f (drop (k + 1) pages))))
-      ∙ (ap (λ l. flat_map f (take k pages) ++ (l ++ flat_map f (drop (k + 1) pages))) (ap (λ a. a ++ f upper) lower_is ∙ (ap (λ b. take 128 (f x) ++ b) high ∙ take-append-drop 128 (f x)))
+      ∙ (ap (λ l. flat_map f (take k pages) ++ l)
+      (sym (append_assoc (f lower) (f upper) (flat_map f (drop (k + 1) pages))))
+      ∙ (ap (λ l. flat_map f (take k pages) ++ (l ++ flat_map f (drop (k + 1) pages)))
+      (ap (λ a. a ++ f upper) lower_is ∙ (ap (λ b. take 128 (f x) ++ b) high ∙ take-append-drop 128 (f x)))
       ∙ sym (cut_at f pages k x l is))))
 
   pub cut_before : take k (set (insert pages (k + 1) upper) k lower) ≡ take k pages
@@ -271,13 +294,16 @@ module _ {A : Type 0} (f : A → List ℕ) (pages : List A) (k : ℕ) (x y lower
   pub cut_lower : IsSomeAnd (slice_get (set (insert pages (k + 1) upper) k lower) k) (λ v. length (f v) ≡ 128)
   cut_lower =
       subst (λ o. IsSomeAnd o (λ v. length (f v) ≡ 128))
-      (sym (ap (λ l. slice_get l k) two ∙ first_of_two (take k pages) (drop (k + 1) pages) lower upper k at_k))
+      (sym (ap (λ l. slice_get l k) two
+      ∙ first_of_two (take k pages) (drop (k + 1) pages) lower upper k at_k))
       lower_size
 
-  pub cut_upper : IsSomeAnd (slice_get (set (insert pages (k + 1) upper) k lower) (k + 1)) (λ v. length (f v) ≡ 128)
+  pub cut_upper : IsSomeAnd (slice_get (set (insert pages (k + 1) upper) k lower) (k + 1))
+      (λ v. length (f v) ≡ 128)
   cut_upper =
       subst (λ o. IsSomeAnd o (λ v. length (f v) ≡ 128))
-      (sym (ap (λ l. slice_get l (k + 1)) two ∙ second_of_two (take k pages) (drop (k + 1) pages) lower upper (k + 1) (omega (arith, at_k))))
+      (sym (ap (λ l. slice_get l (k + 1)) two
+      ∙ second_of_two (take k pages) (drop (k + 1) pages) lower upper (k + 1) (omega (arith, at_k))))
       upper_size
 
   pub cut_pages : (P : A → Type 0) → ((z : A) → length (f z) ≡ 128 → P z) → All P pages
@@ -328,9 +354,11 @@ module _ {A : Type 0} (f : A → List ℕ) (ids : List (List ℕ)) (id : List �
   page_finds =
       ap (find (has_id ids id)) (cut_at f pages k x l is)
       ∙ (find_behind (has_id ids id) (flat_map f (take k pages)) (f x ++ flat_map f (drop (k + 1) pages))
-      (All-weaker (λ n. lies_below ids id n ≡ true) (λ n. has_id ids id n ≡ false) (not_below ids id) (flat_map f (take k pages)) below)
+      (All-weaker (λ n. lies_below ids id n ≡ true) (λ n. has_id ids id n ≡ false) (not_below ids id)
+      (flat_map f (take k pages)) below)
       ∙ find_before (has_id ids id) (f x) (flat_map f (drop (k + 1) pages))
-      (All-weaker (λ n. is_gt (id_cmp ids id n) ≡ true) (λ n. has_id ids id n ≡ false) (λ n h. (not_above ids id n h).0) (flat_map f (drop (k + 1) pages)) above))
+      (All-weaker (λ n. is_gt (id_cmp ids id n) ≡ true) (λ n. has_id ids id n ≡ false)
+      (λ n h. (not_above ids id n h).0) (flat_map f (drop (k + 1) pages)) above))
 
   -- a number goes to the place of its id on the page
   pub page_takes : (at n : ℕ) → at ≤ length (f x) → take at (f x) ≡ filter (lies_below ids id) (f x)
@@ -343,7 +371,8 @@ module _ {A : Type 0} (f : A → List ℕ) (ids : List (List ℕ)) (id : List �
       let p = lies_below ids id in
       let q : ℕ → Bool = λ m. not (lies_below ids id m) in
       let high : All (λ m. p m ≡ false) back =
-      All-weaker (λ m. is_gt (id_cmp ids id m) ≡ true) (λ m. p m ≡ false) (λ m h. (not_above ids id m h).1) back above in
+      All-weaker (λ m. is_gt (id_cmp ids id m) ≡ true) (λ m. p m ≡ false)
+      (λ m h. (not_above ids id m h).1) back above in
       let lows : filter p (front ++ (f x ++ back)) ≡ front ++ take at (f x) =
       filter-append p front (f x ++ back)
       ∙ (ap (λ l. l ++ filter p (f x ++ back)) (filter_keeps p front below)
@@ -371,7 +400,15 @@ pub page_kept : {Y T E : Type 0} (r : Result T E) (x y : Vec ℕ Y) (at n : ℕ)
 page_kept (Ok u) x y at n ok err page l few =
     let size : length y.items ≡ length x.items + 1 =
     ap (λ (l : List ℕ). length l) ok
-    ∙ omega (arith, length-append (take at x.items) (n ∷ drop at x.items), length-take-le at x.items l, length-drop at x.items) in
+    ∙ omega (
+      arith,
+      length-append (take at x.items) (n ∷ drop at x.items),
+      length-take-le at x.items l,
+      length-drop at x.items,
+    ) in
     record { some = omega arith; few = omega arith }
 page_kept (Err e) x y at n ok err page l few =
-    record { some = subst (λ (l : List ℕ). 0 < length l) (sym err) page.some; few = subst (λ (l : List ℕ). length l ≤ 256) (sym err) page.few }
+    record {
+      some = subst (λ (l : List ℕ). 0 < length l) (sym err) page.some;
+      few = subst (λ (l : List ℕ). length l ≤ 256) (sym err) page.few;
+    }

@@ -1,5 +1,7 @@
 -- Lemmas on rows by sequence.
-use Rattle.std.proofs.Common.{◌≡◌, ◌≢◌, ℕ, suc, ◌<◌, ◌≤◌, List, [], ◌∷◌, ◌++◌, length, get_or, Bool, true, false, not, ◌&&◌, nat_eq, nat_lt, nat_le, Option, Some, None, find, filter, reverse, cond, sym, ◌∙◌, ap, refl, subst, inl, inr, arith}
+use Rattle.std.proofs.Common.{◌≡◌, ◌≢◌, ℕ, suc, ◌<◌, ◌≤◌, List, [], ◌∷◌, ◌++◌, length, get_or, Bool}
+use Rattle.std.proofs.Common.{true, false, not, ◌&&◌, nat_eq, nat_lt, nat_le, Option, Some, None}
+use Rattle.std.proofs.Common.{find, filter, reverse, cond, sym, ◌∙◌, ap, refl, subst, inl, inr, arith}
 use Rattle.std.specs.List.{All, AllPairs}
 use Rattle.std.specs.Map.{remove_entry}
 use Rattle.std.specs.BTreeMap.{insert_entry, is_at}
@@ -9,7 +11,8 @@ use Rattle.std.specs.Cmp.{nat_cmp_is}
 use Rattle.std.specs.declared.cmp.Ordering.TheVariants.{Less, Equal, Greater}
 use Rattle.std.specs.declared.ops.Bound.TheVariants.{Excluded, Unbounded}
 use Rattle.std.proofs.Math.Bool.{and-false}
-use Rattle.std.proofs.lemmas.Bool.{cases_Bool, cases_order, both_ways, lt-ltb, le-ltb, le-leb, lt-leb, eqb-true, eq-eqb, false_from_ne_true}
+use Rattle.std.proofs.lemmas.Bool.{cases_Bool, cases_order, both_ways, lt-ltb, le-ltb}
+use Rattle.std.proofs.lemmas.Bool.{le-leb, lt-leb, eqb-true, eq-eqb, false_from_ne_true}
 use Rattle.std.proofs.lemmas.List.{append-nil, reverse-append}
 use Rattle.std.proofs.lemmas.List.Elements.{All-tail, All-filter, All-push, All-cons, All-nil, filter-append}
 use Rattle.std.proofs.lemmas.List.Kept.{AllPairs-filter}
@@ -34,7 +37,8 @@ module _ {X : Type 0} (p : X → Bool) where
   -- where no element passes, none is found
   pub find_nothing : (xs : List X) → All (λ x. p x ≡ false) xs → find p xs ≡ None
   find_nothing [] all = refl
-  find_nothing (y ∷ xs) all = rw (all 0 y (omega arith)) (find_nothing xs (All-tail (λ x. p x ≡ false) y xs all))
+  find_nothing (y ∷ xs) all =
+      rw (all 0 y (omega arith)) (find_nothing xs (All-tail (λ x. p x ≡ false) y xs all))
 
   -- the first of those that pass
   pub find_first : (xs : List X) (x : X) (rest : List X) → filter p xs ≡ x ∷ rest → find p xs ≡ Some x
@@ -62,7 +66,8 @@ module _ {X : Type 0} (p : X → Bool) where
   -- a filter that every element passes
   pub filter_keeps : (xs : List X) → All (λ x. p x ≡ true) xs → filter p xs ≡ xs
   filter_keeps [] all = refl
-  filter_keeps (y ∷ xs) all = rw (all 0 y (omega arith)) (ap (λ l. y ∷ l) (filter_keeps xs (All-tail (λ x. p x ≡ true) y xs all)))
+  filter_keeps (y ∷ xs) all =
+      rw (all 0 y (omega arith)) (ap (λ l. y ∷ l) (filter_keeps xs (All-tail (λ x. p x ≡ true) y xs all)))
 
   -- what a filter leaves passes it
   pub filter_passes : (xs : List X) → All (λ x. p x ≡ true) (filter p xs)
@@ -76,7 +81,8 @@ module _ {X : Type 0} (p : X → Bool) where
   pub filter_reverse : (xs : List X) → filter p (reverse xs) ≡ reverse (filter p xs)
   filter_reverse [] = refl
   filter_reverse (x ∷ xs) =
-      ap (filter p) (reverse-append (x ∷ []) xs) ∙ (filter-append p (reverse xs) (x ∷ []) ∙ elim (cases_Bool (p x)) [
+      ap (filter p) (reverse-append (x ∷ []) xs)
+      ∙ (filter-append p (reverse xs) (x ∷ []) ∙ elim (cases_Bool (p x)) [
         | inl t ↦ rw (t, filter_reverse xs) (sym (reverse-append (x ∷ []) (filter p xs)))
         | inr f ↦ rw (f, filter_reverse xs) (append-nil (reverse (filter p xs)))
       ])
@@ -90,40 +96,60 @@ module _ {X : Type 0} (p q : X → Bool) (same : (x : X) → p x ≡ q x) where
 above_is : (place seq : ℕ) → range_contains nat_cmp (Excluded place) Unbounded seq ≡ nat_lt place seq
 above_is place seq =
     elim (cases_order place seq) [
-      | inl e ↦ ap (λ o. is_lt o && true) (sym (nat_cmp_is place seq Equal e)) ∙ sym (le-ltb place seq (omega (arith, e)))
+      | inl e ↦
+          ap (λ o. is_lt o && true) (sym (nat_cmp_is place seq Equal e))
+          ∙ sym (le-ltb place seq (omega (arith, e)))
       | inr (inl l) ↦ ap (λ o. is_lt o && true) (sym (nat_cmp_is place seq Less l)) ∙ sym (lt-ltb place seq l)
-      | inr (inr g) ↦ ap (λ o. is_lt o && true) (sym (nat_cmp_is place seq Greater g)) ∙ sym (le-ltb place seq (omega (arith, g)))
+      | inr (inr g) ↦
+          ap (λ o. is_lt o && true) (sym (nat_cmp_is place seq Greater g))
+          ∙ sym (le-ltb place seq (omega (arith, g)))
     ]
 
-pub above : (place : ℕ) (rows : List (ℕ × ℕ)) → entries_between nat_cmp (Excluded place) Unbounded rows ≡ filter (λ (r : ℕ × ℕ). nat_lt place r.0) rows
-above place rows = filter_as (λ (r : ℕ × ℕ). range_contains nat_cmp (Excluded place) Unbounded r.0) (λ (r : ℕ × ℕ). nat_lt place r.0) (λ r. above_is place r.0) rows
+pub above : (place : ℕ) (rows : List (ℕ × ℕ))
+    → entries_between nat_cmp (Excluded place) Unbounded rows ≡ filter (λ (r : ℕ × ℕ). nat_lt place r.0) rows
+above place rows =
+    filter_as (λ (r : ℕ × ℕ). range_contains nat_cmp (Excluded place) Unbounded r.0)
+    (λ (r : ℕ × ℕ). nat_lt place r.0) (λ r. above_is place r.0) rows
 
 -- the tree's test of what lies below a place
 below_is : (place seq : ℕ) → range_contains nat_cmp Unbounded (Excluded place) seq ≡ nat_lt seq place
 below_is place seq =
     elim (cases_order place seq) [
-      | inl e ↦ ap (λ o. not (is_le o)) (sym (nat_cmp_is place seq Equal e)) ∙ sym (le-ltb seq place (omega (arith, e)))
-      | inr (inl l) ↦ ap (λ o. not (is_le o)) (sym (nat_cmp_is place seq Less l)) ∙ sym (le-ltb seq place (omega (arith, l)))
-      | inr (inr g) ↦ ap (λ o. not (is_le o)) (sym (nat_cmp_is place seq Greater g)) ∙ sym (lt-ltb seq place g)
+      | inl e ↦
+          ap (λ o. not (is_le o)) (sym (nat_cmp_is place seq Equal e))
+          ∙ sym (le-ltb seq place (omega (arith, e)))
+      | inr (inl l) ↦
+          ap (λ o. not (is_le o)) (sym (nat_cmp_is place seq Less l))
+          ∙ sym (le-ltb seq place (omega (arith, l)))
+      | inr (inr g) ↦
+          ap (λ o. not (is_le o)) (sym (nat_cmp_is place seq Greater g)) ∙ sym (lt-ltb seq place g)
     ]
 
-pub below : (place : ℕ) (rows : List (ℕ × ℕ)) → entries_between nat_cmp Unbounded (Excluded place) rows ≡ filter (λ (r : ℕ × ℕ). nat_lt r.0 place) rows
-below place rows = filter_as (λ (r : ℕ × ℕ). range_contains nat_cmp Unbounded (Excluded place) r.0) (λ (r : ℕ × ℕ). nat_lt r.0 place) (λ r. below_is place r.0) rows
+pub below : (place : ℕ) (rows : List (ℕ × ℕ))
+    → entries_between nat_cmp Unbounded (Excluded place) rows ≡ filter (λ (r : ℕ × ℕ). nat_lt r.0 place) rows
+below place rows =
+    filter_as (λ (r : ℕ × ℕ). range_contains nat_cmp Unbounded (Excluded place) r.0)
+    (λ (r : ℕ × ℕ). nat_lt r.0 place) (λ r. below_is place r.0) rows
 
 -- what the rows below a place end with
-module _ (rows found : List (ℕ × ℕ)) (place : ℕ) (is : found ≡ entries_between nat_cmp Unbounded (Excluded place) rows) where
+module _ (rows found : List (ℕ × ℕ)) (place : ℕ)
+    (is : found ≡ entries_between nat_cmp Unbounded (Excluded place) rows) where
   from_last : filter (λ (r : ℕ × ℕ). nat_lt r.0 place) (reverse rows) ≡ reverse found
   from_last = filter_reverse (λ (r : ℕ × ℕ). nat_lt r.0 place) rows ∙ ap reverse (sym (is ∙ below place rows))
 
   pub last_none : found ≡ [] → last_before rows place ≡ None
   last_none e = find_no_first (λ (r : ℕ × ℕ). nat_lt r.0 place) (reverse rows) (from_last ∙ ap reverse e)
 
-  pub last_found : (front : List (ℕ × ℕ)) (r : ℕ × ℕ) → found ≡ front ++ r ∷ [] → last_before rows place ≡ Some r
-  last_found front r e = find_first (λ (r : ℕ × ℕ). nat_lt r.0 place) (reverse rows) r (reverse front) (from_last ∙ (ap reverse e ∙ reverse-append front (r ∷ [])))
+  pub last_found : (front : List (ℕ × ℕ)) (r : ℕ × ℕ) → found ≡ front ++ r ∷ []
+      → last_before rows place ≡ Some r
+  last_found front r e =
+      find_first (λ (r : ℕ × ℕ). nat_lt r.0 place) (reverse rows) r (reverse front)
+      (from_last ∙ (ap reverse e ∙ reverse-append front (r ∷ [])))
 
 -- the first row above a place, where it is not above the bound
 module _ (place bound : ℕ) where
-  pub within : (rows : List (ℕ × ℕ)) (r : ℕ × ℕ) → find (λ (r : ℕ × ℕ). nat_lt place r.0) rows ≡ Some r → r.0 ≤ bound → next_after rows place (Some bound) ≡ Some r
+  pub within : (rows : List (ℕ × ℕ)) (r : ℕ × ℕ) → find (λ (r : ℕ × ℕ). nat_lt place r.0) rows ≡ Some r
+      → r.0 ≤ bound → next_after rows place (Some bound) ≡ Some r
   within [] r e l = absurd (none-some r e)
   within (x ∷ rows) r e l =
       elim (cases_Bool (nat_lt place x.0)) [
@@ -134,11 +160,16 @@ module _ (place bound : ℕ) where
       upto : (r : ℕ × ℕ) → Some x ≡ Some r → r.0 ≤ bound → x.0 ≤ bound
       upto r q l = subst (λ (z : ℕ × ℕ). z.0 ≤ bound) (sym (same_Some x r q)) l
 
-  pub beyond : (rows : List (ℕ × ℕ)) (r : ℕ × ℕ) → AllPairs (λ (a b : ℕ × ℕ). a.0 < b.0) rows → find (λ (r : ℕ × ℕ). nat_lt place r.0) rows ≡ Some r → bound < r.0 → next_after rows place (Some bound) ≡ None
+  pub beyond : (rows : List (ℕ × ℕ)) (r : ℕ × ℕ) → AllPairs (λ (a b : ℕ × ℕ). a.0 < b.0) rows
+      → find (λ (r : ℕ × ℕ). nat_lt place r.0) rows ≡ Some r → bound < r.0
+      → next_after rows place (Some bound) ≡ None
   beyond [] r rising e l = refl
   beyond (x ∷ rows) r rising e l =
       elim (cases_Bool (nat_lt place x.0)) [
-        | inl t ↦ find_nothing (λ (z : ℕ × ℕ). is_within place (Some bound) z.0) (x ∷ rows) (All-cons (λ (z : ℕ × ℕ). is_within place (Some bound) z.0 ≡ false) x rows (out x.0 (first r (rw t at e) l)) (λ k d m. out _ (later r (rw t at e) l k d m)))
+        | inl t ↦
+            find_nothing (λ (z : ℕ × ℕ). is_within place (Some bound) z.0) (x ∷ rows)
+            (All-cons (λ (z : ℕ × ℕ). is_within place (Some bound) z.0 ≡ false) x rows
+            (out x.0 (first r (rw t at e) l)) (λ k d m. out _ (later r (rw t at e) l k d m)))
         | inr f ↦ rw f (beyond rows r (of_tail (λ (a b : ℕ × ℕ). a.0 < b.0) x rows rising) (rw f at e) l)
       ]
     where
@@ -151,7 +182,8 @@ module _ (place bound : ℕ) where
       later : (r : ℕ × ℕ) → Some x ≡ Some r → bound < r.0 → All (λ (z : ℕ × ℕ). bound < z.0) rows
       later r q l k d m = omega (arith, first r q l, of_head (λ (a b : ℕ × ℕ). a.0 < b.0) x rows rising k d m)
 
-pub nothing : (rows : List (ℕ × ℕ)) (place : ℕ) (bound : Option ℕ) → find (λ (r : ℕ × ℕ). nat_lt place r.0) rows ≡ None → next_after rows place bound ≡ None
+pub nothing : (rows : List (ℕ × ℕ)) (place : ℕ) (bound : Option ℕ)
+    → find (λ (r : ℕ × ℕ). nat_lt place r.0) rows ≡ None → next_after rows place bound ≡ None
 nothing rows place None e = e
 nothing [] place (Some bound) e = refl
 nothing (x ∷ rows) place (Some bound) e =
@@ -161,17 +193,24 @@ nothing (x ∷ rows) place (Some bound) e =
     ]
 
 -- what the rows above a place begin with
-module _ (rows found : List (ℕ × ℕ)) (place : ℕ) (is : found ≡ entries_between nat_cmp (Excluded place) Unbounded rows) where
-  first_above : (r : ℕ × ℕ) (rest : List (ℕ × ℕ)) → found ≡ r ∷ rest → find (λ (r : ℕ × ℕ). nat_lt place r.0) rows ≡ Some r
-  first_above r rest e = find_first (λ (r : ℕ × ℕ). nat_lt place r.0) rows r rest (sym (above place rows) ∙ (sym is ∙ e))
+module _ (rows found : List (ℕ × ℕ)) (place : ℕ)
+    (is : found ≡ entries_between nat_cmp (Excluded place) Unbounded rows) where
+  first_above : (r : ℕ × ℕ) (rest : List (ℕ × ℕ)) → found ≡ r ∷ rest
+      → find (λ (r : ℕ × ℕ). nat_lt place r.0) rows ≡ Some r
+  first_above r rest e =
+      find_first (λ (r : ℕ × ℕ). nat_lt place r.0) rows r rest (sym (above place rows) ∙ (sym is ∙ e))
 
   pub next_none : (bound : Option ℕ) → found ≡ [] → next_after rows place bound ≡ None
-  next_none bound e = nothing rows place bound (find_no_first (λ (r : ℕ × ℕ). nat_lt place r.0) rows (sym (above place rows) ∙ (sym is ∙ e)))
+  next_none bound e =
+      nothing rows place bound
+      (find_no_first (λ (r : ℕ × ℕ). nat_lt place r.0) rows (sym (above place rows) ∙ (sym is ∙ e)))
 
-  pub next_beyond : IsIndex rows → (bound : ℕ) (r : ℕ × ℕ) (rest : List (ℕ × ℕ)) → found ≡ r ∷ rest → bound < r.0 → next_after rows place (Some bound) ≡ None
+  pub next_beyond : IsIndex rows → (bound : ℕ) (r : ℕ × ℕ) (rest : List (ℕ × ℕ)) → found ≡ r ∷ rest
+      → bound < r.0 → next_after rows place (Some bound) ≡ None
   next_beyond index bound r rest e l = beyond place bound rows r index.rising (first_above r rest e) l
 
-  pub next_within : (bound : Option ℕ) (r : ℕ × ℕ) (rest : List (ℕ × ℕ)) → found ≡ r ∷ rest → ((b : ℕ) → bound ≡ Some b → r.0 ≤ b) → next_after rows place bound ≡ Some r
+  pub next_within : (bound : Option ℕ) (r : ℕ × ℕ) (rest : List (ℕ × ℕ)) → found ≡ r ∷ rest
+      → ((b : ℕ) → bound ≡ Some b → r.0 ≤ b) → next_after rows place bound ≡ Some r
   next_within None r rest e l = first_above r rest e
   next_within (Some b) r rest e l = within place b rows r (first_above r rest e) (l b refl)
 
@@ -179,10 +218,14 @@ module _ (rows found : List (ℕ × ℕ)) (place : ℕ) (is : found ≡ entries_
   counted = ap length (is ∙ above place rows) ∙ length-filter (λ (r : ℕ × ℕ). nat_lt place r.0) rows
 
 -- a row above all goes to the end
-pub insert_last : {X : Type 0} (rows : List (ℕ × X)) (seq : ℕ) (document : X) → All (λ (r : ℕ × X). r.0 < seq) rows → insert_entry nat_cmp rows seq document ≡ rows ++ (seq, document) ∷ []
+pub insert_last : {X : Type 0} (rows : List (ℕ × X)) (seq : ℕ) (document : X)
+    → All (λ (r : ℕ × X). r.0 < seq) rows
+    → insert_entry nat_cmp rows seq document ≡ rows ++ (seq, document) ∷ []
 insert_last [] seq document all = refl
 insert_last (x ∷ rows) seq document all =
-    ap (λ o. match_ordering o ((seq, document) ∷ x ∷ rows) ((x.0, document) ∷ rows) (x ∷ insert_entry nat_cmp rows seq document)) (sym (nat_cmp_is seq x.0 Greater (all 0 x (omega arith))))
+    ap (λ o. match_ordering o ((seq, document) ∷ x ∷ rows) ((x.0, document) ∷ rows)
+    (x ∷ insert_entry nat_cmp rows seq document))
+    (sym (nat_cmp_is seq x.0 Greater (all 0 x (omega arith))))
     ∙ ap (λ l. x ∷ l) (insert_last rows seq document (All-tail (λ r. r.0 < seq) x rows all))
 
 module _ (document : ℕ) where
@@ -199,10 +242,13 @@ module _ (document : ℕ) where
       ]
 
   -- a document that has no row loses none
-  pub moved_new : (rows : List (ℕ × ℕ)) (seq : ℕ) → seq_of document rows ≡ None → rows ++ (seq, document) ∷ [] ≡ moved rows document seq
-  moved_new rows seq e = ap (λ l. l ++ (seq, document) ∷ []) (sym (filter_keeps is_other rows (none_of rows e)))
+  pub moved_new : (rows : List (ℕ × ℕ)) (seq : ℕ) → seq_of document rows ≡ None
+      → rows ++ (seq, document) ∷ [] ≡ moved rows document seq
+  moved_new rows seq e =
+      ap (λ l. l ++ (seq, document) ∷ []) (sym (filter_keeps is_other rows (none_of rows e)))
 
-  pub seq_has : (P : ℕ → Type 0) (rows : List (ℕ × ℕ)) (old : ℕ) → All (λ (r : ℕ × ℕ). P r.0) rows → seq_of document rows ≡ Some old → P old
+  pub seq_has : (P : ℕ → Type 0) (rows : List (ℕ × ℕ)) (old : ℕ) → All (λ (r : ℕ × ℕ). P r.0) rows
+      → seq_of document rows ≡ Some old → P old
   seq_has P [] old all e = absurd (none-some old e)
   seq_has P (x ∷ rows) old all e =
       elim (cases_Bool (nat_eq x.1 document)) [
@@ -210,47 +256,87 @@ module _ (document : ℕ) where
         | inr f ↦ seq_has P rows old (All-tail (λ (r : ℕ × ℕ). P r.0) x rows all) (rw f at e)
       ]
 
-  without : (rows : List (ℕ × ℕ)) (old seq : ℕ) → AllPairs (λ (a b : ℕ × ℕ). a.0 < b.0) rows → AllPairs (λ (a b : ℕ × ℕ). a.1 ≢ b.1) rows → seq_of document rows ≡ Some old
+  without : (rows : List (ℕ × ℕ)) (old seq : ℕ) → AllPairs (λ (a b : ℕ × ℕ). a.0 < b.0) rows
+      → AllPairs (λ (a b : ℕ × ℕ). a.1 ≢ b.1) rows → seq_of document rows ≡ Some old
       → remove_entry (is_at (nat_cmp old)) (rows ++ (seq, document) ∷ []) ≡ moved rows document seq
   without [] old seq rising once e = absurd (none-some old e)
   without (x ∷ rows) old seq rising once e =
       elim (cases_Bool (nat_eq x.1 document)) [
-        | inl t ↦ ap (λ b. cond b (rows ++ (seq, document) ∷ []) (x ∷ remove_entry (is_at (nat_cmp old)) (rows ++ (seq, document) ∷ []))) (ap is_eq (sym (nat_cmp_is old x.0 Equal (sym (same_Some x.0 old (rw t at e))))))
-            ∙ (ap (λ l. l ++ (seq, document) ∷ []) (sym (filter_keeps is_other rows (others (eqb-true x.1 document t))))
-            ∙ ap (λ b. cond (not b) (x ∷ filter is_other rows) (filter is_other rows) ++ (seq, document) ∷ []) (sym t))
-        | inr f ↦ ap (λ b. cond b (rows ++ (seq, document) ∷ []) (x ∷ remove_entry (is_at (nat_cmp old)) (rows ++ (seq, document) ∷ []))) (ap is_eq (sym (nat_cmp_is old x.0 Greater (seq_has (λ z. x.0 < z) rows old (of_head (λ (a b : ℕ × ℕ). a.0 < b.0) x rows rising) (rw f at e)))))
-            ∙ (ap (λ l. x ∷ l) (without rows old seq (of_tail (λ (a b : ℕ × ℕ). a.0 < b.0) x rows rising) (of_tail (λ (a b : ℕ × ℕ). a.1 ≢ b.1) x rows once) (rw f at e))
-            ∙ ap (λ b. cond (not b) (x ∷ filter is_other rows) (filter is_other rows) ++ (seq, document) ∷ []) (sym f))
+        | inl t ↦
+            ap (λ b. cond b (rows ++ (seq, document) ∷ [])
+            (x ∷ remove_entry (is_at (nat_cmp old)) (rows ++ (seq, document) ∷ [])))
+            (ap is_eq (sym (nat_cmp_is old x.0 Equal (sym (same_Some x.0 old (rw t at e))))))
+            ∙ (ap (λ l. l ++ (seq, document) ∷ [])
+            (sym (filter_keeps is_other rows (others (eqb-true x.1 document t))))
+            ∙ ap (λ b. cond (not b) (x ∷ filter is_other rows) (filter is_other rows) ++ (seq, document) ∷ [])
+            (sym t))
+        | inr f ↦
+            ap (λ b. cond b (rows ++ (seq, document) ∷ [])
+            (x ∷ remove_entry (is_at (nat_cmp old)) (rows ++ (seq, document) ∷ [])))
+            (ap is_eq
+            (sym (nat_cmp_is old x.0 Greater
+            (seq_has (λ z. x.0 < z) rows old
+            (of_head (λ (a b : ℕ × ℕ). a.0 < b.0) x rows rising) (rw f at e)))))
+            ∙ (ap (λ l. x ∷ l)
+            (without rows old seq (of_tail (λ (a b : ℕ × ℕ). a.0 < b.0) x rows rising)
+            (of_tail (λ (a b : ℕ × ℕ). a.1 ≢ b.1) x rows once) (rw f at e))
+            ∙ ap (λ b. cond (not b) (x ∷ filter is_other rows) (filter is_other rows) ++ (seq, document) ∷ [])
+            (sym f))
       ]
     where
       others : x.1 ≡ document → All (λ r. is_other r ≡ true) rows
-      others q k d m = ap not (false_from_ne_true _ (λ h. of_head (λ (a b : ℕ × ℕ). a.1 ≢ b.1) x rows once k d m (q ∙ sym (eqb-true _ document h))))
+      others q k d m =
+          ap not
+          (false_from_ne_true _
+          (λ h. of_head (λ (a b : ℕ × ℕ). a.1 ≢ b.1) x rows once k d m (q ∙ sym (eqb-true _ document h))))
 
   -- a document that has a row loses that one
-  pub moved_old : (rows : List (ℕ × ℕ)) (old seq : ℕ) → IsIndex rows → seq_of document rows ≡ Some old → remove_entry (is_at (nat_cmp old)) (rows ++ (seq, document) ∷ []) ≡ moved rows document seq
+  pub moved_old : (rows : List (ℕ × ℕ)) (old seq : ℕ) → IsIndex rows → seq_of document rows ≡ Some old
+      → remove_entry (is_at (nat_cmp old)) (rows ++ (seq, document) ∷ []) ≡ moved rows document seq
   moved_old rows old seq index e = without rows old seq index.rising index.once e
 
   -- rows after a move
-  pub index_moved : (rows : List (ℕ × ℕ)) (seq : ℕ) → IsIndex rows → 0 < seq → All (λ (r : ℕ × ℕ). r.0 < seq) rows → IsIndex (moved rows document seq)
+  pub index_moved : (rows : List (ℕ × ℕ)) (seq : ℕ) → IsIndex rows → 0 < seq
+      → All (λ (r : ℕ × ℕ). r.0 < seq) rows → IsIndex (moved rows document seq)
   index_moved rows seq index positive all = record {
-    rising = all_pairs_push (λ (a b : ℕ × ℕ). a.0 < b.0) (filter is_other rows) (seq, document) (AllPairs-filter (λ (a b : ℕ × ℕ). a.0 < b.0) is_other rows index.rising) (All-filter is_other (λ (r : ℕ × ℕ). r.0 < seq) rows all);
-    once = all_pairs_push (λ (a b : ℕ × ℕ). a.1 ≢ b.1) (filter is_other rows) (seq, document) (AllPairs-filter (λ (a b : ℕ × ℕ). a.1 ≢ b.1) is_other rows index.once) (λ k d m. other (get_or (filter is_other rows) k d) (filter_passes is_other rows k d m));
-    positive = All-push (λ (r : ℕ × ℕ). 0 < r.0) (filter is_other rows) (seq, document) (All-filter is_other (λ (r : ℕ × ℕ). 0 < r.0) rows index.positive) positive;
+    rising =
+        all_pairs_push (λ (a b : ℕ × ℕ). a.0 < b.0) (filter is_other rows) (seq, document)
+        (AllPairs-filter (λ (a b : ℕ × ℕ). a.0 < b.0) is_other rows index.rising)
+        (All-filter is_other (λ (r : ℕ × ℕ). r.0 < seq) rows all);
+    once =
+        all_pairs_push (λ (a b : ℕ × ℕ). a.1 ≢ b.1) (filter is_other rows) (seq, document)
+        (AllPairs-filter (λ (a b : ℕ × ℕ). a.1 ≢ b.1) is_other rows index.once)
+        (λ k d m. other (get_or (filter is_other rows) k d) (filter_passes is_other rows k d m));
+    positive =
+        All-push (λ (r : ℕ × ℕ). 0 < r.0) (filter is_other rows) (seq, document)
+        (All-filter is_other (λ (r : ℕ × ℕ). 0 < r.0) rows index.positive) positive;
   }
     where
       other : (r : ℕ × ℕ) → is_other r ≡ true → r.1 ≢ document
       other r h e = both_ways (is_other r) (ap not (eq-eqb r.1 document e)) h
 
 -- rows that were seen as a value, and those after an insertion and a removal
-module _ (document seq : ℕ) (value rows inserted : List (ℕ × ℕ)) (seen : rows ≡ value) (above_all : All (λ (r : ℕ × ℕ). r.0 < seq) value) (by_insert : inserted ≡ insert_entry nat_cmp rows seq document) where
+module _ (document seq : ℕ) (value rows inserted : List (ℕ × ℕ))
+    (seen : rows ≡ value) (above_all : All (λ (r : ℕ × ℕ). r.0 < seq) value)
+    (by_insert : inserted ≡ insert_entry nat_cmp rows seq document) where
   at_end : inserted ≡ value ++ (seq, document) ∷ []
-  at_end = by_insert ∙ (ap (λ l. insert_entry nat_cmp l seq document) seen ∙ insert_last value seq document above_all)
+  at_end =
+      by_insert
+      ∙ (ap (λ l. insert_entry nat_cmp l seq document) seen ∙ insert_last value seq document above_all)
 
-  pub after_insert : (old : Option ℕ) → seq_of document value ≡ old → old ≡ None → inserted ≡ moved value document seq
+  pub after_insert : (old : Option ℕ) → seq_of document value ≡ old → old ≡ None
+      → inserted ≡ moved value document seq
   after_insert old own is = at_end ∙ moved_new document value seq (own ∙ is)
 
-  pub after_remove : (removed : List (ℕ × ℕ)) (old : Option ℕ) (key : ℕ) → IsIndex rows → seq_of document value ≡ old → old ≡ Some key → removed ≡ remove_entry (is_at (nat_cmp key)) inserted → removed ≡ moved value document seq
-  after_remove removed old key index own is by_remove = by_remove ∙ (ap (remove_entry (is_at (nat_cmp key))) at_end ∙ moved_old document value key seq (subst IsIndex seen index) (own ∙ is))
+  pub after_remove : (removed : List (ℕ × ℕ)) (old : Option ℕ) (key : ℕ) → IsIndex rows
+      → seq_of document value ≡ old → old ≡ Some key → removed ≡ remove_entry (is_at (nat_cmp key)) inserted
+      → removed ≡ moved value document seq
+  after_remove removed old key index own is by_remove =
+      by_remove
+      ∙ (ap (remove_entry (is_at (nat_cmp key))) at_end
+      ∙ moved_old document value key seq (subst IsIndex seen index) (own ∙ is))
 
-pub index_after : (document seq : ℕ) (value rows after : List (ℕ × ℕ)) → rows ≡ value → IsIndex rows → 0 < seq → All (λ (r : ℕ × ℕ). r.0 < seq) value → after ≡ moved value document seq → IsIndex after
-index_after document seq value rows after seen index positive all is = subst IsIndex (sym is) (index_moved document value seq (subst IsIndex seen index) positive all)
+pub index_after : (document seq : ℕ) (value rows after : List (ℕ × ℕ)) → rows ≡ value → IsIndex rows
+    → 0 < seq → All (λ (r : ℕ × ℕ). r.0 < seq) value → after ≡ moved value document seq → IsIndex after
+index_after document seq value rows after seen index positive all is =
+    subst IsIndex (sym is) (index_moved document value seq (subst IsIndex seen index) positive all)

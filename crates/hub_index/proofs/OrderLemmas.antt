@@ -1,6 +1,8 @@
 -- Numbers in the order of their ids: what a search finds, and where a number goes.
-use Rattle.std.proofs.Common.{◌≡◌, ◌≢◌, ℕ, zero, suc, ◌+◌, ◌<◌, ◌≤◌, List, [], ◌∷◌, ◌++◌, length, get_or, Bool, true}
-use Rattle.std.proofs.Common.{false, not, ap, refl, sym, ◌∙◌, subst, arith, inl, inr, ◌⊎◌, take, drop, find, filter, Contains}
+use Rattle.std.proofs.Common.{◌≡◌, ◌≢◌, ℕ, zero, suc, ◌+◌, ◌<◌, ◌≤◌, List}
+use Rattle.std.proofs.Common.{[], ◌∷◌, ◌++◌, length, get_or, Bool, true}
+use Rattle.std.proofs.Common.{false, not, ap, refl, sym, ◌∙◌, subst, arith, inl}
+use Rattle.std.proofs.Common.{inr, ◌⊎◌, take, drop, find, filter, Contains}
 use Rattle.std.specs.Prelude.{if◌then◌else◌}
 use Rattle.std.specs.Prelude.{Some, None}
 use Rattle.std.specs.Cmp.Lexicographic.{slice_cmp}
@@ -16,7 +18,8 @@ use Rattle.std.proofs.lemmas.Cmp.{nat_list_cmp_total, alike_right, tied_itself}
 use Rattle.std.proofs.lemmas.List.{get_or_default, get_or_append_left, get_or-append-add, length-append}
 use Rattle.std.proofs.lemmas.List.{take-append-drop, drop_more, drop_all, get_or_at, length_push}
 use Rattle.std.proofs.lemmas.Map.Text.{is_eq-slice_cmp}
-use Rattle.std.proofs.lemmas.List.Elements.{All-nil, All-cons, All-head, All-tail, All-append, All-contains, All-filter, All-weaker}
+use Rattle.std.proofs.lemmas.List.Elements.{All-nil, All-cons, All-head, All-tail, All-append}
+use Rattle.std.proofs.lemmas.List.Elements.{All-contains, All-filter, All-weaker}
 use Rattle.std.proofs.lemmas.List.Elements.{Contains-get_or, Contains-append_right, filter_passes}
 use Rattle.std.proofs.lemmas.List.Kept.{AllPairs-filter, AllPairs-cons}
 use Rattle.hub_model.proofs.Lists.{same_text}
@@ -52,7 +55,8 @@ greater_less x y z xz xy = ap is_gt (nat_list_cmp_total.antisymm y z ∙ ap orde
 -- texts that compare as different are
 pub apart_by : (x y : List ℕ) (o : Ordering) → slice_cmp nat_cmp x y ≡ o → o ≢ Equal → bytes_eq x y ≡ false
 apart_by x y o e n =
-    text_apart x y (λ same. n (sym e ∙ (ap (slice_cmp nat_cmp x) (sym same) ∙ tied_itself nat_list_cmp_total x)))
+    text_apart x y
+    (λ same. n (sym e ∙ (ap (slice_cmp nat_cmp x) (sym same) ∙ tied_itself nat_list_cmp_total x)))
 
 -- ---- parts of a list whose pairs are related
 
@@ -68,7 +72,8 @@ module _ {X : Type 0} (R : X → X → Type 0) where
   pairs_right (x ∷ xs) ys pairs = pairs_right xs ys (of_tail R x (xs ++ ys) pairs)
 
   -- each element of the first part is related to each of the second
-  pub pairs_across : (xs ys : List X) → AllPairs R (xs ++ ys) → (x y : X) → Contains xs x → Contains ys y → R x y
+  pub pairs_across : (xs ys : List X) → AllPairs R (xs ++ ys) → (x y : X) → Contains xs x → Contains ys y
+      → R x y
   pairs_across [] ys pairs x y (k, l, e) there = absurd (omega arith)
   pairs_across (z ∷ xs) ys pairs x y (zero, l, e) there =
       subst (λ w. R w y) e
@@ -99,10 +104,12 @@ module _ {X : Type 0} (p : X → Bool) where
       ap (λ o. if p x then Some x else o) (find_before xs ys all)
 
   -- where the last element passes, all do
-  pub whole_parted : (xs : List X) (k : ℕ) (x : X) → IsPartitionedBy p xs → k + 1 ≡ length xs → x ≡ get_or xs k x → p x ≡ true
+  pub whole_parted : (xs : List X) (k : ℕ) (x : X) → IsPartitionedBy p xs → k + 1 ≡ length xs
+      → x ≡ get_or xs k x → p x ≡ true
       → AllWithin (λ y. p y ≡ true) xs 0 (length xs) × AllWithin (λ y. p y ≡ false) xs (length xs) (length xs)
   whole_parted xs k x divided last here passes = (
-    (λ i d a b. divided i k d (omega arith) (omega arith) (ap p (get_or_default xs k d x (omega arith) ∙ sym here) ∙ passes)),
+    (λ i d a b. divided i k d (omega arith) (omega arith)
+        (ap p (get_or_default xs k d x (omega arith) ∙ sym here) ∙ passes)),
     λ i d a b. absurd (omega arith),
   )
 
@@ -116,7 +123,9 @@ module _ {X : Type 0} (p : X → Bool) where
   parted [] (suc k) l low high = absurd (omega arith)
   parted (x ∷ xs) (suc k) l low high =
       let first : p x ≡ true = low 0 x (omega arith) (omega arith) in
-      let rest = parted xs k (omega arith) (λ i d a b. low (suc i) d (omega arith) (omega arith)) (λ i d a b. high (suc i) d (omega arith) (omega arith)) in
+      let rest =
+      parted xs k (omega arith) (λ i d a b. low (suc i) d (omega arith) (omega arith))
+      (λ i d a b. high (suc i) d (omega arith) (omega arith)) in
       (rw first (ap (λ ys. x ∷ ys) rest.0), rw first rest.1)
 
 -- ---- numbers in order
@@ -137,7 +146,8 @@ module _ (ids : List (List ℕ)) where
   pub order_right : (xs ys : List ℕ) → IsOrder ids (xs ++ ys) → IsOrder ids ys
   order_right xs ys order = record {
     known = λ k d l.
-        rw (← get_or-append-add xs ys k d) (order.known (length xs + k) d (omega (arith, length-append xs ys)));
+        rw (← get_or-append-add xs ys k d)
+        (order.known (length xs + k) d (omega (arith, length-append xs ys)));
     rising = pairs_right Rises xs ys order.rising;
   }
 
@@ -189,7 +199,9 @@ module _ (ids : List (List ℕ)) where
       where
         from : (i < j) ⊎ (j ≤ i) → lies_below ids id (get_or numbers i d) ≡ true
         from (inl low) =
-            ap is_lt (lower_first (get_or numbers i d) (get_or numbers j d) (rising i j d low l) (up_to_from_below (id_cmp ids id (get_or numbers j d)) h))
+            ap is_lt
+            (lower_first (get_or numbers i d) (get_or numbers j d) (rising i j d low l)
+            (up_to_from_below (id_cmp ids id (get_or numbers j d)) h))
         from (inr high) =
             let same : i ≡ j = omega arith in
             rw same h
@@ -203,7 +215,8 @@ module _ (ids : List (List ℕ)) where
           ap (find (has_id ids id)) (sym (take-append-drop at numbers))
           ∙ find_behind (has_id ids id) (take at numbers) (drop at numbers)
           (subst (All (λ n. has_id ids id n ≡ false)) (sym before)
-          (All-weaker (λ n. lies_below ids id n ≡ true) (λ n. has_id ids id n ≡ false) not_below (filter (lies_below ids id) numbers) (filter_passes (lies_below ids id) numbers)))
+          (All-weaker (λ n. lies_below ids id n ≡ true) (λ n. has_id ids id n ≡ false) not_below
+          (filter (lies_below ids id) numbers) (filter_passes (lies_below ids id) numbers)))
 
       pub found_past : length numbers ≤ at → number_in ids numbers id ≡ None
       found_past l = from_place ∙ ap (find (has_id ids id)) (drop_all at numbers l)
@@ -225,19 +238,24 @@ module _ (ids : List (List ℕ)) where
 
           above : has_id ids id n ≡ false → is_gt (id_cmp ids id n) ≡ true
           above =
-              above_else n (not_true (lies_below ids id n) (All-head (λ m. not (lies_below ids id m) ≡ true) n rest passes))
+              above_else n
+              (not_true (lies_below ids id n)
+              (All-head (λ m. not (lies_below ids id m) ≡ true) n rest passes))
 
           later : AllPairs Rises (n ∷ rest)
           later =
               subst (AllPairs Rises) split
-              (pairs_right Rises (take at numbers) (drop at numbers) (subst (AllPairs Rises) (sym (take-append-drop at numbers)) rising))
+              (pairs_right Rises (take at numbers) (drop at numbers)
+              (subst (AllPairs Rises) (sym (take-append-drop at numbers)) rising))
 
           from : (b : Bool) → has_id ids id n ≡ b
               → (if b then Some n else find (has_id ids id) rest) ≡ (if b then Some n else None)
           from true e = refl
           from false e =
               find_nothing (has_id ids id) rest
-              (All-weaker (Rises n) (λ m. has_id ids id m ≡ false) (λ m r. (not_above m (greater_less (id_at ids n) (id_at ids m) id (above e) r)).0) rest (of_head Rises n rest later))
+              (All-weaker (Rises n) (λ m. has_id ids id m ≡ false)
+              (λ m r. (not_above m (greater_less (id_at ids n) (id_at ids m) id (above e) r)).0) rest
+              (of_head Rises n rest later))
 
 -- ---- an order with one more number
 
@@ -297,17 +315,22 @@ module _ (ids : List (List ℕ)) (numbers : List ℕ) (id : List ℕ) (n : ℕ) 
       let q : ℕ → Bool = λ m. not (lies_below ids id m) in
       let b = get_or (filter q numbers) k d in
       let lies = not_true (lies_below ids id b) (filter_passes q numbers k d l) in
-      let apart = All-filter q (λ m. has_id ids id m ≡ false) numbers (none_pass (has_id ids id) numbers new) k d l in (
+      let apart =
+      All-filter q (λ m. has_id ids id m ≡ false) numbers (none_pass (has_id ids id) numbers new) k d l in (
         All-filter q (λ m. m < length ids) numbers order.known k d l,
         nat_list_cmp_total.antisymm id (id_at ids b)
             ∙ ap ordering_reverse (greater_is (id_cmp ids id b) (above_else ids id b lies apart)),
       )
 
   before : (a : ℕ) → Low a → Rises (ids ++ id ∷ []) a n
-  before a (l, e) = ap (λ t. slice_cmp nat_cmp t (id_at (ids ++ id ∷ []) n)) (same_at a l) ∙ (ap (slice_cmp nat_cmp (id_at ids a)) own ∙ e)
+  before a (l, e) =
+      ap (λ t. slice_cmp nat_cmp t (id_at (ids ++ id ∷ []) n)) (same_at a l)
+      ∙ (ap (slice_cmp nat_cmp (id_at ids a)) own ∙ e)
 
   behind : (b : ℕ) → High b → Rises (ids ++ id ∷ []) n b
-  behind b (l, e) = ap (λ t. slice_cmp nat_cmp t (id_at (ids ++ id ∷ []) b)) own ∙ (ap (slice_cmp nat_cmp id) (same_at b l) ∙ e)
+  behind b (l, e) =
+      ap (λ t. slice_cmp nat_cmp t (id_at (ids ++ id ∷ []) b)) own
+      ∙ (ap (slice_cmp nat_cmp id) (same_at b l) ∙ e)
 
   pub order_more : IsOrder (ids ++ id ∷ []) (with_number ids numbers id n)
   order_more =
@@ -332,10 +355,12 @@ module _ (ids : List (List ℕ)) (numbers : List ℕ) (id : List ℕ) (n : ℕ) 
       across : (a y : ℕ) → Contains (filter (lies_below ids id) numbers) a
           → Contains (n ∷ filter (λ m. not (lies_below ids id m)) numbers) y → Rises (ids ++ id ∷ []) a y
       across a y here (zero, l, e) =
-          subst (Rises (ids ++ id ∷ []) a) e (before a (All-contains Low (filter (lies_below ids id) numbers) a low here))
+          subst (Rises (ids ++ id ∷ []) a) e
+          (before a (All-contains Low (filter (lies_below ids id) numbers) a low here))
       across a y here (suc k, l, e) =
           let la = All-contains Low (filter (lies_below ids id) numbers) a low here in
-          let hy = All-contains High (filter (λ m. not (lies_below ids id m)) numbers) y high (k, omega arith, e) in
+          let hy =
+          All-contains High (filter (λ m. not (lies_below ids id m)) numbers) y high (k, omega arith, e) in
           rises a y la.0 hy.0 (nat_list_cmp_total.trans (id_at ids a) id (id_at ids y) la.1 hy.1)
 
 -- ---- what is found with one more number
@@ -345,7 +370,8 @@ module _ {X : Type 0} (p : X → Bool) where
   pub parts_whole : (xs : List X) → IsPartitionedBy p xs → filter p xs ++ filter (λ x. not (p x)) xs ≡ xs
   parts_whole [] before = refl
   parts_whole (x ∷ xs) before =
-      from (parts_whole xs (λ i j d i≤j l h. before (suc i) (suc j) d (omega arith) (omega arith) h)) (p x) refl
+      from (parts_whole xs (λ i j d i≤j l h. before (suc i) (suc j) d (omega arith) (omega arith) h))
+      (p x) refl
     where
       from : filter p xs ++ filter (λ y. not (p y)) xs ≡ xs → (b : Bool) → p x ≡ b
           → filter p (x ∷ xs) ++ filter (λ y. not (p y)) (x ∷ xs) ≡ x ∷ xs
@@ -387,8 +413,10 @@ module _ (ids : List (List ℕ)) (numbers : List ℕ) (id : List ℕ) (n : ℕ) 
 
       as_before : find (has_id (ids ++ id ∷ []) q) (lows ++ highs) ≡ number_in ids numbers q
       as_before =
-          ap (find (has_id (ids ++ id ∷ []) q)) (parts_whole (lies_below ids id) numbers (below_parted ids id numbers order.rising))
-          ∙ find_agree (has_id (ids ++ id ∷ []) q) (has_id ids q) numbers (λ k d l. agrees (get_or numbers k d) (order.known k d l))
+          ap (find (has_id (ids ++ id ∷ []) q))
+          (parts_whole (lies_below ids id) numbers (below_parted ids id numbers order.rising))
+          ∙ find_agree (has_id (ids ++ id ∷ []) q) (has_id ids q) numbers
+          (λ k d l. agrees (get_or numbers k d) (order.known k d l))
 
       own_id : id_at (ids ++ id ∷ []) n ≡ id
       own_id = get_or_at ids id [] [] n (sym next)
@@ -396,13 +424,17 @@ module _ (ids : List (List ℕ)) (numbers : List ℕ) (id : List ℕ) (n : ℕ) 
       none_low : id ≡ q → All (λ m. has_id (ids ++ id ∷ []) q m ≡ false) lows
       none_low e k d l =
           let m = get_or lows k d in
-          let known : m < length ids = All-filter (lies_below ids id) (λ z. z < length ids) numbers order.known k d l in
+          let known : m < length ids =
+          All-filter (lies_below ids id) (λ z. z < length ids) numbers order.known k d l in
           agrees m known
           ∙ (ap (λ t. bytes_eq (id_at ids m) t) (sym e)
           ∙ not_below ids id m (filter_passes (lies_below ids id) numbers k d l))
 
-      skip : id ≢ q → (ls hs : List ℕ) → find (has_id (ids ++ id ∷ []) q) (ls ++ n ∷ hs) ≡ find (has_id (ids ++ id ∷ []) q) (ls ++ hs)
-      skip apart [] hs = ap (λ b. if b then Some n else find (has_id (ids ++ id ∷ []) q) hs) (ap (λ t. bytes_eq t q) own_id ∙ text_apart id q apart)
+      skip : id ≢ q → (ls hs : List ℕ)
+          → find (has_id (ids ++ id ∷ []) q) (ls ++ n ∷ hs) ≡ find (has_id (ids ++ id ∷ []) q) (ls ++ hs)
+      skip apart [] hs =
+          ap (λ b. if b then Some n else find (has_id (ids ++ id ∷ []) q) hs)
+          (ap (λ t. bytes_eq t q) own_id ∙ text_apart id q apart)
       skip apart (x ∷ ls) hs = ap (λ o. if has_id (ids ++ id ∷ []) q x then Some x else o) (skip apart ls hs)
 
       from : (id ≡ q) ⊎ (id ≢ q)
@@ -410,8 +442,10 @@ module _ (ids : List (List ℕ)) (numbers : List ℕ) (id : List ℕ) (n : ℕ) 
           ≡ update bytes_eq (number_in ids numbers) id (Some n) q
       from (inl e) =
           find_behind (has_id (ids ++ id ∷ []) q) lows (n ∷ highs) (none_low e)
-          ∙ (ap (λ b. if b then Some n else find (has_id (ids ++ id ∷ []) q) highs) (ap (λ t. bytes_eq t q) own_id ∙ text_same id q e)
+          ∙ (ap (λ b. if b then Some n else find (has_id (ids ++ id ∷ []) q) highs)
+          (ap (λ t. bytes_eq t q) own_id ∙ text_same id q e)
           ∙ sym (ap (λ b. if b then Some n else number_in ids numbers q) (text_same id q e)))
       from (inr apart) =
           skip apart lows highs
-          ∙ (as_before ∙ sym (ap (λ b. if b then Some n else number_in ids numbers q) (text_apart id q apart)))
+          ∙ (as_before
+          ∙ sym (ap (λ b. if b then Some n else number_in ids numbers q) (text_apart id q apart)))

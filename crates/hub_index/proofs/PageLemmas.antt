@@ -1,14 +1,23 @@
 -- Lemmas on the rows of pages.
-use Rattle.std.proofs.Common.{◌≡◌, ◌≢◌, ℕ, suc, ◌+◌, ◌*◌, ◌/◌, ◌^◌, ◌<◌, ◌≤◌, List, [], ◌∷◌, ◌++◌, length, get_or, set, take, drop, Bool, true, false, not, ◌||◌, cond, nat_eq, nat_lt, Option, Some, None, find, filter, map, reverse, count_by, is_some, sym, ◌∙◌, ap, refl, subst, inl, inr, arith}
+use Rattle.std.proofs.Common.{◌≡◌, ◌≢◌, ℕ, suc, ◌+◌, ◌*◌, ◌/◌, ◌^◌, ◌<◌, ◌≤◌, List, [], ◌∷◌, ◌++◌}
+use Rattle.std.proofs.Common.{length, get_or, set, take, drop, Bool, true, false, not, ◌||◌, cond}
+use Rattle.std.proofs.Common.{nat_eq, nat_lt, Option, Some, None, find, filter, map, reverse}
+use Rattle.std.proofs.Common.{count_by, is_some, sym, ◌∙◌, ap, refl, subst, inl, inr, arith}
 use Rattle.std.specs.Prelude.{IsSomeAnd, slice_get}
 use Rattle.std.specs.List.{All, AllPairs, AllWithin, list_any, remove}
 use Rattle.std.specs.List.Sorted.{IsPartitionPoint, IsPartitionedBy}
 use Rattle.std.specs.Option.{option_or}
 use Rattle.std.specs.Map.{remove_entry}
 use Rattle.std.specs.Set.{unique_keys, is_member}
-use Rattle.std.proofs.lemmas.Bool.{cases_Bool, cases_order, both_ways, eqb-true, false_from_ne_true, le-ltb, lt-ltb, ltb-true, ltb-false, eq-eqb, ne_eqb}
-use Rattle.std.proofs.lemmas.List.{append-nil, append_assoc, reverse-append, length-set, length-append, length-map, map-append, take-append-drop, take-set, drop-set-lt, drop_more, drop_all, set_split, get_or_default, get_or-take, get_or-drop, length-take-le, length-drop}
-use Rattle.std.proofs.lemmas.List.Elements.{All-tail, All-cons, All-nil, All-append, All-push, All-map, All-filter, All-set, All-get_or, All-take, All-drop, filter-append}
+use Rattle.std.proofs.lemmas.Bool.{cases_Bool, cases_order, both_ways, eqb-true, false_from_ne_true}
+use Rattle.std.proofs.lemmas.Bool.{le-ltb, lt-ltb, ltb-true, ltb-false, eq-eqb, ne_eqb}
+use Rattle.std.proofs.lemmas.List.{append-nil, append_assoc, reverse-append, length-set}
+use Rattle.std.proofs.lemmas.List.{length-append, length-map, map-append, take-append-drop, take-set}
+use Rattle.std.proofs.lemmas.List.{drop-set-lt, drop_more, drop_all, set_split, get_or_default}
+use Rattle.std.proofs.lemmas.List.{get_or-take, get_or-drop, length-take-le, length-drop}
+use Rattle.std.proofs.lemmas.List.Elements.{All-tail, All-cons, All-nil, All-append}
+use Rattle.std.proofs.lemmas.List.Elements.{All-push, All-map, All-filter, All-set}
+use Rattle.std.proofs.lemmas.List.Elements.{All-get_or, All-take, All-drop, filter-append}
 use Rattle.std.proofs.lemmas.List.Kept.{AllPairs-filter}
 use Rattle.std.proofs.lemmas.List.Folds.{find-append}
 use Rattle.std.proofs.lemmas.List.Sums.{length-filter, sum_by-append}
@@ -17,36 +26,52 @@ use Rattle.std.proofs.lemmas.Option.{none-some}
 use Rattle.hub_index.specs.Pages.{slot_rows, page_rows, rows_of, IsPage, ArePages, page_of, page_count}
 use Rattle.hub_index.specs.Rows.{IsIndex}
 use Rattle.hub_index.proofs.IdPageLemmas.{some_at}
-use Rattle.hub_index.proofs.IndexLemmas.{filter_keeps, find_first, find_no_first, filter_reverse, of_head, of_tail}
-use Rattle.hub_index.proofs.SlotLemmas.{rows_within, rows_filled, rows_cleared, length_rows, at_seq, not_at, is_at_same, remove_none, remove_left, remove_right, All_removed}
+use Rattle.hub_index.proofs.IndexLemmas.{filter_keeps, find_first, find_no_first}
+use Rattle.hub_index.proofs.IndexLemmas.{filter_reverse, of_head, of_tail}
+use Rattle.hub_index.proofs.SlotLemmas.{rows_within, rows_filled, rows_cleared, length_rows, at_seq, not_at}
+use Rattle.hub_index.proofs.SlotLemmas.{is_at_same, remove_none, remove_left, remove_right, All_removed}
 
 -- a page, as lemmas name it
 abbrev pub Numbered : Type 0
 Numbered = ℕ × List (Option ℕ)
 
 -- where the rows of a page lie
-pub page_within : (page : Numbered) → length page.1 ≡ 256 → All (λ (r : ℕ × ℕ). (256 * page.0 < r.0) × (r.0 ≤ 256 * page.0 + 256)) (page_rows page)
-page_within page size k d l = let w = rows_within (256 * page.0 + 1) page.1 k d l in (omega (arith, w.0), omega (arith, w.1, size))
+pub page_within : (page : Numbered) → length page.1 ≡ 256
+    → All (λ (r : ℕ × ℕ). (256 * page.0 < r.0) × (r.0 ≤ 256 * page.0 + 256)) (page_rows page)
+page_within page size k d l =
+    let w = rows_within (256 * page.0 + 1) page.1 k d l in (omega (arith, w.0), omega (arith, w.1, size))
 
 -- a page has a row
-pub page_has : (page : Numbered) → IsPage page → (r : ℕ × ℕ) × (rest : List (ℕ × ℕ)) × (page_rows page ≡ r ∷ rest)
+pub page_has : (page : Numbered) → IsPage page
+    → (r : ℕ × ℕ) × (rest : List (ℕ × ℕ)) × (page_rows page ≡ r ∷ rest)
 page_has page is = from (page_rows page) refl
   where
-    from : (rows : List (ℕ × ℕ)) → page_rows page ≡ rows → (r : ℕ × ℕ) × (rest : List (ℕ × ℕ)) × (page_rows page ≡ r ∷ rest)
-    from [] e = absurd (omega (arith, is.live, length_rows (256 * page.0 + 1) page.1, ap (λ (rows : List (ℕ × ℕ)). length rows) e))
+    from : (rows : List (ℕ × ℕ)) → page_rows page ≡ rows
+        → (r : ℕ × ℕ) × (rest : List (ℕ × ℕ)) × (page_rows page ≡ r ∷ rest)
+    from [] e =
+        absurd (omega (
+          arith,
+          is.live,
+          length_rows (256 * page.0 + 1) page.1,
+          ap (λ (rows : List (ℕ × ℕ)). length rows) e,
+        ))
     from (r ∷ rest) e = (r, rest, e)
 
 -- so what holds of its rows holds of one of them
-pub page_row : (P : ℕ × ℕ → Type 0) (page : Numbered) → IsPage page → All P (page_rows page) → (r : ℕ × ℕ) × P r × (256 * page.0 < r.0) × (r.0 ≤ 256 * page.0 + 256)
+pub page_row : (P : ℕ × ℕ → Type 0) (page : Numbered) → IsPage page → All P (page_rows page)
+    → (r : ℕ × ℕ) × P r × (256 * page.0 < r.0) × (r.0 ≤ 256 * page.0 + 256)
 page_row P page is all =
     let h = page_has page is in
-    let w = subst (All (λ (r : ℕ × ℕ). (256 * page.0 < r.0) × (r.0 ≤ 256 * page.0 + 256))) h.2 (page_within page is.size) in
+    let w =
+    subst (All (λ (r : ℕ × ℕ). (256 * page.0 < r.0) × (r.0 ≤ 256 * page.0 + 256))) h.2
+    (page_within page is.size) in
     (h.0, subst (All P) h.2 all 0 h.0 (omega arith), (w 0 h.0 (omega arith)).0, (w 0 h.0 (omega arith)).1)
 
 -- what holds of all of a list holds of what it begins with, and of what it ends with
 pub Each_front : {X : Type 0} (P : X → Type 0) (xs ys : List X) → All P (xs ++ ys) → All P xs
 Each_front P [] ys all = All-nil P
-Each_front P (x ∷ xs) ys all = All-cons P x xs (all 0 x (omega arith)) (Each_front P xs ys (All-tail P x (xs ++ ys) all))
+Each_front P (x ∷ xs) ys all =
+    All-cons P x xs (all 0 x (omega arith)) (Each_front P xs ys (All-tail P x (xs ++ ys) all))
 
 pub Each_back : {X : Type 0} (P : X → Type 0) (xs ys : List X) → All P (xs ++ ys) → All P ys
 Each_back P [] ys all = all
@@ -62,7 +87,9 @@ module _ (P : ℕ × ℕ → Type 0) where
   -- and the other way
   pub All_rows : (pages : List Numbered) → All (λ page. All P (page_rows page)) pages → All P (rows_of pages)
   All_rows [] all = All-nil P
-  All_rows (page ∷ pages) all = All-append P (page_rows page) (rows_of pages) (all 0 page (omega arith)) (All_rows pages (All-tail (λ page. All P (page_rows page)) page pages all))
+  All_rows (page ∷ pages) all =
+      All-append P (page_rows page) (rows_of pages) (all 0 page (omega arith))
+      (All_rows pages (All-tail (λ page. All P (page_rows page)) page pages all))
 
 pub at_is : (k n : ℕ) → at_seq k n ≡ true → n ≡ k
 at_is k n t = elim (cases_order n k) [
@@ -95,11 +122,16 @@ Rising es = AllPairs (λ (a b : Numbered). a.0 < b.0) es
 module _ (es : List Numbered) (at : ℕ) (x : Numbered) (l : at < length es) (here : x ≡ get_or es at x) where
   pub cut_rows : rows_of es ≡ rows_of (take at es) ++ (page_rows x ++ rows_of (drop (at + 1) es))
   cut_rows =
-      ap rows_of (sym (take-append-drop at es) ∙ ap (λ ys. take at es ++ ys) (drop_more es at x l ∙ ap (λ y. y ∷ drop (at + 1) es) (sym here)))
+      ap rows_of
+      (sym (take-append-drop at es)
+      ∙ ap (λ ys. take at es ++ ys) (drop_more es at x l ∙ ap (λ y. y ∷ drop (at + 1) es) (sym here)))
       ∙ flat_map-append page_rows (take at es) (x ∷ drop (at + 1) es)
 
-  pub set_rows : (y : Numbered) → rows_of (set es at y) ≡ rows_of (take at es) ++ (page_rows y ++ rows_of (drop (at + 1) es))
-  set_rows y = ap rows_of (set_split es at y l ∙ ap (λ n. take at es ++ y ∷ drop n es) (next_place at)) ∙ flat_map-append page_rows (take at es) (y ∷ drop (at + 1) es)
+  pub set_rows : (y : Numbered)
+      → rows_of (set es at y) ≡ rows_of (take at es) ++ (page_rows y ++ rows_of (drop (at + 1) es))
+  set_rows y =
+      ap rows_of (set_split es at y l ∙ ap (λ n. take at es ++ y ∷ drop n es) (next_place at))
+      ∙ flat_map-append page_rows (take at es) (y ∷ drop (at + 1) es)
 
   pub is_page : All IsPage es → IsPage x
   is_page pages = subst IsPage (sym here) (All-get_or IsPage es at x l pages)
@@ -115,11 +147,18 @@ module _ (es : List Numbered) (at : ℕ) (x : Numbered) (l : at < length es) (he
   higher : Rising es → All (λ (e : Numbered). x.0 < e.0) (drop (at + 1) es)
   higher rising k d m =
       let fits : at + 1 + k < length es = omega (arith, length-drop (at + 1) es, m) in
-      omega (arith, rising at (at + 1 + k) d (omega arith) fits, number d, ap (λ (e : Numbered). e.0) (get_or-drop (at + 1) es k d))
+      omega (
+        arith,
+        rising at (at + 1 + k) d (omega arith) fits,
+        number d,
+        ap (λ (e : Numbered). e.0) (get_or-drop (at + 1) es k d),
+      )
 
 -- a page that was read twice
-pub same_number : (es : List Numbered) (at k : ℕ) (x y : Numbered) → at < length es → x ≡ get_or es at x → y ≡ get_or es at y → y.0 ≡ k → x.0 ≡ k
-same_number es at k x y l here there q = ap (λ (e : Numbered). e.0) (here ∙ (get_or_default es at x y l ∙ sym there)) ∙ q
+pub same_number : (es : List Numbered) (at k : ℕ) (x y : Numbered) → at < length es → x ≡ get_or es at x
+    → y ≡ get_or es at y → y.0 ≡ k → x.0 ≡ k
+same_number es at k x y l here there q =
+    ap (λ (e : Numbered). e.0) (here ∙ (get_or_default es at x y l ∙ sym there)) ∙ q
 
 -- a page that is removed, whatever was written to it before
 pub remove_set : (es : List Numbered) (at : ℕ) (y : Numbered) → remove (set es at y) at ≡ remove es at
@@ -132,12 +171,22 @@ left_of : (es : List Numbered) (at : ℕ) → remove es at ≡ take at es ++ dro
 left_of es at = ap (λ n. take at es ++ drop n es) (next_place at)
 
 pub dropped_is : (es : List Numbered) (at : ℕ) → All IsPage es → All IsPage (remove es at)
-dropped_is es at pages = subst (All IsPage) (sym (left_of es at)) (All-append IsPage (take at es) (drop (at + 1) es) (All-take IsPage at es pages) (All-drop IsPage (at + 1) es pages))
+dropped_is es at pages =
+    subst (All IsPage) (sym (left_of es at))
+    (All-append IsPage (take at es) (drop (at + 1) es) (All-take IsPage at es pages)
+    (All-drop IsPage (at + 1) es pages))
 
 -- where a page of this number is, it parts the pages
-pub place_is : (es : List Numbered) (k at : ℕ) → Rising es → IsSomeAnd (slice_get es at) (λ (e : Numbered). e.0 ≡ k)
+pub place_is : (es : List Numbered) (k at : ℕ) → Rising es
+    → IsSomeAnd (slice_get es at) (λ (e : Numbered). e.0 ≡ k)
     → (at < length es) × IsPartitionPoint (λ (e : Numbered). e.0 < k) (λ (e : Numbered). k ≤ e.0) es at
-place_is es k at rising there = (is.0, ((λ z d from below. omega (arith, rising z at d below is.0, same d)), λ z d from below. upper z d from below))
+place_is es k at rising there = (
+  is.0,
+  (
+    (λ z d from below. omega (arith, rising z at d below is.0, same d)),
+    λ z d from below. upper z d from below,
+  ),
+)
   where
     is : (at < length es) × ((e : Numbered) → e ≡ get_or es at e → e.0 ≡ k)
     is = some_at (λ (e : Numbered). e.0 ≡ k) es at there
@@ -153,7 +202,8 @@ place_is es k at rising there = (is.0, ((λ z d from below. omega (arith, rising
     ]
 
 -- what a search by number asks of the pages, and what its answer is
-pub numbers_parted : (es : List Numbered) (k : ℕ) → Rising es → IsPartitionedBy (λ (e : Numbered). nat_lt e.0 k) es
+pub numbers_parted : (es : List Numbered) (k : ℕ) → Rising es
+    → IsPartitionedBy (λ (e : Numbered). nat_lt e.0 k) es
 numbers_parted es k rising i j d from below passes =
     let less : (get_or es j d).0 < k = ltb-true (get_or es j d).0 k passes in
     lt-ltb (get_or es i d).0 k (elim (cases_order i j) [
@@ -162,19 +212,24 @@ numbers_parted es k rising i j d from below passes =
       | inr (inr behind) ↦ absurd (omega (arith, from, behind))
     ])
 
-pub place_searched : (es : List Numbered) (k at : ℕ) → IsPartitionPoint (λ (e : Numbered). nat_lt e.0 k ≡ true) (λ (e : Numbered). nat_lt e.0 k ≡ false) es at
+pub place_searched : (es : List Numbered) (k at : ℕ)
+    → IsPartitionPoint (λ (e : Numbered). nat_lt e.0 k ≡ true) (λ (e : Numbered). nat_lt e.0 k ≡ false) es at
     → IsPartitionPoint (λ (e : Numbered). e.0 < k) (λ (e : Numbered). k ≤ e.0) es at
-place_searched es k at point =
-    ((λ z d from below. ltb-true (get_or es z d).0 k (point.0 z d from below)), λ z d from below. ltb-false (get_or es z d).0 k (point.1 z d from below))
+place_searched es k at point = (
+  (λ z d from below. ltb-true (get_or es z d).0 k (point.0 z d from below)),
+  λ z d from below. ltb-false (get_or es z d).0 k (point.1 z d from below),
+)
 
 -- a page whose number is none, where the pages are parted by that number
-pub none_there : (es : List Numbered) (k at : ℕ) → Rising es → IsPartitionPoint (λ (e : Numbered). e.0 < k) (λ (e : Numbered). k ≤ e.0) es at
+pub none_there : (es : List Numbered) (k at : ℕ) → Rising es
+    → IsPartitionPoint (λ (e : Numbered). e.0 < k) (λ (e : Numbered). k ≤ e.0) es at
     → ((d : Numbered) → at < length es → (get_or es at d).0 ≢ k) → All (λ (e : Numbered). e.0 ≢ k) es
 none_there es k at rising point apart z d l q =
     elim (cases_order z at) [
       | inl same ↦ apart d (omega (arith, same, l)) (omega (arith, q, ap (λ n. (get_or es n d).0) same))
       | inr (inl less) ↦ omega (arith, q, point.0 z d (omega arith) less)
-      | inr (inr more) ↦ omega (arith, q, rising at z d more l, point.1 at d (omega arith) (omega (arith, more, l)))
+      | inr (inr more) ↦
+          omega (arith, q, rising at z d more l, point.1 at d (omega arith) (omega (arith, more, l)))
     ]
 
 -- a sequence, the page of its number, and its slot there
@@ -188,48 +243,80 @@ module _ (k i seq : ℕ) (in' : i < 256) (is : 256 * k + i + 1 ≡ seq) where
         | inr (inr above) ↦ inl (omega (arith, w.0, is, above))
       ])
 
-  missed_all : (es : List Numbered) → All IsPage es → All (λ (e : Numbered). e.0 ≢ k) es → All (λ (r : ℕ × ℕ). at_seq seq r.0 ≡ false) (rows_of es)
-  missed_all es pages apart = All_rows (λ (r : ℕ × ℕ). at_seq seq r.0 ≡ false) es (λ z d l. missed (get_or es z d) (pages z d l) (apart z d l))
+  missed_all : (es : List Numbered) → All IsPage es → All (λ (e : Numbered). e.0 ≢ k) es
+      → All (λ (r : ℕ × ℕ). at_seq seq r.0 ≡ false) (rows_of es)
+  missed_all es pages apart =
+      All_rows (λ (r : ℕ × ℕ). at_seq seq r.0 ≡ false) es
+      (λ z d l. missed (get_or es z d) (pages z d l) (apart z d l))
 
   -- a sequence whose page is not there has no row
-  pub pages_missed : (es : List Numbered) → All IsPage es → All (λ (e : Numbered). e.0 ≢ k) es → rows_of es ≡ remove_entry (at_seq seq) (rows_of es)
+  pub pages_missed : (es : List Numbered) → All IsPage es → All (λ (e : Numbered). e.0 ≢ k) es
+      → rows_of es ≡ remove_entry (at_seq seq) (rows_of es)
   pages_missed es pages apart = sym (remove_none (at_seq seq) (rows_of es) (missed_all es pages apart))
 
   -- a row above all, in a slot of its page
-  pub slots_filled : (d : ℕ) (slots : List (Option ℕ)) → length slots ≡ 256 → All (λ (r : ℕ × ℕ). r.0 < seq) (page_rows (k, slots)) → page_rows (k, set slots i (Some d)) ≡ page_rows (k, slots) ++ (seq, d) ∷ []
+  pub slots_filled : (d : ℕ) (slots : List (Option ℕ))
+      → length slots ≡ 256 → All (λ (r : ℕ × ℕ). r.0 < seq) (page_rows (k, slots))
+      → page_rows (k, set slots i (Some d)) ≡ page_rows (k, slots) ++ (seq, d) ∷ []
   slots_filled d slots size low =
       rows_filled (256 * k + 1) i d slots (omega (arith, size)) (λ z r l. omega (arith, low z r l, is))
       ∙ ap (λ m. page_rows (k, slots) ++ (m, d) ∷ []) (omega (arith, is))
 
-  pub filled_is : (d : ℕ) (slots : List (Option ℕ)) → k < 2 ^ 56 → length slots ≡ 256 → seq < 2 ^ 64 → All (λ (r : ℕ × ℕ). r.0 < seq) (page_rows (k, slots)) → IsPage (k, set slots i (Some d))
+  pub filled_is : (d : ℕ) (slots : List (Option ℕ)) → k < 2 ^ 56 → length slots ≡ 256 → seq < 2 ^ 64
+      → All (λ (r : ℕ × ℕ). r.0 < seq) (page_rows (k, slots)) → IsPage (k, set slots i (Some d))
   filled_is d slots low size bound below = record {
     low = low;
     size = omega (arith, length-set slots i (Some d), size);
-    live = omega (arith, length_rows (256 * k + 1) (set slots i (Some d)), ap (λ (l : List (ℕ × ℕ)). length l) (slots_filled d slots size below), length-append (page_rows (k, slots)) ((seq, d) ∷ []));
-    fits = subst (All (λ (r : ℕ × ℕ). r.0 < 2 ^ 64)) (sym (slots_filled d slots size below)) (All-push (λ (r : ℕ × ℕ). r.0 < 2 ^ 64) (page_rows (k, slots)) (seq, d) (λ z r l. omega (arith, below z r l, bound)) bound);
+    live = omega (
+      arith,
+      length_rows (256 * k + 1) (set slots i (Some d)),
+      ap (λ (l : List (ℕ × ℕ)). length l) (slots_filled d slots size below),
+      length-append (page_rows (k, slots)) ((seq, d) ∷ []),
+    );
+    fits =
+        subst (All (λ (r : ℕ × ℕ). r.0 < 2 ^ 64)) (sym (slots_filled d slots size below))
+        (All-push (λ (r : ℕ × ℕ). r.0 < 2 ^ 64) (page_rows (k, slots)) (seq, d)
+        (λ z r l. omega (arith, below z r l, bound)) bound);
   }
 
-  pub cleared_is : (slots : List (Option ℕ)) → IsPage (k, slots) → 0 < count_by is_some (set slots i None) → IsPage (k, set slots i None)
+  pub cleared_is : (slots : List (Option ℕ)) → IsPage (k, slots) → 0 < count_by is_some (set slots i None)
+      → IsPage (k, set slots i None)
   cleared_is slots page live = record {
     low = page.low;
     size = omega (arith, length-set slots i None, page.size);
     live = live;
-    fits = subst (All (λ (r : ℕ × ℕ). r.0 < 2 ^ 64)) (sym (rows_cleared (256 * k + 1) i slots)) (All_removed (λ (r : ℕ × ℕ). r.0 < 2 ^ 64) (at_seq (256 * k + 1 + i)) (page_rows (k, slots)) page.fits);
+    fits =
+        subst (All (λ (r : ℕ × ℕ). r.0 < 2 ^ 64)) (sym (rows_cleared (256 * k + 1) i slots))
+        (All_removed (λ (r : ℕ × ℕ). r.0 < 2 ^ 64) (at_seq (256 * k + 1 + i))
+        (page_rows (k, slots)) page.fits);
   }
 
   -- where all rows lie below the sequence, no page has a higher number
-  numbers_upto : (es : List Numbered) → All IsPage es → All (λ (r : ℕ × ℕ). r.0 < seq) (rows_of es) → All (λ (e : Numbered). e.0 ≤ k) es
+  numbers_upto : (es : List Numbered) → All IsPage es → All (λ (r : ℕ × ℕ). r.0 < seq) (rows_of es)
+      → All (λ (e : Numbered). e.0 ≤ k) es
   numbers_upto [] pages low = All-nil (λ (e : Numbered). e.0 ≤ k)
   numbers_upto (e ∷ es) pages low =
-      let r = page_row (λ (r : ℕ × ℕ). r.0 < seq) e (pages 0 e (omega arith)) (All_front (λ (r : ℕ × ℕ). r.0 < seq) (page_rows e) (rows_of es) low) in
-      All-cons (λ (e : Numbered). e.0 ≤ k) e es (omega (arith, r.1, r.2, is)) (numbers_upto es (All-tail IsPage e es pages) (All_back (λ (r : ℕ × ℕ). r.0 < seq) (page_rows e) (rows_of es) low))
+      let r =
+      page_row (λ (r : ℕ × ℕ). r.0 < seq) e (pages 0 e (omega arith))
+      (All_front (λ (r : ℕ × ℕ). r.0 < seq) (page_rows e) (rows_of es) low) in
+      All-cons (λ (e : Numbered). e.0 ≤ k) e es (omega (arith, r.1, r.2, is))
+      (numbers_upto es (All-tail IsPage e es pages)
+      (All_back (λ (r : ℕ × ℕ). r.0 < seq) (page_rows e) (rows_of es) low))
 
   -- and if the last page has another number, all have lower ones
-  pub below_new : (es : List Numbered) (at : ℕ) (x : Numbered) → at + 1 ≡ length es → x ≡ get_or es at x → x.0 ≢ k → Rising es → All IsPage es → All (λ (r : ℕ × ℕ). r.0 < seq) (rows_of es) → All (λ (e : Numbered). e.0 < k) es
+  pub below_new : (es : List Numbered) (at : ℕ) (x : Numbered) → at + 1 ≡ length es → x ≡ get_or es at x
+      → x.0 ≢ k → Rising es → All IsPage es → All (λ (r : ℕ × ℕ). r.0 < seq) (rows_of es)
+      → All (λ (e : Numbered). e.0 < k) es
   below_new es at x last here apart rising pages low z d l =
       elim (cases_order z at) [
-        | inl q ↦ omega (arith, less, ap (λ n. (get_or es n d).0) q, number es at x (omega (arith, last)) here d)
-        | inr (inl before) ↦ omega (arith, less, rising z at d before (omega (arith, last)), number es at x (omega (arith, last)) here d)
+        | inl q ↦
+            omega (arith, less, ap (λ n. (get_or es n d).0) q, number es at x (omega (arith, last)) here d)
+        | inr (inl before) ↦ omega (
+          arith,
+          less,
+          rising z at d before (omega (arith, last)),
+          number es at x (omega (arith, last)) here d,
+        )
         | inr (inr behind) ↦ absurd (omega (arith, l, last, behind))
       ]
     where
@@ -237,49 +324,77 @@ module _ (k i seq : ℕ) (in' : i < 256) (is : 256 * k + i + 1 ≡ seq) where
       less = elim (cases_order x.0 k) [
         | inl q ↦ absurd (apart q)
         | inr (inl h) ↦ h
-        | inr (inr h) ↦ absurd (omega (arith, h, numbers_upto es pages low at x (omega (arith, last)), number es at x (omega (arith, last)) here x))
+        | inr (inr h) ↦
+            absurd (omega (
+              arith,
+              h,
+              numbers_upto es pages low at x (omega (arith, last)),
+              number es at x (omega (arith, last)) here x,
+            ))
       ]
 
   -- a new page, behind all others
-  module _ (d : ℕ) (empty : List (Option ℕ)) (size : length empty ≡ 256) (none : All (λ (o : Option ℕ). o ≡ None) empty) where
+  module _ (d : ℕ) (empty : List (Option ℕ)) (size : length empty ≡ 256)
+      (none : All (λ (o : Option ℕ). o ≡ None) empty) where
     none_low : All (λ (r : ℕ × ℕ). r.0 < seq) (page_rows (k, empty))
-    none_low = subst (All (λ (r : ℕ × ℕ). r.0 < seq)) (sym (no_slot (256 * k + 1) empty none)) (All-nil (λ (r : ℕ × ℕ). r.0 < seq))
+    none_low =
+        subst (All (λ (r : ℕ × ℕ). r.0 < seq)) (sym (no_slot (256 * k + 1) empty none))
+        (All-nil (λ (r : ℕ × ℕ). r.0 < seq))
 
-    pub rows_added : (es : List Numbered) → rows_of (es ++ (k, set empty i (Some d)) ∷ []) ≡ rows_of es ++ (seq, d) ∷ []
+    pub rows_added : (es : List Numbered)
+        → rows_of (es ++ (k, set empty i (Some d)) ∷ []) ≡ rows_of es ++ (seq, d) ∷ []
     rows_added es =
         flat_map-append page_rows es ((k, set empty i (Some d)) ∷ [])
-        ∙ ap (λ rows. rows_of es ++ rows) (append-nil (page_rows (k, set empty i (Some d))) ∙ (slots_filled d empty size none_low ∙ ap (λ rows. rows ++ (seq, d) ∷ []) (no_slot (256 * k + 1) empty none)))
+        ∙ ap (λ rows. rows_of es ++ rows)
+        (append-nil (page_rows (k, set empty i (Some d)))
+        ∙ (slots_filled d empty size none_low
+        ∙ ap (λ rows. rows ++ (seq, d) ∷ []) (no_slot (256 * k + 1) empty none)))
 
-    pub added_is : (es : List Numbered) → seq < 2 ^ 64 → All IsPage es → All IsPage (es ++ (k, set empty i (Some d)) ∷ [])
-    added_is es bound pages = All-push IsPage es (k, set empty i (Some d)) pages (filled_is d empty (omega (arith, bound, is)) size bound none_low)
+    pub added_is : (es : List Numbered) → seq < 2 ^ 64 → All IsPage es
+        → All IsPage (es ++ (k, set empty i (Some d)) ∷ [])
+    added_is es bound pages =
+        All-push IsPage es (k, set empty i (Some d)) pages
+        (filled_is d empty (omega (arith, bound, is)) size bound none_low)
 
 -- a sequence of the page at a place
-module _ (es : List Numbered) (at : ℕ) (x : Numbered) (l : at < length es) (here : x ≡ get_or es at x) (pages : All IsPage es) (i seq : ℕ) (in' : i < 256) (is : 256 * x.0 + i + 1 ≡ seq) where
+module _ (es : List Numbered) (at : ℕ) (x : Numbered) (l : at < length es) (here : x ≡ get_or es at x)
+    (pages : All IsPage es) (i seq : ℕ) (in' : i < 256) (is : 256 * x.0 + i + 1 ≡ seq) where
   -- the row of a slot that is emptied
-  pub pages_cleared : Rising es → rows_of (set es at (x.0, set x.1 i None)) ≡ remove_entry (at_seq seq) (rows_of es)
+  pub pages_cleared : Rising es
+      → rows_of (set es at (x.0, set x.1 i None)) ≡ remove_entry (at_seq seq) (rows_of es)
   pages_cleared rising =
       set_rows es at x l here (x.0, set x.1 i None)
       ∙ sym
       (ap (remove_entry (at_seq seq)) (cut_rows es at x l here)
-      ∙ (remove_right (at_seq seq) (rows_of (take at es)) (page_rows x ++ rows_of (drop (at + 1) es)) (missed_all x.0 i seq in' is (take at es) (All-take IsPage at es pages) (λ z d m q. omega (arith, lower es at x l here rising z d m, q)))
+      ∙ (remove_right (at_seq seq) (rows_of (take at es)) (page_rows x ++ rows_of (drop (at + 1) es))
+      (missed_all x.0 i seq in' is (take at es) (All-take IsPage at es pages)
+      (λ z d m q. omega (arith, lower es at x l here rising z d m, q)))
       ∙ ap (λ rows. rows_of (take at es) ++ rows)
-      (remove_left (at_seq seq) (page_rows x) (rows_of (drop (at + 1) es)) (missed_all x.0 i seq in' is (drop (at + 1) es) (All-drop IsPage (at + 1) es pages) (λ z d m q. omega (arith, higher es at x l here rising z d m, q)))
+      (remove_left (at_seq seq) (page_rows x) (rows_of (drop (at + 1) es))
+      (missed_all x.0 i seq in' is (drop (at + 1) es) (All-drop IsPage (at + 1) es pages)
+      (λ z d m q. omega (arith, higher es at x l here rising z d m, q)))
       ∙ ap (λ rows. rows ++ rows_of (drop (at + 1) es)) (sym own))))
     where
       own : slot_rows (256 * x.0 + 1) (set x.1 i None) ≡ remove_entry (at_seq seq) (page_rows x)
-      own = rows_cleared (256 * x.0 + 1) i x.1 ∙ ap (λ m. remove_entry (at_seq m) (page_rows x)) (omega (arith, is))
+      own =
+          rows_cleared (256 * x.0 + 1) i x.1
+          ∙ ap (λ m. remove_entry (at_seq m) (page_rows x)) (omega (arith, is))
 
   -- a page that has no row may as well be removed
-  pub rows_dropped : (w : List (Option ℕ)) → count_by is_some w ≡ 0 → rows_of (remove es at) ≡ rows_of (set es at (x.0, w))
+  pub rows_dropped : (w : List (Option ℕ)) → count_by is_some w ≡ 0
+      → rows_of (remove es at) ≡ rows_of (set es at (x.0, w))
   rows_dropped w none =
       ap rows_of (left_of es at)
       ∙ (flat_map-append page_rows (take at es) (drop (at + 1) es)
-      ∙ (ap (λ rows. rows_of (take at es) ++ (rows ++ rows_of (drop (at + 1) es))) (sym (none_live (256 * x.0 + 1) w none))
+      ∙ (ap (λ rows. rows_of (take at es) ++ (rows ++ rows_of (drop (at + 1) es)))
+      (sym (none_live (256 * x.0 + 1) w none))
       ∙ sym (set_rows es at x l here (x.0, w))))
 
   -- a row above all, on the last page
   module _ (last : length es ≤ at + 1) (low : All (λ (r : ℕ × ℕ). r.0 < seq) (rows_of es)) where
-    nothing_behind : (y : Numbered) → rows_of (take at es) ++ (page_rows y ++ rows_of (drop (at + 1) es)) ≡ rows_of (take at es) ++ page_rows y
+    nothing_behind : (y : Numbered)
+        → rows_of (take at es) ++ (page_rows y ++ rows_of (drop (at + 1) es))
+        ≡ rows_of (take at es) ++ page_rows y
     nothing_behind y =
         ap (λ ys. rows_of (take at es) ++ (page_rows y ++ rows_of ys)) (drop_all (at + 1) es last)
         ∙ ap (λ rows. rows_of (take at es) ++ rows) (append-nil (page_rows y))
@@ -293,22 +408,26 @@ module _ (es : List Numbered) (at : ℕ) (x : Numbered) (l : at < length es) (he
     pages_filled d =
         set_rows es at x l here (x.0, set x.1 i (Some d))
         ∙ (nothing_behind (x.0, set x.1 i (Some d))
-        ∙ (ap (λ rows. rows_of (take at es) ++ rows) (slots_filled x.0 i seq in' is d x.1 (is_page es at x l here pages).size own_low)
+        ∙ (ap (λ rows. rows_of (take at es) ++ rows)
+        (slots_filled x.0 i seq in' is d x.1 (is_page es at x l here pages).size own_low)
         ∙ (sym (append_assoc (rows_of (take at es)) (page_rows x) ((seq, d) ∷ []))
         ∙ ap (λ rows. rows ++ (seq, d) ∷ []) (sym (cut_rows es at x l here ∙ nothing_behind x)))))
 
     pub pages_filled_are : (d : ℕ) → seq < 2 ^ 64 → All IsPage (set es at (x.0, set x.1 i (Some d)))
     pages_filled_are d bound =
         let page = is_page es at x l here pages in
-        All-set IsPage es at (x.0, set x.1 i (Some d)) (filled_is x.0 i seq in' is d x.1 page.low page.size bound own_low) pages
+        All-set IsPage es at (x.0, set x.1 i (Some d))
+        (filled_is x.0 i seq in' is d x.1 page.low page.size bound own_low) pages
 
 -- rows that pass a test, where those of the pages before a place or behind it do not
 module _ (p : ℕ × ℕ → Bool) where
   none_pass : (rows : List (ℕ × ℕ)) → All (λ r. p r ≡ false) rows → filter p rows ≡ []
   none_pass [] all = refl
-  none_pass (r ∷ rows) all = rw (all 0 r (omega arith)) (none_pass rows (All-tail (λ r. p r ≡ false) r rows all))
+  none_pass (r ∷ rows) all =
+      rw (all 0 r (omega arith)) (none_pass rows (All-tail (λ r. p r ≡ false) r rows all))
 
-  rows_parted : (es : List Numbered) (at : ℕ) → filter p (rows_of es) ≡ filter p (rows_of (take at es)) ++ filter p (rows_of (drop at es))
+  rows_parted : (es : List Numbered) (at : ℕ)
+      → filter p (rows_of es) ≡ filter p (rows_of (take at es)) ++ filter p (rows_of (drop at es))
   rows_parted es at =
       ap (λ ys. filter p (rows_of ys)) (sym (take-append-drop at es))
       ∙ (ap (filter p) (flat_map-append page_rows (take at es) (drop at es))
@@ -327,105 +446,157 @@ module _ {X : Type 0} (p : X → Bool) (xs ys : List X) (same : filter p xs ≡ 
   count_same = sym (length-filter p xs) ∙ (ap length same ∙ length-filter p ys)
 
 -- the last of it, and how many there are
-pub find_reverse_same : {X : Type 0} (p : X → Bool) (xs ys : List X) → filter p xs ≡ filter p ys → find p (reverse xs) ≡ find p (reverse ys)
-find_reverse_same p xs ys same = find_same p (reverse xs) (reverse ys) (filter_reverse p xs ∙ (ap reverse same ∙ sym (filter_reverse p ys)))
+pub find_reverse_same : {X : Type 0} (p : X → Bool) (xs ys : List X) → filter p xs ≡ filter p ys
+    → find p (reverse xs) ≡ find p (reverse ys)
+find_reverse_same p xs ys same =
+    find_same p (reverse xs) (reverse ys)
+    (filter_reverse p xs ∙ (ap reverse same ∙ sym (filter_reverse p ys)))
 
 -- pages from a number on have all rows above a place of that number's page
-pub from_page : (place at : ℕ) (es : List Numbered) → All IsPage es → at ≤ length es → AllWithin (λ (e : Numbered). e.0 < place / 256) es 0 at
-    → filter (λ (r : ℕ × ℕ). nat_lt place r.0) (rows_of es) ≡ filter (λ (r : ℕ × ℕ). nat_lt place r.0) (rows_of (drop at es))
+pub from_page : (place at : ℕ) (es : List Numbered) → All IsPage es → at ≤ length es
+    → AllWithin (λ (e : Numbered). e.0 < place / 256) es 0 at
+    → filter (λ (r : ℕ × ℕ). nat_lt place r.0) (rows_of es)
+    ≡ filter (λ (r : ℕ × ℕ). nat_lt place r.0) (rows_of (drop at es))
 from_page place at es pages fits low =
     rows_parted (λ (r : ℕ × ℕ). nat_lt place r.0) es at
     ∙ ap (λ rows. rows ++ filter (λ (r : ℕ × ℕ). nat_lt place r.0) (rows_of (drop at es)))
-    (none_pass (λ (r : ℕ × ℕ). nat_lt place r.0) (rows_of (take at es)) (All_rows (λ (r : ℕ × ℕ). nat_lt place r.0 ≡ false) (take at es) (λ z d m. early (get_or (take at es) z d) (All-take IsPage at es pages z d m) (before z d m))))
+    (none_pass (λ (r : ℕ × ℕ). nat_lt place r.0) (rows_of (take at es))
+    (All_rows (λ (r : ℕ × ℕ). nat_lt place r.0 ≡ false) (take at es)
+    (λ z d m. early (get_or (take at es) z d) (All-take IsPage at es pages z d m) (before z d m))))
   where
     before : All (λ (e : Numbered). e.0 < place / 256) (take at es)
     before z d m =
         let below : z < at = omega (arith, length-take-le at es fits, m) in
         omega (arith, low z d (omega arith) below, ap (λ (e : Numbered). e.0) (get_or-take at es z d below))
 
-    early : (e : Numbered) → IsPage e → e.0 < place / 256 → All (λ (r : ℕ × ℕ). nat_lt place r.0 ≡ false) (page_rows e)
+    early : (e : Numbered) → IsPage e → e.0 < place / 256
+        → All (λ (r : ℕ × ℕ). nat_lt place r.0 ≡ false) (page_rows e)
     early e page low z d l = le-ltb place _ (omega (arith, (page_within e page.size z d l).1, low))
 
 -- pages up to a number have all rows below a place of that number's page
-pub upto_page : (place at : ℕ) (es : List Numbered) → All IsPage es → at ≤ length es → AllWithin (λ (e : Numbered). place / 256 + 1 ≤ e.0) es at (length es)
-    → filter (λ (r : ℕ × ℕ). nat_lt r.0 place) (rows_of es) ≡ filter (λ (r : ℕ × ℕ). nat_lt r.0 place) (rows_of (take at es))
+pub upto_page : (place at : ℕ) (es : List Numbered) → All IsPage es → at ≤ length es
+    → AllWithin (λ (e : Numbered). place / 256 + 1 ≤ e.0) es at (length es)
+    → filter (λ (r : ℕ × ℕ). nat_lt r.0 place) (rows_of es)
+    ≡ filter (λ (r : ℕ × ℕ). nat_lt r.0 place) (rows_of (take at es))
 upto_page place at es pages fits high =
     rows_parted (λ (r : ℕ × ℕ). nat_lt r.0 place) es at
     ∙ (ap (λ rows. filter (λ (r : ℕ × ℕ). nat_lt r.0 place) (rows_of (take at es)) ++ rows)
-    (none_pass (λ (r : ℕ × ℕ). nat_lt r.0 place) (rows_of (drop at es)) (All_rows (λ (r : ℕ × ℕ). nat_lt r.0 place ≡ false) (drop at es) (λ z d m. late (get_or (drop at es) z d) (All-drop IsPage at es pages z d m) (behind z d m))))
+    (none_pass (λ (r : ℕ × ℕ). nat_lt r.0 place) (rows_of (drop at es))
+    (All_rows (λ (r : ℕ × ℕ). nat_lt r.0 place ≡ false) (drop at es)
+    (λ z d m. late (get_or (drop at es) z d) (All-drop IsPage at es pages z d m) (behind z d m))))
     ∙ append-nil (filter (λ (r : ℕ × ℕ). nat_lt r.0 place) (rows_of (take at es))))
   where
     behind : All (λ (e : Numbered). place / 256 < e.0) (drop at es)
-    behind z d m = omega (arith, high (at + z) d (omega arith) (omega (arith, length-drop at es, m)), ap (λ (e : Numbered). e.0) (get_or-drop at es z d))
+    behind z d m = omega (
+      arith,
+      high (at + z) d (omega arith) (omega (arith, length-drop at es, m)),
+      ap (λ (e : Numbered). e.0) (get_or-drop at es z d),
+    )
 
-    late : (e : Numbered) → IsPage e → place / 256 < e.0 → All (λ (r : ℕ × ℕ). nat_lt r.0 place ≡ false) (page_rows e)
+    late : (e : Numbered) → IsPage e → place / 256 < e.0
+        → All (λ (r : ℕ × ℕ). nat_lt r.0 place ≡ false) (page_rows e)
     late e page high z d l = le-ltb _ place (omega (arith, (page_within e page.size z d l).0, high))
 
 -- rising rows below a number are fewer than it
-pub few : (n m : ℕ) (rows : List (ℕ × ℕ)) → AllPairs (λ (a b : ℕ × ℕ). a.0 < b.0) rows → All (λ (r : ℕ × ℕ). n < r.0) rows → All (λ (r : ℕ × ℕ). r.0 < m) rows → n < m → n + length rows < m
+pub few : (n m : ℕ) (rows : List (ℕ × ℕ)) → AllPairs (λ (a b : ℕ × ℕ). a.0 < b.0) rows
+    → All (λ (r : ℕ × ℕ). n < r.0) rows → All (λ (r : ℕ × ℕ). r.0 < m) rows → n < m → n + length rows < m
 few n m [] rising low high l = omega arith
 few n m (r ∷ rows) rising low high l =
-    omega (arith, low 0 r (omega arith), few r.0 m rows (of_tail (λ (a b : ℕ × ℕ). a.0 < b.0) r rows rising) (of_head (λ (a b : ℕ × ℕ). a.0 < b.0) r rows rising) (All-tail (λ (r : ℕ × ℕ). r.0 < m) r rows high) (high 0 r (omega arith)))
+    omega (
+      arith,
+      low 0 r (omega arith),
+      few r.0 m rows (of_tail (λ (a b : ℕ × ℕ). a.0 < b.0) r rows rising)
+          (of_head (λ (a b : ℕ × ℕ). a.0 < b.0) r rows rising) (All-tail (λ (r : ℕ × ℕ). r.0 < m) r rows high)
+          (high 0 r (omega arith)),
+    )
 
 pub few_rows : (es : List Numbered) → ArePages es → length (rows_of es) < 2 ^ 64
-few_rows es pages = omega (arith, few 0 (2 ^ 64) (rows_of es) pages.index.rising pages.index.positive (All_rows (λ (r : ℕ × ℕ). r.0 < 2 ^ 64) es (λ z d l. (pages.each z d l).fits)) (omega arith))
+few_rows es pages = omega (
+  arith,
+  few 0 (2 ^ 64) (rows_of es) pages.index.rising pages.index.positive
+      (All_rows (λ (r : ℕ × ℕ). r.0 < 2 ^ 64) es (λ z d l. (pages.each z d l).fits)) (omega arith),
+)
 
 -- numbers that are all the same, before others that are not
-pub one_kind : (k : ℕ) (x : ℕ) (xs rest : List ℕ) → All (λ y. y ≡ k) (x ∷ xs) → is_member nat_eq rest k ≡ false → unique_keys nat_eq ((x ∷ xs) ++ rest) ≡ k ∷ unique_keys nat_eq rest
+pub one_kind : (k : ℕ) (x : ℕ) (xs rest : List ℕ) → All (λ y. y ≡ k) (x ∷ xs)
+    → is_member nat_eq rest k ≡ false → unique_keys nat_eq ((x ∷ xs) ++ rest) ≡ k ∷ unique_keys nat_eq rest
 one_kind k x [] rest all out =
-    ap (λ n. unique_keys nat_eq (n ∷ rest)) (all 0 x (omega arith)) ∙ ap (λ b. cond b (unique_keys nat_eq rest) (k ∷ unique_keys nat_eq rest)) out
+    ap (λ n. unique_keys nat_eq (n ∷ rest)) (all 0 x (omega arith))
+    ∙ ap (λ b. cond b (unique_keys nat_eq rest) (k ∷ unique_keys nat_eq rest)) out
 one_kind k x (y ∷ ys) rest all out =
-    ap (λ b. cond b (unique_keys nat_eq ((y ∷ ys) ++ rest)) (x ∷ unique_keys nat_eq ((y ∷ ys) ++ rest))) (ap (λ b. b || list_any (nat_eq x) (ys ++ rest)) (eq-eqb x y (all 0 x (omega arith) ∙ sym (all 1 y (omega arith)))))
+    ap (λ b. cond b (unique_keys nat_eq ((y ∷ ys) ++ rest)) (x ∷ unique_keys nat_eq ((y ∷ ys) ++ rest)))
+    (ap (λ b. b || list_any (nat_eq x) (ys ++ rest))
+    (eq-eqb x y (all 0 x (omega arith) ∙ sym (all 1 y (omega arith)))))
     ∙ one_kind k y ys rest (All-tail (λ z. z ≡ k) x (y ∷ ys) all) out
 
 -- an index has as many pages as its rows lie on
 pub pages_counted : (es : List Numbered) → Rising es → All IsPage es → page_count (rows_of es) ≡ length es
 pages_counted es rising pages = ap length (numbers es rising pages) ∙ length-map es (λ (e : Numbered). e.0)
   where
-    outside : (k : ℕ) (rows : List (ℕ × ℕ)) → All (λ (r : ℕ × ℕ). k < page_of r.0) rows → is_member nat_eq (map (λ (r : ℕ × ℕ). page_of r.0) rows) k ≡ false
+    outside : (k : ℕ) (rows : List (ℕ × ℕ)) → All (λ (r : ℕ × ℕ). k < page_of r.0) rows
+        → is_member nat_eq (map (λ (r : ℕ × ℕ). page_of r.0) rows) k ≡ false
     outside k [] all = refl
     outside k (r ∷ rows) all =
-        ap (λ b. b || list_any (nat_eq k) (map (λ (r : ℕ × ℕ). page_of r.0) rows)) (ne_eqb k (page_of r.0) (λ e. omega (arith, all 0 r (omega arith), e)))
+        ap (λ b. b || list_any (nat_eq k) (map (λ (r : ℕ × ℕ). page_of r.0) rows))
+        (ne_eqb k (page_of r.0) (λ e. omega (arith, all 0 r (omega arith), e)))
         ∙ outside k rows (All-tail (λ (r : ℕ × ℕ). k < page_of r.0) r rows all)
 
     page_is : (e : Numbered) → IsPage e → All (λ (r : ℕ × ℕ). page_of r.0 ≡ e.0) (page_rows e)
     page_is e page z d l = let w = page_within e page.size z d l in omega (arith, w.0, w.1)
 
-    higher : (k : ℕ) (es : List Numbered) → All IsPage es → All (λ (e : Numbered). k < e.0) es → All (λ (r : ℕ × ℕ). k < page_of r.0) (rows_of es)
-    higher k es pages all = All_rows (λ (r : ℕ × ℕ). k < page_of r.0) es (λ z d l y c m. omega (arith, all z d l, page_is (get_or es z d) (pages z d l) y c m))
+    higher : (k : ℕ) (es : List Numbered) → All IsPage es → All (λ (e : Numbered). k < e.0) es
+        → All (λ (r : ℕ × ℕ). k < page_of r.0) (rows_of es)
+    higher k es pages all =
+        All_rows (λ (r : ℕ × ℕ). k < page_of r.0) es
+        (λ z d l y c m. omega (arith, all z d l, page_is (get_or es z d) (pages z d l) y c m))
 
-    first : (k : ℕ) (rows : List (ℕ × ℕ)) (rest : List ℕ) → ((r : ℕ × ℕ) × (others : List (ℕ × ℕ)) × (rows ≡ r ∷ others)) → All (λ (r : ℕ × ℕ). page_of r.0 ≡ k) rows → is_member nat_eq rest k ≡ false
+    first : (k : ℕ) (rows : List (ℕ × ℕ)) (rest : List ℕ)
+        → ((r : ℕ × ℕ) × (others : List (ℕ × ℕ)) × (rows ≡ r ∷ others))
+        → All (λ (r : ℕ × ℕ). page_of r.0 ≡ k) rows → is_member nat_eq rest k ≡ false
         → unique_keys nat_eq (map (λ (r : ℕ × ℕ). page_of r.0) rows ++ rest) ≡ k ∷ unique_keys nat_eq rest
     first k rows rest (r, others, e) all out =
         ap (λ rows. unique_keys nat_eq (map (λ (r : ℕ × ℕ). page_of r.0) rows ++ rest)) e
-        ∙ one_kind k (page_of r.0) (map (λ (r : ℕ × ℕ). page_of r.0) others) rest (All-map (λ n. n ≡ k) (λ (r : ℕ × ℕ). page_of r.0) (r ∷ others) (subst (All (λ (r : ℕ × ℕ). page_of r.0 ≡ k)) e all)) out
+        ∙ one_kind k (page_of r.0) (map (λ (r : ℕ × ℕ). page_of r.0) others) rest
+        (All-map (λ n. n ≡ k) (λ (r : ℕ × ℕ). page_of r.0) (r ∷ others)
+        (subst (All (λ (r : ℕ × ℕ). page_of r.0 ≡ k)) e all)) out
 
-    numbers : (es : List Numbered) → Rising es → All IsPage es → unique_keys nat_eq (map (λ (r : ℕ × ℕ). page_of r.0) (rows_of es)) ≡ map (λ (e : Numbered). e.0) es
+    numbers : (es : List Numbered) → Rising es → All IsPage es
+        → unique_keys nat_eq (map (λ (r : ℕ × ℕ). page_of r.0) (rows_of es)) ≡ map (λ (e : Numbered). e.0) es
     numbers [] rising pages = refl
     numbers (e ∷ es) rising pages =
         ap (unique_keys nat_eq) (map-append (λ (r : ℕ × ℕ). page_of r.0) (page_rows e) (rows_of es))
-        ∙ (first e.0 (page_rows e) (map (λ (r : ℕ × ℕ). page_of r.0) (rows_of es)) (page_has e (pages 0 e (omega arith))) (page_is e (pages 0 e (omega arith)))
-        (outside e.0 (rows_of es) (higher e.0 es (All-tail IsPage e es pages) (of_head (λ (a b : Numbered). a.0 < b.0) e es rising)))
-        ∙ ap (λ ns. e.0 ∷ ns) (numbers es (of_tail (λ (a b : Numbered). a.0 < b.0) e es rising) (All-tail IsPage e es pages)))
+        ∙ (first e.0 (page_rows e) (map (λ (r : ℕ × ℕ). page_of r.0) (rows_of es))
+        (page_has e (pages 0 e (omega arith))) (page_is e (pages 0 e (omega arith)))
+        (outside e.0 (rows_of es)
+        (higher e.0 es (All-tail IsPage e es pages) (of_head (λ (a b : Numbered). a.0 < b.0) e es rising)))
+        ∙ ap (λ ns. e.0 ∷ ns)
+        (numbers es (of_tail (λ (a b : Numbered). a.0 < b.0) e es rising) (All-tail IsPage e es pages)))
 
 module _ (p : ℕ × ℕ → Bool) (e : Numbered) (es : List Numbered) where
   -- what is found on the first page, or behind it
   pub found_first : (r : ℕ × ℕ) → Some r ≡ find p (page_rows e) → find p (rows_of (e ∷ es)) ≡ Some r
-  found_first r h = find-append p (page_rows e) (rows_of es) ∙ ap (λ o. option_or o (find p (rows_of es))) (sym h)
+  found_first r h =
+      find-append p (page_rows e) (rows_of es) ∙ ap (λ o. option_or o (find p (rows_of es))) (sym h)
 
   pub found_later : None ≡ find p (page_rows e) → find p (rows_of (e ∷ es)) ≡ find p (rows_of es)
-  found_later h = find-append p (page_rows e) (rows_of es) ∙ ap (λ o. option_or o (find p (rows_of es))) (sym h)
+  found_later h =
+      find-append p (page_rows e) (rows_of es) ∙ ap (λ o. option_or o (find p (rows_of es))) (sym h)
 
   -- the same from the last page on
-  from_last : find p (reverse (rows_of (es ++ e ∷ []))) ≡ option_or (find p (reverse (page_rows e))) (find p (reverse (rows_of es)))
+  from_last : find p (reverse (rows_of (es ++ e ∷ [])))
+      ≡ option_or (find p (reverse (page_rows e))) (find p (reverse (rows_of es)))
   from_last =
-      ap (λ rows. find p (reverse rows)) (flat_map-append page_rows es (e ∷ []) ∙ ap (λ rows. rows_of es ++ rows) (append-nil (page_rows e)))
-      ∙ (ap (find p) (reverse-append (rows_of es) (page_rows e)) ∙ find-append p (reverse (page_rows e)) (reverse (rows_of es)))
+      ap (λ rows. find p (reverse rows))
+      (flat_map-append page_rows es (e ∷ []) ∙ ap (λ rows. rows_of es ++ rows) (append-nil (page_rows e)))
+      ∙ (ap (find p) (reverse-append (rows_of es) (page_rows e))
+      ∙ find-append p (reverse (page_rows e)) (reverse (rows_of es)))
 
-  pub found_last : (r : ℕ × ℕ) → Some r ≡ find p (reverse (page_rows e)) → find p (reverse (rows_of (es ++ e ∷ []))) ≡ Some r
+  pub found_last : (r : ℕ × ℕ) → Some r ≡ find p (reverse (page_rows e))
+      → find p (reverse (rows_of (es ++ e ∷ []))) ≡ Some r
   found_last r h = from_last ∙ ap (λ o. option_or o (find p (reverse (rows_of es)))) (sym h)
 
-  pub found_before : None ≡ find p (reverse (page_rows e)) → find p (reverse (rows_of (es ++ e ∷ []))) ≡ find p (reverse (rows_of es))
+  pub found_before : None ≡ find p (reverse (page_rows e))
+      → find p (reverse (rows_of (es ++ e ∷ []))) ≡ find p (reverse (rows_of es))
   found_before h = from_last ∙ ap (λ o. option_or o (find p (reverse (rows_of es)))) (sym h)
 
   pub counted_first : count_by p (rows_of (e ∷ es)) ≡ count_by p (page_rows e) + count_by p (rows_of es)
@@ -440,17 +611,25 @@ removed_is seq [] rising = refl
 removed_is seq (x ∷ xs) rising =
     let rest = of_tail (λ (a b : ℕ × ℕ). a.0 < b.0) x xs rising in
     elim (cases_Bool (nat_eq x.0 seq)) [
-      | inl t ↦ ap (λ b. cond b xs (x ∷ remove_entry (at_seq seq) xs)) (is_at_same seq x.0 (eqb-true x.0 seq t))
+      | inl t ↦
+          ap (λ b. cond b xs (x ∷ remove_entry (at_seq seq) xs)) (is_at_same seq x.0 (eqb-true x.0 seq t))
           ∙ (sym (filter_keeps (λ (r : ℕ × ℕ). not (nat_eq r.0 seq)) xs (others (eqb-true x.0 seq t)))
-          ∙ ap (λ b. cond (not b) (x ∷ filter (λ (r : ℕ × ℕ). not (nat_eq r.0 seq)) xs) (filter (λ (r : ℕ × ℕ). not (nat_eq r.0 seq)) xs)) (sym t))
-      | inr f ↦ ap (λ b. cond b xs (x ∷ remove_entry (at_seq seq) xs)) (false_from_ne_true (at_seq seq x.0) (λ h. both_ways (nat_eq x.0 seq) f (eq-eqb x.0 seq (at_is seq x.0 h))))
+          ∙ ap (λ b. cond (not b) (x ∷ filter (λ (r : ℕ × ℕ). not (nat_eq r.0 seq)) xs)
+          (filter (λ (r : ℕ × ℕ). not (nat_eq r.0 seq)) xs)) (sym t))
+      | inr f ↦
+          ap (λ b. cond b xs (x ∷ remove_entry (at_seq seq) xs))
+          (false_from_ne_true (at_seq seq x.0)
+          (λ h. both_ways (nat_eq x.0 seq) f (eq-eqb x.0 seq (at_is seq x.0 h))))
           ∙ (ap (λ l. x ∷ l) (removed_is seq xs rest)
-          ∙ ap (λ b. cond (not b) (x ∷ filter (λ (r : ℕ × ℕ). not (nat_eq r.0 seq)) xs) (filter (λ (r : ℕ × ℕ). not (nat_eq r.0 seq)) xs)) (sym f))
+          ∙ ap (λ b. cond (not b) (x ∷ filter (λ (r : ℕ × ℕ). not (nat_eq r.0 seq)) xs)
+          (filter (λ (r : ℕ × ℕ). not (nat_eq r.0 seq)) xs)) (sym f))
     ]
   where
     others : x.0 ≡ seq → All (λ (r : ℕ × ℕ). not (nat_eq r.0 seq) ≡ true) xs
     others e k d l =
-        ap not (ne_eqb (get_or xs k d).0 seq (λ q. let above = of_head (λ (a b : ℕ × ℕ). a.0 < b.0) x xs rising k d l in omega (arith, e, q, above)))
+        ap not
+        (ne_eqb (get_or xs k d).0 seq (λ q.
+        let above = of_head (λ (a b : ℕ × ℕ). a.0 < b.0) x xs rising k d l in omega (arith, e, q, above)))
 
 pub index_less : (p : ℕ × ℕ → Bool) (rows : List (ℕ × ℕ)) → IsIndex rows → IsIndex (filter p rows)
 index_less p rows index = record {

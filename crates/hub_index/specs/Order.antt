@@ -1,5 +1,6 @@
 -- Numbers in the byte order of the ids that they stand for (own).
-use Rattle.std.specs.Prelude.{◌≡◌, ℕ, ◌+◌, ◌<◌, ◌≤◌, List, [], ◌∷◌, ◌++◌, length, get_or, take, Bool, false, not}
+use Rattle.std.specs.Prelude.{◌≡◌, ℕ, ◌+◌, ◌<◌, ◌≤◌, List, [], ◌∷◌, ◌++◌}
+use Rattle.std.specs.Prelude.{length, get_or, take, Bool, false, not}
 use Rattle.std.specs.Prelude.{Option, filter, find, Vec}
 use Rattle.std.specs.Cmp.Lexicographic.{slice_cmp}
 use Rattle.std.specs.List.{All, AllPairs, flat_map}
@@ -51,8 +52,8 @@ pub record IsNumberPage {Y : Type 0} (page : Vec ℕ Y) : Type 0 where
   pub some : 0 < length page.items
   pub few : length page.items ≤ 256
 
--- Where a place of a page lies among the numbers of all: where the pages 0 and 1 have 200 numbers each, place 3
--- of page 2 is place 403 of all.
+-- Where a place of a page lies among the numbers of all: where the pages 0 and 1 have 200 numbers
+-- each, place 3 of page 2 is place 403 of all.
 abbrev pub place_of : {Y : Type 0} → List (Vec ℕ Y) → ℕ → ℕ → ℕ
 place_of pages page at = length (numbers_of (take page pages)) + at
 

@@ -1,12 +1,14 @@
 -- The rows of an index in pages (own). Page k has a slot for each of the sequences 256k + 1 to 256k + 256.
-use Rattle.std.specs.Prelude.{◌≡◌, ℕ, ◌+◌, ◌-◌, ◌*◌, ◌/◌, ◌^◌, ◌<◌, List, [], ◌∷◌, length, map, nat_eq, count_by, is_some}
+use Rattle.std.specs.Prelude.{◌≡◌, ℕ, ◌+◌, ◌-◌, ◌*◌, ◌/◌, ◌^◌, ◌<◌, List, []}
+use Rattle.std.specs.Prelude.{◌∷◌, length, map, nat_eq, count_by, is_some}
 use Rattle.std.specs.Prelude.{Option, Some, None}
 use Rattle.std.specs.List.{All, AllPairs, flat_map}
 use Rattle.std.specs.Set.{distinct_count}
 use Rattle.hub_index.specs.Rows.{IsIndex}
 
--- The rows of slots that stand behind one another, of which the first is that of a sequence: a slot that has a
--- document has a row. From 513 on, the slots of document 7, none and document 9 have the rows (513, 7) and (515, 9).
+-- The rows of slots that stand behind one another, of which the first is that of a sequence: a slot
+-- that has a document has a row. From 513 on, the slots of document 7, none and document 9 have the
+-- rows (513, 7) and (515, 9).
 abbrev pub slot_rows : ℕ → List (Option ℕ) → List (ℕ × ℕ)
 slot_rows first [] = []
 slot_rows first (None ∷ slots) = slot_rows (first + 1) slots

@@ -1,9 +1,11 @@
 //! Pages of numbers, in the order of the ids that the numbers stand for.
 
-ghost use Rattle.std.specs.Prelude.{◌≡◌, ◌+◌, ◌<◌, ◌≤◌, ◌++◌, ◌∷◌, [], length, filter, not, true, take, drop, slice_get, IsSomeAnd, OnOk, OnErr};
+ghost use Rattle.std.specs.Prelude.{◌≡◌, ◌+◌, ◌<◌, ◌≤◌, ◌++◌, ◌∷◌, [], length, filter, not};
+ghost use Rattle.std.specs.Prelude.{true, take, drop, slice_get, IsSomeAnd, OnOk, OnErr};
 ghost use Rattle.std.specs.List.{All, insert};
 ghost use Rattle.std.specs.Ordering.{is_gt};
-ghost use Rattle.hub_index.specs.Order.{IsNumberPage, IsOrder, begins_up_to, id_cmp, lies_below, number_in, numbers_of, place_of};
+ghost use Rattle.hub_index.specs.Order.{IsNumberPage, IsOrder, begins_up_to, id_cmp};
+ghost use Rattle.hub_index.specs.Order.{lies_below, number_in, numbers_of, place_of};
 
 use crate::id_order::Named;
 use std::alloc::{AllocError, Global};
@@ -35,7 +37,8 @@ pub(crate) fn page_at<N: Named>(names: &N, pages: &[Vec<u32>], id: &str) -> usiz
     requires pages { All IsNumberPage pages.now }
     ensures within { 0 < length pages.now → result < length pages.now }
     ensures first { length pages.now ≡ 0 → result ≡ 0 }
-    ensures below { All (λ n. lies_below (N.ids names.now) id.now n ≡ true) (numbers_of (take result pages.now)) }
+    ensures below { All (λ n. lies_below (N.ids names.now) id.now n ≡ true)
+        (numbers_of (take result pages.now)) }
     ensures above { All (λ n. is_gt (id_cmp (N.ids names.now) id.now n) ≡ true)
         (numbers_of (drop (result + 1) pages.now)) }
 {

@@ -1,6 +1,7 @@
 //! A page of rows: a slot for each of 256 sequences behind one another.
 
-ghost use Rattle.std.specs.Prelude.{◌≡◌, ◌<◌, ◌≤◌, length, nat_lt, nat_le, set, drop, replicate, reverse, find, is_some, count_by, None, Some, IfOk};
+ghost use Rattle.std.specs.Prelude.{◌≡◌, ◌<◌, ◌≤◌, length, nat_lt, nat_le, set, drop, replicate};
+ghost use Rattle.std.specs.Prelude.{reverse, find, is_some, count_by, None, Some, IfOk};
 ghost use Rattle.std.specs.List.{All};
 ghost use Rattle.hub_index.specs.Pages.{IsPage, page_rows, slot_rows};
 

@@ -1,6 +1,8 @@
 //! Rows in pages.
 
-ghost use Rattle.std.specs.Prelude.{◌≡◌, ℕ, ◌+◌, ◌*◌, ◌<◌, ◌≤◌, ◌++◌, ◌∷◌, [], length, nat_eq, nat_lt, not, find, filter, reverse, count_by, slice_get, IfSome, IsSomeAnd, OnOk, OnErr, IfOk};
+ghost use Rattle.std.specs.Prelude.{◌≡◌, ℕ, ◌+◌, ◌*◌, ◌<◌, ◌≤◌, ◌++◌, ◌∷◌, [], length};
+ghost use Rattle.std.specs.Prelude.{nat_eq, nat_lt, not, find, filter, reverse, count_by};
+ghost use Rattle.std.specs.Prelude.{slice_get, IfSome, IsSomeAnd, OnOk, OnErr, IfOk};
 ghost use Rattle.std.specs.List.{All, AllPairs};
 ghost use Rattle.std.specs.List.Sorted.{IsPartitionPoint};
 ghost use Rattle.std.specs.Map.{remove_entry};

@@ -1,12 +1,15 @@
 -- Entries by number: where one stands, and the entries without it, with it changed, or with one more.
-use Rattle.std.proofs.Common.{◌≡◌, ◌≢◌, ℕ, zero, suc, ◌+◌, ◌<◌, ◌≤◌, List, [], ◌∷◌, ◌++◌, length, Bool, true, false, ap, refl, sym, ◌∙◌, subst, arith, ◌⊎◌, inl, inr, get_or, find, not, nat_eq, nat_lt, Result, Ok, Err}
+use Rattle.std.proofs.Common.{◌≡◌, ◌≢◌, ℕ, zero, suc, ◌+◌, ◌<◌, ◌≤◌, List, [], ◌∷◌, ◌++◌}
+use Rattle.std.proofs.Common.{length, Bool, true, false, ap, refl, sym, ◌∙◌, subst, arith, ◌⊎◌}
+use Rattle.std.proofs.Common.{inl, inr, get_or, find, not, nat_eq, nat_lt, Result, Ok, Err}
 use Rattle.std.specs.Prelude.{Some, None, slice_get, slice_set, option_map, position, All, if◌then◌else◌}
 use Rattle.std.specs.List.{remove, position_or_len}
 use Rattle.std.specs.List.Sorted.{IsSearchInRange, IsBinarySearchResult, IsNonDecreasingBy, IsPartitionPoint}
 use Rattle.std.specs.Result.{result_ok}
 use Rattle.std.specs.Ordering.{nat_cmp, ordering_index}
 use Rattle.std.specs.declared.cmp.Ordering.TheVariants.{Less, Greater}
-use Rattle.std.proofs.lemmas.Bool.{cases_Bool, cases_lt, eqb-true, eq-eqb, ne_eqb, lt-ltb, ltb-true, ltb-false}
+use Rattle.std.proofs.lemmas.Bool.{cases_Bool, cases_lt, eqb-true, eq-eqb}
+use Rattle.std.proofs.lemmas.Bool.{ne_eqb, lt-ltb, ltb-true, ltb-false}
 use Rattle.std.proofs.lemmas.Cmp.{ranked}
 use Rattle.std.proofs.lemmas.Bool.Decides.{nat_tests}
 use Rattle.std.proofs.lemmas.List.Folds.{find_at}
@@ -22,14 +25,18 @@ use Rattle.hub_model.proofs.Shown.{find_is}
 -- what a search for a test finds
 module _ {A : Type 0} (p : A → Bool) (xs : List A) where
   -- at a place
-  pub place_found : (at : ℕ) → Some at ≡ position p xs → (x : A) → x ≡ get_or xs at x → (find p xs ≡ Some x) × (slice_get xs at ≡ Some x)
+  pub place_found : (at : ℕ) → Some at ≡ position p xs → (x : A) → x ≡ get_or xs at x
+      → (find p xs ≡ Some x) × (slice_get xs at ≡ Some x)
   place_found at e x is = from (nat_lt (position_or_len p xs) (length xs)) refl e
     where
-      from : (b : Bool) → nat_lt (position_or_len p xs) (length xs) ≡ b → Some at ≡ (if b then Some (position_or_len p xs) else None) → (find p xs ≡ Some x) × (slice_get xs at ≡ Some x)
+      from : (b : Bool) → nat_lt (position_or_len p xs) (length xs) ≡ b
+          → Some at ≡ (if b then Some (position_or_len p xs) else None)
+          → (find p xs ≡ Some x) × (slice_get xs at ≡ Some x)
       from true t e =
           let same : position_or_len p xs ≡ at = sym (same_Some at (position_or_len p xs) e) in
           let low : position_or_len p xs < length xs = ltb-true (position_or_len p xs) (length xs) t in
-          let there : slice_get xs at ≡ Some x = slice_get_read xs (length xs) at x refl (omega (arith, low, same)) is in
+          let there : slice_get xs at ≡ Some x =
+          slice_get_read xs (length xs) at x refl (omega (arith, low, same)) is in
           (find_at p xs ∙ (ap (slice_get xs) same ∙ there), there)
       from false t e = absurd (none-some at (sym e))
 
@@ -37,9 +44,12 @@ module _ {A : Type 0} (p : A → Bool) (xs : List A) where
   pub place_none : position p xs ≡ None → find p xs ≡ None
   place_none e = from (nat_lt (position_or_len p xs) (length xs)) refl e
     where
-      from : (b : Bool) → nat_lt (position_or_len p xs) (length xs) ≡ b → (if b then Some (position_or_len p xs) else None) ≡ None → find p xs ≡ None
+      from : (b : Bool) → nat_lt (position_or_len p xs) (length xs) ≡ b
+          → (if b then Some (position_or_len p xs) else None) ≡ None → find p xs ≡ None
       from true t e = absurd (none-some (position_or_len p xs) (sym e))
-      from false t e = find_at p xs ∙ slice_get_past xs (position_or_len p xs) (ltb-false (position_or_len p xs) (length xs) t)
+      from false t e =
+          find_at p xs
+          ∙ slice_get_past xs (position_or_len p xs) (ltb-false (position_or_len p xs) (length xs) t)
 
   -- the one place where it passes, or none
   position_is : (n : ℕ) → position_or_len p xs ≡ n → n < length xs → Some n ≡ position p xs
@@ -49,39 +59,68 @@ module _ {A : Type 0} (p : A → Bool) (xs : List A) where
   no_position e = rw (e, not_below (length xs)) refl
     where
       not_below : (n : ℕ) → nat_lt n n ≡ false
-      not_below n = elim (cases_Bool (nat_lt n n)) [ inl t ↦ let low = ltb-true n n t in absurd (omega (arith, low)) | inr t ↦ t ]
+      not_below n = elim (cases_Bool (nat_lt n n)) [
+        | inl t ↦ let low = ltb-true n n t in absurd (omega (arith, low))
+        | inr t ↦ t
+      ]
 
 -- a binary search for a number, where numbers rise
 module _ {A : Type 0} (number : ℕ) where
-  compares_rise : (entries : List (ℕ × A)) → AreRising entries → IsNonDecreasingBy (λ (p : ℕ × A). ordering_index (nat_cmp p.0 number)) entries
+  compares_rise : (entries : List (ℕ × A)) → AreRising entries
+      → IsNonDecreasingBy (λ (p : ℕ × A). ordering_index (nat_cmp p.0 number)) entries
   compares_rise [] rising = λ i j d le low. absurd (omega arith)
-  compares_rise (q ∷ entries) rising = IsNonDecreasingBy-from_default (λ (p : ℕ × A). ordering_index (nat_cmp p.0 number)) (q ∷ entries) q (λ i j le low.
-      let above : (i ≡ j) ⊎ ((get_or (q ∷ entries) i q).0 < (get_or (q ∷ entries) j q).0) = ordered i j le low in
-      let numbers : (get_or (q ∷ entries) i q).0 ≤ (get_or (q ∷ entries) j q).0 = elim above [ inl same ↦ omega (arith, ap (λ k. (get_or (q ∷ entries) k q).0) same) | inr less ↦ omega (arith, less) ] in
+  compares_rise (q ∷ entries) rising =
+      IsNonDecreasingBy-from_default (λ (p : ℕ × A). ordering_index (nat_cmp p.0 number)) (q ∷ entries) q
+      (λ i j le low.
+      let above : (i ≡ j) ⊎ ((get_or (q ∷ entries) i q).0 < (get_or (q ∷ entries) j q).0) =
+      ordered i j le low in
+      let numbers : (get_or (q ∷ entries) i q).0 ≤ (get_or (q ∷ entries) j q).0 = elim above [
+        | inl same ↦ omega (arith, ap (λ k. (get_or (q ∷ entries) k q).0) same)
+        | inr less ↦ omega (arith, less)
+      ] in
       grind (arith, nat_tests))
     where
-      ordered : (i j : ℕ) → i ≤ j → j < length (q ∷ entries) → (i ≡ j) ⊎ ((get_or (q ∷ entries) i q).0 < (get_or (q ∷ entries) j q).0)
-      ordered i j le low = elim (cases_lt i j) [ inl l ↦ inr (rising i j q l low) | inr g ↦ inl (omega arith) ]
+      ordered : (i j : ℕ) → i ≤ j → j < length (q ∷ entries)
+          → (i ≡ j) ⊎ ((get_or (q ∷ entries) i q).0 < (get_or (q ∷ entries) j q).0)
+      ordered i j le low =
+          elim (cases_lt i j) [ inl l ↦ inr (rising i j q l low) | inr g ↦ inl (omega arith) ]
 
   -- the place where the number stands
-  pub placed_at : (entries : List (ℕ × A)) (at : ℕ) (d : ℕ × A) → AreRising entries → at < length entries → (get_or entries at d).0 ≡ number → Some at ≡ position (is_of number) entries
+  pub placed_at : (entries : List (ℕ × A)) (at : ℕ) (d : ℕ × A) → AreRising entries → at < length entries
+      → (get_or entries at d).0 ≡ number → Some at ≡ position (is_of number) entries
   placed_at entries at d rising within here =
-      position_is (is_of number) entries at (position_or_len_is (is_of number) entries at d (omega (arith, within)) (λ k low. let below = rising k at d low within in ne_eqb (get_or entries k d).0 number (λ e. omega (arith, below, here, e))) (λ low. eq-eqb (get_or entries at d).0 number here)) within
+      position_is (is_of number) entries
+      at (position_or_len_is (is_of number) entries at d (omega (arith, within))
+      (λ k low.
+      let below = rising k at d low within in
+      ne_eqb (get_or entries k d).0 number (λ e. omega (arith, below, here, e)))
+      (λ low. eq-eqb (get_or entries at d).0 number here)) within
 
-  pub searched : (entries : List (ℕ × A)) (r : Result ℕ ℕ) → AreRising entries → IsSearchInRange r (length entries) → IsBinarySearchResult (λ (p : ℕ × A). nat_cmp p.0 number) entries r → result_ok r ≡ position (is_of number) entries
+  pub searched : (entries : List (ℕ × A)) (r : Result ℕ ℕ)
+      → AreRising entries → IsSearchInRange r (length entries)
+      → IsBinarySearchResult (λ (p : ℕ × A). nat_cmp p.0 number) entries r
+      → result_ok r ≡ position (is_of number) entries
   searched [] (Ok at) rising within found = absurd (omega (arith, within))
   searched [] (Err at) rising within found = refl
   searched (q ∷ entries) (Ok at) rising within found =
       placed_at (q ∷ entries) at q rising within (ranked _ number _ (sym (found q)))
   searched (q ∷ entries) (Err at) rising within found =
       let parts = found (compares_rise (q ∷ entries) rising) in
-      no_position (is_of number) (q ∷ entries) (position_or_len_is (is_of number) (q ∷ entries) (length (q ∷ entries)) q (omega arith) (others parts) (λ low. absurd (omega (arith, low))))
+      no_position (is_of number) (q ∷ entries)
+      (position_or_len_is (is_of number) (q ∷ entries) (length (q ∷ entries)) q (omega arith) (others parts)
+      (λ low. absurd (omega (arith, low))))
     where
-      others : IsPartitionPoint (λ (p : ℕ × A). nat_cmp p.0 number ≡ Less) (λ (p : ℕ × A). nat_cmp p.0 number ≡ Greater) (q ∷ entries) at → (k : ℕ) → k < length (q ∷ entries) → is_of number (get_or (q ∷ entries) k q) ≡ false
+      others : IsPartitionPoint (λ (p : ℕ × A). nat_cmp p.0 number ≡ Less)
+          (λ (p : ℕ × A). nat_cmp p.0 number ≡ Greater) (q ∷ entries) at
+          → (k : ℕ) → k < length (q ∷ entries) → is_of number (get_or (q ∷ entries) k q) ≡ false
       others parts k low =
           elim (cases_lt k at) [
-            | inl l ↦ let less = ranked _ number _ (sym (parts.0 k q (omega arith) l)) in ne_eqb (get_or (q ∷ entries) k q).0 number (λ e. omega (arith, less, e))
-            | inr g ↦ let more = ranked _ number _ (sym (parts.1 k q g low)) in ne_eqb (get_or (q ∷ entries) k q).0 number (λ e. omega (arith, more, e))
+            | inl l ↦
+                let less = ranked _ number _ (sym (parts.0 k q (omega arith) l)) in
+                ne_eqb (get_or (q ∷ entries) k q).0 number (λ e. omega (arith, less, e))
+            | inr g ↦
+                let more = ranked _ number _ (sym (parts.1 k q g low)) in
+                ne_eqb (get_or (q ∷ entries) k q).0 number (λ e. omega (arith, more, e))
           ]
 
 -- where numbers rise, those after the first are above it, and rise
@@ -97,13 +136,18 @@ module _ {A : Type 0} (number : ℕ) where
   abbrev Others : List (ℕ × A) → Type 0
   Others entries = All (λ p. is_of number p ≡ false) entries
 
-  others_changed : (change : A → A) (entries : List (ℕ × A)) → Others entries → changed number change entries ≡ entries
+  others_changed : (change : A → A) (entries : List (ℕ × A)) → Others entries
+      → changed number change entries ≡ entries
   others_changed change [] others = refl
-  others_changed change (q ∷ entries) others = rw (others 0 q (omega arith)) (ap (λ qs. q ∷ qs) (others_changed change entries (λ k d l. others (suc k) d (omega arith))))
+  others_changed change (q ∷ entries) others =
+      rw (others 0 q (omega arith))
+      (ap (λ qs. q ∷ qs) (others_changed change entries (λ k d l. others (suc k) d (omega arith))))
 
   others_kept : (entries : List (ℕ × A)) → Others entries → without number entries ≡ entries
   others_kept [] others = refl
-  others_kept (q ∷ entries) others = rw (others 0 q (omega arith)) (ap (λ qs. q ∷ qs) (others_kept entries (λ k d l. others (suc k) d (omega arith))))
+  others_kept (q ∷ entries) others =
+      rw (others 0 q (omega arith))
+      (ap (λ qs. q ∷ qs) (others_kept entries (λ k d l. others (suc k) d (omega arith))))
 
   -- as where there is none of this number
   none_of : (entries : List (ℕ × A)) → entry_in number entries ≡ None → Others entries
@@ -119,12 +163,16 @@ module _ {A : Type 0} (number : ℕ) where
       with_first t others (suc k) d l = others k d (omega arith)
 
   -- and those after one of it, where numbers rise
-  above : (p : ℕ × A) (entries : List (ℕ × A)) → p.0 ≡ number → All (λ (q : ℕ × A). p.0 < q.0) entries → Others entries
-  above p entries own rising k d l = let r = rising k d l in ne_eqb (get_or entries k d).0 number (λ e. omega (arith, r, own, e))
+  above : (p : ℕ × A) (entries : List (ℕ × A)) → p.0 ≡ number → All (λ (q : ℕ × A). p.0 < q.0) entries
+      → Others entries
+  above p entries own rising k d l =
+      let r = rising k d l in ne_eqb (get_or entries k d).0 number (λ e. omega (arith, r, own, e))
 
   -- the one here has the number, and those before and after it other ones
-  at_place : (change : A → A) (entries : List (ℕ × A)) (at : ℕ) (p : ℕ × A) → AreRising entries → slice_get entries at ≡ Some p → p.0 ≡ number
-      → (slice_set entries at (p.0, change p.1) ≡ changed number change entries) × (remove entries at ≡ without number entries)
+  at_place : (change : A → A) (entries : List (ℕ × A)) (at : ℕ) (p : ℕ × A) → AreRising entries
+      → slice_get entries at ≡ Some p → p.0 ≡ number
+      → (slice_set entries at (p.0, change p.1) ≡ changed number change entries)
+      × (remove entries at ≡ without number entries)
   at_place change [] at p rising there own = absurd (none-some p there)
   at_place change (q ∷ entries) zero p rising there own =
       let same : q ≡ p = same_Some q p there in
@@ -139,9 +187,11 @@ module _ {A : Type 0} (number : ℕ) where
       let rest = at_place change entries at p (rest_rises q entries rising) there own in
       rw other (ap (λ qs. q ∷ qs) rest.0, ap (λ qs. q ∷ qs) rest.1)
     where
-      before : (entries : List (ℕ × A)) (at : ℕ) → slice_get entries at ≡ Some p → All (λ (b : ℕ × A). q.0 < b.0) entries → q.0 < p.0
+      before : (entries : List (ℕ × A)) (at : ℕ) → slice_get entries at ≡ Some p
+          → All (λ (b : ℕ × A). q.0 < b.0) entries → q.0 < p.0
       before [] at there all = absurd (none-some p there)
-      before (r ∷ entries) zero there all = subst (λ (z : ℕ × A). q.0 < z.0) (same_Some r p there) (all 0 r (omega arith))
+      before (r ∷ entries) zero there all =
+          subst (λ (z : ℕ × A). q.0 < z.0) (same_Some r p there) (all 0 r (omega arith))
       before (r ∷ entries) (suc at) there all = before entries at there (λ k d l. all (suc k) d (omega arith))
 
 put_back : {A : Type 0} (xs : List A) (k : ℕ) (x : A) → slice_get xs k ≡ Some x → slice_set xs k x ≡ xs
@@ -150,19 +200,25 @@ put_back (y ∷ xs) zero x e = ap (λ z. z ∷ xs) (sym (same_Some y x e))
 put_back (y ∷ xs) (suc k) x e = ap (λ zs. y ∷ zs) (put_back xs k x e)
 
 -- the entry of this number stands here
-module _ {A : Type 0} (number : ℕ) (entries : List (ℕ × A)) (at : ℕ) (placed : Some at ≡ position (is_of number) entries) (p : ℕ × A) (is : p ≡ get_or entries at p) where
+module _ {A : Type 0} (number : ℕ) (entries : List (ℕ × A)) (at : ℕ)
+    (placed : Some at ≡ position (is_of number) entries) (p : ℕ × A) (is : p ≡ get_or entries at p) where
   there : slice_get entries at ≡ Some p
   there = (place_found (is_of number) entries at placed p is).1
 
   own : p.0 ≡ number
-  own = eqb-true p.0 number (find_is (is_of number) entries p (place_found (is_of number) entries at placed p is).0).0
+  own =
+      eqb-true p.0 number
+      (find_is (is_of number) entries p (place_found (is_of number) entries at placed p is).0).0
 
   pub entry_here : entry_in number entries ≡ Some p.1
   entry_here = ap (option_map (λ (q : ℕ × A). q.1)) (place_found (is_of number) entries at placed p is).0
 
   -- and changes there
-  pub changed_here : (change : A → A) (new : A) → AreRising entries → new ≡ change p.1 → slice_set entries at (p.0, new) ≡ changed number change entries
-  changed_here change new rising e = ap (λ (a : A). slice_set entries at (p.0, a)) e ∙ (at_place number change entries at p rising there own).0
+  pub changed_here : (change : A → A) (new : A) → AreRising entries → new ≡ change p.1
+      → slice_set entries at (p.0, new) ≡ changed number change entries
+  changed_here change new rising e =
+      ap (λ (a : A). slice_set entries at (p.0, a)) e
+      ∙ (at_place number change entries at p rising there own).0
 
   -- or stays
   pub stays_here : (new : A) → new ≡ p.1 → slice_set entries at (p.0, new) ≡ entries
@@ -178,48 +234,69 @@ module _ {A : Type 0} (number : ℕ) (entries : List (ℕ × A)) where
   no_entry none = ap (option_map (λ (q : ℕ × A). q.1)) (place_none (is_of number) entries none)
 
 -- then none is changed, and none is left out
-pub changed_absent : {A : Type 0} (number : ℕ) (change : A → A) (entries : List (ℕ × A)) → entry_in number entries ≡ None → changed number change entries ≡ entries
+pub changed_absent : {A : Type 0} (number : ℕ) (change : A → A) (entries : List (ℕ × A))
+    → entry_in number entries ≡ None → changed number change entries ≡ entries
 changed_absent number change entries none = others_changed number change entries (none_of number entries none)
 
-pub without_absent : {A : Type 0} (number : ℕ) (entries : List (ℕ × A)) → entry_in number entries ≡ None → without number entries ≡ entries
+pub without_absent : {A : Type 0} (number : ℕ) (entries : List (ℕ × A)) → entry_in number entries ≡ None
+    → without number entries ≡ entries
 without_absent number entries none = others_kept number entries (none_of number entries none)
 
 -- an entry that stays changes nothing
-pub changed_same : {A : Type 0} (number : ℕ) (entries : List (ℕ × A)) → changed number (λ a. a) entries ≡ entries
+pub changed_same : {A : Type 0} (number : ℕ) (entries : List (ℕ × A))
+    → changed number (λ a. a) entries ≡ entries
 changed_same number [] = refl
 changed_same {A = A} number (p ∷ entries) = from (is_of number p) (changed_same number entries)
   where
-    from : (b : Bool) → changed number (λ a. a) entries ≡ entries → ◌≡◌ {A = List (ℕ × A)} ((if b then (p.0, p.1) else p) ∷ changed number (λ a. a) entries) (p ∷ entries)
+    from : (b : Bool) → changed number (λ a. a) entries ≡ entries
+        → ◌≡◌ {A = List (ℕ × A)}
+        ((if b then (p.0, p.1) else p) ∷ changed number (λ a. a) entries) (p ∷ entries)
     from true e = ap (λ (ps : List (ℕ × A)). p ∷ ps) e
     from false e = ap (λ (ps : List (ℕ × A)). p ∷ ps) e
 
 -- that of this number, and those of others, once it is changed, goes or comes
 module _ {A : Type 0} (id : ℕ) where
-  pub own_changed : (change : A → A) (entries : List (ℕ × A)) → entry_in id (changed id change entries) ≡ option_map change (entry_in id entries)
+  pub own_changed : (change : A → A) (entries : List (ℕ × A))
+      → entry_in id (changed id change entries) ≡ option_map change (entry_in id entries)
   own_changed change [] = refl
-  own_changed change (p ∷ entries) = elim (cases_Bool (nat_eq p.0 id)) [ inl t ↦ rw (t, t) refl | inr t ↦ rw (t, t) (own_changed change entries) ]
+  own_changed change (p ∷ entries) = elim (cases_Bool (nat_eq p.0 id)) [
+    | inl t ↦ rw (t, t) refl
+    | inr t ↦ rw (t, t) (own_changed change entries)
+  ]
 
-  pub other_changed : (change : A → A) (q : ℕ) → q ≢ id → (entries : List (ℕ × A)) → entry_in q (changed id change entries) ≡ entry_in q entries
+  pub other_changed : (change : A → A) (q : ℕ) → q ≢ id → (entries : List (ℕ × A))
+      → entry_in q (changed id change entries) ≡ entry_in q entries
   other_changed change q n [] = refl
   other_changed change q n (p ∷ entries) =
       elim (cases_Bool (nat_eq p.0 id)) [
         | inl t ↦ rw (t, ne_eqb p.0 q (λ e. n (sym e ∙ eqb-true p.0 id t))) (other_changed change q n entries)
-        | inr t ↦ elim (cases_Bool (nat_eq p.0 q)) [ inl u ↦ rw (t, u) refl | inr u ↦ rw (t, u) (other_changed change q n entries) ]
+        | inr t ↦ elim (cases_Bool (nat_eq p.0 q)) [
+          | inl u ↦ rw (t, u) refl
+          | inr u ↦ rw (t, u) (other_changed change q n entries)
+        ]
       ]
 
   pub own_without : (entries : List (ℕ × A)) → entry_in id (without id entries) ≡ None
   own_without [] = refl
-  own_without (p ∷ entries) = elim (cases_Bool (nat_eq p.0 id)) [ inl t ↦ rw t (own_without entries) | inr t ↦ rw (t, t) (own_without entries) ]
+  own_without (p ∷ entries) = elim (cases_Bool (nat_eq p.0 id)) [
+    | inl t ↦ rw t (own_without entries)
+    | inr t ↦ rw (t, t) (own_without entries)
+  ]
 
-  pub other_without : (q : ℕ) → q ≢ id → (entries : List (ℕ × A)) → entry_in q (without id entries) ≡ entry_in q entries
+  pub other_without : (q : ℕ) → q ≢ id → (entries : List (ℕ × A))
+      → entry_in q (without id entries) ≡ entry_in q entries
   other_without q n [] = refl
   other_without q n (p ∷ entries) =
       elim (cases_Bool (nat_eq p.0 id)) [
         | inl t ↦ rw (t, ne_eqb p.0 q (λ e. n (sym e ∙ eqb-true p.0 id t))) (other_without q n entries)
-        | inr t ↦ elim (cases_Bool (nat_eq p.0 q)) [ inl u ↦ rw (t, u) refl | inr u ↦ rw (t, u) (other_without q n entries) ]
+        | inr t ↦ elim (cases_Bool (nat_eq p.0 q)) [
+          | inl u ↦ rw (t, u) refl
+          | inr u ↦ rw (t, u) (other_without q n entries)
+        ]
       ]
 
-  pub own_added : (a : A) (entries : List (ℕ × A)) → entry_in id entries ≡ None → entry_in id (entries ++ (id, a) ∷ []) ≡ Some a
+  pub own_added : (a : A) (entries : List (ℕ × A)) → entry_in id entries ≡ None
+      → entry_in id (entries ++ (id, a) ∷ []) ≡ Some a
   own_added a [] none = rw (eq-eqb id id refl) refl
   own_added a (p ∷ entries) none =
       elim (cases_Bool (nat_eq p.0 id)) [
@@ -227,9 +304,11 @@ module _ {A : Type 0} (id : ℕ) where
         | inr t ↦ rw t (own_added a entries (rw t at none))
       ]
 
-  pub other_added : (a : A) (q : ℕ) → q ≢ id → (entries : List (ℕ × A)) → entry_in q (entries ++ (id, a) ∷ []) ≡ entry_in q entries
+  pub other_added : (a : A) (q : ℕ) → q ≢ id → (entries : List (ℕ × A))
+      → entry_in q (entries ++ (id, a) ∷ []) ≡ entry_in q entries
   other_added a q n [] = rw (ne_eqb id q (λ e. n (sym e))) refl
-  other_added a q n (p ∷ entries) = elim (cases_Bool (nat_eq p.0 q)) [ inl u ↦ rw u refl | inr u ↦ rw u (other_added a q n entries) ]
+  other_added a q n (p ∷ entries) =
+      elim (cases_Bool (nat_eq p.0 q)) [ inl u ↦ rw u refl | inr u ↦ rw u (other_added a q n entries) ]
 
 -- numbers stay below the next one, and rise
 module _ {A : Type 0} where
@@ -240,7 +319,8 @@ module _ {A : Type 0} where
   pub none_above : (next : ℕ) (entries : List (ℕ × A)) → AreBelow next entries → entry_in next entries ≡ None
   none_above next [] all = refl
   none_above next (p ∷ entries) all =
-      rw (ne_eqb p.0 next (λ e. omega (arith, all 0 p (omega arith), e))) (none_above next entries (λ k d l. all (suc k) d (omega arith)))
+      rw (ne_eqb p.0 next (λ e. omega (arith, all 0 p (omega arith), e)))
+      (none_above next entries (λ k d l. all (suc k) d (omega arith)))
 
   module _ (id : ℕ) (change : A → A) where
     abbrev changed_one : ℕ × A → ℕ × A
@@ -253,24 +333,37 @@ module _ {A : Type 0} where
         from true = refl
         from false = refl
 
-    pub below_changed : (next : ℕ) (entries : List (ℕ × A)) → AreBelow next entries → AreBelow next (changed id change entries)
-    below_changed next entries below = All-map (λ (p : ℕ × A). p.0 < next) changed_one entries (λ k d l. let g = below k d l in omega (arith, g, same_number (get_or entries k d)))
+    pub below_changed : (next : ℕ) (entries : List (ℕ × A)) → AreBelow next entries
+        → AreBelow next (changed id change entries)
+    below_changed next entries below =
+        All-map (λ (p : ℕ × A). p.0 < next) changed_one entries
+        (λ k d l. let g = below k d l in omega (arith, g, same_number (get_or entries k d)))
 
     pub rising_changed : (entries : List (ℕ × A)) → AreRising entries → AreRising (changed id change entries)
     rising_changed [] rising = rising
     rising_changed (p ∷ entries) rising =
         let rest = rising_changed entries (rest_rises p entries rising) in
         AllPairs-cons (λ (a b : ℕ × A). a.0 < b.0) (changed_one p) (changed id change entries)
-        (All-map (λ (b : ℕ × A). (changed_one p).0 < b.0) changed_one entries (λ k d l. let f = after_first p entries rising k d l in omega (arith, f, same_number p, same_number (get_or entries k d)))) rest
+        (All-map (λ (b : ℕ × A). (changed_one p).0 < b.0) changed_one entries (λ k d l.
+        let f = after_first p entries rising k d l in
+        omega (arith, f, same_number p, same_number (get_or entries k d)))) rest
 
-  pub below_without : (id next : ℕ) (entries : List (ℕ × A)) → AreBelow next entries → AreBelow next (without id entries)
-  below_without id next entries below = All-filter (λ (p : ℕ × A). not (is_of id p)) (λ (p : ℕ × A). p.0 < next) entries below
+  pub below_without : (id next : ℕ) (entries : List (ℕ × A)) → AreBelow next entries
+      → AreBelow next (without id entries)
+  below_without id next entries below =
+      All-filter (λ (p : ℕ × A). not (is_of id p)) (λ (p : ℕ × A). p.0 < next) entries below
 
   pub rising_without : (id : ℕ) (entries : List (ℕ × A)) → AreRising entries → AreRising (without id entries)
-  rising_without id entries rising = AllPairs-filter (λ (a b : ℕ × A). a.0 < b.0) (λ (p : ℕ × A). not (is_of id p)) entries rising
+  rising_without id entries rising =
+      AllPairs-filter (λ (a b : ℕ × A). a.0 < b.0) (λ (p : ℕ × A). not (is_of id p)) entries rising
 
-  pub below_added : (next : ℕ) (a : A) (entries : List (ℕ × A)) → AreBelow next entries → AreBelow (next + 1) (entries ++ (next, a) ∷ [])
-  below_added next a entries below = All-push (λ (p : ℕ × A). p.0 < next + 1) entries (next, a) (λ k d l. let b = below k d l in omega (arith, b)) (omega arith)
+  pub below_added : (next : ℕ) (a : A) (entries : List (ℕ × A)) → AreBelow next entries
+      → AreBelow (next + 1) (entries ++ (next, a) ∷ [])
+  below_added next a entries below =
+      All-push (λ (p : ℕ × A). p.0 < next + 1) entries (next, a)
+      (λ k d l. let b = below k d l in omega (arith, b)) (omega arith)
 
-  pub rising_added : (next : ℕ) (a : A) (entries : List (ℕ × A)) → AreBelow next entries → AreRising entries → AreRising (entries ++ (next, a) ∷ [])
-  rising_added next a entries below rising = all_pairs_push (λ (x y : ℕ × A). x.0 < y.0) entries (next, a) rising below
+  pub rising_added : (next : ℕ) (a : A) (entries : List (ℕ × A)) → AreBelow next entries → AreRising entries
+      → AreRising (entries ++ (next, a) ∷ [])
+  rising_added next a entries below rising =
+      all_pairs_push (λ (x y : ℕ × A). x.0 < y.0) entries (next, a) rising below

@@ -1,5 +1,6 @@
 -- How a list that fits a feed goes on fitting it, at each thing that may happen to the feed.
-use Rattle.std.proofs.Common.{◌≡◌, ℕ, ◌+◌, ◌<◌, ◌≤◌, List, [], ◌∷◌, ◌++◌, length, true, false, inl, inr, sym, ◌∙◌, ap, subst, refl, arith, length-append, ◌&&◌}
+use Rattle.std.proofs.Common.{◌≡◌, ℕ, ◌+◌, ◌<◌, ◌≤◌, List, [], ◌∷◌, ◌++◌, length, true, false}
+use Rattle.std.proofs.Common.{inl, inr, sym, ◌∙◌, ap, subst, refl, arith, length-append, ◌&&◌}
 use Rattle.std.specs.Prelude.{Contains, Option, Some, None, IsTrue, IfSome, max}
 use Rattle.std.specs.List.{list_any}
 use Rattle.std.proofs.lemmas.Bool.{cases_Bool, both_ways, or_cases, and_parts, le-leb}
@@ -14,14 +15,18 @@ use Rattle.hub_model.specs.declared.feeds.Since.{Since}
 use Rattle.hub_model.specs.declared.feeds.Since.TheVariants.{Now, Plain, Tagged}
 use Rattle.hub_model.specs.declared.feeds.Item.{Item}
 use Rattle.hub_model.specs.declared.feeds.Item.TheVariants.{Row, Beat, End}
-use Rattle.hub_model.specs.Feed.{Status, Open, Ending, Ended, Finished, Feed, Due, DueRow, DueEnd, DueNothing, DueGone, since_of, bound_of, due, is_in_reach, bound_after, after_due, after_row, after_end, after_nothing, is_open, is_over, waits}
+use Rattle.hub_model.specs.Feed.{Status, Open, Ending, Ended, Finished, Feed, Due, DueRow, DueEnd}
+use Rattle.hub_model.specs.Feed.{DueNothing, DueGone, since_of, bound_of, due, is_in_reach, bound_after}
+use Rattle.hub_model.specs.Feed.{after_due, after_row, after_end, after_nothing, is_open, is_over, waits}
 use Rattle.hub_model.specs.Filter.{passes}
-use Rattle.hub_model.specs.FeedLaws.{OpenedFits, GrownFits, HandedFits, WaitingFits, BeatFits, ExpiredFits, EndedFits, FinishedFits, LimitedEnds}
+use Rattle.hub_model.specs.FeedLaws.{OpenedFits, GrownFits, HandedFits, WaitingFits, BeatFits}
+use Rattle.hub_model.specs.FeedLaws.{ExpiredFits, EndedFits, FinishedFits, LimitedEnds}
 use Rattle.hub_model.specs.Hand.{due_in, item_of}
 use Rattle.hub_model.specs.Journal.{Edit}
 use Rattle.hub_model.specs.RightlyHanded.{is_end, EndsAt, IsAsked, RightlyHanded, Fits, rows_of}
 use Rattle.hub_model.specs.RowKind.{RowKind}
-use Rattle.hub_model.proofs.Due.{due_row, due_end, due_nothing, reach_parts, reach_from, within_bound, within_below, bound_after_row, open_after_row}
+use Rattle.hub_model.proofs.Due.{due_row, due_end, due_nothing, reach_parts, reach_from}
+use Rattle.hub_model.proofs.Due.{within_bound, within_below, bound_after_row, open_after_row}
 use Rattle.hub_model.proofs.Items.{rows_of-row, rows_of-beat, rows_of-end, ends_more}
 use Rattle.hub_model.proofs.Right.{some_weaker, right_grows, right_moves, right_row}
 use Rattle.hub_model.proofs.Rows.{current_within, find_first, find_none}
@@ -70,7 +75,8 @@ module _ {R : Type 0} (kind : RowKind R) where
   }
 
   -- an End was handed only by a feed that is over
-  no_end : (J : List Edit) (f : Feed) (items : List (Item R)) → Fits kind J f items → is_over f.status ≡ false → list_any is_end items ≡ false
+  no_end : (J : List Edit) (f : Feed) (items : List (Item R)) → Fits kind J f items → is_over f.status ≡ false
+      → list_any is_end items ≡ false
   no_end J f items h e =
       elim (cases_Bool (list_any is_end items)) [
         | inl t ↦ absurd (both_ways _ e (h.over t))
@@ -81,7 +87,8 @@ module _ {R : Type 0} (kind : RowKind R) where
   some_at None n P e h = absurd (cc)
   some_at (Some m) n P e h = subst P (cc) h
 
-  end_more : (items : List (Item R)) (item : Item R) → is_end item ≡ false → list_any is_end (items ++ item ∷ []) ≡ true → list_any is_end items ≡ true
+  end_more : (items : List (Item R)) (item : Item R) → is_end item ≡ false
+      → list_any is_end (items ++ item ∷ []) ≡ true → list_any is_end items ≡ true
   end_more items item e h =
       elim (or_cases _ _ (sym (list_any-append is_end items (item ∷ [])) ∙ h)) [
         | inl t ↦ t
@@ -89,7 +96,10 @@ module _ {R : Type 0} (kind : RowKind R) where
       ]
 
   -- a row that is due
-  fits_row : (J : List Edit) (f : Feed) (items : List (Item R)) (c : Current) → Fits kind J f items → due (current J) f ≡ DueRow c → Fits kind J (after_row f c.seq (length J)) (items ++ Row (kind.shown J f.params.style f.params.include_docs c) ∷ [])
+  fits_row : (J : List Edit) (f : Feed) (items : List (Item R)) (c : Current)
+      → Fits kind J f items → due (current J) f ≡ DueRow c
+      → Fits kind J (after_row f c.seq (length J))
+      (items ++ Row (kind.shown J f.params.style f.params.include_docs c) ∷ [])
   fits_row J f items c h e =
       let row = kind.shown J f.params.style f.params.include_docs c in
       let d = due_row (current J) f c e in
@@ -97,48 +107,77 @@ module _ {R : Type 0} (kind : RowKind R) where
       let parts = reach_parts f c first.0 in
       let within : (1 ≤ c.seq) × (c.seq < 1 + length J) = current_within 1 J c first.1 in
       let to_length : c.seq ≤ length J = omega arith in
-      let bounds = bound_after_row f.params.mode f.bound (length J) c.seq to_length (within_bound f.bound c.seq parts.1) (some_weaker f.bound _ _ h.bounded (λ n k. k.1)) in
+      let bounds =
+      bound_after_row f.params.mode f.bound (length J) c.seq to_length (within_bound f.bound c.seq parts.1)
+      (some_weaker f.bound _ _ h.bounded (λ n k. k.1)) in
       let open_before = no_end J f items h (ap is_over d.0) in
       record {
-        right = right_row kind J f items row c.seq (kind.keeps J f.params.style f.params.include_docs c).0 _ _ _ h.right (c, first.1, refl, parts.2) parts.0 to_length
-            (some_weaker (bound_after f.params.mode f.bound (length J)) (λ m. (c.seq ≤ m) × (m ≤ length J)) (λ m. c.seq ≤ m) bounds (λ n k. k.0)) open_before
-            (λ x in_rows q a b. let least : c.seq ≤ x.seq = first.2 x in_rows (reach_from f x a (within_below f.bound x.seq c.seq parts.1 b) q) in omega arith)
+        right =
+            right_row kind J f items row c.seq (kind.keeps J f.params.style f.params.include_docs c).0
+            _ _ _ h.right (c, first.1, refl, parts.2) parts.0 to_length
+            (some_weaker (bound_after f.params.mode f.bound (length J)) (λ m. (c.seq ≤ m) × (m ≤ length J))
+            (λ m. c.seq ≤ m) bounds (λ n k. k.0)) open_before
+            (λ x in_rows q a b.
+            let least : c.seq ≤ x.seq =
+            first.2 x in_rows (reach_from f x a (within_below f.bound x.seq c.seq parts.1 b) q) in
+            omega arith)
             (some_weaker f.params.limit _ _ (h.fewer d.0) (λ n k. omega (arith, h.counted)));
-        counted = ap length (rows_of-row items row) ∙ (length-append (rows_of items) (row ∷ []) ∙ ap (λ n. n + 1) h.counted);
+        counted =
+            ap length (rows_of-row items row)
+            ∙ (length-append (rows_of items) (row ∷ []) ∙ ap (λ n. n + 1) h.counted);
         fewer = λ t. open_after_row f.params.limit (f.rows + 1) t;
         over = λ t. absurd (both_ways _ open_before (end_more items (Row row) refl t));
         bounded = bounds;
       }
 
   -- an End, at a place that no passing row lies before
-  fits_end_at : (J : List Edit) (f : Feed) (items : List (Item R)) (last n : ℕ) → Fits kind J f items → is_over f.status ≡ false → f.place ≤ last → last ≤ length J → IfSome f.bound (λ b. last ≤ b) →
-      ((c : Current) → Contains (current J) c → IsTrue (passes f.params.filter c.id) → f.place < c.seq → c.seq ≤ last → ⊥) →
+  fits_end_at : (J : List Edit) (f : Feed) (items : List (Item R)) (last n : ℕ) → Fits kind J f items
+      → is_over f.status ≡ false → f.place ≤ last → last ≤ length J → IfSome f.bound (λ b. last ≤ b) →
+      ((c : Current) → Contains (current J) c → IsTrue (passes f.params.filter c.id)
+      → f.place < c.seq → c.seq ≤ last → ⊥) →
       Fits kind J (after_end f last) (items ++ End last n ∷ [])
   fits_end_at J f items last n h over p l b gap = record {
-    right = right_moves kind J f items (End last n ∷ []) f.bound last f.rows Ended h.right refl p l (some_weaker f.bound _ _ h.bounded (λ m k. k.0)) (ends_more last items (End last n ∷ []) (no_end J f items h over) (refl, refl)) gap (All-push (IsAsked f.params.heartbeat) [] (End last n) (All-nil (IsAsked f.params.heartbeat)) tt);
+    right =
+        right_moves kind J f items (End last n ∷ []) f.bound last f.rows Ended h.right refl p l
+        (some_weaker f.bound _ _ h.bounded (λ m k. k.0))
+        (ends_more last items (End last n ∷ []) (no_end J f items h over) (refl, refl)) gap
+        (All-push (IsAsked f.params.heartbeat) [] (End last n) (All-nil (IsAsked f.params.heartbeat)) tt);
     counted = ap length (rows_of-end items last n) ∙ h.counted;
     fewer = λ e. absurd (cc);
     over = λ e. refl;
     bounded = both f.bound b h.bounded;
   }
     where
-      both : (o : Option ℕ) → IfSome o (λ m. last ≤ m) → IfSome o (λ m. (f.place ≤ m) × (m ≤ length J)) → IfSome o (λ m. (last ≤ m) × (m ≤ length J))
+      both : (o : Option ℕ) → IfSome o (λ m. last ≤ m) → IfSome o (λ m. (f.place ≤ m) × (m ≤ length J))
+          → IfSome o (λ m. (last ≤ m) × (m ≤ length J))
       both None x y = tt
       both (Some m) x y = (x, y.1)
 
   -- an End that is due
-  fits_end : (J : List Edit) (f : Feed) (items : List (Item R)) (last n : ℕ) → Fits kind J f items → due (current J) f ≡ DueEnd last → Fits kind J (after_end f last) (items ++ End last n ∷ [])
+  fits_end : (J : List Edit) (f : Feed) (items : List (Item R)) (last n : ℕ) → Fits kind J f items
+      → due (current J) f ≡ DueEnd last → Fits kind J (after_end f last) (items ++ End last n ∷ [])
   fits_end J f items last n h e =
       elim (due_end (current J) f last e) [
-        | inl a ↦ fits_end_at J f items last n h (ap is_over a.0) (omega (arith, a.1)) (omega (arith, a.1, h.right.to_length)) (some_weaker f.bound _ _ h.bounded (λ m k. omega (arith, a.1, k.0))) (λ c x q y z. absurd (omega (arith, a.1)))
+        | inl a ↦
+            fits_end_at J f items last n h
+            (ap is_over a.0) (omega (arith, a.1)) (omega (arith, a.1, h.right.to_length))
+            (some_weaker f.bound _ _ h.bounded (λ m k. omega (arith, a.1, k.0)))
+            (λ c x q y z. absurd (omega (arith, a.1)))
         | inr a ↦ let at = some_at f.bound last _ a.1 h.bounded in
-            fits_end_at J f items last n h (ap is_over a.0) at.0 at.1 (rw a.1 (omega arith)) (λ c x q y z. find_none _ (current J) a.2 c x (reach_from f c y (rw a.1 (le-leb c.seq last z)) q))
+            fits_end_at J f items last n h (ap is_over a.0) at.0 at.1 (rw a.1 (omega arith))
+            (λ c x q y z. find_none _ (current J) a.2 c x (reach_from f c y (rw a.1 (le-leb c.seq last z)) q))
       ]
 
   -- what is due so is handed
-  handed_as : (J : List Edit) (f : Feed) (items : List (Item R)) (item : Item R) (d : Due) → due_in J f ≡ d → item_of (kind.shown J f.params.style f.params.include_docs) (current J) d ≡ Some item → Fits kind J f items → Fits kind J (after_due f d (length J)) (items ++ item ∷ [])
-  handed_as J f items item (DueRow c) q e h = subst (λ (i : Item R). Fits kind J (after_row f c.seq (length J)) (items ++ i ∷ [])) (same_Some _ item e) (fits_row J f items c h q)
-  handed_as J f items item (DueEnd last) q e h = subst (λ (i : Item R). Fits kind J (after_end f last) (items ++ i ∷ [])) (same_Some _ item e) (fits_end J f items last (pending (current J) last) h q)
+  handed_as : (J : List Edit) (f : Feed) (items : List (Item R)) (item : Item R) (d : Due)
+      → due_in J f ≡ d → item_of (kind.shown J f.params.style f.params.include_docs) (current J) d ≡ Some item
+      → Fits kind J f items → Fits kind J (after_due f d (length J)) (items ++ item ∷ [])
+  handed_as J f items item (DueRow c) q e h =
+      subst (λ (i : Item R). Fits kind J (after_row f c.seq (length J)) (items ++ i ∷ []))
+      (same_Some _ item e) (fits_row J f items c h q)
+  handed_as J f items item (DueEnd last) q e h =
+      subst (λ (i : Item R). Fits kind J (after_end f last) (items ++ i ∷ [])) (same_Some _ item e)
+      (fits_end J f items last (pending (current J) last) h q)
   handed_as J f items item DueNothing q e h = absurd (none-some item e)
   handed_as J f items item DueGone q e h = absurd (none-some item e)
 
@@ -158,7 +197,11 @@ module _ {R : Type 0} (kind : RowKind R) where
       let q = and_parts (waits f.params.mode) f.params.heartbeat p.1 in
       let open_before = no_end J f items h (ap is_over (open_when f.status p.0)) in
       record {
-        right = right_moves kind J f items (Beat ∷ []) f.bound f.place f.rows f.status h.right refl (omega arith) h.right.to_length (some_weaker f.bound _ _ h.bounded (λ m k. k.0)) (ends_more f.place items (Beat ∷ []) open_before tt) (λ c x a y z. absurd (omega arith)) (All-push (IsAsked f.params.heartbeat) [] Beat (All-nil (IsAsked f.params.heartbeat)) q.1);
+        right =
+            right_moves kind J f items (Beat ∷ []) f.bound f.place f.rows f.status h.right refl
+            (omega arith) h.right.to_length (some_weaker f.bound _ _ h.bounded (λ m k. k.0))
+            (ends_more f.place items (Beat ∷ []) open_before tt) (λ c x a y z. absurd (omega arith))
+            (All-push (IsAsked f.params.heartbeat) [] Beat (All-nil (IsAsked f.params.heartbeat)) q.1);
         counted = ap length (rows_of-beat items) ∙ h.counted;
         fewer = h.fewer;
         over = λ t. absurd (both_ways _ open_before (end_more items Beat refl t));
@@ -171,7 +214,8 @@ module _ {R : Type 0} (kind : RowKind R) where
       let d = due_nothing (current J) f e in
       record {
         right = subst (RightlyHanded kind J (after_nothing f (length J))) (append-nil items)
-            (right_moves kind J f items [] f.bound (length J) f.rows f.status h.right refl h.right.to_length (omega arith) (some_weaker f.bound _ _ h.bounded (λ m k. k.0))
+            (right_moves kind J f items [] f.bound (length J) f.rows f.status h.right refl h.right.to_length
+            (omega arith) (some_weaker f.bound _ _ h.bounded (λ m k. k.0))
             (ends_more (length J) items [] (no_end J f items h (ap is_over d.0)) tt)
             (λ c x q y z. find_none _ (current J) d.2 c x (reach_from f c y (rw d.1 refl) q))
             (All-nil (IsAsked f.params.heartbeat)));
@@ -182,18 +226,26 @@ module _ {R : Type 0} (kind : RowKind R) where
       }
 
   -- the feed is no longer open
-  pub fits_status : (J : List Edit) (f : Feed) (items : List (Item R)) (status : Status) → (status ≡ Open → ⊥) → (list_any is_end items ≡ true → is_over status ≡ true) → Fits kind J f items → Fits kind J (record f { status = status }) items
+  pub fits_status : (J : List Edit) (f : Feed) (items : List (Item R)) (status : Status)
+      → (status ≡ Open → ⊥) → (list_any is_end items ≡ true → is_over status ≡ true) → Fits kind J f items
+      → Fits kind J (record f { status = status }) items
   fits_status J f items status closed over h = record {
     right = subst (RightlyHanded kind J (record f { status = status })) (append-nil items)
-        (right_moves kind J f items [] f.bound f.place f.rows status h.right refl (omega arith) h.right.to_length (some_weaker f.bound _ _ h.bounded (λ m k. k.0)) (subst (EndsAt f.place) (sym (append-nil items)) h.right.ends) (λ c x q y z. absurd (omega arith)) (All-nil (IsAsked f.params.heartbeat)));
+        (right_moves kind J f items [] f.bound f.place f.rows status h.right refl
+        (omega arith) h.right.to_length (some_weaker f.bound _ _ h.bounded (λ m k. k.0))
+        (subst (EndsAt f.place) (sym (append-nil items)) h.right.ends) (λ c x q y z. absurd (omega arith))
+        (All-nil (IsAsked f.params.heartbeat)));
     counted = h.counted;
     fewer = λ e. absurd (closed e);
     over = over;
     bounded = h.bounded;
   }
 
-  fits_ending : (J : List Edit) (f : Feed) (items : List (Item R)) → is_open f.status ≡ true → Fits kind J f items → Fits kind J (record f { status = Ending }) items
-  fits_ending J f items e h = fits_status J f items Ending (λ t. cc) (λ t. absurd (both_ways _ (no_end J f items h (ap is_over (open_when f.status e))) t)) h
+  fits_ending : (J : List Edit) (f : Feed) (items : List (Item R)) → is_open f.status ≡ true
+      → Fits kind J f items → Fits kind J (record f { status = Ending }) items
+  fits_ending J f items e h =
+      fits_status J f items Ending
+      (λ t. cc) (λ t. absurd (both_ways _ (no_end J f items h (ap is_over (open_when f.status e))) t)) h
 
   pub fits_expire : ExpiredFits kind
   fits_expire J f items h =
@@ -213,7 +265,8 @@ module _ {R : Type 0} (kind : RowKind R) where
   fits_finish J f items h = fits_status J f items Finished (λ t. cc) (λ t. refl) h
 
 -- a feed that has handed as many rows as it may
-below_limit : (limit : ℕ) (o : Option ℕ) (rows : ℕ) → o ≡ Some limit → IfSome o (λ limit. rows < max 1 limit) → rows < max 1 limit
+below_limit : (limit : ℕ) (o : Option ℕ) (rows : ℕ) → o ≡ Some limit → IfSome o (λ limit. rows < max 1 limit)
+    → rows < max 1 limit
 below_limit limit o rows p h = subst (λ z. IfSome z (λ limit. rows < max 1 limit)) p h
 
 pub limited_ends : {R : Type 0} (kind : RowKind R) → LimitedEnds kind

@@ -24,7 +24,8 @@ module _ {R : Type 0} where
   rows_of-end xs last n = rows_of-append xs (End last n ∷ []) ∙ append-nil (rows_of xs)
 
   -- a list with no End may be followed by a last item, and then stands at any place
-  pub ends_more : (place : ℕ) (xs ys : List (Item R)) → list_any is_end xs ≡ false → EndsAt place ys → EndsAt place (xs ++ ys)
+  pub ends_more : (place : ℕ) (xs ys : List (Item R)) → list_any is_end xs ≡ false → EndsAt place ys
+      → EndsAt place (xs ++ ys)
   ends_more place [] ys e h = h
   ends_more place (Row row ∷ xs) ys e h = ends_more place xs ys e h
   ends_more place (Beat ∷ xs) ys e h = ends_more place xs ys e h

@@ -1,11 +1,13 @@
 -- How a rightly handed list stays one: as the journal grows, as the feed moves on, and with one more row.
-use Rattle.std.proofs.Common.{◌≡◌, ℕ, ◌+◌, ◌<◌, ◌≤◌, List, [], ◌∷◌, ◌++◌, length, map, take, get_or, false, inl, inr, sym, ◌∙◌, ap, subst, arith, length-append}
+use Rattle.std.proofs.Common.{◌≡◌, ℕ, ◌+◌, ◌<◌, ◌≤◌, List, [], ◌∷◌, ◌++◌, length, map, take}
+use Rattle.std.proofs.Common.{get_or, false, inl, inr, sym, ◌∙◌, ap, subst, arith, length-append}
 use Rattle.std.specs.Prelude.{All, Contains, Option, Some, None, IsTrue, IfSome, max}
 use Rattle.std.specs.List.{list_any}
 use Rattle.std.proofs.Math.Seq.{take-length}
 use Rattle.std.proofs.lemmas.Bool.{cases_lt}
 use Rattle.std.proofs.lemmas.List.{map-append, append-nil, take-append-le, length-take}
-use Rattle.std.proofs.lemmas.List.Elements.{All-push, All-append, All-weaker, Contains-push, Contains-append_left}
+use Rattle.std.proofs.lemmas.List.Elements.{All-push, All-append, All-weaker}
+use Rattle.std.proofs.lemmas.List.Elements.{Contains-push, Contains-append_left}
 use Rattle.std.proofs.lemmas.List.Quantifiers.{all_pairs_push}
 use Rattle.hub_model.specs.Current.{Current, current}
 use Rattle.hub_model.specs.Feed.{Status, Feed}
@@ -13,7 +15,8 @@ use Rattle.hub_model.specs.Filter.{passes}
 use Rattle.hub_model.specs.declared.feeds.Item.{Item}
 use Rattle.hub_model.specs.declared.feeds.Item.TheVariants.{Row}
 use Rattle.hub_model.specs.Journal.{Edit}
-use Rattle.hub_model.specs.RightlyHanded.{is_end, rows_of, seqs_of, EndsAt, IsAsked, Follows, IsPassingRow, IsRowOf, RightlyHanded}
+use Rattle.hub_model.specs.RightlyHanded.{is_end, rows_of, seqs_of, EndsAt, IsAsked}
+use Rattle.hub_model.specs.RightlyHanded.{Follows, IsPassingRow, IsRowOf, RightlyHanded}
 use Rattle.hub_model.specs.RowKind.{RowKind}
 use Rattle.hub_model.proofs.Items.{rows_of-append, rows_of-row, ends_more}
 use Rattle.hub_model.proofs.Rows.{current_before}
@@ -27,18 +30,22 @@ module _ {R : Type 0} (kind : RowKind R) where
   row_seen J f row p = ap kind.seen p.2 ∙ (kind.keeps J f.params.style f.params.include_docs p.0).1
 
   pub seen_within : (J : List Edit) (f : Feed) (row : R) → IsRowOf kind J f row → kind.seen row ≤ length J
-  seen_within J f row r = omega (arith, row_seen (take (kind.seen row) J) f row r.shown, length-take (kind.seen row) J)
+  seen_within J f row r =
+      omega (arith, row_seen (take (kind.seen row) J) f row r.shown, length-take (kind.seen row) J)
 
   row_grows : (J es : List Edit) (f : Feed) (row : R) → IsRowOf kind J f row → IsRowOf kind (J ++ es) f row
   row_grows J es f row r = record {
-    shown = subst (λ K. IsPassingRow kind K f row) (sym (take-append-le (kind.seen row) J es (seen_within J f row r))) r.shown;
+    shown =
+        subst (λ K. IsPassingRow kind K f row)
+        (sym (take-append-le (kind.seen row) J es (seen_within J f row r))) r.shown;
     above = r.above;
     reached = r.reached;
     bounded = r.bounded;
   }
 
   -- more edits come
-  pub right_grows : (J es : List Edit) (f : Feed) (items : List (Item R)) → RightlyHanded kind J f items → RightlyHanded kind (J ++ es) f items
+  pub right_grows : (J es : List Edit) (f : Feed) (items : List (Item R)) → RightlyHanded kind J f items
+      → RightlyHanded kind (J ++ es) f items
   right_grows J es f items r = record {
     rising = r.rising;
     rows = All-weaker (IsRowOf kind J f) (IsRowOf kind (J ++ es) f) (row_grows J es f) (rows_of items) r.rows;
@@ -54,7 +61,9 @@ module _ {R : Type 0} (kind : RowKind R) where
   abbrev moved : Feed → Option ℕ → ℕ → ℕ → Status → Feed
   moved f bound place rows status = record f { bound = bound; place = place; rows = rows; status = status }
 
-  row_moves : (J : List Edit) (f : Feed) (bound : Option ℕ) (place rows : ℕ) (status : Status) → f.place ≤ place → IfSome bound (λ b. f.place ≤ b) → (row : R) → IsRowOf kind J f row → IsRowOf kind J (moved f bound place rows status) row
+  row_moves : (J : List Edit) (f : Feed) (bound : Option ℕ) (place rows : ℕ) (status : Status)
+      → f.place ≤ place → IfSome bound (λ b. f.place ≤ b) → (row : R) → IsRowOf kind J f row
+      → IsRowOf kind J (moved f bound place rows status) row
   row_moves J f bound place rows status p b row r = record {
     shown = r.shown;
     above = r.above;
@@ -63,14 +72,19 @@ module _ {R : Type 0} (kind : RowKind R) where
   }
 
   -- the feed moves on with no row, past no row that passes
-  pub right_moves : (J : List Edit) (f : Feed) (items more : List (Item R)) (bound : Option ℕ) (place rows : ℕ) (status : Status) →
-      RightlyHanded kind J f items → rows_of more ≡ [] → f.place ≤ place → place ≤ length J → IfSome bound (λ b. f.place ≤ b) → EndsAt place (items ++ more) →
-      ((c : Current) → Contains (current J) c → IsTrue (passes f.params.filter c.id) → f.place < c.seq → c.seq ≤ place → ⊥) →
+  pub right_moves : (J : List Edit) (f : Feed) (items more : List (Item R)) (bound : Option ℕ)
+      (place rows : ℕ) (status : Status) →
+      RightlyHanded kind J f items → rows_of more ≡ [] → f.place ≤ place → place ≤ length J
+      → IfSome bound (λ b. f.place ≤ b) → EndsAt place (items ++ more) →
+      ((c : Current) → Contains (current J) c → IsTrue (passes f.params.filter c.id)
+      → f.place < c.seq → c.seq ≤ place → ⊥) →
       All (IsAsked f.params.heartbeat) more →
       RightlyHanded kind J (moved f bound place rows status) (items ++ more)
   right_moves J f items more bound place rows status r none p l b ends gap beats = record {
     rising = rw same r.rising;
-    rows = rw same (All-weaker (IsRowOf kind J f) _ (row_moves J f bound place rows status p b) (rows_of items) r.rows);
+    rows =
+        rw same
+        (All-weaker (IsRowOf kind J f) _ (row_moves J f bound place rows status p b) (rows_of items) r.rows);
     from_since = omega (arith, r.from_since);
     to_length = l;
     ends = ends;
@@ -86,28 +100,42 @@ module _ {R : Type 0} (kind : RowKind R) where
       same = rows_of-append items more ∙ (ap (λ rs. rows_of items ++ rs) none ∙ append-nil (rows_of items))
 
   -- the feed moves on to its next row
-  pub right_row : (J : List Edit) (f : Feed) (items : List (Item R)) (row : R) (seq : ℕ) → kind.seq row ≡ seq → (bound : Option ℕ) (rows : ℕ) (status : Status) →
+  pub right_row : (J : List Edit) (f : Feed) (items : List (Item R)) (row : R) (seq : ℕ) → kind.seq row ≡ seq
+      → (bound : Option ℕ) (rows : ℕ) (status : Status) →
       RightlyHanded kind J f items → IsPassingRow kind J f row → f.place < seq → seq ≤ length J →
       IfSome bound (λ b. seq ≤ b) → list_any is_end items ≡ false →
-      ((c : Current) → Contains (current J) c → IsTrue (passes f.params.filter c.id) → f.place < c.seq → c.seq ≤ seq → seq ≡ c.seq) →
+      ((c : Current) → Contains (current J) c → IsTrue (passes f.params.filter c.id) → f.place < c.seq
+      → c.seq ≤ seq → seq ≡ c.seq) →
       IfSome f.params.limit (λ limit. length (rows_of items) + 1 ≤ max 1 limit) →
       RightlyHanded kind J (moved f bound seq rows status) (items ++ Row row ∷ [])
   right_row J f items row seq at bound rows status r shown above l b no_end gap limit = record {
     rising = rw rows_of-row (all_pairs_push (Follows kind) (rows_of items) row r.rising follows);
-    rows = rw rows_of-row (All-push (IsRowOf kind J (moved f bound seq rows status)) (rows_of items) row (All-weaker (IsRowOf kind J f) _ (row_moves J f bound seq rows status (omega arith) (some_weaker bound _ _ b (λ n h. omega arith))) (rows_of items) r.rows) new);
+    rows =
+        rw rows_of-row
+        (All-push (IsRowOf kind J (moved f bound seq rows status)) (rows_of items) row
+        (All-weaker (IsRowOf kind J f) _
+        (row_moves J f bound seq rows status (omega arith) (some_weaker bound _ _ b (λ n h. omega arith)))
+        (rows_of items) r.rows) new);
     from_since = omega (arith, r.from_since);
     to_length = l;
     ends = ends_more seq items (Row row ∷ []) no_end tt;
     whole = λ c h q a z. elim (cases_lt f.place c.seq) [
-      | inl y ↦ subst (λ n. Contains (seqs_of kind (items ++ Row row ∷ [])) n) (gap c h q y z) (rw seqs (Contains-push (seqs_of kind items) seq))
+      | inl y ↦
+          subst (λ n. Contains (seqs_of kind (items ++ Row row ∷ [])) n) (gap c h q y z)
+          (rw seqs (Contains-push (seqs_of kind items) seq))
       | inr y ↦ rw seqs (Contains-append_left (seqs_of kind items) (seq ∷ []) c.seq (r.whole c h q a y))
     ];
-    limited = some_weaker f.params.limit _ _ limit (λ n h. omega (arith, ap length (rows_of-row items row), length-append (rows_of items) (row ∷ []), h));
+    limited =
+        some_weaker f.params.limit _ _ limit
+        (λ n h.
+        omega (arith, ap length (rows_of-row items row), length-append (rows_of items) (row ∷ []), h));
     beats = All-push (IsAsked f.params.heartbeat) items (Row row) r.beats tt;
   }
     where
       seqs : seqs_of kind (items ++ Row row ∷ []) ≡ seqs_of kind items ++ seq ∷ []
-      seqs = ap (map kind.seq) (rows_of-row items row) ∙ (map-append kind.seq (rows_of items) (row ∷ []) ∙ ap (λ n. seqs_of kind items ++ n ∷ []) at)
+      seqs =
+          ap (map kind.seq) (rows_of-row items row)
+          ∙ (map-append kind.seq (rows_of items) (row ∷ []) ∙ ap (λ n. seqs_of kind items ++ n ∷ []) at)
 
       now : kind.seen row ≡ length J
       now = row_seen J f row shown
@@ -120,7 +148,8 @@ module _ {R : Type 0} (kind : RowKind R) where
 
       new : IsRowOf kind J (moved f bound seq rows status) row
       new = record {
-        shown = subst (λ K. IsPassingRow kind K f row) (sym (take-length J) ∙ ap (λ n. take n J) (sym now)) shown;
+        shown =
+            subst (λ K. IsPassingRow kind K f row) (sym (take-length J) ∙ ap (λ n. take n J) (sym now)) shown;
         above = omega (arith, r.from_since, at);
         reached = omega (arith, at);
         bounded = some_weaker bound _ _ b (λ n h. omega (arith, at, h));

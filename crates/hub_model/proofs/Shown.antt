@@ -1,5 +1,6 @@
 -- The current rows, and what is shown of a revision, are what their relations say.
-use Rattle.std.proofs.Common.{◌≡◌, ◌≢◌, ℕ, ◌+◌, List, [], ◌∷◌, ◌++◌, length, Bool, true, false, inl, inr, sym, ap, subst, refl, arith}
+use Rattle.std.proofs.Common.{◌≡◌, ◌≢◌, ℕ, ◌+◌, List, [], ◌∷◌, ◌++◌, length, Bool}
+use Rattle.std.proofs.Common.{true, false, inl, inr, sym, ap, subst, refl, arith}
 use Rattle.std.specs.Prelude.{Contains, Option, Some, None, find}
 use Rattle.std.specs.Str.{bytes_eq}
 use Rattle.std.proofs.lemmas.Bool.{cases_Bool, both_ways}
@@ -23,7 +24,9 @@ module _ {X : Type 0} (P : X → Bool) where
   find_is [] x e = absurd (none-some x e)
   find_is (y ∷ xs) x e =
       elim (cases_Bool (P y)) [
-        | inl t ↦ let same : y ≡ x = same_Some y x (rw t at e) in (subst (λ z. P z ≡ true) same t, subst (λ z. Contains (y ∷ xs) z) same (contains_here y xs))
+        | inl t ↦
+            let same : y ≡ x = same_Some y x (rw t at e) in
+            (subst (λ z. P z ≡ true) same t, subst (λ z. Contains (y ∷ xs) z) same (contains_here y xs))
         | inr t ↦ let i = find_is xs x (rw t at e) in (i.0, contains_there y x xs i.1)
       ]
 
@@ -47,35 +50,47 @@ is_head_from [] r i = absurd i
 is_head_from (x ∷ p) r i = subst (λ z. is_first r (z ∷ p) ≡ true) (sym i) (same_self r)
 
 -- what is shown of a revision is so
-pub shown_is : (J : List Edit) (id : List ℕ) (r : Revision) (e : Edit) → IsLegal J → shown J id r ≡ Some e → IsShown J id r e
+pub shown_is : (J : List Edit) (id : List ℕ) (r : Revision) (e : Edit) → IsLegal J → shown J id r ≡ Some e
+    → IsShown J id r e
 shown_is J id r e legal h = from (find (is_head r) (edits_of J id)) refl h
   where
-    from : (o : Option Edit) → find (is_head r) (edits_of J id) ≡ o → shown_of J id r o ≡ Some e → IsShown J id r e
+    from : (o : Option Edit) → find (is_head r) (edits_of J id) ≡ o → shown_of J id r o ≡ Some e
+        → IsShown J id r e
     from None q u = absurd (cc)
     from (Some f) q u =
         let i = find_is (is_head r) (edits_of J id) f q in
         let p = edits_in J id f i.1 in
         let head = head_is f.path r i.0 in
         let w = line_of_walk J id legal r (f, p, first_in f.path r head) in
-        subst (IsShown J id r) (same_Some _ e u) (record { named = refl; head = w.0; walk = w.1; doc = (f, p, head, refl, refl) })
+        subst (IsShown J id r) (same_Some _ e u)
+        (record { named = refl; head = w.0; walk = w.1; doc = (f, p, head, refl, refl) })
 
-pub shown_none : (J : List Edit) (id : List ℕ) (r : Revision) → shown J id r ≡ None → (deleted : Bool) (body : List ℕ) → ¬ HasDoc J id r deleted body
+pub shown_none : (J : List Edit) (id : List ℕ) (r : Revision) → shown J id r ≡ None
+    → (deleted : Bool) (body : List ℕ) → ¬ HasDoc J id r deleted body
 shown_none J id r h deleted body d = from (find (is_head r) (edits_of J id)) refl h
   where
     from : (o : Option Edit) → find (is_head r) (edits_of J id) ≡ o → shown_of J id r o ≡ None → ⊥
-    from None q u = find_not (is_head r) (edits_of J id) q d.0 (in_edits J id d.0 d.1) (is_head_from d.0.path r d.2)
+    from None q u =
+        find_not (is_head r) (edits_of J id) q d.0 (in_edits J id d.0 d.1) (is_head_from d.0.path r d.2)
     from (Some f) q u = absurd (cc)
 
 -- the numbered rows
 abbrev IsCurrentFrom : ℕ → List Edit → ℕ → List ℕ → Type 0
-IsCurrentFrom n J seq id = (e : Edit) × (before later : List Edit) × (J ≡ before ++ e ∷ later) × (seq ≡ n + length before) × ((f : Edit) → Contains later f → f.id ≢ e.id) × (e.id ≡ id)
+IsCurrentFrom n J seq id =
+    (e : Edit) × (before later : List Edit) × (J ≡ before ++ e ∷ later) × (seq ≡ n + length before)
+    × ((f : Edit) → Contains later f → f.id ≢ e.id) × (e.id ≡ id)
 
-not_edited : (id : List ℕ) (later : List Edit) → is_edited id later ≡ false → (f : Edit) → Contains later f → f.id ≢ id
-not_edited id later h f c e = both_ways _ h (at_any (λ (g : Edit). bytes_eq id g.id) later f c ((bytes_eq-Decides id f.id).1 (sym e)))
+not_edited : (id : List ℕ) (later : List Edit) → is_edited id later ≡ false → (f : Edit) → Contains later f
+    → f.id ≢ id
+not_edited id later h f c e =
+    both_ways _ h (at_any (λ (g : Edit). bytes_eq id g.id) later f c ((bytes_eq-Decides id f.id).1 (sym e)))
 
-unedited : (id : List ℕ) (later : List Edit) → ((f : Edit) → Contains later f → f.id ≢ id) → is_edited id later ≡ false
+unedited : (id : List ℕ) (later : List Edit) → ((f : Edit) → Contains later f → f.id ≢ id)
+    → is_edited id later ≡ false
 unedited id later h = elim (cases_Bool (is_edited id later)) [
-  | inl t ↦ absurd (let i = any_at (λ (g : Edit). bytes_eq id g.id) later t in h i.0 i.1 (sym ((bytes_eq-Decides id i.0.id).0 i.2)))
+  | inl t ↦
+      absurd (let i = any_at (λ (g : Edit). bytes_eq id g.id) later t in
+      h i.0 i.1 (sym ((bytes_eq-Decides id i.0.id).0 i.2)))
   | inr t ↦ t
 ]
 
@@ -83,17 +98,37 @@ from_is : (n : ℕ) (J : List Edit) (c : Current) → Contains (current_from n J
 from_is n [] c h = absurd (contains_none c h)
 from_is n (x ∷ J) c h =
     elim (from_cases n x J c h) [
-      | inl p ↦ (x, [], J, refl, let s : n ≡ c.seq = ap (λ (z : Current). z.seq) p.1 in omega arith, not_edited x.id J p.0, ap (λ (z : Current). z.id) p.1)
-      | inr q ↦ let i = from_is (n + 1) J c q in (i.0, x ∷ i.1, i.2, ap (λ (z : List Edit). x ∷ z) i.3, omega (arith, i.4), i.5, i.6)
+      | inl p ↦ (
+        x,
+        [],
+        J,
+        refl,
+        let s : n ≡ c.seq = ap (λ (z : Current). z.seq) p.1 in omega arith,
+        not_edited x.id J p.0,
+        ap (λ (z : Current). z.id) p.1,
+      )
+      | inr q ↦
+          let i = from_is (n + 1) J c q in
+          (i.0, x ∷ i.1, i.2, ap (λ (z : List Edit). x ∷ z) i.3, omega (arith, i.4), i.5, i.6)
     ]
 
-from_current : (n : ℕ) (before later : List Edit) (e : Edit) (seq : ℕ) → seq ≡ n + length before → ((f : Edit) → Contains later f → f.id ≢ e.id) → Contains (current_from n (before ++ e ∷ later)) (record { seq = seq; id = e.id })
-from_current n [] later e seq q h = subst (λ (k : ℕ). Contains (current_from n (e ∷ later)) (record { seq = k; id = e.id })) (omega arith) (from_head n e later (unedited e.id later h))
-from_current n (x ∷ before) later e seq q h = from_rest n x (before ++ e ∷ later) (record { seq = seq; id = e.id }) (from_current (n + 1) before later e seq (omega arith) h)
+from_current : (n : ℕ) (before later : List Edit) (e : Edit) (seq : ℕ)
+    → seq ≡ n + length before → ((f : Edit) → Contains later f → f.id ≢ e.id)
+    → Contains (current_from n (before ++ e ∷ later)) (record { seq = seq; id = e.id })
+from_current n [] later e seq q h =
+    subst (λ (k : ℕ). Contains (current_from n (e ∷ later)) (record { seq = k; id = e.id })) (omega arith)
+    (from_head n e later (unedited e.id later h))
+from_current n (x ∷ before) later e seq q h =
+    from_rest n x (before ++ e ∷ later) (record { seq = seq; id = e.id })
+    (from_current (n + 1) before later e seq (omega arith) h)
 
 -- the current rows are the current entries
-pub current_is : (J : List Edit) (c : Current) → Contains (current J) c → (e : Edit) × IsCurrent J c.seq e × (e.id ≡ c.id)
+pub current_is : (J : List Edit) (c : Current) → Contains (current J) c
+    → (e : Edit) × IsCurrent J c.seq e × (e.id ≡ c.id)
 current_is J c h = let i = from_is 1 J c h in (i.0, (i.1, i.2, i.3, omega (arith, i.4), i.5), i.6)
 
-pub is_current_from : (J : List Edit) (n : ℕ) (e : Edit) → IsCurrent J n e → Contains (current J) (record { seq = n; id = e.id })
-is_current_from J n e (before, later, s, m, none) = subst (λ z. Contains (current z) (record { seq = n; id = e.id })) (sym s) (from_current 1 before later e n (omega arith) none)
+pub is_current_from : (J : List Edit) (n : ℕ) (e : Edit) → IsCurrent J n e
+    → Contains (current J) (record { seq = n; id = e.id })
+is_current_from J n e (before, later, s, m, none) =
+    subst (λ z. Contains (current z) (record { seq = n; id = e.id }))
+    (sym s) (from_current 1 before later e n (omega arith) none)

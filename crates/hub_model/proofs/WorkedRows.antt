@@ -14,24 +14,31 @@ doc id path = record { id = id; path = path; deleted = false; body = codes "{}" 
 
 -- a, b, then a again
 abbrev two : List Edit
-two = doc (codes "a") (r 1 (codes "a") ∷ []) ∷ doc (codes "b") (r 1 (codes "b") ∷ []) ∷ doc (codes "a") (r 2 (codes "c") ∷ r 1 (codes "a") ∷ []) ∷ []
+two =
+    doc (codes "a") (r 1 (codes "a") ∷ []) ∷ doc (codes "b") (r 1 (codes "b") ∷ [])
+    ∷ doc (codes "a") (r 2 (codes "c") ∷ r 1 (codes "a") ∷ []) ∷ []
 
 abbrev asked : List ℕ → List Revision → Asked
 asked id revs = record { id = id; revs = revs }
 
 -- what is missing of a, b and an unknown document
-missing_rows : wanted two (asked (codes "a") (r 1 (codes "a") ∷ r 2 (codes "d") ∷ r 3 (codes "e") ∷ []) ∷ asked (codes "b") (r 1 (codes "b") ∷ []) ∷ asked (codes "z") (r 1 (codes "q") ∷ []) ∷ [])
-    ≡ asked (codes "a") (r 2 (codes "d") ∷ r 3 (codes "e") ∷ []) ∷ asked (codes "z") (r 1 (codes "q") ∷ []) ∷ []
+missing_rows : wanted two
+    (asked (codes "a") (r 1 (codes "a") ∷ r 2 (codes "d") ∷ r 3 (codes "e") ∷ [])
+    ∷ asked (codes "b") (r 1 (codes "b") ∷ []) ∷ asked (codes "z") (r 1 (codes "q") ∷ []) ∷ [])
+    ≡ asked (codes "a") (r 2 (codes "d") ∷ r 3 (codes "e") ∷ [])
+    ∷ asked (codes "z") (r 1 (codes "q") ∷ []) ∷ []
 missing_rows = refl
 
-ancestors_row : possible_ancestors two (codes "a") (r 1 (codes "a") ∷ r 2 (codes "d") ∷ r 3 (codes "e") ∷ []) ≡ r 2 (codes "c") ∷ []
+ancestors_row : possible_ancestors two (codes "a") (r 1 (codes "a") ∷ r 2 (codes "d") ∷ r 3 (codes "e") ∷ [])
+    ≡ r 2 (codes "c") ∷ []
 ancestors_row = refl
 
 -- an ancestor with a body, a leaf with its history, and an unknown revision
 shown_ancestor : shown two (codes "a") (r 1 (codes "a")) ≡ Some (doc (codes "a") (r 1 (codes "a") ∷ []))
 shown_ancestor = refl
 
-shown_leaf : shown two (codes "a") (r 2 (codes "c")) ≡ Some (doc (codes "a") (r 2 (codes "c") ∷ r 1 (codes "a") ∷ []))
+shown_leaf : shown two (codes "a") (r 2 (codes "c"))
+    ≡ Some (doc (codes "a") (r 2 (codes "c") ∷ r 1 (codes "a") ∷ []))
 shown_leaf = refl
 
 shown_unknown : shown two (codes "a") (r 9 (codes "z")) ≡ None

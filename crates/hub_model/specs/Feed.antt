@@ -91,8 +91,8 @@ due_open (Some c) bound = DueRow c
 due_open None (Some bound) = DueEnd bound
 due_open None None = DueNothing
 
--- what is due to a feed by its status: only an open one is given rows, one that is ending has its End left, at
--- its place, and behind that nothing comes
+-- what is due to a feed by its status: only an open one is given rows, one that is ending has its
+-- End left, at its place, and behind that nothing comes
 abbrev pub due_at : Status → List Current → Feed → Due
 due_at Open rows f = due_open (find (is_in_reach f) rows) f.bound
 due_at Ending rows f = DueEnd f.place

@@ -2,7 +2,8 @@
 -- _db_updates).
 use Rattle.std.specs.Prelude.{◌≡◌, ◌≤◌, ℕ, List, [], ◌∷◌, ◌++◌, length, max, true, Some}
 use Rattle.hub_model.specs.Journal.{Edit}
-use Rattle.hub_model.specs.Feed.{Params, Feed, Open, DueNothing, begin, after_due, after_nothing, beat_due, expire}
+use Rattle.hub_model.specs.Feed.{Params, Feed, Open, DueNothing, begin}
+use Rattle.hub_model.specs.Feed.{after_due, after_nothing, beat_due, expire}
 use Rattle.hub_model.specs.Feed.{end, finish}
 use Rattle.hub_model.specs.Hand.{due_in, due_item}
 use Rattle.hub_model.specs.RowKind.{RowKind}
@@ -57,8 +58,8 @@ module _ {R : Type 0} (kind : RowKind R) where
   FinishedFits =
       (J : List Edit) (f : Feed) (items : List (Item R)) → Fits kind J f items → Fits kind J (finish f) items
 
-  -- a feed that has handed as many rows as it may is not open: with a limit of 3, after the third row nothing but
-  -- its End is left to hand
+  -- a feed that has handed as many rows as it may is not open: with a limit of 3, after the third
+  -- row nothing but its End is left to hand
   abbrev pub LimitedEnds : Type 0
   LimitedEnds =
       (J : List Edit) (f : Feed) (items : List (Item R)) (limit : ℕ) → f.params.limit ≡ Some limit

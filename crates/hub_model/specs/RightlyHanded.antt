@@ -1,5 +1,6 @@
--- What a feed may have handed, in order, by the time that J are the edits of what it follows: the journal of a
--- database, or the notes of the log of updates (CouchDB API reference, _changes and _db_updates).
+-- What a feed may have handed, in order, by the time that J are the edits of what it follows: the
+-- journal of a database, or the notes of the log of updates (CouchDB API reference, _changes and
+-- _db_updates).
 use Rattle.std.specs.Prelude.{◌≡◌, ℕ, ◌<◌, ◌≤◌, List, [], ◌∷◌, length, map, take, max, All, AllPairs}
 use Rattle.std.specs.Prelude.{Contains, IsTrue, IfSome, ⊤, Bool, true, false}
 use Rattle.std.specs.List.{list_any}
@@ -80,7 +81,8 @@ module _ {R : Type 0} (kind : RowKind R) where
     pub to_length : f.place ≤ length J
     pub ends : EndsAt f.place items
     -- no current row that passes is left out between since and the place
-    pub whole : (c : Current) → Contains (current J) c → IsTrue (passes f.params.filter c.id) → f.since < c.seq
+    pub whole : (c : Current) → Contains (current J) c → IsTrue (passes f.params.filter c.id)
+        → f.since < c.seq
         → c.seq ≤ f.place → Contains (seqs_of items) c.seq
     pub limited : IfSome f.params.limit (λ limit. length (rows_of items) ≤ max 1 limit)
     pub beats : All (IsAsked f.params.heartbeat) items

@@ -9,12 +9,14 @@ use Rattle.hub_model.specs.declared.feeds.Style.{Style}
 -- A kind of rows: how a current row is shown, and what is read of it again. For a database's changes a row is
 -- shown by row_of, and its members `seq` and `seen` are read.
 pub record RowKind (R : Type 0) : Type 0 where
-  pub shown : List Edit → Style → Bool → Current → R  -- a current row as it is shown while these are the edits
+  -- a current row as it is shown while these are the edits
+  pub shown : List Edit → Style → Bool → Current → R
   pub seq : R → ℕ  -- its sequence
   pub seen : R → ℕ  -- how many edits there were when it was made
   -- a row that is shown has its own sequence, and says how many edits there are
   pub keeps : (edits : List Edit) (style : Style) (include_docs : Bool) (c : Current)
-      → (seq (shown edits style include_docs c) ≡ c.seq) × (seen (shown edits style include_docs c) ≡ length edits)
+      → (seq (shown edits style include_docs c) ≡ c.seq)
+      × (seen (shown edits style include_docs c) ≡ length edits)
 
 -- the rows of a database's changes
 abbrev pub change_rows : RowKind ChangeRow

@@ -17,8 +17,8 @@ letter_of Created = 99
 letter_of Updated = 117
 letter_of Deleted = 100
 
--- What a note is of: of notes with one id only the last has a current row. That d was created has the id cd, and
--- that d was deleted the id dd.
+-- What a note is of: of notes with one id only the last has a current row. That d was created has
+-- the id cd, and that d was deleted the id dd.
 abbrev pub id_of : Note → List ℕ
 id_of n = letter_of n.kind ∷ n.name
 

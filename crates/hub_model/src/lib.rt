@@ -3,12 +3,18 @@
 //! contract of a function that does nothing.
 #![tactic(auto)]
 
-ghost use Rattle.hub_model.specs.Laws.{KnownIsTested, HistoryIsTested, AcceptableIsTested, LeavesAreListed, LeavesHaveEdits, WinnerIsFirst, LineIsWalk, PathIsFront, ShownIsRight, NoneIsShown, RowsAreCurrent, RowsRise, MergesTake, MergesTakeAll, MergesAnswerEach, MergesStayLegal, DraftsStayLegal, DraftsExtend, DraftsTake, KnownHasLeaf, MissingIsUnknown};
-ghost use Rattle.hub_model.specs.FeedLaws.{OpenedFits, GrownFits, HandedFits, WaitingFits, BeatFits, ExpiredFits, EndedFits, FinishedFits, LimitedEnds};
+ghost use Rattle.hub_model.specs.Laws.{KnownIsTested, HistoryIsTested, AcceptableIsTested, LeavesAreListed};
+ghost use Rattle.hub_model.specs.Laws.{LeavesHaveEdits, WinnerIsFirst, LineIsWalk, PathIsFront};
+ghost use Rattle.hub_model.specs.Laws.{ShownIsRight, NoneIsShown, RowsAreCurrent, RowsRise, MergesTake};
+ghost use Rattle.hub_model.specs.Laws.{MergesTakeAll, MergesAnswerEach, MergesStayLegal, DraftsStayLegal};
+ghost use Rattle.hub_model.specs.Laws.{DraftsExtend, DraftsTake, KnownHasLeaf, MissingIsUnknown};
+ghost use Rattle.hub_model.specs.FeedLaws.{OpenedFits, GrownFits, HandedFits, WaitingFits, BeatFits};
+ghost use Rattle.hub_model.specs.FeedLaws.{ExpiredFits, EndedFits, FinishedFits, LimitedEnds};
 ghost use Rattle.hub_model.specs.RowKind.{change_rows, update_rows};
 ghost use Rattle.hub_model.specs.Updates.{NotesReadBack};
 ghost use Rattle.hub_model.specs.WorkedHistories.{LateIsStored, LateIsJoined, PartialIsStored};
-ghost use Rattle.hub_model.specs.WorkedFeeds.{FallsAfterTwo, FallsAfterAll, FallsByLife, FallsOnce, UpdatesAgain};
+ghost use Rattle.hub_model.specs.WorkedFeeds.{FallsAfterTwo, FallsAfterAll};
+ghost use Rattle.hub_model.specs.WorkedFeeds.{FallsByLife, FallsOnce, UpdatesAgain};
 
 mod arms;
 mod feeds;
@@ -82,8 +88,8 @@ pub fn notes_read_back()
     ensures notes { NotesReadBack }
 {}
 
-/// What storing histories answers that end above the first generation: a revision may get the one behind it later, a
-/// known revision stays as it is, and another parent contradicts.
+/// What storing histories answers that end above the first generation: a revision may get the one
+/// behind it later, a known revision stays as it is, and another parent contradicts.
 pub fn worked_histories()
     ensures stored { LateIsStored }
     ensures joined { LateIsJoined }

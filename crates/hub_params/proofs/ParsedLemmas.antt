@@ -1,5 +1,6 @@
 -- Decoding the last value of a name gives the last decoded value of it.
-use Rattle.std.proofs.Common.{◌≡◌, ℕ, List, [], ◌∷◌, map, Bool, true, false, Option, Some, None, option_map, refl, ap₂, ◌∙◌}
+use Rattle.std.proofs.Common.{◌≡◌, ℕ, List, [], ◌∷◌, map, Bool, true, false}
+use Rattle.std.proofs.Common.{Option, Some, None, option_map, refl, ap₂, ◌∙◌}
 use Rattle.std.specs.Prelude.{if◌then◌else◌}
 use Rattle.std.specs.Option.{option_or}
 use Rattle.std.specs.Str.{bytes_eq}
@@ -8,17 +9,21 @@ use Rattle.form_urlencoded.specs.Form.{decode}
 use Rattle.hub_params.specs.Encoded.{decoded}
 use Rattle.hub_params.specs.Query.{last_of, last_value}
 
-decoded_either : (a b : Option (List ℕ)) → option_map decoded (option_or a b) ≡ option_or (option_map decoded a) (option_map decoded b)
+decoded_either : (a b : Option (List ℕ))
+    → option_map decoded (option_or a b) ≡ option_or (option_map decoded a) (option_map decoded b)
 decoded_either None b = refl
 decoded_either (Some x) b = refl
 
-decoded_if : (c : Bool) (x : List ℕ) → option_map decoded (if c then Some x else None) ≡ (if c then Some (decoded x) else None)
+decoded_if : (c : Bool) (x : List ℕ)
+    → option_map decoded (if c then Some x else None) ≡ (if c then Some (decoded x) else None)
 decoded_if true x = refl
 decoded_if false x = refl
 
 pub value_parsed : (name : List ℕ) (raws : List (List ℕ × List ℕ))
     → option_map decoded (last_of name raws)
-    ≡ last_value name (map (λ (p : List ℕ × List ℕ). (utf8_lossy p.0, utf8_lossy p.1)) (map (λ (p : List ℕ × List ℕ). (decode p.0, decode p.1)) raws))
+    ≡ last_value name
+    (map (λ (p : List ℕ × List ℕ). (utf8_lossy p.0, utf8_lossy p.1))
+    (map (λ (p : List ℕ × List ℕ). (decode p.0, decode p.1)) raws))
 value_parsed name [] = refl
 value_parsed name (p ∷ raws) =
     decoded_either (last_of name raws) (if bytes_eq (decoded p.0) name then Some p.1 else None)

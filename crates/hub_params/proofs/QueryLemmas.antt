@@ -17,11 +17,15 @@ or_assoc None b c = refl
 or_assoc (Some x) b c = refl
 
 -- one more pair is read
-last_with_step : (wanted name value : List ℕ) (left : List (List ℕ × List ℕ)) (kept : Option (List ℕ)) → last_with wanted left (option_or (if bytes_eq (decoded name) wanted then Some value else None) kept) ≡ last_with wanted ((name, value) ∷ left) kept
-last_with_step wanted name value left kept = or_assoc (last_of wanted left) (if bytes_eq (decoded name) wanted then Some value else None) kept
+last_with_step : (wanted name value : List ℕ) (left : List (List ℕ × List ℕ)) (kept : Option (List ℕ))
+    → last_with wanted left (option_or (if bytes_eq (decoded name) wanted then Some value else None) kept)
+    ≡ last_with wanted ((name, value) ∷ left) kept
+last_with_step wanted name value left kept =
+    or_assoc (last_of wanted left) (if bytes_eq (decoded name) wanted then Some value else None) kept
 
 -- all pairs are left, and none was kept
-pub read_none : (wanted query : List ℕ) (left : List (List ℕ × List ℕ)) → left ≡ raw_pairs query → last_with wanted left None ≡ written_of wanted query
+pub read_none : (wanted query : List ℕ) (left : List (List ℕ × List ℕ)) → left ≡ raw_pairs query
+    → last_with wanted left None ≡ written_of wanted query
 read_none wanted query left e = rw e (or_none (written_of wanted query))
   where
     or_none : (a : Option (List ℕ)) → option_or a None ≡ a
@@ -29,8 +33,13 @@ read_none wanted query left e = rw e (or_none (written_of wanted query))
     or_none (Some x) = refl
 
 -- one more pair is read: what was kept, and what is kept now
-pub read_one : (wanted name value text : List ℕ) (left rest : List (List ℕ × List ℕ)) (kept next whole : Option (List ℕ)) → left ≡ (name, value) ∷ rest → text ≡ decoded name → next ≡ option_or (if bytes_eq text wanted then Some value else None) kept → last_with wanted left kept ≡ whole → last_with wanted rest next ≡ whole
-read_one wanted name value text left rest kept next whole e t n h = rw (n, t, last_with_step wanted name value rest kept) (rw e at h)
+pub read_one : (wanted name value text : List ℕ) (left rest : List (List ℕ × List ℕ))
+    (kept next whole : Option (List ℕ))
+    → left ≡ (name, value) ∷ rest
+    → text ≡ decoded name → next ≡ option_or (if bytes_eq text wanted then Some value else None) kept
+    → last_with wanted left kept ≡ whole → last_with wanted rest next ≡ whole
+read_one wanted name value text left rest kept next whole e t n h =
+    rw (n, t, last_with_step wanted name value rest kept) (rw e at h)
 
 -- ---- names that are written as they read
 
@@ -42,12 +51,18 @@ HasPlainNames pairs = All (λ p. IsPlainText p.0) pairs
 abbrev pub IsPlainFrom : List ℕ → List (List ℕ × List ℕ) → Type 0
 IsPlainFrom query left = HasPlainNames (raw_pairs query) → HasPlainNames left
 
-pub plain_from_all : (query : List ℕ) (left : List (List ℕ × List ℕ)) → left ≡ raw_pairs query → IsPlainFrom query left
+pub plain_from_all : (query : List ℕ) (left : List (List ℕ × List ℕ)) → left ≡ raw_pairs query
+    → IsPlainFrom query left
 plain_from_all query left e all = subst HasPlainNames (sym e) all
 
-pub plain_from_rest : (query name value : List ℕ) (left rest : List (List ℕ × List ℕ)) → left ≡ (name, value) ∷ rest → IsPlainFrom query left → IsPlainFrom query rest
-plain_from_rest query name value left rest e from all = All-rest (λ (p : List ℕ × List ℕ). IsPlainText p.0) (name, value) rest left e (from all)
+pub plain_from_rest : (query name value : List ℕ) (left rest : List (List ℕ × List ℕ))
+    → left ≡ (name, value) ∷ rest → IsPlainFrom query left → IsPlainFrom query rest
+plain_from_rest query name value left rest e from all =
+    All-rest (λ (p : List ℕ × List ℕ). IsPlainText p.0) (name, value) rest left e (from all)
 
 -- a name that is left is not, so the query has one
-pub escaped_name : (query name value : List ℕ) (left rest : List (List ℕ × List ℕ)) → left ≡ (name, value) ∷ rest → IsPlainFrom query left → ¬ IsPlainText name → HasEscapedName query
-escaped_name query name value left rest e from escaped all = escaped (All-head (λ (p : List ℕ × List ℕ). IsPlainText p.0) (name, value) rest (subst HasPlainNames e (from all)))
+pub escaped_name : (query name value : List ℕ) (left rest : List (List ℕ × List ℕ))
+    → left ≡ (name, value) ∷ rest → IsPlainFrom query left → ¬ IsPlainText name → HasEscapedName query
+escaped_name query name value left rest e from escaped all =
+    escaped (All-head (λ (p : List ℕ × List ℕ). IsPlainText p.0) (name, value) rest
+    (subst HasPlainNames e (from all)))

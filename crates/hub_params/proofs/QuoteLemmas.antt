@@ -1,11 +1,13 @@
 -- A text without the double quotes round it.
-use Rattle.std.proofs.Common.{◌≡◌, ◌≢◌, ℕ, List, [], ◌∷◌, ◌++◌, inl, inr, nat_eq, Option, Some, None, option_map, unwrap_or, refl, ap, arith}
+use Rattle.std.proofs.Common.{◌≡◌, ◌≢◌, ℕ, List, [], ◌∷◌, ◌++◌, inl, inr, nat_eq, Option}
+use Rattle.std.proofs.Common.{Some, None, option_map, unwrap_or, refl, ap, arith}
 use Rattle.std.proofs.lemmas.Bool.{cases_Bool}
 use Rattle.std.proofs.lemmas.Bool.Decides.{nat_tests}
 use Rattle.hub_params.specs.FeedValues.{before_last_quote, within_quotes}
 
 -- where no double quote stands in front
-pub kept_before : (text : List ℕ) → ((rest : List ℕ) → text ≢ 34 ∷ rest) → unwrap_or (within_quotes text) text ≡ text
+pub kept_before : (text : List ℕ) → ((rest : List ℕ) → text ≢ 34 ∷ rest)
+    → unwrap_or (within_quotes text) text ≡ text
 kept_before [] h = refl
 kept_before (b ∷ text) h =
     elim (cases_Bool (nat_eq b 34)) [
@@ -31,9 +33,11 @@ no_quote (b ∷ c ∷ text) h =
     ap (option_map (λ inner. b ∷ inner)) (no_quote (c ∷ text) (λ front e. h (b ∷ front) (ap (λ z. b ∷ z) e)))
 
 -- a text within double quotes
-pub within : (text rest inner : List ℕ) → text ≡ 34 ∷ rest → rest ≡ inner ++ 34 ∷ [] → inner ≡ unwrap_or (within_quotes text) text
+pub within : (text rest inner : List ℕ) → text ≡ 34 ∷ rest → rest ≡ inner ++ 34 ∷ []
+    → inner ≡ unwrap_or (within_quotes text) text
 within text rest inner e f = rw (e, f, before_quote inner) refl
 
 -- one that has a double quote in front alone
-pub kept_behind : (text rest : List ℕ) → text ≡ 34 ∷ rest → ((front : List ℕ) → rest ≢ front ++ 34 ∷ []) → text ≡ unwrap_or (within_quotes text) text
+pub kept_behind : (text rest : List ℕ) → text ≡ 34 ∷ rest → ((front : List ℕ) → rest ≢ front ++ 34 ∷ [])
+    → text ≡ unwrap_or (within_quotes text) text
 kept_behind text rest e h = rw (e, no_quote rest h) refl

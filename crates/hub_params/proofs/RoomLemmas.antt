@@ -1,5 +1,6 @@
 -- What is written where room is needed.
-use Rattle.std.proofs.Common.{◌≡◌, ◌<◌, ◌⊎◌, inl, inr, ℕ, List, [], ◌∷◌, length, Option, Some, None, Result, Ok, Err, IfErr, arith, refl, subst, sym, ◌∙◌}
+use Rattle.std.proofs.Common.{◌≡◌, ◌<◌, ◌⊎◌, inl, inr, ℕ, List, [], ◌∷◌, length, Option, Some}
+use Rattle.std.proofs.Common.{None, Result, Ok, Err, IfErr, arith, refl, subst, sym, ◌∙◌}
 use Rattle.std.specs.Borrow.{Bor}
 use Rattle.std.specs.Option.{option_copied}
 use Rattle.std.specs.Str.{is_utf8, chars}
@@ -27,11 +28,13 @@ bytes_of_text [] h = rw decoded_nil at h
 bytes_of_text (x ∷ xs) h = omega arith
 
 -- a text that is not empty was written
-pub text_has_bytes : (value : Option (Bor (List ℕ))) → HasBytes (text_in value) → HasBytes (option_copied value)
+pub text_has_bytes : (value : Option (Bor (List ℕ))) → HasBytes (text_in value)
+    → HasBytes (option_copied value)
 text_has_bytes None h = h
 text_has_bytes (Some written) h = bytes_of_text written.now h
 
-pub kept_has_bytes : (value : Option (Bor (List ℕ))) (text : List ℕ) → Some text ≡ text_in value → 0 < length text → HasBytes (option_copied value)
+pub kept_has_bytes : (value : Option (Bor (List ℕ))) (text : List ℕ) → Some text ≡ text_in value
+    → 0 < length text → HasBytes (option_copied value)
 kept_has_bytes value text e h = text_has_bytes value (subst HasBytes e h)
 
 -- nothing is no JSON
@@ -45,6 +48,8 @@ json_has_bytes [] d h = absurd (let e : None ≡ Some d = sym no_json ∙ h in c
 json_has_bytes (x ∷ xs) d h = omega arith
 
 -- ids are given, or a body is
-pub given_or_body : (value : Option (Bor (List ℕ))) (body : List ℕ) (text : Option (List ℕ)) → text ≡ text_in value → HasBytes text ⊎ (0 < length body) → HasBytes (option_copied value) ⊎ (0 < length body)
+pub given_or_body : (value : Option (Bor (List ℕ))) (body : List ℕ) (text : Option (List ℕ))
+    → text ≡ text_in value → HasBytes text ⊎ (0 < length body)
+    → HasBytes (option_copied value) ⊎ (0 < length body)
 given_or_body value body text e (inl h) = inl (text_has_bytes value (subst HasBytes e h))
 given_or_body value body text e (inr h) = inr h

@@ -1,6 +1,7 @@
 -- The values of the parameters of a changes feed (CouchDB API reference, _changes; the limits of numbers are
 -- own). None is a fault.
-use Rattle.std.specs.Prelude.{ℕ, ◌^◌, List, [], ◌∷◌, length, codes, nat_eq, eqb, Bool, true, false, ◌&&◌, nat_le, nat_lt, min, max}
+use Rattle.std.specs.Prelude.{ℕ, ◌^◌, List, [], ◌∷◌, length, codes, nat_eq, eqb}
+use Rattle.std.specs.Prelude.{Bool, true, false, ◌&&◌, nat_le, nat_lt, min, max}
 use Rattle.std.specs.Prelude.{if◌then◌else◌, Option, Some, None, option_map, option_and_then, unwrap_or}
 use Rattle.std.specs.Option.{option_or}
 use Rattle.std.specs.List.{list_all, before_first, after_first}

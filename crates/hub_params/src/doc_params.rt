@@ -32,7 +32,12 @@ impl Model for DocParams {
 
     ghost Value = { DocAsked };
 
-    ghost view = { λ a. record { rev = option_map string_bytes a.rev; open_revs = option_map string_bytes a.open_revs; revs = a.revs; new_edits = a.new_edits } };
+    ghost view = { λ a. record {
+      rev = option_map string_bytes a.rev;
+      open_revs = option_map string_bytes a.open_revs;
+      revs = a.revs;
+      new_edits = a.new_edits;
+    } };
 }
 
 impl DocParams {
@@ -69,9 +74,11 @@ struct DocValues<'q> {
 impl<'q> DocValues<'q> {
     fn read(alloc: Global, query: &'q [u8]) -> Result<DocValues<'q>, AllocError>
         ensures rev { IfOk result (λ v. option_copied v.rev ≡ written_of (codes "rev") query.now) }
-        ensures open_revs { IfOk result (λ v. option_copied v.open_revs ≡ written_of (codes "open_revs") query.now) }
+        ensures open_revs { IfOk result
+            (λ v. option_copied v.open_revs ≡ written_of (codes "open_revs") query.now) }
         ensures revs { IfOk result (λ v. option_copied v.revs ≡ written_of (codes "revs") query.now) }
-        ensures new_edits { IfOk result (λ v. option_copied v.new_edits ≡ written_of (codes "new_edits") query.now) }
+        ensures new_edits { IfOk result
+            (λ v. option_copied v.new_edits ≡ written_of (codes "new_edits") query.now) }
         ensures memory { OnErr result (HasEscapedName query.now) }
     {
         let mut rev = None;

@@ -7,7 +7,8 @@ ghost use Rattle.hub_filter.specs.Shown.{filter_of};
 ghost use Rattle.hub_params.specs.Encoded.{text_in};
 ghost use Rattle.hub_params.specs.DocParams.{is_value};
 ghost use Rattle.hub_params.specs.FeedParams.{rows_in, kind_in, filter_in, waits_in, is_normal, flags_in};
-ghost use Rattle.hub_params.specs.Room.{RowsNeedRoom, KindNeedsRoom, IdsNeedRoom, WaitsNeedRoom, FlagsNeedRoom};
+ghost use Rattle.hub_params.specs.Room.{RowsNeedRoom, KindNeedsRoom, IdsNeedRoom};
+ghost use Rattle.hub_params.specs.Room.{WaitsNeedRoom, FlagsNeedRoom};
 
 use crate::feed_fault::ParamFault;
 use crate::feed_values::{
@@ -66,7 +67,8 @@ pub(crate) fn rows_of(
     limit: Option<&[u8]>,
     style: Option<&[u8]>,
 ) -> Result<Rows, ParamFault>
-    ensures ok { IfOk result (λ r. rows_in (text_in since.entry) (text_in limit.entry) (text_in style.entry) ≡ Ok r) }
+    ensures ok { IfOk result
+        (λ r. rows_in (text_in since.entry) (text_in limit.entry) (text_in style.entry) ≡ Ok r) }
     ensures err { IfErr result (λ e. (e ≡ ParamFault.NoMemory)
         ⊎ (rows_in (text_in since.entry) (text_in limit.entry) (text_in style.entry) ≡ Err e)) }
     ensures memory { IfErr result (λ e. e ≡ ParamFault.NoMemory
@@ -189,7 +191,8 @@ pub(crate) fn flags_of(
     descending: Option<&[u8]>,
     include_docs: Option<&[u8]>,
 ) -> Result<Flags, ParamFault>
-    ensures ok { IfOk result (λ f. flags_in mode (text_in descending.entry) (text_in include_docs.entry) ≡ Ok f) }
+    ensures ok { IfOk result
+        (λ f. flags_in mode (text_in descending.entry) (text_in include_docs.entry) ≡ Ok f) }
     ensures err { IfErr result (λ e. (e ≡ ParamFault.NoMemory)
         ⊎ (flags_in mode (text_in descending.entry) (text_in include_docs.entry) ≡ Err e)) }
     ensures memory { IfErr result (λ e. e ≡ ParamFault.NoMemory

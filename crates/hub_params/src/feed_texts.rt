@@ -32,11 +32,16 @@ impl<'q> FeedTexts<'q> {
         ensures style { IfOk result (λ t. option_copied t.style ≡ written_of (codes "style") query.now) }
         ensures feed { IfOk result (λ t. option_copied t.feed ≡ written_of (codes "feed") query.now) }
         ensures filter { IfOk result (λ t. option_copied t.filter ≡ written_of (codes "filter") query.now) }
-        ensures doc_ids { IfOk result (λ t. option_copied t.doc_ids ≡ written_of (codes "doc_ids") query.now) }
-        ensures heartbeat { IfOk result (λ t. option_copied t.heartbeat ≡ written_of (codes "heartbeat") query.now) }
-        ensures timeout { IfOk result (λ t. option_copied t.timeout ≡ written_of (codes "timeout") query.now) }
-        ensures descending { IfOk result (λ t. option_copied t.descending ≡ written_of (codes "descending") query.now) }
-        ensures include_docs { IfOk result (λ t. option_copied t.include_docs ≡ written_of (codes "include_docs") query.now) }
+        ensures doc_ids { IfOk result
+            (λ t. option_copied t.doc_ids ≡ written_of (codes "doc_ids") query.now) }
+        ensures heartbeat { IfOk result
+            (λ t. option_copied t.heartbeat ≡ written_of (codes "heartbeat") query.now) }
+        ensures timeout { IfOk result
+            (λ t. option_copied t.timeout ≡ written_of (codes "timeout") query.now) }
+        ensures descending { IfOk result
+            (λ t. option_copied t.descending ≡ written_of (codes "descending") query.now) }
+        ensures include_docs { IfOk result
+            (λ t. option_copied t.include_docs ≡ written_of (codes "include_docs") query.now) }
         ensures memory { OnErr result (HasEscapedName query.now) }
     {
         let mut texts = FeedTexts {

@@ -2,7 +2,9 @@
 
 ghost use Rattle.std.specs.Prelude.{◌≡◌, option_map, unwrap_or};
 ghost use Rattle.std.specs.List.{list_all};
-ghost use Rattle.hub_params.specs.FeedValues.{is_digit as is_digit_byte, is_numeral as is_numeral_text, number_in, since_in, tagged_in, within_quotes, limit_in, style_in, mode_in, shown_in, heartbeat_in, timeout_in, flag_in};
+ghost use Rattle.hub_params.specs.FeedValues.{is_digit as is_digit_byte, is_numeral as is_numeral_text};
+ghost use Rattle.hub_params.specs.FeedValues.{number_in, since_in, tagged_in, within_quotes, limit_in};
+ghost use Rattle.hub_params.specs.FeedValues.{style_in, mode_in, shown_in, heartbeat_in, timeout_in, flag_in};
 
 use hub_model::{Mode, Since, Style};
 

@@ -1,9 +1,11 @@
 //! The ids that a feed is asked to show.
 
-ghost use Rattle.std.specs.Prelude.{◌≡◌, ◌⊎◌, ◌<◌, IfOk, IfErr, Some, None, length, map, option_map, string_bytes};
+ghost use Rattle.std.specs.Prelude.{◌≡◌, ◌⊎◌, ◌<◌, IfOk, IfErr, Some, None};
+ghost use Rattle.std.specs.Prelude.{length, map, option_map, string_bytes};
 ghost use Rattle.serde_json.specs.View.{view, items_view};
 ghost use Rattle.hub_document.specs.Read.{json_of};
-ghost use Rattle.hub_params.specs.ListedIds.{texts_of as texts_of_items, texts_in, ids_in_query, ids_in_member, ids_in_body, ids_in};
+ghost use Rattle.hub_params.specs.ListedIds.{texts_of as texts_of_items, texts_in};
+ghost use Rattle.hub_params.specs.ListedIds.{ids_in_query, ids_in_member, ids_in_body, ids_in};
 ghost use Rattle.hub_params.specs.Room.{HasBytes};
 
 use crate::feed_fault::ParamFault;
@@ -57,10 +59,12 @@ fn json(alloc: Global, text: &[u8]) -> Result<Value, ParamFault>
 
 // The ids of the query's `doc_ids`.
 fn ids_of_query(alloc: Global, value: Option<&str>) -> Result<Vec<String>, ParamFault>
-    ensures ok { IfOk result (λ v. ids_in_query (option_map (λ s. s.now) value.entry) ≡ Some (map string_bytes v.items)) }
+    ensures ok { IfOk result
+        (λ v. ids_in_query (option_map (λ s. s.now) value.entry) ≡ Some (map string_bytes v.items)) }
     ensures err { IfErr result (λ e. (e ≡ ParamFault.NoMemory)
         ⊎ ((e ≡ ParamFault.BadDocIds) × (ids_in_query (option_map (λ s. s.now) value.entry) ≡ None))) }
-    ensures memory { IfErr result (λ e. e ≡ ParamFault.NoMemory → HasBytes (option_map (λ s. s.now) value.entry)) }
+    ensures memory { IfErr result
+        (λ e. e ≡ ParamFault.NoMemory → HasBytes (option_map (λ s. s.now) value.entry)) }
 {
     let Some(text) = value else {
         return Err(ParamFault::BadDocIds);
@@ -71,9 +75,11 @@ fn ids_of_query(alloc: Global, value: Option<&str>) -> Result<Vec<String>, Param
 
 // The ids of a body that is not empty, or of the query where that names none.
 fn ids_of_body(alloc: Global, value: Option<&str>, body: &[u8]) -> Result<Vec<String>, ParamFault>
-    ensures ok { IfOk result (λ v. ids_in_body (option_map (λ s. s.now) value.entry) body.now ≡ Some (map string_bytes v.items)) }
+    ensures ok { IfOk result
+        (λ v. ids_in_body (option_map (λ s. s.now) value.entry) body.now ≡ Some (map string_bytes v.items)) }
     ensures err { IfErr result (λ e. (e ≡ ParamFault.NoMemory)
-        ⊎ ((e ≡ ParamFault.BadDocIds) × (ids_in_body (option_map (λ s. s.now) value.entry) body.now ≡ None))) }
+        ⊎ ((e ≡ ParamFault.BadDocIds)
+        × (ids_in_body (option_map (λ s. s.now) value.entry) body.now ≡ None))) }
 {
     let object = json(alloc, body)?;
     if object.as_object().is_none() {
@@ -92,7 +98,8 @@ pub(crate) fn ids_of(
     value: Option<&str>,
     body: &[u8],
 ) -> Result<Vec<String>, ParamFault>
-    ensures ok { IfOk result (λ v. ids_in (option_map (λ s. s.now) value.entry) body.now ≡ Some (map string_bytes v.items)) }
+    ensures ok { IfOk result
+        (λ v. ids_in (option_map (λ s. s.now) value.entry) body.now ≡ Some (map string_bytes v.items)) }
     ensures err { IfErr result (λ e. (e ≡ ParamFault.NoMemory)
         ⊎ ((e ≡ ParamFault.BadDocIds) × (ids_in (option_map (λ s. s.now) value.entry) body.now ≡ None))) }
     ensures memory { IfErr result (λ e. e ≡ ParamFault.NoMemory

@@ -21,7 +21,8 @@ pub(crate) fn later<'q>(
     before: Option<&'q [u8]>,
 ) -> Option<&'q [u8]>
     ensures { option_copied result
-        ≡ option_or (if bytes_eq name.now wanted.now then Some value.now else None) (option_copied before.entry) }
+        ≡ option_or (if bytes_eq name.now wanted.now then Some value.now else None)
+        (option_copied before.entry) }
 {
     if name == wanted { Some(value) } else { before }
 }

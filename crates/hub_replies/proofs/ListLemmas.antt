@@ -1,5 +1,6 @@
 -- Lists whose members have commas (44) between them.
-use Rattle.std.proofs.Common.{◌≡◌, ℕ, ◌<◌, ◌≤◌, length, drop, Option, arith, List, [], ◌∷◌, ◌++◌, Bool, true, false, codes, ap, refl, sym, ◌∙◌, append-nil, append_assoc}
+use Rattle.std.proofs.Common.{◌≡◌, ℕ, ◌<◌, ◌≤◌, length, drop, Option, arith, List, [], ◌∷◌, ◌++◌}
+use Rattle.std.proofs.Common.{Bool, true, false, codes, ap, refl, sym, ◌∙◌, append-nil, append_assoc}
 use Rattle.std.proofs.lemmas.List.{at_drop_all}
 use Rattle.std.specs.List.{join_with_byte}
 use Rattle.serde_json.specs.Written.{comma_if}
@@ -23,19 +24,31 @@ listed_all [] = refl
 listed_all (x ∷ xs) = listed_joined x xs
 
 -- what was written when the members that are left are none
-pub list_written : {A : Type 0} (left : List A → List (List ℕ)) (texts : List (List ℕ)) (xs : List A) (i : ℕ) (later : Bool) (front held new end : List ℕ) → left [] ≡ []
-    → front ++ listed false texts ≡ held ++ listed later (left (drop i xs)) → length xs ≤ i → new ≡ held ++ end → new ≡ front ++ (join_with_byte 44 texts ++ end)
+pub list_written : {A : Type 0} (left : List A → List (List ℕ)) (texts : List (List ℕ)) (xs : List A)
+    (i : ℕ) (later : Bool) (front held new end : List ℕ)
+    → left [] ≡ []
+    → front ++ listed false texts ≡ held ++ listed later (left (drop i xs)) → length xs ≤ i
+    → new ≡ held ++ end → new ≡ front ++ (join_with_byte 44 texts ++ end)
 list_written left texts xs i later front held new end none so_far over last =
-    let rest = at_drop_all (λ ys. held ++ listed later (left ys)) xs i over ∙ ap (λ l. held ++ listed later l) none ∙ append-nil held in
-    last ∙ ap (λ l. l ++ end) (sym (so_far ∙ rest)) ∙ ap (λ l. (front ++ l) ++ end) (listed_all texts) ∙ append_assoc front (join_with_byte 44 texts) end
+    let rest =
+    at_drop_all (λ ys. held ++ listed later (left ys)) xs i over
+    ∙ ap (λ l. held ++ listed later l) none
+    ∙ append-nil held in
+    last
+    ∙ ap (λ l. l ++ end) (sym (so_far ∙ rest))
+    ∙ ap (λ l. (front ++ l) ++ end) (listed_all texts)
+    ∙ append_assoc front (join_with_byte 44 texts) end
 
 -- a list and the line feed behind it
-pub list_line : (texts : List (List ℕ)) → codes "[" ++ (join_with_byte 44 texts ++ codes "]\n") ≡ list_text texts ++ codes "\n"
+pub list_line : (texts : List (List ℕ))
+    → codes "[" ++ (join_with_byte 44 texts ++ codes "]\n") ≡ list_text texts ++ codes "\n"
 unfolding list_text
-list_line texts = ap (λ l. codes "[" ++ l) (sym (append_assoc (join_with_byte 44 texts) (codes "]") (codes "\n")))
+list_line texts =
+    ap (λ l. codes "[" ++ l) (sym (append_assoc (join_with_byte 44 texts) (codes "]") (codes "\n")))
 
 -- the member of the leaves that may be behind, where there are some
-pub some_ancestors : (revs : List Revision) → 0 < length revs → ancestors_text revs ≡ codes ",\"possible_ancestors\":" ++ revisions_text revs
+pub some_ancestors : (revs : List Revision) → 0 < length revs
+    → ancestors_text revs ≡ codes ",\"possible_ancestors\":" ++ revisions_text revs
 unfolding ancestors_text
 some_ancestors [] h = absurd (omega (arith, h))
 some_ancestors (r ∷ revs) h = refl

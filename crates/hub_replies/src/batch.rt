@@ -4,7 +4,8 @@ ghost use Rattle.std.specs.Prelude.{◌≡◌, ◌++◌, IfOk, OnOk};
 ghost use Rattle.serde_json.specs.View.{view, items_view};
 ghost use Rattle.hub_model.specs.Revision.{text_of};
 ghost use Rattle.hub_replies.specs.Bodies.{edit_text};
-ghost use Rattle.hub_replies.specs.Bulk.{id_in, id_text, reason_members, refused_text, reply_text, batch_body};
+ghost use Rattle.hub_replies.specs.Bulk.{id_in, id_text, reason_members};
+ghost use Rattle.hub_replies.specs.Bulk.{refused_text, reply_text, batch_body};
 
 use crate::texts::put_comma;
 use hub_document::{RevId, put_quoted};
@@ -44,7 +45,8 @@ fn put_reason(out: &mut Vec<u8>, refusal: Refusal) -> Result<(), AllocError>
 
 // Appends an element that is stored.
 fn put_stored(out: &mut Vec<u8>, element: &Value, rev: &RevId) -> Result<(), AllocError>
-    ensures { OnOk result (out.new.items ≡ out.old.items ++ edit_text (id_text (id_in (view element.now))) (text_of rev.now)) }
+    ensures { OnOk result
+        (out.new.items ≡ out.old.items ++ edit_text (id_text (id_in (view element.now))) (text_of rev.now)) }
 {
     out.extend_from_slice(b"{\"ok\":true,\"id\":")?;
     put_id(out, element)?;

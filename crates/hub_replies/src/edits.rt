@@ -32,7 +32,8 @@ pub fn edit_front(alloc: Global, id: &str) -> Result<Vec<u8>, AllocError>
 /// The answer with this front to an edit of a document that has this revision now (CouchDB API reference,
 /// `PUT /{db}/{docid}`). Constant time.
 pub fn edit_body(front: Vec<u8>, rev: &RevId) -> Result<Vec<u8>, AllocError>
-    ensures { IfOk result (λ t. (id : List ℕ) → front.items ≡ edit_front id → t.items ≡ edit_body id rev.now) }
+    ensures { IfOk result
+        (λ t. (id : List ℕ) → front.items ≡ edit_front id → t.items ≡ edit_body id rev.now) }
 {
     let mut text = front;
     rev.print_quoted(&mut text)?;
@@ -53,7 +54,8 @@ fn put_count(out: &mut Vec<u8>, count: u64) -> Result<(), AllocError>
 /// The answer with this front to an edit of a local document, which was written `count` times now (CouchDB
 /// API reference, `PUT /{db}/_local/{docid}`). Constant time.
 pub fn local_edit_body(front: Vec<u8>, count: u64) -> Result<Vec<u8>, AllocError>
-    ensures { IfOk result (λ t. (id : List ℕ) → front.items ≡ edit_front id → t.items ≡ local_edit_body id count) }
+    ensures { IfOk result
+        (λ t. (id : List ℕ) → front.items ≡ edit_front id → t.items ≡ local_edit_body id count) }
 {
     let mut text = front;
     put_count(&mut text, count)?;

@@ -1,6 +1,8 @@
 -- The winner alone: its revision as a row lists it, and its mark.
-use Rattle.std.proofs.Common.{◌≡◌, ◌≤◌, ℕ, List, [], ◌∷◌, length, take, Bool, true, false, Contains, subst, refl, sym, ap, ◌∙◌}
-use Rattle.std.specs.Prelude.{Result, Ok, Err, OnErr, Option, Some, None, IsSomeAnd, find, slice_get, option_map, option_and_then}
+use Rattle.std.proofs.Common.{◌≡◌, ◌≤◌, ℕ, List, [], ◌∷◌, length, take, Bool}
+use Rattle.std.proofs.Common.{true, false, Contains, subst, refl, sym, ap, ◌∙◌}
+use Rattle.std.specs.Prelude.{Result, Ok, Err, OnErr, Option, Some, None, IsSomeAnd}
+use Rattle.std.specs.Prelude.{find, slice_get, option_map, option_and_then}
 use Rattle.std.proofs.lemmas.Option.{same_Some, slice_get_past}
 use Rattle.hub_document.specs.Changes.{IsDigestText}
 use Rattle.hub_model.specs.Revision.{Revision, is_same}
@@ -31,12 +33,14 @@ first_there (x ∷ p) r e = subst (λ z. is_same r z ≡ true) (sym (same_Some x
 
 -- the newest of a stem is the head of its branch, and the mark is the stem's
 module _ (xs : List Stem) (a : AreStems xs) (k : ℕ) (s : Stem) (at : slice_get xs k ≡ Some s) where
-  pub head_alone : (changes : List Revision) → changes ≡ take 1 s.revisions → option_map (λ w. w.rev ∷ []) (option_and_then head_in (slice_get (branches_of xs) k)) ≡ Some changes
+  pub head_alone : (changes : List Revision) → changes ≡ take 1 s.revisions
+      → option_map (λ w. w.rev ∷ []) (option_and_then head_in (slice_get (branches_of xs) k)) ≡ Some changes
   head_alone changes is =
       let r = newest s.revisions (a.falling k s at) in
       rw (head_at xs a k s r.0 at r.1) (ap Some (sym (is ∙ r.2)))
 
-  pub head_mark : (deleted : Bool) → deleted ≡ s.deleted → option_map (λ w. w.deleted) (option_and_then head_in (slice_get (branches_of xs) k)) ≡ Some deleted
+  pub head_mark : (deleted : Bool) → deleted ≡ s.deleted
+      → option_map (λ w. w.deleted) (option_and_then head_in (slice_get (branches_of xs) k)) ≡ Some deleted
   head_mark deleted is =
       let r = newest s.revisions (a.falling k s at) in
       rw (head_at xs a k s r.0 at r.1) (ap Some (sym is))
@@ -50,19 +54,23 @@ module _ (xs : List Stem) (a : AreStems xs) (k : ℕ) (s : Stem) (at : slice_get
 
   -- and it is found by its revision
   pub head_body : (body : List ℕ) → body ≡ s.body
-      → IsSomeAnd (option_and_then head_in (slice_get (branches_of xs) k)) (λ w. option_map (λ b. b.body) (find (λ b. is_first w.rev b.path) (branches_of xs)) ≡ Some body)
+      → IsSomeAnd (option_and_then head_in (slice_get (branches_of xs) k))
+      (λ w. option_map (λ b. b.body) (find (λ b. is_first w.rev b.path) (branches_of xs)) ≡ Some body)
   head_body body is =
       let r = newest s.revisions (a.falling k s at) in
       let there = head_found xs a r.0 k s at (first_there s.revisions r.0 r.1) in
       rw (head_at xs a k s r.0 at r.1)
-      (sym (lent {A = Stem} (Some s) (λ z. r.0) (λ z. z.deleted) (λ z. body) (find (λ b. is_first r.0 b.path) (branches_of xs)) (some_headed xs a r.0 s r.0 s.deleted body there r.1 refl is)).1)
+      (sym (lent {A = Stem}
+      (Some s) (λ z. r.0) (λ z. z.deleted) (λ z. body) (find (λ b. is_first r.0 b.path) (branches_of xs))
+      (some_headed xs a r.0 s r.0 s.deleted body there r.1 refl is)).1)
 
 -- past the branches stands none
 pub no_head : (bs : List Branch) (k : ℕ) → length bs ≤ k → option_and_then head_in (slice_get bs k) ≡ None
 no_head bs k past = ap (option_and_then head_in) (slice_get_past bs k past)
 
 -- and without one there is no leaf
-pub no_winner : (ls : List Leaf) → winner_of ls ≡ None → (take 1 (revisions_of ls) ≡ []) × (is_deleted ls ≡ false)
+pub no_winner : (ls : List Leaf) → winner_of ls ≡ None
+    → (take 1 (revisions_of ls) ≡ []) × (is_deleted ls ≡ false)
 no_winner [] none = (refl, refl)
 no_winner (l ∷ ls) none = absurd (cc)
 
@@ -78,20 +86,28 @@ refused_for (Ok x) h f = h
 refused_for (Err e) h f = f h
 
 -- the members of the winner are those of the edit that it heads
-body_is : (found : Option Branch) (e : Edit) (body : List ℕ) → option_map (λ b. b.body) found ≡ Some body → option_map edit_of found ≡ Some e → body ≡ e.body
+body_is : (found : Option Branch) (e : Edit) (body : List ℕ) → option_map (λ b. b.body) found ≡ Some body
+    → option_map edit_of found ≡ Some e → body ≡ e.body
 body_is None e body is same = absurd (cc)
-body_is (Some b) e body is same = sym (same_Some b.body body is) ∙ ap (λ (z : Edit). z.body) (same_Some (edit_of b) e same)
+body_is (Some b) e body is same =
+    sym (same_Some b.body body is) ∙ ap (λ (z : Edit). z.body) (same_Some (edit_of b) e same)
 
-pub winner_doc : (bs : List Branch) (es : List Edit) → edits_in bs ≡ es → IsRevTree es → (o : Option Winner) → o ≡ winner_of (leaves_of es []) → (body : List ℕ)
-    → IsSomeAnd o (λ w. option_map (λ b. b.body) (find (λ b. is_first w.rev b.path) bs) ≡ Some body) → Some body ≡ doc_of true (leaves_of es [])
+pub winner_doc : (bs : List Branch) (es : List Edit) → edits_in bs ≡ es → IsRevTree es → (o : Option Winner)
+    → o ≡ winner_of (leaves_of es []) → (body : List ℕ)
+    → IsSomeAnd o (λ w. option_map (λ b. b.body) (find (λ b. is_first w.rev b.path) bs) ≡ Some body)
+    → Some body ≡ doc_of true (leaves_of es [])
 winner_doc bs es same tree o is body found = from (leaves_of es []) refl
   where
     from : (ls : List Leaf) → leaves_of es [] ≡ ls → Some body ≡ doc_of true ls
     from [] q = absurd (rw (is ∙ ap winner_of q) at found)
     from (l ∷ others) q =
-        let f : option_map (λ b. b.body) (find (λ b. is_first l.rev b.path) bs) ≡ Some body = rw (is ∙ ap winner_of q) at found in
-        let headed = leaf_headed es [] tree.legal l (subst (λ ls. Contains ls l) (sym q) (contains_here l others)) in
-        ap Some (body_is (find (λ b. is_first l.rev b.path) bs) l.edit body f (among bs l.rev ∙ ap (find (is_head l.rev)) (same ∙ sym tree.one) ∙ headed))
+        let f : option_map (λ b. b.body) (find (λ b. is_first l.rev b.path) bs) ≡ Some body =
+        rw (is ∙ ap winner_of q) at found in
+        let headed =
+        leaf_headed es [] tree.legal l (subst (λ ls. Contains ls l) (sym q) (contains_here l others)) in
+        ap Some
+        (body_is (find (λ b. is_first l.rev b.path) bs) l.edit body f
+        (among bs l.rev ∙ ap (find (is_head l.rev)) (same ∙ sym tree.one) ∙ headed))
 
 pub no_doc : (ls : List Leaf) → winner_of ls ≡ None → doc_of true ls ≡ None
 no_doc [] none = refl

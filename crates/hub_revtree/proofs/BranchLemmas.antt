@@ -1,5 +1,6 @@
 -- What branches and lists of them show.
-use Rattle.std.proofs.Common.{◌≡◌, ℕ, zero, suc, ◌+◌, ◌++◌, take, get_or, filter, cond, ◌<◌, ◌≤◌, List, [], ◌∷◌, length, Bool, true, false, inl, inr, ap, refl, sym, ◌∙◌, ◌||◌, not, arith}
+use Rattle.std.proofs.Common.{◌≡◌, ℕ, zero, suc, ◌+◌, ◌++◌, take, get_or, filter, cond, ◌<◌, ◌≤◌, List, []}
+use Rattle.std.proofs.Common.{◌∷◌, length, Bool, true, false, inl, inr, ap, refl, sym, ◌∙◌, ◌||◌, not, arith}
 use Rattle.std.specs.Prelude.{Result, Ok, Err, OnErr, Some, slice_get, map}
 use Rattle.std.specs.List.{list_any}
 use Rattle.std.proofs.lemmas.Bool.{cases_Bool}
@@ -16,16 +17,20 @@ some_history [] h = absurd h.falls
 some_history (x ∷ p) h = omega arith
 
 -- a path has no more revisions than its head's generation
-pub within_generation : (p : List Revision) (x : Revision) → IsHistory p → slice_get p 0 ≡ Some x → length p ≤ x.generation
+pub within_generation : (p : List Revision) (x : Revision) → IsHistory p → slice_get p 0 ≡ Some x
+    → length p ≤ x.generation
 within_generation [] x h e = absurd h.falls
-within_generation (y ∷ p) x h e = let same : y.generation ≡ x.generation = ap (λ (z : Revision). z.generation) (same_Some y x e) in omega (arith, below y p h.falls)
+within_generation (y ∷ p) x h e =
+    let same : y.generation ≡ x.generation = ap (λ (z : Revision). z.generation) (same_Some y x e) in
+    omega (arith, below y p h.falls)
   where
     below : (y : Revision) (p : List Revision) → Falls y p → length (y ∷ p) ≤ y.generation
     below y [] f = f
     below y (z ∷ p) f = omega (arith, below z p f.1, f.0)
 
 -- where an element passes a test, some do
-some_pass : {A : Type 0} (P : A → Bool) (xs : List A) (i : ℕ) (d : A) → i < length xs → P (get_or xs i d) ≡ true → ¬ (filter P xs ≡ [])
+some_pass : {A : Type 0} (P : A → Bool) (xs : List A) (i : ℕ) (d : A) → i < length xs
+    → P (get_or xs i d) ≡ true → ¬ (filter P xs ≡ [])
 some_pass P [] i d low t = absurd (omega arith)
 some_pass P (x ∷ xs) zero d low t = λ e. absurd (let none = rw t at e in cc)
 some_pass P (x ∷ xs) (suc i) d low t = elim (cases_Bool (P x)) [
@@ -34,23 +39,31 @@ some_pass P (x ∷ xs) (suc i) d low t = elim (cases_Bool (P x)) [
 ]
 
 -- one revision more, that a path names or not
-module _ (bs : List Branch) (revs : List Revision) (i : ℕ) (r : Revision) (low : i < length revs) (is : r ≡ get_or revs i r) where
-  step : (b : Bool) → list_any (λ b. names b.path r) bs ≡ b → unnamed_in bs (take (i + 1) revs) ≡ unnamed_in bs (take i revs) ++ cond (not b) (r ∷ []) []
+module _ (bs : List Branch) (revs : List Revision) (i : ℕ) (r : Revision) (low : i < length revs)
+    (is : r ≡ get_or revs i r) where
+  step : (b : Bool) → list_any (λ b. names b.path r) bs ≡ b
+      → unnamed_in bs (take (i + 1) revs) ≡ unnamed_in bs (take i revs) ++ cond (not b) (r ∷ []) []
   step b t =
       filter_more (λ s. not (list_any (λ b. names b.path s) bs)) revs i r low
-      ∙ (ap (λ s. unnamed_in bs (take i revs) ++ cond (not (list_any (λ b. names b.path s) bs)) (s ∷ []) []) (sym is)
+      ∙ (ap (λ s. unnamed_in bs (take i revs) ++ cond (not (list_any (λ b. names b.path s) bs)) (s ∷ []) [])
+      (sym is)
       ∙ ap (λ x. unnamed_in bs (take i revs) ++ cond (not x) (r ∷ []) []) t)
 
-  pub one_named : list_any (λ b. names b.path r) bs ≡ true → unnamed_in bs (take (i + 1) revs) ≡ unnamed_in bs (take i revs)
+  pub one_named : list_any (λ b. names b.path r) bs ≡ true
+      → unnamed_in bs (take (i + 1) revs) ≡ unnamed_in bs (take i revs)
   one_named t = step true t ∙ append-nil (unnamed_in bs (take i revs))
 
-  pub one_unnamed : list_any (λ b. names b.path r) bs ≡ false → unnamed_in bs (take (i + 1) revs) ≡ unnamed_in bs (take i revs) ++ r ∷ []
+  pub one_unnamed : list_any (λ b. names b.path r) bs ≡ false
+      → unnamed_in bs (take (i + 1) revs) ≡ unnamed_in bs (take i revs) ++ r ∷ []
   one_unnamed f = step false f
 
   pub some_unnamed : list_any (λ b. names b.path r) bs ≡ false → ¬ (unnamed_in bs revs ≡ [])
-  some_unnamed f = some_pass (λ s. not (list_any (λ b. names b.path s) bs)) revs i r low (ap (λ s. not (list_any (λ b. names b.path s) bs)) (sym is) ∙ ap not f)
+  some_unnamed f =
+      some_pass (λ s. not (list_any (λ b. names b.path s) bs)) revs i r low
+      (ap (λ s. not (list_any (λ b. names b.path s) bs)) (sym is) ∙ ap not f)
 
-pub any_map : {A B : Type 0} (P : B → Bool) (f : A → B) (xs : List A) → list_any P (map f xs) ≡ list_any (λ x. P (f x)) xs
+pub any_map : {A B : Type 0} (P : B → Bool) (f : A → B) (xs : List A)
+    → list_any P (map f xs) ≡ list_any (λ x. P (f x)) xs
 any_map P f [] = refl
 any_map P f (x ∷ xs) = ap (λ b. P (f x) || b) (any_map P f xs)
 

@@ -1,5 +1,6 @@
 -- How far two lists of revisions are one, step by step.
-use Rattle.std.proofs.Common.{◌≡◌, ◌≢◌, ℕ, zero, suc, ◌+◌, ◌≤◌, min, List, [], ◌∷◌, ◌++◌, length, drop, take, true, inl, inr, refl, sym, ap, ap₂, ◌∙◌, subst, option_map, arith}
+use Rattle.std.proofs.Common.{◌≡◌, ◌≢◌, ℕ, zero, suc, ◌+◌, ◌≤◌, min, List, [], ◌∷◌, ◌++◌, length, drop}
+use Rattle.std.proofs.Common.{take, true, inl, inr, refl, sym, ap, ap₂, ◌∙◌, subst, option_map, arith}
 use Rattle.std.specs.Prelude.{Option, Some, None, slice_get}
 use Rattle.std.proofs.lemmas.Bool.{cases_Bool}
 use Rattle.std.proofs.lemmas.List.{drop-drop, length-drop}
@@ -10,7 +11,9 @@ use Rattle.hub_model.proofs.Tests.{same_is}
 use Rattle.hub_revtree.specs.Common.{common}
 
 -- both have this one here
-pub common_on : (p q : List Revision) (k : ℕ) (x : Revision) → slice_get p k ≡ Some x → is_first x (drop k q) ≡ true → common (drop k p) (drop k q) ≡ option_map suc (common (drop (suc k) p) (drop (suc k) q))
+pub common_on : (p q : List Revision) (k : ℕ) (x : Revision)
+    → slice_get p k ≡ Some x → is_first x (drop k q) ≡ true
+    → common (drop k p) (drop k q) ≡ option_map suc (common (drop (suc k) p) (drop (suc k) q))
 common_on [] q k x e t = absurd (cc)
 common_on (y ∷ p) [] zero x e t = absurd (cc)
 common_on (y ∷ p) [] (suc k) x e t = absurd (cc)
@@ -20,13 +23,17 @@ common_on (y ∷ p) (z ∷ q) zero x e t =
 common_on (y ∷ p) (z ∷ q) (suc k) x e t = common_on p q k x e t
 
 -- one of them ends here
-pub common_end : (p q : List Revision) (k : ℕ) → k ≡ min (length q) (length p) → common (drop k p) (drop k q) ≡ Some 0
-common_end [] q k e = let z : k ≡ 0 = omega (arith, e) in subst (λ n. common (drop n []) (drop n q) ≡ Some 0) (sym z) refl
-common_end (x ∷ p) [] k e = let z : k ≡ 0 = omega (arith, e) in subst (λ n. common (drop n (x ∷ p)) (drop n []) ≡ Some 0) (sym z) refl
+pub common_end : (p q : List Revision) (k : ℕ) → k ≡ min (length q) (length p)
+    → common (drop k p) (drop k q) ≡ Some 0
+common_end [] q k e =
+    let z : k ≡ 0 = omega (arith, e) in subst (λ n. common (drop n []) (drop n q) ≡ Some 0) (sym z) refl
+common_end (x ∷ p) [] k e =
+    let z : k ≡ 0 = omega (arith, e) in subst (λ n. common (drop n (x ∷ p)) (drop n []) ≡ Some 0) (sym z) refl
 common_end (x ∷ p) (y ∷ q) zero e = absurd (omega (arith, e))
 common_end (x ∷ p) (y ∷ q) (suc k) e = common_end p q k (omega (arith, e))
 
-pub plus_one : (k : ℕ) (o : Option ℕ) → option_map (λ n. n + k) (option_map suc o) ≡ option_map (λ n. n + (k + 1)) o
+pub plus_one : (k : ℕ) (o : Option ℕ)
+    → option_map (λ n. n + k) (option_map suc o) ≡ option_map (λ n. n + (k + 1)) o
 plus_one k None = refl
 plus_one k (Some n) = let same : suc n + k ≡ n + (k + 1) = omega arith in ap Some same
 
@@ -61,40 +68,58 @@ common_all (x ∷ p) (y ∷ q) r n e z = elim (cases_Bool (is_same x y)) [
   | inr t ↦ absurd (let f = rw t at e in cc)
 ]
   where
-    from : ((m : ℕ) → common p q ≡ Some m → m ≡ length p → common p (q ++ r) ≡ Some m) → (o : Option ℕ) → common p q ≡ o → option_map suc o ≡ Some n → option_map suc (common p (q ++ r)) ≡ Some n
+    from : ((m : ℕ) → common p q ≡ Some m → m ≡ length p → common p (q ++ r) ≡ Some m) → (o : Option ℕ)
+        → common p q ≡ o → option_map suc o ≡ Some n → option_map suc (common p (q ++ r)) ≡ Some n
     from ih None h f = absurd (cc)
-    from ih (Some m) h f = let g : suc m ≡ n = same_Some (suc m) n f in ap (option_map suc) (ih m h (omega (arith, g, z))) ∙ f
+    from ih (Some m) h f =
+        let g : suc m ≡ n = same_Some (suc m) n f in ap (option_map suc) (ih m h (omega (arith, g, z))) ∙ f
 
 -- the second's front is all one with the first list's
-common_more : (p q r : List Revision) (n : ℕ) → common p q ≡ Some n → n ≢ length p → common p (q ++ r) ≡ option_map (λ k. k + n) (common (drop n p) r)
+common_more : (p q r : List Revision) (n : ℕ) → common p q ≡ Some n → n ≢ length p
+    → common p (q ++ r) ≡ option_map (λ k. k + n) (common (drop n p) r)
 common_more [] q r n e z = absurd (z (sym (same_Some 0 n e)))
-common_more (x ∷ p) [] r n e z = let f : 0 ≡ n = same_Some 0 n e in subst (λ m. common (x ∷ p) r ≡ option_map (λ k. k + m) (common (drop m (x ∷ p)) r)) f (none_all (common (x ∷ p) r))
+common_more (x ∷ p) [] r n e z =
+    let f : 0 ≡ n = same_Some 0 n e in
+    subst (λ m. common (x ∷ p) r ≡ option_map (λ k. k + m) (common (drop m (x ∷ p)) r)) f
+    (none_all (common (x ∷ p) r))
 common_more (x ∷ p) (y ∷ q) r n e z = elim (cases_Bool (is_same x y)) [
   | inl t ↦ rw t (from (λ m h w. common_more p q r m h w) (common p q) refl (rw t at e))
   | inr t ↦ absurd (let f = rw t at e in cc)
 ]
   where
-    from : ((m : ℕ) → common p q ≡ Some m → m ≢ length p → common p (q ++ r) ≡ option_map (λ k. k + m) (common (drop m p) r)) → (o : Option ℕ) → common p q ≡ o → option_map suc o ≡ Some n → option_map suc (common p (q ++ r)) ≡ option_map (λ k. k + n) (common (drop n (x ∷ p)) r)
+    from : ((m : ℕ) → common p q ≡ Some m → m ≢ length p
+        → common p (q ++ r) ≡ option_map (λ k. k + m) (common (drop m p) r))
+        → (o : Option ℕ) → common p q ≡ o → option_map suc o ≡ Some n
+        → option_map suc (common p (q ++ r)) ≡ option_map (λ k. k + n) (common (drop n (x ∷ p)) r)
     from ih None h f = absurd (cc)
     from ih (Some m) h f =
         let g : suc m ≡ n = same_Some (suc m) n f in
-        subst (λ j. option_map suc (common p (q ++ r)) ≡ option_map (λ k. k + j) (common (drop j (x ∷ p)) r)) g
+        subst (λ j. option_map suc (common p (q ++ r)) ≡ option_map (λ k. k + j) (common (drop j (x ∷ p)) r))
+        g
         (ap (option_map suc) (ih m h (λ w. z (omega (arith, g, w)))) ∙ suc_all m (common (drop m p) r))
 
-plus_parts : (k m : ℕ) (o : Option ℕ) → option_map (λ n. n + k) (option_map (λ n. n + m) o) ≡ option_map (λ n. n + (k + m)) o
+plus_parts : (k m : ℕ) (o : Option ℕ)
+    → option_map (λ n. n + k) (option_map (λ n. n + m) o) ≡ option_map (λ n. n + (k + m)) o
 plus_parts k m None = refl
 plus_parts k m (Some n) = let same : n + m + k ≡ n + (k + m) = omega arith in ap Some same
 
 -- as far as both go
-pub common_some : (p q : List Revision) (n : ℕ) → common p q ≡ Some n → (n ≡ min (length p) (length q)) × (take n p ≡ take n q)
-common_some [] q n e = let z : 0 ≡ n = same_Some 0 n e in subst (λ m. (m ≡ min 0 (length q)) × (take m [] ≡ take m q)) z (omega arith, refl)
-common_some (x ∷ p) [] n e = let z : 0 ≡ n = same_Some 0 n e in subst (λ m. (m ≡ min (suc (length p)) 0) × (take m (x ∷ p) ≡ take m [])) z (omega arith, refl)
+pub common_some : (p q : List Revision) (n : ℕ) → common p q ≡ Some n
+    → (n ≡ min (length p) (length q)) × (take n p ≡ take n q)
+common_some [] q n e =
+    let z : 0 ≡ n = same_Some 0 n e in
+    subst (λ m. (m ≡ min 0 (length q)) × (take m [] ≡ take m q)) z (omega arith, refl)
+common_some (x ∷ p) [] n e =
+    let z : 0 ≡ n = same_Some 0 n e in
+    subst (λ m. (m ≡ min (suc (length p)) 0) × (take m (x ∷ p) ≡ take m [])) z (omega arith, refl)
 common_some (x ∷ p) (y ∷ q) n e = elim (cases_Bool (is_same x y)) [
   | inl t ↦ from (λ m h. common_some p q m h) t (common p q) refl (rw t at e)
   | inr t ↦ absurd (let f = rw t at e in cc)
 ]
   where
-    from : ((m : ℕ) → common p q ≡ Some m → (m ≡ min (length p) (length q)) × (take m p ≡ take m q)) → is_same x y ≡ true → (o : Option ℕ) → common p q ≡ o → option_map suc o ≡ Some n → (n ≡ min (suc (length p)) (suc (length q))) × (take n (x ∷ p) ≡ take n (y ∷ q))
+    from : ((m : ℕ) → common p q ≡ Some m → (m ≡ min (length p) (length q)) × (take m p ≡ take m q))
+        → is_same x y ≡ true → (o : Option ℕ) → common p q ≡ o → option_map suc o ≡ Some n
+        → (n ≡ min (suc (length p)) (suc (length q))) × (take n (x ∷ p) ≡ take n (y ∷ q))
     from ih t None h f = absurd (cc)
     from ih t (Some m) h f =
         let i = ih m h in
@@ -104,7 +129,8 @@ common_some (x ∷ p) (y ∷ q) n e = elim (cases_Bool (is_same x y)) [
 
 -- how far a list and another are one, which is told where the first k are, and the other is q from there on
 -- and then r
-module _ (p q r : List Revision) (k : ℕ) (o : Option ℕ) (so_far : o ≡ option_map (λ n. n + k) (common (drop k p) (q ++ r))) where
+module _ (p q r : List Revision) (k : ℕ) (o : Option ℕ)
+    (so_far : o ≡ option_map (λ n. n + k) (common (drop k p) (q ++ r))) where
   pub so_far_none : common (drop k p) q ≡ None → o ≡ None
   so_far_none e = so_far ∙ ap (option_map (λ n. n + k)) (common_none (drop k p) q r e)
 
@@ -115,15 +141,21 @@ module _ (p q r : List Revision) (k : ℕ) (o : Option ℕ) (so_far : o ≡ opti
         ∙ ap (option_map (λ n. n + k)) (common_all (drop k p) q r m e (omega (arith, whole, length-drop k p)))
         ∙ ap Some (let sum : m + k ≡ k + m = omega arith in sum)
 
-    pub so_far_more : k ≤ length p → k + m ≢ length p → o ≡ option_map (λ n. n + (k + m)) (common (drop (k + m) p) r)
+    pub so_far_more : k ≤ length p → k + m ≢ length p
+        → o ≡ option_map (λ n. n + (k + m)) (common (drop (k + m) p) r)
     so_far_more low some =
         so_far
-        ∙ ap (option_map (λ n. n + k)) (common_more (drop k p) q r m e (λ z. some (omega (arith, z, low, length-drop k p))))
+        ∙ ap (option_map (λ n. n + k))
+        (common_more (drop k p) q r m e (λ z. some (omega (arith, z, low, length-drop k p))))
         ∙ plus_parts k m (common (drop m (drop k p)) r)
         ∙ ap (λ l. option_map (λ n. n + (k + m)) (common l r)) (drop-drop m k p)
 
-pub so_far_end : (p : List Revision) (k : ℕ) (o : Option ℕ) → o ≡ option_map (λ n. n + k) (common (drop k p) []) → o ≡ Some k
-so_far_end p k o so_far = so_far ∙ ap (option_map (λ n. n + k)) (none_left (drop k p)) ∙ ap Some (let sum : 0 + k ≡ k = omega arith in sum)
+pub so_far_end : (p : List Revision) (k : ℕ) (o : Option ℕ)
+    → o ≡ option_map (λ n. n + k) (common (drop k p) []) → o ≡ Some k
+so_far_end p k o so_far =
+    so_far
+    ∙ ap (option_map (λ n. n + k)) (none_left (drop k p))
+    ∙ ap Some (let sum : 0 + k ≡ k = omega arith in sum)
   where
     none_left : (l : List Revision) → common l [] ≡ Some 0
     none_left [] = refl

@@ -1,5 +1,6 @@
 -- Which of some stems is the first with a revision, and what tells it.
-use Rattle.std.proofs.Common.{◌≡◌, ℕ, zero, suc, ◌+◌, ◌<◌, ◌≤◌, ◌⊎◌, List, length, take, Bool, true, false, inl, inr, refl, sym, ap, ◌∙◌, subst, arith}
+use Rattle.std.proofs.Common.{◌≡◌, ℕ, zero, suc, ◌+◌, ◌<◌, ◌≤◌, ◌⊎◌, List, length, take}
+use Rattle.std.proofs.Common.{Bool, true, false, inl, inr, refl, sym, ap, ◌∙◌, subst, arith}
 use Rattle.std.specs.Prelude.{Option, Some, None, IfSome, IfNone, cond, nat_eq, nat_lt, slice_get, unwrap_or}
 use Rattle.std.specs.Ordering.{eq_by_cmp}
 use Rattle.std.specs.Cmp.{Equal-is}
@@ -24,7 +25,8 @@ no_number m q = absurd (cc)
 
 -- ---- numbers that are put where there is none
 
-module _ {K : Type 0} (same : K → K → Bool) (exact : (x y : K) → same x y ≡ true → x ≡ y) (f g : K → Option ℕ) (a : K) (n : ℕ) (put : (x : K) → g x ≡ first_put same f a n x) where
+module _ {K : Type 0} (same : K → K → Bool) (exact : (x y : K) → same x y ≡ true → x ≡ y) (f g : K → Option ℕ)
+    (a : K) (n : ℕ) (put : (x : K) → g x ≡ first_put same f a n x) where
   -- what is there stays
   pub put_keeps : (x : K) (m : ℕ) → f x ≡ Some m → g x ≡ Some m
   put_keeps x m e = put x ∙ elim (cases_Bool (same a x)) [
@@ -39,7 +41,8 @@ module _ {K : Type 0} (same : K → K → Bool) (exact : (x y : K) → same x y 
     | inr t ↦ inl (rw t at (sym (put x) ∙ e))
   ]
     where
-      from : (o : Option ℕ) → f a ≡ o → Some (unwrap_or o n) ≡ Some m → a ≡ x → (f x ≡ Some m) ⊎ ((m ≡ n) × (a ≡ x) × (f a ≡ None))
+      from : (o : Option ℕ) → f a ≡ o → Some (unwrap_or o n) ≡ Some m → a ≡ x
+          → (f x ≡ Some m) ⊎ ((m ≡ n) × (a ≡ x) × (f a ≡ None))
       from None p q s = inr (sym (same_Some n m q), s, p)
       from (Some k) p q s = inl (ap f (sym s) ∙ (p ∙ q))
 
@@ -57,18 +60,22 @@ pub level_self : (r : Revision) → eq_by_cmp revision_cmp r r ≡ true
 level_self r = revisions_level.refl r
 
 -- where there is one, nothing changes
-pub put_nothing : {K : Type 0} (same : K → K → Bool) → ((x y : K) → same x y ≡ true → x ≡ y) → (f : K → Option ℕ) (a : K) (n m : ℕ) → f a ≡ Some m → (x : K) → f x ≡ first_put same f a n x
+pub put_nothing : {K : Type 0} (same : K → K → Bool) → ((x y : K) → same x y ≡ true → x ≡ y)
+    → (f : K → Option ℕ) (a : K) (n m : ℕ) → f a ≡ Some m → (x : K) → f x ≡ first_put same f a n x
 put_nothing same exact f a n m e x = elim (cases_Bool (same a x)) [
   | inl t ↦ rw t (ap f (sym (exact a x t)) ∙ (e ∙ ap (λ o. Some (unwrap_or o n)) (sym e)))
   | inr t ↦ rw t refl
 ]
 
 -- where there is none, the number is put
-pub put_one : {K : Type 0} (same : K → K → Bool) (f g : K → Option ℕ) (a : K) (n : ℕ) → f a ≡ None → ((x : K) → g x ≡ cond (same a x) (Some n) (f x)) → (x : K) → g x ≡ first_put same f a n x
+pub put_one : {K : Type 0} (same : K → K → Bool) (f g : K → Option ℕ) (a : K) (n : ℕ) → f a ≡ None
+    → ((x : K) → g x ≡ cond (same a x) (Some n) (f x)) → (x : K) → g x ≡ first_put same f a n x
 put_one same f g a n e put x = put x ∙ ap (λ o. cond (same a x) (Some (unwrap_or o n)) (f x)) (sym e)
 
 -- and put back where there was one
-pub put_back : {K : Type 0} (same : K → K → Bool) (f g h : K → Option ℕ) (a : K) (n m : ℕ) → f a ≡ Some m → ((x : K) → g x ≡ cond (same a x) (Some n) (f x)) → ((x : K) → h x ≡ cond (same a x) (Some m) (g x)) → (x : K) → h x ≡ first_put same f a n x
+pub put_back : {K : Type 0} (same : K → K → Bool) (f g h : K → Option ℕ) (a : K) (n m : ℕ) → f a ≡ Some m
+    → ((x : K) → g x ≡ cond (same a x) (Some n) (f x)) → ((x : K) → h x ≡ cond (same a x) (Some m) (g x))
+    → (x : K) → h x ≡ first_put same f a n x
 put_back same f g h a n m e put back x = elim (cases_Bool (same a x)) [
   | inl t ↦ back x ∙ rw t (ap (λ o. Some (unwrap_or o n)) (sym e))
   | inr t ↦ back x ∙ rw t (put x ∙ rw t refl)
@@ -91,11 +98,13 @@ IsFresh has n r = (j : ℕ) → j < n → ¬ has j r
 abbrev pub IsToldAt : (ℕ → Option ℕ) → (Revision → Option ℕ) → ℕ → Revision → Type 0
 IsToldAt entry other n x = ((key : ℕ) × IsKey x.hash key × (entry key ≡ Some n)) ⊎ (other x ≡ Some n)
 
-module _ (has more : ℕ → Revision → Type 0) (n : ℕ) (r : Revision) (one : IsOneMore has more n r) (e f : ℕ → Option ℕ) (o p : Revision → Option ℕ) (t : AreTold has e o)
+module _ (has more : ℕ → Revision → Type 0) (n : ℕ) (r : Revision) (one : IsOneMore has more n r)
+    (e f : ℕ → Option ℕ) (o p : Revision → Option ℕ) (t : AreTold has e o)
     (keeps : (key m : ℕ) → e key ≡ Some m → f key ≡ Some m)
     (new : (key m : ℕ) → f key ≡ Some m → (e key ≡ Some m) ⊎ ((m ≡ n) × IsKey r.hash key))
     (other_keeps : (x : Revision) (m : ℕ) → o x ≡ Some m → p x ≡ Some m)
-    (other_new : (x : Revision) (m : ℕ) → p x ≡ Some m → (o x ≡ Some m) ⊎ ((m ≡ n) × (x ≡ r) × IsFresh has n r))
+    (other_new : (x : Revision) (m : ℕ) → p x ≡ Some m
+    → (o x ≡ Some m) ⊎ ((m ≡ n) × (x ≡ r) × IsFresh has n r))
     (own_key : (key : ℕ) → IsKey r.hash key → (m : ℕ) × (f key ≡ Some m) × (m ≤ n))
     (own_told : IsFresh has n r → IsToldAt f p n r) where
   more_entries : (key m : ℕ) → f key ≡ Some m → (x : Revision) × more m x × IsKey x.hash key
@@ -104,10 +113,13 @@ module _ (has more : ℕ → Revision → Type 0) (n : ℕ) (r : Revision) (one 
     | inr i ↦ (r, subst (λ k. more k r) (sym i.0) one.own, i.1)
   ]
 
-  more_keyed : (k key : ℕ) (x : Revision) → more k x → IsKey x.hash key → (first : ℕ) × (f key ≡ Some first) × (first ≤ k)
+  more_keyed : (k key : ℕ) (x : Revision) → more k x → IsKey x.hash key
+      → (first : ℕ) × (f key ≡ Some first) × (first ≤ k)
   more_keyed k key x h is = elim (one.narrow k x h) [
     | inl i ↦ let w = t.keyed k key x i is in (w.0, keeps key w.0 w.1, w.2)
-    | inr i ↦ let w = own_key key (subst (λ (z : Revision). IsKey z.hash key) i.1 is) in (w.0, w.1, omega (arith, w.2, i.0))
+    | inr i ↦
+        let w = own_key key (subst (λ (z : Revision). IsKey z.hash key) i.1 is) in
+        (w.0, w.1, omega (arith, w.2, i.0))
   ]
 
   more_others : (k : ℕ) (x : Revision) → p x ≡ Some k → IsFirstWith more k x
@@ -135,7 +147,9 @@ module _ (has more : ℕ → Revision → Type 0) (n : ℕ) (r : Revision) (one 
       | inr i ↦ inr (other_keeps x k i)
     ]
     | inr h ↦
-        let own = own_told (λ j low g. w.1 j (omega (arith, low, h.0)) (one.wide j x (subst (λ (z : Revision). has j z) (sym h.1) g))) in
+        let own =
+        own_told (λ j low g.
+        w.1 j (omega (arith, low, h.0)) (one.wide j x (subst (λ (z : Revision). has j z) (sym h.1) g))) in
         subst (λ (z : Revision). IsToldAt f p k z) (sym h.1) (subst (λ j. IsToldAt f p j r) (sym h.0) own)
   ]
 
@@ -144,23 +158,27 @@ module _ (has more : ℕ → Revision → Type 0) (n : ℕ) (r : Revision) (one 
 
 -- ---- the first stem
 
-least : (P : ℕ → Bool) (k : ℕ) → P k ≡ true → (f : ℕ) × (f ≤ k) × (P f ≡ true) × ((j : ℕ) → j < f → ¬ (P j ≡ true))
+least : (P : ℕ → Bool) (k : ℕ) → P k ≡ true
+    → (f : ℕ) × (f ≤ k) × (P f ≡ true) × ((j : ℕ) → j < f → ¬ (P j ≡ true))
 least P zero t = (0, omega arith, t, λ j low g. absurd (omega (arith, low)))
 least P (suc k) t = elim (cases_Bool (P 0)) [
   | inl u ↦ (0, omega arith, u, λ j low g. absurd (omega (arith, low)))
   | inr u ↦ let i = least (λ j. P (suc j)) k t in (suc i.0, omega (arith, i.1), i.2, none i.0 u i.3)
 ]
   where
-    none : (f : ℕ) → P 0 ≡ false → ((j : ℕ) → j < f → ¬ (P (suc j) ≡ true)) → (j : ℕ) → j < suc f → ¬ (P j ≡ true)
+    none : (f : ℕ) → P 0 ≡ false → ((j : ℕ) → j < f → ¬ (P (suc j) ≡ true)) → (j : ℕ) → j < suc f
+        → ¬ (P j ≡ true)
     none f u i zero low g = both_ways _ u g
     none f u i (suc j) low g = i j (omega (arith, low)) g
 
 -- where a stem has a revision, one is the first that has it
-pub first_exists : (xs : List Stem) (j : ℕ) (x : Revision) → Has xs j x → (f : ℕ) × (f ≤ j) × IsFirstWith (Has xs) f x
+pub first_exists : (xs : List Stem) (j : ℕ) (x : Revision) → Has xs j x
+    → (f : ℕ) × (f ≤ j) × IsFirstWith (Has xs) f x
 first_exists xs j x h = let i = least (λ k. names (revisions_at xs k) x) j h in (i.0, i.1, (i.2, i.3))
 
 -- and no other is
-pub first_same : (has : ℕ → Revision → Type 0) (k m : ℕ) (x : Revision) → IsFirstWith has k x → IsFirstWith has m x → k ≡ m
+pub first_same : (has : ℕ → Revision → Type 0) (k m : ℕ) (x : Revision) → IsFirstWith has k x
+    → IsFirstWith has m x → k ≡ m
 first_same has k m x i j = elim (cases_Bool (nat_eq k m)) [
   | inl t ↦ eqb-true k m t
   | inr t ↦ absurd (elim (apart k m t) [
@@ -179,11 +197,14 @@ first_same has k m x i j = elim (cases_Bool (nat_eq k m)) [
     ]
 
 -- what a place shows its stem has
-pub has_there : (xs : List Stem) (k at : ℕ) (x : Revision) → slice_get (revisions_at xs k) at ≡ Some x → Has xs k x
+pub has_there : (xs : List Stem) (k at : ℕ) (x : Revision) → slice_get (revisions_at xs k) at ≡ Some x
+    → Has xs k x
 has_there xs k at x e = any_at (is_same x) (revisions_at xs k) at x e (same_self x)
 
-pub there_has : (xs : List Stem) (k : ℕ) (x : Revision) → Has xs k x → (at : ℕ) × (slice_get (revisions_at xs k) at ≡ Some x)
-there_has xs k x h = let i = any_place (is_same x) (revisions_at xs k) h in (i.0, i.2 ∙ ap Some (sym (same_is x i.1 i.3)))
+pub there_has : (xs : List Stem) (k : ℕ) (x : Revision) → Has xs k x
+    → (at : ℕ) × (slice_get (revisions_at xs k) at ≡ Some x)
+there_has xs k x h =
+    let i = any_place (is_same x) (revisions_at xs k) h in (i.0, i.2 ∙ ap Some (sym (same_is x i.1 i.3)))
 
 pub has_low : (xs : List Stem) (k : ℕ) (x : Revision) → Has xs k x → k < length xs
 has_low xs k x h = from (slice_get xs k) refl h
@@ -229,7 +250,8 @@ pub none_to : (xs : List Stem) (n k : ℕ) (x : Revision) → HasTo xs n 0 k x �
 none_to xs n k x (inl h) = h
 none_to xs n k x (inr h) = absurd (omega (arith, h.1.1))
 
-pub all_to : (xs : List Stem) (n most k : ℕ) (x : Revision) → length xs ≡ n + 1 → length (revisions_at xs n) ≤ most → Has xs k x → HasTo xs n most k x
+pub all_to : (xs : List Stem) (n most k : ℕ) (x : Revision) → length xs ≡ n + 1
+    → length (revisions_at xs n) ≤ most → Has xs k x → HasTo xs n most k x
 all_to xs n most k x long past h = elim (cases_Bool (nat_eq k n)) [
   | inl t ↦
       let same = eqb-true k n t in
@@ -238,8 +260,10 @@ all_to xs n most k x long past h = elim (cases_Bool (nat_eq k n)) [
   | inr t ↦ inl (below_last k n (length xs) long t (has_low xs k x h), h)
 ]
 
-pub one_to : (xs : List Stem) (n at : ℕ) (r : Revision) → slice_get (revisions_at xs n) at ≡ Some r → IsOneMore (HasTo xs n at) (HasTo xs n (at + 1)) n r
-one_to xs n at r there = record { wide = wide; narrow = narrow; own = inr (refl, (at, omega arith, there)); bound = bound }
+pub one_to : (xs : List Stem) (n at : ℕ) (r : Revision) → slice_get (revisions_at xs n) at ≡ Some r
+    → IsOneMore (HasTo xs n at) (HasTo xs n (at + 1)) n r
+one_to xs n at r there =
+    record { wide = wide; narrow = narrow; own = inr (refl, (at, omega arith, there)); bound = bound }
   where
     wide : (k : ℕ) (x : Revision) → HasTo xs n at k x → HasTo xs n (at + 1) k x
     wide k x (inl h) = inl h
@@ -251,7 +275,10 @@ one_to xs n at r there = record { wide = wide; narrow = narrow; own = inr (refl,
     narrow : (k : ℕ) (x : Revision) → HasTo xs n (at + 1) k x → HasTo xs n at k x ⊎ ((k ≡ n) × (x ≡ r))
     narrow k x (inl h) = inl (inl h)
     narrow k x (inr h) = elim (cases_Bool (nat_eq h.1.0 at)) [
-      | inl t ↦ inr (h.0, same_Some x r (sym h.1.2 ∙ (ap (slice_get (revisions_at xs n)) (eqb-true h.1.0 at t) ∙ there)))
+      | inl t ↦ inr (
+        h.0,
+        same_Some x r (sym h.1.2 ∙ (ap (slice_get (revisions_at xs n)) (eqb-true h.1.0 at t) ∙ there)),
+      )
       | inr t ↦ inl (inr (h.0, (h.1.0, below h.1.0 at h.1.1 t, h.1.2)))
     ]
 
@@ -261,9 +288,11 @@ one_to xs n at r there = record { wide = wide; narrow = narrow; own = inr (refl,
 
 -- ---- a revision comes in
 
-module _ (xs : List Stem) (n at : ℕ) (r : Revision) (there : slice_get (revisions_at xs n) at ≡ Some r) (e f : ℕ → Option ℕ) (o p : Revision → Option ℕ) (t : AreTold (HasTo xs n at) e o) where
+module _ (xs : List Stem) (n at : ℕ) (r : Revision) (there : slice_get (revisions_at xs n) at ≡ Some r)
+    (e f : ℕ → Option ℕ) (o p : Revision → Option ℕ) (t : AreTold (HasTo xs n at) e o) where
   -- where the others have none, no earlier stem has it
-  fresh_of : ((key m : ℕ) → IsKey r.hash key → e key ≡ Some m → m < n → ¬ Has xs m r) → o r ≡ None → IsFresh (HasTo xs n at) n r
+  fresh_of : ((key m : ℕ) → IsKey r.hash key → e key ≡ Some m → m < n → ¬ Has xs m r) → o r ≡ None
+      → IsFresh (HasTo xs n at) n r
   fresh_of absent none j low g =
       let i = first_exists xs j r (to_has xs n at j r g) in
       let few : i.0 < n = omega (arith, i.1, low) in
@@ -272,18 +301,21 @@ module _ (xs : List Stem) (n at : ℕ) (r : Revision) (there : slice_get (revisi
         | inr w ↦ no_number i.0 (sym none ∙ w)
       ]
 
-  module _ (put : (x : Revision) → p x ≡ first_put (eq_by_cmp revision_cmp) o r n x) (absent : (key m : ℕ) → IsKey r.hash key → e key ≡ Some m → m < n → ¬ Has xs m r) where
+  module _ (put : (x : Revision) → p x ≡ first_put (eq_by_cmp revision_cmp) o r n x)
+      (absent : (key m : ℕ) → IsKey r.hash key → e key ≡ Some m → m < n → ¬ Has xs m r) where
     other_keeps : (x : Revision) (m : ℕ) → o x ≡ Some m → p x ≡ Some m
     other_keeps = put_keeps (eq_by_cmp revision_cmp) exact_revisions o p r n put
 
-    other_new : (x : Revision) (m : ℕ) → p x ≡ Some m → (o x ≡ Some m) ⊎ ((m ≡ n) × (x ≡ r) × IsFresh (HasTo xs n at) n r)
+    other_new : (x : Revision) (m : ℕ) → p x ≡ Some m
+        → (o x ≡ Some m) ⊎ ((m ≡ n) × (x ≡ r) × IsFresh (HasTo xs n at) n r)
     other_new x m q = elim (put_new (eq_by_cmp revision_cmp) exact_revisions o p r n put x m q) [
       | inl i ↦ inl i
       | inr i ↦ inr (i.0, sym i.1, fresh_of absent i.2)
     ]
 
     other_own : IsFresh (HasTo xs n at) n r → p r ≡ Some n
-    other_own fresh = from (o r) refl (put_own (eq_by_cmp revision_cmp) exact_revisions o p r n put (level_self r))
+    other_own fresh =
+        from (o r) refl (put_own (eq_by_cmp revision_cmp) exact_revisions o p r n put (level_self r))
       where
         from : (q : Option ℕ) → o r ≡ q → p r ≡ Some (unwrap_or q n) → p r ≡ Some n
         from None i own = own
@@ -296,12 +328,18 @@ module _ (xs : List Stem) (n at : ℕ) (r : Revision) (there : slice_get (revisi
             ]
 
   -- its hash is no digest's text
-  pub no_key : ((key : ℕ) → ¬ IsKey r.hash key) → ((q : ℕ) → f q ≡ e q) → ((x : Revision) → p x ≡ first_put (eq_by_cmp revision_cmp) o r n x) → AreTold (HasTo xs n (at + 1)) f p
+  pub no_key : ((key : ℕ) → ¬ IsKey r.hash key)
+      → ((q : ℕ) → f q ≡ e q) → ((x : Revision) → p x ≡ first_put (eq_by_cmp revision_cmp) o r n x)
+      → AreTold (HasTo xs n (at + 1)) f p
   no_key none same put =
-      let absent : (key m : ℕ) → IsKey r.hash key → e key ≡ Some m → m < n → ¬ Has xs m r = λ key m is q low h. none key is in
-      one_told (HasTo xs n at) (HasTo xs n (at + 1)) n r (one_to xs n at r there) e f o p t (λ key m q. same key ∙ q) (λ key m q. inl (sym (same key) ∙ q)) (other_keeps put absent) (other_new put absent) (λ key is. absurd (none key is)) (λ fresh. inr (other_own put absent fresh))
+      let absent : (key m : ℕ) → IsKey r.hash key → e key ≡ Some m → m < n → ¬ Has xs m r =
+      λ key m is q low h. none key is in
+      one_told (HasTo xs n at) (HasTo xs n (at + 1)) n r (one_to xs n at r there) e f o p t
+      (λ key m q. same key ∙ q) (λ key m q. inl (sym (same key) ∙ q)) (other_keeps put absent)
+      (other_new put absent) (λ key is. absurd (none key is)) (λ fresh. inr (other_own put absent fresh))
 
-  module _ (key : ℕ) (is : IsKey r.hash key) (first : ℕ) (put : (q : ℕ) → f q ≡ first_put nat_eq e key n q) (answer : first ≡ unwrap_or (e key) n) where
+  module _ (key : ℕ) (is : IsKey r.hash key) (first : ℕ) (put : (q : ℕ) → f q ≡ first_put nat_eq e key n q)
+      (answer : first ≡ unwrap_or (e key) n) where
     entry_first : f key ≡ Some first
     entry_first = put_own nat_eq exact_keys e f key n put (eq-eqb key key refl) ∙ ap Some (sym answer)
 
@@ -328,16 +366,19 @@ module _ (xs : List Stem) (n at : ℕ) (r : Revision) (there : slice_get (revisi
     own_key q i = (first, ap f (same_key r.hash q key i is) ∙ entry_first, first_low)
 
     -- where the others stay
-    stays : ((x : Revision) → p x ≡ o x) → (IsFresh (HasTo xs n at) n r → IsToldAt f p n r) → AreTold (HasTo xs n (at + 1)) f p
+    stays : ((x : Revision) → p x ≡ o x) → (IsFresh (HasTo xs n at) n r → IsToldAt f p n r)
+        → AreTold (HasTo xs n (at + 1)) f p
     stays same own =
-        one_told (HasTo xs n at) (HasTo xs n (at + 1)) n r (one_to xs n at r there) e f o p t entry_keeps entry_new (λ x m q. same x ∙ q) (λ x m q. inl (sym (same x) ∙ q)) own_key own
+        one_told (HasTo xs n at) (HasTo xs n (at + 1)) n r (one_to xs n at r there) e f o p t entry_keeps
+        entry_new (λ x m q. same x ∙ q) (λ x m q. inl (sym (same x) ∙ q)) own_key own
 
     -- the entry is its stem's
     pub own_entry : first ≡ n → ((x : Revision) → p x ≡ o x) → AreTold (HasTo xs n (at + 1)) f p
     own_entry own same = stays same (λ fresh. inl (key, is, entry_first ∙ ap Some own))
 
     -- the entry is that of an earlier one that has it
-    pub known_entry : ¬ (first ≡ n) → Has xs first r → ((x : Revision) → p x ≡ o x) → AreTold (HasTo xs n (at + 1)) f p
+    pub known_entry : ¬ (first ≡ n) → Has xs first r → ((x : Revision) → p x ≡ o x)
+        → AreTold (HasTo xs n (at + 1)) f p
     known_entry apart has same =
         let low : first < n = lower first n first_low apart in
         stays same (λ fresh. absurd (fresh first low (inl (low, has))))
@@ -349,14 +390,21 @@ module _ (xs : List Stem) (n at : ℕ) (r : Revision) (there : slice_get (revisi
         ]
 
     -- the entry is that of another revision
-    pub other_entry : ¬ Has xs first r → ((x : Revision) → p x ≡ first_put (eq_by_cmp revision_cmp) o r n x) → AreTold (HasTo xs n (at + 1)) f p
+    pub other_entry : ¬ Has xs first r → ((x : Revision) → p x ≡ first_put (eq_by_cmp revision_cmp) o r n x)
+        → AreTold (HasTo xs n (at + 1)) f p
     other_entry none puts =
-        let absent : (q m : ℕ) → IsKey r.hash q → e q ≡ Some m → m < n → ¬ Has xs m r = λ q m i there_is low h.
-        none (subst (λ j. Has xs j r) (sym (answer ∙ ap (λ z. unwrap_or z n) (ap e (same_key r.hash key q is i) ∙ there_is))) h) in
-        one_told (HasTo xs n at) (HasTo xs n (at + 1)) n r (one_to xs n at r there) e f o p t entry_keeps entry_new (other_keeps puts absent) (other_new puts absent) own_key (λ fresh. inr (other_own puts absent fresh))
+        let absent : (q m : ℕ) → IsKey r.hash q → e q ≡ Some m → m < n → ¬ Has xs m r =
+        λ q m i there_is low h.
+        none (subst (λ j. Has xs j r)
+        (sym (answer ∙ ap (λ z. unwrap_or z n) (ap e (same_key r.hash key q is i) ∙ there_is))) h) in
+        one_told (HasTo xs n at) (HasTo xs n (at + 1)) n r
+        (one_to xs n at r there) e f o p t entry_keeps entry_new (other_keeps puts absent)
+        (other_new puts absent) own_key (λ fresh. inr (other_own puts absent fresh))
 
 -- what is told of stems is told of the same by another word
-pub told_as : (has more : ℕ → Revision → Type 0) (e : ℕ → Option ℕ) (o : Revision → Option ℕ) → ((k : ℕ) (x : Revision) → has k x → more k x) → ((k : ℕ) (x : Revision) → more k x → has k x) → AreTold has e o → AreTold more e o
+pub told_as : (has more : ℕ → Revision → Type 0) (e : ℕ → Option ℕ) (o : Revision → Option ℕ)
+    → ((k : ℕ) (x : Revision) → has k x → more k x) → ((k : ℕ) (x : Revision) → more k x → has k x)
+    → AreTold has e o → AreTold more e o
 told_as has more e o wide narrow t = record {
   entries = λ key m q. let w = t.entries key m q in (w.0, wide m w.0 w.1, w.2);
   keyed = λ k key x h is. t.keyed k key x (narrow k x h) is;
@@ -364,18 +412,24 @@ told_as has more e o wide narrow t = record {
   told = λ k x w. t.told k x (narrow k x w.0, λ j low h. w.1 j low (wide j x h));
 }
 
-pub told_start : (xs : List Stem) (n : ℕ) (e : ℕ → Option ℕ) (o : Revision → Option ℕ) → AreTold (Has (take n xs)) e o → AreTold (HasTo xs n 0) e o
+pub told_start : (xs : List Stem) (n : ℕ) (e : ℕ → Option ℕ) (o : Revision → Option ℕ)
+    → AreTold (Has (take n xs)) e o → AreTold (HasTo xs n 0) e o
 told_start xs n e o t =
-    told_as (Has (take n xs)) (HasTo xs n 0) e o (λ k x h. inl (taken_has xs n k x h)) (λ k x h. let i = none_to xs n k x h in has_taken xs n k x i.0 i.1) t
+    told_as (Has (take n xs)) (HasTo xs n 0) e o (λ k x h. inl (taken_has xs n k x h))
+    (λ k x h. let i = none_to xs n k x h in has_taken xs n k x i.0 i.1) t
 
-pub told_end : (xs : List Stem) (n most : ℕ) (e : ℕ → Option ℕ) (o : Revision → Option ℕ) → length xs ≡ n + 1 → length (revisions_at xs n) ≤ most → AreTold (HasTo xs n most) e o → AreTold (Has xs) e o
-told_end xs n most e o long past t = told_as (HasTo xs n most) (Has xs) e o (to_has xs n most) (λ k x h. all_to xs n most k x long past h) t
+pub told_end : (xs : List Stem) (n most : ℕ) (e : ℕ → Option ℕ) (o : Revision → Option ℕ) → length xs ≡ n + 1
+    → length (revisions_at xs n) ≤ most → AreTold (HasTo xs n most) e o → AreTold (Has xs) e o
+told_end xs n most e o long past t =
+    told_as (HasTo xs n most) (Has xs) e o (to_has xs n most) (λ k x h. all_to xs n most k x long past h) t
 
 -- ---- what a look finds
 
-module _ (xs : List Stem) (e : ℕ → Option ℕ) (o : Revision → Option ℕ) (t : AreTold (Has xs) e o) (r : Revision) where
+module _ (xs : List Stem) (e : ℕ → Option ℕ) (o : Revision → Option ℕ)
+    (t : AreTold (Has xs) e o) (r : Revision) where
   -- where the entry's stem has it
-  pub entry_place : (key m : ℕ) (place : Place) → IsKey r.hash key → e key ≡ Some m → place.stem ≡ m → slice_get (revisions_at xs place.stem) place.at ≡ Some r → IsFirstPlace xs r place
+  pub entry_place : (key m : ℕ) (place : Place) → IsKey r.hash key → e key ≡ Some m → place.stem ≡ m
+      → slice_get (revisions_at xs place.stem) place.at ≡ Some r → IsFirstPlace xs r place
   entry_place key m place is q same there = (
     there,
     (
@@ -388,23 +442,30 @@ module _ (xs : List Stem) (e : ℕ → Option ℕ) (o : Revision → Option ℕ)
   )
 
   -- where the others have it
-  pub other_place : (m : ℕ) (place : Place) → o r ≡ Some m → place.stem ≡ m → slice_get (revisions_at xs place.stem) place.at ≡ Some r → IsFirstPlace xs r place
-  other_place m place q same there = (there, subst (λ j. IsFirstWith (Has xs) j r) (sym same) (t.others m r q))
+  pub other_place : (m : ℕ) (place : Place) → o r ≡ Some m → place.stem ≡ m
+      → slice_get (revisions_at xs place.stem) place.at ≡ Some r → IsFirstPlace xs r place
+  other_place m place q same there =
+      (there, subst (λ j. IsFirstWith (Has xs) j r) (sym same) (t.others m r q))
 
-  pub other_some : (m : ℕ) (place : Option Place) → o r ≡ Some m → IfSome place (λ p. slice_get (revisions_at xs p.stem) p.at ≡ Some r) → IfSome place (λ p. p.stem ≡ m) → IfSome place (IsFirstPlace xs r)
+  pub other_some : (m : ℕ) (place : Option Place) → o r ≡ Some m
+      → IfSome place (λ p. slice_get (revisions_at xs p.stem) p.at ≡ Some r) → IfSome place (λ p. p.stem ≡ m)
+      → IfSome place (IsFirstPlace xs r)
   other_some m None q there same = tt
   other_some m (Some p) q there same = other_place m p q same there
 
-  pub other_none : (m : ℕ) (place : Option Place) → o r ≡ Some m → IfNone place (names (revisions_at xs m) r ≡ false) → IfNone place (o r ≡ None)
+  pub other_none : (m : ℕ) (place : Option Place) → o r ≡ Some m
+      → IfNone place (names (revisions_at xs m) r ≡ false) → IfNone place (o r ≡ None)
   other_none m None q none = absurd (both_ways _ none (t.others m r q).0)
   other_none m (Some p) q none = tt
 
   -- where no entry is at its key
   pub nowhere_keyed : (key : ℕ) → IsKey r.hash key → e key ≡ None → has_revision xs r ≡ false
-  nowhere_keyed key is none = none_has xs r (λ k h. let i = t.keyed k key r h is in no_number i.0 (sym none ∙ i.1))
+  nowhere_keyed key is none =
+      none_has xs r (λ k h. let i = t.keyed k key r h is in no_number i.0 (sym none ∙ i.1))
 
   -- where the entry's stem does not have it, nor have the others
-  pub nowhere : ((key m : ℕ) → IsKey r.hash key → e key ≡ Some m → ¬ Has xs m r) → o r ≡ None → has_revision xs r ≡ false
+  pub nowhere : ((key m : ℕ) → IsKey r.hash key → e key ≡ Some m → ¬ Has xs m r) → o r ≡ None
+      → has_revision xs r ≡ false
   nowhere absent none = none_has xs r (λ k h.
       let i = first_exists xs k r h in
       elim (t.told i.0 r i.2) [
@@ -412,6 +473,9 @@ module _ (xs : List Stem) (e : ℕ → Option ℕ) (o : Revision → Option ℕ)
         | inr w ↦ no_number i.0 (sym none ∙ w)
       ])
 
-  pub nowhere_else : (key m : ℕ) → IsKey r.hash key → e key ≡ Some m → names (revisions_at xs m) r ≡ false → o r ≡ None → has_revision xs r ≡ false
+  pub nowhere_else : (key m : ℕ) → IsKey r.hash key → e key ≡ Some m → names (revisions_at xs m) r ≡ false
+      → o r ≡ None → has_revision xs r ≡ false
   nowhere_else key m is q absent none =
-      nowhere (λ other k i j h. both_ways _ absent (subst (λ z. Has xs z r) (sym (same_Some m k (sym q ∙ (ap e (same_key r.hash key other is i) ∙ j)))) h)) none
+      nowhere (λ other k i j h. both_ways _ absent
+      (subst (λ z. Has xs z r) (sym (same_Some m k (sym q ∙ (ap e (same_key r.hash key other is i) ∙ j)))) h))
+      none

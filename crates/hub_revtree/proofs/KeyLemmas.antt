@@ -8,8 +8,12 @@ use Rattle.hub_revtree.proofs.SoughtLemmas.{one_digest}
 
 -- a hash has one key
 pub same_key : (hash : List ℕ) (a b : ℕ) → IsKey hash a → IsKey hash b → a ≡ b
-same_key hash a b i j = i.number ∙ ap key_of (one_digest i.digest j.digest i.sized j.sized i.bytes j.bytes (sym i.text ∙ j.text)) ∙ sym j.number
+same_key hash a b i j =
+    i.number
+    ∙ ap key_of (one_digest i.digest j.digest i.sized j.sized i.bytes j.bytes (sym i.text ∙ j.text))
+    ∙ sym j.number
 
 -- the key of what stands at a place
-pub key_there : (p : List Revision) (k : ℕ) (x r : Revision) (key : Option ℕ) → slice_get p k ≡ Some x → HasKey x.hash key → slice_get p k ≡ Some r → HasKey r.hash key
+pub key_there : (p : List Revision) (k : ℕ) (x r : Revision) (key : Option ℕ) → slice_get p k ≡ Some x
+    → HasKey x.hash key → slice_get p k ≡ Some r → HasKey r.hash key
 key_there p k x r key e has f = subst (λ (z : Revision). HasKey z.hash key) (same_Some x r (sym e ∙ f)) has

@@ -1,5 +1,6 @@
 -- Leaves in order: there is one such list of them.
-use Rattle.std.proofs.Common.{◌≡◌, ℕ, suc, ◌+◌, ◌<◌, ◌≤◌, List, [], ◌∷◌, length, get_or, reverse, Bool, true, false, cond, inl, inr, sym, ◌∙◌, ap, ap₂, refl, Ordering, arith}
+use Rattle.std.proofs.Common.{◌≡◌, ℕ, suc, ◌+◌, ◌<◌, ◌≤◌, List, [], ◌∷◌, length, get_or, reverse, Bool}
+use Rattle.std.proofs.Common.{true, false, cond, inl, inr, sym, ◌∙◌, ap, ap₂, refl, Ordering, arith}
 use Rattle.std.specs.List.{All, sum_by}
 use Rattle.std.specs.List.Sorted.{IsPermutation, IsSortedBy}
 use Rattle.std.specs.Cmp.{IsTotalOrder, IsStrictWeakOrder}
@@ -36,7 +37,9 @@ marks_equal false r true s h = absurd (cc)
 marks_equal false r false s h = refl
 
 exact : (w v : Winner) → rank w v ≡ Equal → w ≡ v
-exact w v h = ap₂ (λ (r : Revision) (d : Bool). record { rev = r; deleted = d }) (sym (leaf_equal v.deleted v.rev w.deleted w.rev h)) (sym (marks_equal v.deleted v.rev w.deleted w.rev h))
+exact w v h =
+    ap₂ (λ (r : Revision) (d : Bool). record { rev = r; deleted = d })
+    (sym (leaf_equal v.deleted v.rev w.deleted w.rev h)) (sym (marks_equal v.deleted v.rev w.deleted w.rev h))
 
 -- a leaf that is below none of these
 abbrev UpTo : Winner → List Winner → Type 0
@@ -76,7 +79,8 @@ up_to_more : (x y : Winner) (ys : List Winner) → is_gt (rank x y) ≡ false �
 up_to_more x y [] l u = tt
 up_to_more x y (z ∷ zs) l u = (upto rank_total x y z l u.0, up_to_more x y zs l u.1)
 
-put_up_to : (x : Winner) (l : Leaf) (ms : List Leaf) → is_gt (rank x (one l)) ≡ false → UpTo x (winners_of ms) → UpTo x (winners_of (placed l ms))
+put_up_to : (x : Winner) (l : Leaf) (ms : List Leaf) → is_gt (rank x (one l)) ≡ false → UpTo x (winners_of ms)
+    → UpTo x (winners_of (placed l ms))
 put_up_to x l [] low u = (low, tt)
 put_up_to x l (m ∷ ms) low u = elim (cases_Bool (comes_before l m)) [
   | inl t ↦ rw t (low, u)
@@ -87,7 +91,8 @@ put_rises : (l : Leaf) (ms : List Leaf) → Rises (winners_of ms) → Rises (win
 put_rises l [] r = (tt, tt)
 put_rises l (m ∷ ms) r = elim (cases_Bool (comes_before l m)) [
   | inl t ↦
-      let low : is_gt (rank (one l) (one m)) ≡ false = not_gt (rank (one m) (one l)) (rank (one l) (one m)) (turned (one l) (one m)) t in
+      let low : is_gt (rank (one l) (one m)) ≡ false =
+      not_gt (rank (one m) (one l)) (rank (one l) (one m)) (turned (one l) (one m)) t in
       rw t ((low, up_to_more (one l) (one m) (winners_of ms) low r.0), r)
   | inr f ↦ rw f (put_up_to (one m) l ms f r.0, put_rises l ms r.1)
 ]
@@ -96,16 +101,26 @@ best_rises : (ls : List Leaf) → Rises (winners_of (best_first ls))
 best_rises [] = tt
 best_rises (l ∷ ls) = put_rises l (best_first ls) (best_rises ls)
 
-put_sum : (f : Winner → ℕ) (l : Leaf) (ms : List Leaf) → sum_by f (winners_of (placed l ms)) ≡ f (one l) + sum_by f (winners_of ms)
+put_sum : (f : Winner → ℕ) (l : Leaf) (ms : List Leaf)
+    → sum_by f (winners_of (placed l ms)) ≡ f (one l) + sum_by f (winners_of ms)
 put_sum f l [] = sum_by-cons f (one l) []
 put_sum f l (m ∷ ms) = elim (cases_Bool (comes_before l m)) [
   | inl t ↦ rw t (sum_by-cons f (one l) (winners_of (m ∷ ms)))
-  | inr g ↦ rw g (omega (arith, sum_by-cons f (one m) (winners_of (placed l ms)), put_sum f l ms, sum_by-cons f (one m) (winners_of ms)))
+  | inr g ↦
+      rw g
+      (omega (
+        arith,
+        sum_by-cons f (one m) (winners_of (placed l ms)),
+        put_sum f l ms,
+        sum_by-cons f (one m) (winners_of ms),
+      ))
 ]
 
-best_sum : (f : Winner → ℕ) (ls : List Leaf) → sum_by f (winners_of (best_first ls)) ≡ sum_by f (winners_of ls)
+best_sum : (f : Winner → ℕ) (ls : List Leaf)
+    → sum_by f (winners_of (best_first ls)) ≡ sum_by f (winners_of ls)
 best_sum f [] = refl
-best_sum f (l ∷ ls) = omega (arith, put_sum f l (best_first ls), best_sum f ls, sum_by-cons f (one l) (winners_of ls))
+best_sum f (l ∷ ls) =
+    omega (arith, put_sum f l (best_first ls), best_sum f ls, sum_by-cons f (one l) (winners_of ls))
 
 -- ---- two rising lists of the same leaves are one
 
@@ -119,16 +134,19 @@ none_below x (y ∷ ys) u =
     let here : below x y ≡ 0 = rw u.0 refl in
     omega (arith, sum_by-cons (below x) y ys, here, none_below x ys u.1)
 
-first_up_to : (x : Winner) (xs : List Winner) (y : Winner) (ys : List Winner) → UpTo x xs → sum_by (below x) (x ∷ xs) ≡ sum_by (below x) (y ∷ ys) → is_gt (rank x y) ≡ false
+first_up_to : (x : Winner) (xs : List Winner) (y : Winner) (ys : List Winner) → UpTo x xs
+    → sum_by (below x) (x ∷ xs) ≡ sum_by (below x) (y ∷ ys) → is_gt (rank x y) ≡ false
 first_up_to x xs y ys u same =
     let here : below x x ≡ 0 = rw (tied_itself rank_total x) refl in
-    let there : below x y ≡ 0 = omega (arith, here, sum_by-cons (below x) x xs, none_below x xs u, same, sum_by-cons (below x) y ys) in
+    let there : below x y ≡ 0 =
+    omega (arith, here, sum_by-cons (below x) x xs, none_below x xs u, same, sum_by-cons (below x) y ys) in
     elim (cases_Bool (is_gt (rank x y))) [
       | inl t ↦ absurd (omega (arith, rw t at there))
       | inr f ↦ f
     ]
 
-one_rises : (xs ys : List Winner) → Rises xs → Rises ys → ((f : Winner → ℕ) → sum_by f xs ≡ sum_by f ys) → xs ≡ ys
+one_rises : (xs ys : List Winner) → Rises xs → Rises ys → ((f : Winner → ℕ) → sum_by f xs ≡ sum_by f ys)
+    → xs ≡ ys
 one_rises [] [] r s same = refl
 one_rises [] (y ∷ ys) r s same = absurd (omega (arith, same (λ _. 1), sum_by-cons (λ _. 1) y ys))
 one_rises (x ∷ xs) [] r s same = absurd (omega (arith, same (λ _. 1), sum_by-cons (λ _. 1) x xs))
@@ -136,7 +154,9 @@ one_rises (x ∷ xs) (y ∷ ys) r s same =
     let low = first_up_to x xs y ys r.0 (same (below x)) in
     let high = first_up_to y ys x xs s.0 (sym (same (below y))) in
     let first : x ≡ y = exact x y (tied (rank x y) (rank y x) (turned y x) low high) in
-    let rest : xs ≡ ys = one_rises xs ys r.1 s.1 (λ f. omega (arith, same f, sum_by-cons f x xs, sum_by-cons f y ys, ap f first)) in
+    let rest : xs ≡ ys =
+    one_rises xs ys r.1 s.1
+    (λ f. omega (arith, same f, sum_by-cons f x xs, sum_by-cons f y ys, ap f first)) in
     ap₂ (λ (z : Winner) (zs : List Winner). z ∷ zs) first rest
 
 -- ---- sorted leaves
@@ -148,7 +168,9 @@ sorted_up_to x (y ∷ ys) all = (
   sorted_up_to x ys (All-tail (λ y. is_lt (rank y x) ≡ false) y ys all),
 )
 
-sorted_rises : (xs : List Winner) → ((i j : ℕ) (d : Winner) → i ≤ j → j < length xs → is_lt (rank (get_or xs j d) (get_or xs i d)) ≡ false) → Rises xs
+sorted_rises : (xs : List Winner)
+    → ((i j : ℕ) (d : Winner) → i ≤ j → j < length xs → is_lt (rank (get_or xs j d) (get_or xs i d)) ≡ false)
+    → Rises xs
 sorted_rises [] far = tt
 sorted_rises (x ∷ xs) far = (
   sorted_up_to x xs (λ k d l. far 0 (suc k) d (omega arith) (omega arith)),
@@ -163,7 +185,13 @@ pub is_order : IsStrictWeakOrder is_before
 is_order = ranks_by rank_total (λ (w : Winner). w)
 
 -- sorted leaves that were found from the newest on are the leaves, best first
-pub sorted_is : (ls : List Leaf) (ws vs : List Winner) → ws ≡ reverse (winners_of ls) → IsPermutation ws vs → IsSortedBy is_before vs → vs ≡ winners_of (best_first ls)
+pub sorted_is : (ls : List Leaf) (ws vs : List Winner) → ws ≡ reverse (winners_of ls) → IsPermutation ws vs
+    → IsSortedBy is_before vs → vs ≡ winners_of (best_first ls)
 sorted_is ls ws vs is same sorted =
-    one_rises vs (winners_of (best_first ls)) (sorted_rises vs (sorted_far is_before is_order vs sorted)) (best_rises ls)
-    (λ f. sum_by-IsPermutation f ws vs same ∙ (ap (sum_by f) is ∙ (sum_by-IsPermutation f (winners_of ls) (reverse (winners_of ls)) (IsPermutation-reverse (winners_of ls)) ∙ sym (best_sum f ls))))
+    one_rises vs (winners_of (best_first ls))
+    (sorted_rises vs (sorted_far is_before is_order vs sorted)) (best_rises ls)
+    (λ f. sum_by-IsPermutation f ws vs same
+    ∙ (ap (sum_by f) is
+    ∙ (sum_by-IsPermutation f (winners_of ls) (reverse (winners_of ls))
+    (IsPermutation-reverse (winners_of ls))
+    ∙ sym (best_sum f ls))))

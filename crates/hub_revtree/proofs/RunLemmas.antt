@@ -1,10 +1,13 @@
 -- The revisions that a run keeps.
-use Rattle.std.proofs.Common.{◌≡◌, ℕ, zero, suc, ◌+◌, ◌-◌, ◌<◌, ◌≤◌, min, List, [], ◌∷◌, ◌++◌, length, get_or, drop, take, map, Bool, true, false, ◌&&◌, inl, inr, refl, sym, ap, ap₂, ◌∙◌, subst, add-one, arith}
+use Rattle.std.proofs.Common.{◌≡◌, ℕ, zero, suc, ◌+◌, ◌-◌, ◌<◌, ◌≤◌, min, List, [], ◌∷◌, ◌++◌}
+use Rattle.std.proofs.Common.{length, get_or, drop, take, map, Bool, true, false, ◌&&◌, inl}
+use Rattle.std.proofs.Common.{inr, refl, sym, ap, ap₂, ◌∙◌, subst, add-one, arith}
 use Rattle.std.specs.Prelude.{Option, Some, None, IfSome, IfNone, slice_get, option_map, nat_eq}
 use Rattle.std.specs.Bool.{then_some}
 use Rattle.std.specs.Str.{bytes_eq}
 use Rattle.std.proofs.lemmas.Bool.{both_ways, cases_lt}
-use Rattle.std.proofs.lemmas.List.{append_assoc, get_or-take, length-drop, length-map, length-take, map-append, take_all}
+use Rattle.std.proofs.lemmas.List.{append_assoc, get_or-take, length-drop}
+use Rattle.std.proofs.lemmas.List.{length-map, length-take, map-append, take_all}
 use Rattle.std.proofs.lemmas.Option.{get_or_from_slice_get, same_Some, slice_get_read}
 use Rattle.hub_model.proofs.Tests.{same_is, same_self}
 use Rattle.hub_document.proofs.PlaceLemmas.{above_head, not_named, past_end}
@@ -20,7 +23,8 @@ least y [] f = f
 least y (z ∷ q) f = omega (arith, f.0)
 
 -- the revision that is read at a place
-pub first_drop : (p : List Revision) (k : ℕ) (r x : Revision) → slice_get p k ≡ Some x → is_first r (drop k p) ≡ is_same r x
+pub first_drop : (p : List Revision) (k : ℕ) (r x : Revision) → slice_get p k ≡ Some x
+    → is_first r (drop k p) ≡ is_same r x
 first_drop [] k r x e = absurd (cc)
 first_drop (y ∷ p) zero r x e = ap (is_same r) (same_Some y x e)
 first_drop (y ∷ p) (suc k) r x e = first_drop p k r x e
@@ -31,7 +35,8 @@ get_some [] k low = absurd (omega arith)
 get_some (x ∷ xs) zero low = (x, refl)
 get_some (x ∷ xs) (suc k) low = get_some xs k (omega arith)
 
-pub dropped_one : {A : Type 0} (xs : List A) (k : ℕ) (x : A) → slice_get xs k ≡ Some x → drop k xs ≡ x ∷ drop (suc k) xs
+pub dropped_one : {A : Type 0} (xs : List A) (k : ℕ) (x : A) → slice_get xs k ≡ Some x
+    → drop k xs ≡ x ∷ drop (suc k) xs
 dropped_one [] k x e = absurd (cc)
 dropped_one (y ∷ xs) zero x e = ap (λ z. z ∷ xs) (same_Some y x e)
 dropped_one (y ∷ xs) (suc k) x e = dropped_one xs k x e
@@ -54,39 +59,56 @@ module _ (p : List Revision) (n : ℕ) (ds : List (List ℕ)) (is : revisions_fr
       from n [] k path low = absurd (omega arith)
       from n (d ∷ ds) zero path low = least _ (revisions_from (n - 1) ds) path
       from n (d ∷ []) (suc k) path low = absurd (omega arith)
-      from n (d ∷ e ∷ ds) (suc k) path low = omega (arith, path.0, from (n - 1) (e ∷ ds) k path.1 (omega arith))
+      from n (d ∷ e ∷ ds) (suc k) path low =
+          omega (arith, path.0, from (n - 1) (e ∷ ds) k path.1 (omega arith))
 
   -- the one at a place
-  pub digest_read : (k : ℕ) (d : List ℕ) → k < length p → d ≡ get_or ds k d → slice_get p k ≡ Some (record { generation = n - k; hash = encode_lower d })
-  digest_read k d low read = ap (λ q. slice_get q k) (sym is) ∙ from n ds k (omega (arith, low, digest_length)) read
+  pub digest_read : (k : ℕ) (d : List ℕ) → k < length p → d ≡ get_or ds k d
+      → slice_get p k ≡ Some (record { generation = n - k; hash = encode_lower d })
+  digest_read k d low read =
+      ap (λ q. slice_get q k) (sym is) ∙ from n ds k (omega (arith, low, digest_length)) read
     where
-      from : (n : ℕ) (ds : List (List ℕ)) (k : ℕ) → k < length ds → d ≡ get_or ds k d → slice_get (revisions_from n ds) k ≡ Some (record { generation = n - k; hash = encode_lower d })
+      from : (n : ℕ) (ds : List (List ℕ)) (k : ℕ) → k < length ds → d ≡ get_or ds k d
+          → slice_get (revisions_from n ds) k ≡ Some (record { generation = n - k; hash = encode_lower d })
       from n [] k low read = absurd (omega arith)
       from n (e ∷ ds) zero low read =
           let same : n ≡ n - 0 = omega arith in
-          ap₂ (λ (g : ℕ) (h : List ℕ). Some (record { generation = g; hash = encode_lower h })) same (sym read)
+          ap₂ (λ (g : ℕ) (h : List ℕ). Some (record { generation = g; hash = encode_lower h })) same
+          (sym read)
       from n (e ∷ ds) (suc k) low read =
           let down : n - 1 - k ≡ n - suc k = omega arith in
-          from (n - 1) ds k (omega arith) read ∙ ap (λ g. Some (record { generation = g; hash = encode_lower d })) down
+          from (n - 1) ds k (omega arith) read
+          ∙ ap (λ g. Some (record { generation = g; hash = encode_lower d })) down
 
-  pub digest_first : (k : ℕ) (d : List ℕ) (r : Revision) → k < length p → d ≡ get_or ds k d → is_first r (drop k p) ≡ (nat_eq r.generation (n - k) && bytes_eq r.hash (encode_lower d))
+  pub digest_first : (k : ℕ) (d : List ℕ) (r : Revision) → k < length p → d ≡ get_or ds k d
+      → is_first r (drop k p) ≡ (nat_eq r.generation (n - k) && bytes_eq r.hash (encode_lower d))
   digest_first k d r low read = first_drop p k r _ (digest_read k d low read)
 
   pub digest_newest : IsPath p → option_map (λ r. r.generation) (slice_get p 0) ≡ Some n
-  digest_newest path = ap (λ q. option_map (λ (r : Revision). r.generation) (slice_get q 0)) (sym is) ∙ from ds (subst IsPath (sym is) path)
+  digest_newest path =
+      ap (λ q. option_map (λ (r : Revision). r.generation) (slice_get q 0)) (sym is)
+      ∙ from ds (subst IsPath (sym is) path)
     where
-      from : (ds : List (List ℕ)) → IsPath (revisions_from n ds) → option_map (λ (r : Revision). r.generation) (slice_get (revisions_from n ds) 0) ≡ Some n
+      from : (ds : List (List ℕ)) → IsPath (revisions_from n ds)
+          → option_map (λ (r : Revision). r.generation) (slice_get (revisions_from n ds) 0) ≡ Some n
       from [] path = absurd path
       from (d ∷ ds) path = refl
 
   -- the texts of the digests from a place on
-  pub digests_more : (new old q : List (List ℕ)) (k : ℕ) → q ≡ ds → new ≡ old ++ take (length q - k) (drop k q) → map encode_lower new ≡ map encode_lower old ++ map (λ r. r.hash) (drop k p)
+  pub digests_more : (new old q : List (List ℕ)) (k : ℕ)
+      → q ≡ ds → new ≡ old ++ take (length q - k) (drop k q)
+      → map encode_lower new ≡ map encode_lower old ++ map (λ r. r.hash) (drop k p)
   digests_more new old q k same more =
-      ap (map encode_lower) (more ∙ ap (λ z. old ++ z) (take_all (length q - k) (drop k q) (omega (arith, length-drop k q)) ∙ ap (drop k) same))
+      ap (map encode_lower)
+      (more
+      ∙ ap (λ z. old ++ z)
+      (take_all (length q - k) (drop k q) (omega (arith, length-drop k q)) ∙ ap (drop k) same))
       ∙ map-append encode_lower old (drop k ds)
-      ∙ ap (λ z. map encode_lower old ++ z) (from n ds k ∙ ap (λ q. map (λ (r : Revision). r.hash) (drop k q)) is)
+      ∙ ap (λ z. map encode_lower old ++ z)
+      (from n ds k ∙ ap (λ q. map (λ (r : Revision). r.hash) (drop k q)) is)
     where
-      from : (n : ℕ) (ds : List (List ℕ)) (k : ℕ) → map encode_lower (drop k ds) ≡ map (λ (r : Revision). r.hash) (drop k (revisions_from n ds))
+      from : (n : ℕ) (ds : List (List ℕ)) (k : ℕ)
+          → map encode_lower (drop k ds) ≡ map (λ (r : Revision). r.hash) (drop k (revisions_from n ds))
       from n [] zero = refl
       from n [] (suc k) = refl
       from n (d ∷ ds) zero = ap (λ z. encode_lower d ∷ z) (from (n - 1) ds 0)
@@ -96,24 +118,29 @@ module _ (p : List Revision) (n : ℕ) (ds : List (List ℕ)) (is : revisions_fr
   pub digests_cut : (k : ℕ) → revisions_from n (take k ds) ≡ take k p
   digests_cut k = from n ds k ∙ ap (take k) is
     where
-      from : (n : ℕ) (ds : List (List ℕ)) (k : ℕ) → revisions_from n (take k ds) ≡ take k (revisions_from n ds)
+      from : (n : ℕ) (ds : List (List ℕ)) (k : ℕ)
+          → revisions_from n (take k ds) ≡ take k (revisions_from n ds)
       from n ds zero = refl
       from n [] (suc k) = refl
-      from n (d ∷ ds) (suc k) = ap (λ z. record { generation = n; hash = encode_lower d } ∷ z) (from (n - 1) ds k)
+      from n (d ∷ ds) (suc k) =
+          ap (λ z. record { generation = n; hash = encode_lower d } ∷ z) (from (n - 1) ds k)
 
 -- a run of texts
-pub texts_read : (p q : List Revision) (k : ℕ) (x : Revision) → q ≡ p → k < length p → x ≡ get_or q k x → slice_get p k ≡ Some x
+pub texts_read : (p q : List Revision) (k : ℕ) (x : Revision) → q ≡ p → k < length p → x ≡ get_or q k x
+    → slice_get p k ≡ Some x
 texts_read p q k x is low read =
     let same : length q ≡ length p = ap length is in
     subst (λ z. slice_get z k ≡ Some x) is (slice_get_read q _ k x refl (omega (arith, low, same)) read)
 
 -- the newest one, by its generation
-pub newest_of : (p : List Revision) (n : ℕ) → option_map (λ r. r.generation) (slice_get p 0) ≡ Some n → (x : Revision) × (slice_get p 0 ≡ Some x) × (x.generation ≡ n)
+pub newest_of : (p : List Revision) (n : ℕ) → option_map (λ r. r.generation) (slice_get p 0) ≡ Some n
+    → (x : Revision) × (slice_get p 0 ≡ Some x) × (x.generation ≡ n)
 newest_of [] n e = absurd (cc)
 newest_of (x ∷ p) n e = (x, refl, same_Some x.generation n e)
 
 -- a revision stands where its generation tells, or nowhere
-module _ (p : List Revision) (path : IsPath p) (n : ℕ) (newest : option_map (λ r. r.generation) (slice_get p 0) ≡ Some n) (r : Revision) where
+module _ (p : List Revision) (path : IsPath p)
+    (n : ℕ) (newest : option_map (λ r. r.generation) (slice_get p 0) ≡ Some n) (r : Revision) where
   pub too_new : n < r.generation → names p r ≡ false
   too_new high = let x = newest_of p n newest in above_head p x.0 r path x.1 (omega (arith, high, x.2))
 
@@ -121,7 +148,8 @@ module _ (p : List Revision) (path : IsPath p) (n : ℕ) (newest : option_map (�
     pub too_old : length p ≤ k → names p r ≡ false
     too_old past = let x = newest_of p n newest in past_end p x.0 r k path x.1 (omega (arith, down, x.2)) past
 
-    pub is_there : (b : Bool) → b ≡ is_first r (drop k p) → k < length p → IfSome (then_some b k) (λ j. slice_get p j ≡ Some r)
+    pub is_there : (b : Bool) → b ≡ is_first r (drop k p) → k < length p
+        → IfSome (then_some b k) (λ j. slice_get p j ≡ Some r)
     is_there false is low = tt
     is_there true is low =
         let x = get_some p k low in
@@ -131,14 +159,19 @@ module _ (p : List Revision) (path : IsPath p) (n : ℕ) (newest : option_map (�
     is_absent true is = tt
     is_absent false is =
         let x = newest_of p n newest in
-        not_named p x.0 r k path x.1 (omega (arith, down, x.2)) (λ e. both_ways (is_first r (drop k p)) (sym is) (first_drop p k r r e ∙ same_self r))
+        not_named p x.0 r k path x.1 (omega (arith, down, x.2))
+        (λ e. both_ways (is_first r (drop k p)) (sym is) (first_drop p k r r e ∙ same_self r))
 
 -- one revision on
-pub one_on : (p line : List Revision) (k : ℕ) (r : Revision) → slice_get p k ≡ Some r → (line ++ r ∷ []) ++ drop (k + 1) p ≡ line ++ drop k p
-one_on p line k r e = rw (add-one k) (append_assoc line (r ∷ []) (drop (suc k) p) ∙ ap (λ z. line ++ z) (sym (dropped_one p k r e)))
+pub one_on : (p line : List Revision) (k : ℕ) (r : Revision) → slice_get p k ≡ Some r
+    → (line ++ r ∷ []) ++ drop (k + 1) p ≡ line ++ drop k p
+one_on p line k r e =
+    rw (add-one k)
+    (append_assoc line (r ∷ []) (drop (suc k) p) ∙ ap (λ z. line ++ z) (sym (dropped_one p k r e)))
 
 -- the digests of a path's front are a run of it
-nothing_left : (ds : List (List ℕ)) (k : ℕ) → map encode_lower ds ≡ map (λ (r : Revision). r.hash) (take k []) → ds ≡ []
+nothing_left : (ds : List (List ℕ)) (k : ℕ) → map encode_lower ds ≡ map (λ (r : Revision). r.hash) (take k [])
+    → ds ≡ []
 nothing_left [] k e = refl
 nothing_left (d ∷ ds) zero e = absurd (cc)
 nothing_left (d ∷ ds) (suc k) e = absurd (cc)
@@ -147,40 +180,54 @@ none_taken : (k : ℕ) → [] ≡ take {A = Revision} k []
 none_taken zero = refl
 none_taken (suc k) = refl
 
-front_kept : (x : Revision) (p : List Revision) (ds : List (List ℕ)) (k : ℕ) → Falls x p → map encode_lower ds ≡ map (λ r. r.hash) (take k (x ∷ p)) → revisions_from x.generation ds ≡ take k (x ∷ p)
+front_kept : (x : Revision) (p : List Revision) (ds : List (List ℕ)) (k : ℕ)
+    → Falls x p → map encode_lower ds ≡ map (λ r. r.hash) (take k (x ∷ p))
+    → revisions_from x.generation ds ≡ take k (x ∷ p)
 front_kept x p [] zero f e = refl
 front_kept x p [] (suc k) f e = absurd (cc)
 front_kept x p (d ∷ ds) zero f e = absurd (cc)
 front_kept x [] (d ∷ ds) (suc k) f e =
     let h : encode_lower d ≡ x.hash = (cc) in
     let tail : map encode_lower ds ≡ map (λ (r : Revision). r.hash) (take k []) = (cc) in
-    ap₂ (λ (h : List ℕ) (q : List Revision). record { generation = x.generation; hash = h } ∷ q) h (ap (revisions_from (x.generation - 1)) (nothing_left ds k tail) ∙ none_taken k)
+    ap₂ (λ (h : List ℕ) (q : List Revision). record { generation = x.generation; hash = h } ∷ q) h
+    (ap (revisions_from (x.generation - 1)) (nothing_left ds k tail) ∙ none_taken k)
 front_kept x (y ∷ p) (d ∷ ds) (suc k) f e =
     let h : encode_lower d ≡ x.hash = (cc) in
     let tail : map encode_lower ds ≡ map (λ (r : Revision). r.hash) (take k (y ∷ p)) = (cc) in
     let down : x.generation - 1 ≡ y.generation = omega (arith, f.0) in
-    ap₂ (λ (h : List ℕ) (q : List Revision). record { generation = x.generation; hash = h } ∷ q) h (ap (λ g. revisions_from g ds) down ∙ front_kept y p ds k f.1 tail)
+    ap₂ (λ (h : List ℕ) (q : List Revision). record { generation = x.generation; hash = h } ∷ q) h
+    (ap (λ g. revisions_from g ds) down ∙ front_kept y p ds k f.1 tail)
 
-pub digests_whole : (x : Revision) (p : List Revision) (n : ℕ) (ds : List (List ℕ)) → IsPath (x ∷ p) → n ≡ x.generation → map encode_lower ds ≡ map (λ r. r.hash) (x ∷ p) → revisions_from n ds ≡ x ∷ p
+pub digests_whole : (x : Revision) (p : List Revision) (n : ℕ) (ds : List (List ℕ)) → IsPath (x ∷ p)
+    → n ≡ x.generation → map encode_lower ds ≡ map (λ r. r.hash) (x ∷ p) → revisions_from n ds ≡ x ∷ p
 digests_whole x p n ds path up e =
     let all : take (length (x ∷ p)) (x ∷ p) ≡ x ∷ p = take_all (length (x ∷ p)) (x ∷ p) (omega arith) in
-    ap (λ g. revisions_from g ds) up ∙ front_kept x p ds (length (x ∷ p)) path (e ∙ ap (map (λ r. r.hash)) (sym all)) ∙ all
+    ap (λ g. revisions_from g ds) up
+    ∙ front_kept x p ds (length (x ∷ p)) path (e ∙ ap (map (λ r. r.hash)) (sym all))
+    ∙ all
 
-pub digests_kept : (p : List Revision) (x : Revision) (n : ℕ) (ds : List (List ℕ)) (k : ℕ) → IsPath p → x ≡ get_or p 0 x → n ≡ x.generation → map encode_lower ds ≡ map (λ r. r.hash) (take k p) → revisions_from n ds ≡ take k p
+pub digests_kept : (p : List Revision) (x : Revision) (n : ℕ) (ds : List (List ℕ)) (k : ℕ)
+    → IsPath p → x ≡ get_or p 0 x → n ≡ x.generation → map encode_lower ds ≡ map (λ r. r.hash) (take k p)
+    → revisions_from n ds ≡ take k p
 digests_kept [] x n ds k path first up e = absurd path
-digests_kept (y ∷ p) x n ds k path first up e = ap (λ g. revisions_from g ds) (up ∙ ap (λ (z : Revision). z.generation) first) ∙ front_kept y p ds k path e
+digests_kept (y ∷ p) x n ds k path first up e =
+    ap (λ g. revisions_from g ds) (up ∙ ap (λ (z : Revision). z.generation) first)
+    ∙ front_kept y p ds k path e
 
 -- what a run on a line has
-pub line_whole : (x : Revision) (p : List Revision) (ds : List (List ℕ)) → IsPath (x ∷ p) → map encode_lower ds ≡ map (λ r. r.hash) p → revisions_from (x.generation - 1) ds ≡ p
+pub line_whole : (x : Revision) (p : List Revision) (ds : List (List ℕ)) → IsPath (x ∷ p)
+    → map encode_lower ds ≡ map (λ r. r.hash) p → revisions_from (x.generation - 1) ds ≡ p
 line_whole x [] ds path e = ap (revisions_from (x.generation - 1)) (nothing_left ds 0 e)
 line_whole x (y ∷ p) ds path e =
     let down : x.generation - 1 ≡ y.generation = omega (arith, path.0) in
     digests_whole y p (x.generation - 1) ds path.1 down e
 
 -- and it is shorter than the generation of what stands on it
-pub line_short : (x : Revision) (p : List Revision) (ds : List (List ℕ)) → IsHistory (x ∷ p) → map encode_lower ds ≡ map (λ r. r.hash) p → length ds < x.generation
+pub line_short : (x : Revision) (p : List Revision) (ds : List (List ℕ)) → IsHistory (x ∷ p)
+    → map encode_lower ds ≡ map (λ r. r.hash) p → length ds < x.generation
 line_short x p ds h e =
-    let as_many : length ds ≡ length p = sym (length-map ds encode_lower) ∙ ap length e ∙ length-map p (λ (r : Revision). r.hash) in
+    let as_many : length ds ≡ length p =
+    sym (length-map ds encode_lower) ∙ ap length e ∙ length-map p (λ (r : Revision). r.hash) in
     omega (arith, as_many, within_generation (x ∷ p) x h refl)
 
 -- the first of the first
@@ -192,32 +239,47 @@ take_fewer (suc a) (suc b) (x ∷ xs) l = ap (λ z. x ∷ z) (take_fewer a b xs 
 
 pub take_least : {A : Type 0} (a b : ℕ) (xs : List A) → take (min a b) xs ≡ take a (take b xs)
 take_least a b xs = elim (cases_lt a b) [
-  | inl l ↦ let least : min a b ≡ a = omega (arith, l) in ap (λ k. take k xs) least ∙ sym (take_fewer a b xs (omega (arith, l)))
-  | inr m ↦ let least : min a b ≡ b = omega (arith, m) in ap (λ k. take k xs) least ∙ sym (take_all a (take b xs) (omega (arith, m, length-take b xs)))
+  | inl l ↦
+      let least : min a b ≡ a = omega (arith, l) in
+      ap (λ k. take k xs) least ∙ sym (take_fewer a b xs (omega (arith, l)))
+  | inr m ↦
+      let least : min a b ≡ b = omega (arith, m) in
+      ap (λ k. take k xs) least ∙ sym (take_all a (take b xs) (omega (arith, m, length-take b xs)))
 ]
 
 -- the first of a path, so many at most, whose digests are these
-module _ (p : List Revision) (n most : ℕ) (d : List ℕ) (line : List (List ℕ)) (is : revisions_from n (take most (d ∷ line)) ≡ p) where
+module _ (p : List Revision) (n most : ℕ) (d : List ℕ) (line : List (List ℕ))
+    (is : revisions_from n (take most (d ∷ line)) ≡ p) where
   pub shared_length : length p ≡ min most (length line + 1)
-  shared_length = digest_length p n (take most (d ∷ line)) is ∙ length-take most (d ∷ line) ∙ ap (min most) (sym (add-one (length line)))
+  shared_length =
+      digest_length p n (take most (d ∷ line)) is
+      ∙ length-take most (d ∷ line)
+      ∙ ap (min most) (sym (add-one (length line)))
 
   pub shared_low : (k : ℕ) → IsPath p → k < length p → k < n
   shared_low k path low = digest_low p n (take most (d ∷ line)) is k path low
 
-  pub shared_read : (k : ℕ) (e : List ℕ) → k < length p → slice_get (d ∷ line) k ≡ Some e → slice_get p k ≡ Some (record { generation = n - k; hash = encode_lower e })
+  pub shared_read : (k : ℕ) (e : List ℕ) → k < length p → slice_get (d ∷ line) k ≡ Some e
+      → slice_get p k ≡ Some (record { generation = n - k; hash = encode_lower e })
   shared_read k e low read =
       let below : k < most = omega (arith, low, shared_length) in
-      digest_read p n (take most (d ∷ line)) is k e low (sym (get_or-take most (d ∷ line) k e below ∙ get_or_from_slice_get (d ∷ line) k e e read))
+      digest_read p n (take most (d ∷ line)) is k e low
+      (sym (get_or-take most (d ∷ line) k e below ∙ get_or_from_slice_get (d ∷ line) k e e read))
 
-  pub shared_first : (k : ℕ) (e : List ℕ) (r : Revision) → k < length p → slice_get (d ∷ line) k ≡ Some e → is_first r (drop k p) ≡ (nat_eq r.generation (n - k) && bytes_eq r.hash (encode_lower e))
+  pub shared_first : (k : ℕ) (e : List ℕ) (r : Revision) → k < length p → slice_get (d ∷ line) k ≡ Some e
+      → is_first r (drop k p) ≡ (nat_eq r.generation (n - k) && bytes_eq r.hash (encode_lower e))
   shared_first k e r low read = first_drop p k r _ (shared_read k e low read)
 
   -- where that is all of them, a line of all has their digests
-  pub shared_all : (o : Option (List (List ℕ))) → IfSome o (λ l. (l ≡ d ∷ line) × (length l ≤ most)) → IfSome o (λ l. map encode_lower l ≡ map (λ r. r.hash) p)
+  pub shared_all : (o : Option (List (List ℕ))) → IfSome o (λ l. (l ≡ d ∷ line) × (length l ≤ most))
+      → IfSome o (λ l. map encode_lower l ≡ map (λ r. r.hash) p)
   shared_all None h = tt
   shared_all (Some l) h =
-      ap (map encode_lower) (sym (take_all most l h.1) ∙ ap (take most) h.0) ∙ hashes n (take most (d ∷ line)) ∙ ap (map (λ (r : Revision). r.hash)) is
+      ap (map encode_lower) (sym (take_all most l h.1) ∙ ap (take most) h.0)
+      ∙ hashes n (take most (d ∷ line))
+      ∙ ap (map (λ (r : Revision). r.hash)) is
     where
-      hashes : (n : ℕ) (ds : List (List ℕ)) → map encode_lower ds ≡ map (λ (r : Revision). r.hash) (revisions_from n ds)
+      hashes : (n : ℕ) (ds : List (List ℕ))
+          → map encode_lower ds ≡ map (λ (r : Revision). r.hash) (revisions_from n ds)
       hashes n [] = refl
       hashes n (c ∷ ds) = ap (λ z. encode_lower c ∷ z) (hashes (n - 1) ds)

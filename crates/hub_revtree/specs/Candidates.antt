@@ -1,8 +1,9 @@
--- What is kept of a tree so that its best leaf is found soon (own). An example: the first edit has the revision
--- 2-b and the second 2-c. With both looked at, the candidates are 2-b of edit 0 and 2-c of edit 1, and 2-c is the
--- first in order. An edit 3-a deletes the document on 2-c then. The candidates are these two still: 2-c is no leaf
--- any more, and the third edit was not looked at. Once it is, they are 2-b, 2-c and 3-a, which is deleted. 2-c is
--- the first in order and no leaf, so it is given up. 2-b is the next, and the best leaf.
+-- What is kept of a tree so that its best leaf is found soon (own). An example: the first edit has
+-- the revision 2-b and the second 2-c. With both looked at, the candidates are 2-b of edit 0 and
+-- 2-c of edit 1, and 2-c is the first in order. An edit 3-a deletes the document on 2-c then. The
+-- candidates are these two still: 2-c is no leaf any more, and the third edit was not looked at.
+-- Once it is, they are 2-b, 2-c and 3-a, which is deleted. 2-c is the first in order and no leaf,
+-- so it is given up. 2-b is the next, and the best leaf.
 use Rattle.std.specs.Prelude.{◌≡◌, ℕ, ◌<◌, ◌≤◌, List, length, slice_get, option_and_then, false, Contains}
 use Rattle.std.specs.Prelude.{Option, Some, None}
 use Rattle.std.specs.List.{list_any}

@@ -52,7 +52,8 @@ IsFirstPlace stems r place = (rev_at stems (Some place) ≡ Some r) × IsFirstWi
 
 -- the entry at a key is the number of the first stem that has a revision with that key; each of the others is
 -- that of the first stem that has the revision; and each revision's first stem is told by one of the two
-pub record AreTold (has : ℕ → Revision → Type 0) (entry : ℕ → Option ℕ) (other : Revision → Option ℕ) : Type 0 where
+pub record AreTold (has : ℕ → Revision → Type 0) (entry : ℕ → Option ℕ)
+    (other : Revision → Option ℕ) : Type 0 where
   pub entries : (key number : ℕ) → entry key ≡ Some number → (r : Revision) × has number r × IsKey r.hash key
   pub keyed :
       (number key : ℕ) (r : Revision) → has number r → IsKey r.hash key
@@ -70,7 +71,8 @@ GoesOn stems number r =
 
 -- a link is the number of a stem that goes on behind the revision; and where a stem goes on behind one, the
 -- first stem that has it does too, or it has a link
-pub record AreLinked (has : ℕ → Revision → Type 0) (stems : List Stem) (link : Revision → Option ℕ) : Type 0 where
+pub record AreLinked (has : ℕ → Revision → Type 0) (stems : List Stem)
+    (link : Revision → Option ℕ) : Type 0 where
   pub links : (number : ℕ) (r : Revision) → link r ≡ Some number → GoesOn stems number r
   pub linked :
       (number : ℕ) (r : Revision) → has number r → GoesOn stems number r

@@ -1,7 +1,7 @@
--- What is noted of the stems of a tree: whether the newest revision of each stands behind another by now (own).
--- An example: an edit with the path 2-b 1-a came first, then one with 3-c 2-b 1-a, then one with 3-d 2-e 1-a.
--- The newest revisions of their stems are 2-b, 3-c and 3-d. 2-b stands behind 3-c, so that the first stem is
--- noted as inner, and the two others are not.
+-- What is noted of the stems of a tree: whether the newest revision of each stands behind another
+-- by now (own). An example: an edit with the path 2-b 1-a came first, then one with 3-c 2-b 1-a,
+-- then one with 3-d 2-e 1-a. The newest revisions of their stems are 2-b, 3-c and 3-d. 2-b stands
+-- behind 3-c, so that the first stem is noted as inner, and the two others are not.
 use Rattle.std.specs.Prelude.{◌≡◌, ℕ, List, slice_get, Some, Bool, true, false, ◌||◌}
 use Rattle.std.specs.List.{list_any}
 use Rattle.hub_model.specs.Revision.{Revision}
@@ -62,5 +62,6 @@ AreMarked stems = AreNoted (is_inner stems) stems
 -- alone, since 4-d is to stand on it, the same two stems are noted as inner and inner.
 abbrev pub Notes : List Stem → (Revision → Bool) → List Stem → Type 0
 Notes before this after =
-    (test : Revision → Bool) → ((r : Revision) → is_inner before r ≡ true → test r ≡ true) → AreNoted test before
+    (test : Revision → Bool) → ((r : Revision) → is_inner before r ≡ true → test r ≡ true)
+    → AreNoted test before
     → AreNoted (λ r. this r || test r) after

@@ -10,7 +10,8 @@
 -- A chain may go on behind the edit's path: where 5-e 4-d came first and then 6-f 5-e, the second stem has
 -- 6-f and stands on place 0 of stem 0, its chain is 6-f 5-e 4-d, and its count 2, so that its path is 6-f
 -- 5-e.
-use Rattle.std.specs.Prelude.{◌≡◌, ℕ, ◌<◌, ◌≤◌, List, [], ◌∷◌, ◌++◌, length, drop, take, map, slice_get, Option, Some, None}
+use Rattle.std.specs.Prelude.{◌≡◌, ℕ, ◌<◌, ◌≤◌, List, [], ◌∷◌, ◌++◌, length}
+use Rattle.std.specs.Prelude.{drop, take, map, slice_get, Option, Some, None}
 use Rattle.std.specs.Prelude.{Bool, true, false, ◌||◌}
 use Rattle.std.specs.List.{list_any}
 use Rattle.hub_model.specs.Revision.{Revision}
@@ -110,7 +111,8 @@ IsWithin stems place = place.at < length (revisions_at stems place.stem)
 pub record AreStems (stems : List Stem) : Type 0 where
   pub falling : (k : ℕ) (stem : Stem) → slice_get stems k ≡ Some stem → IsPath stem.revisions
   pub newest :
-      (k : ℕ) (stem : Stem) (r : Revision) → slice_get stems k ≡ Some stem → slice_get stem.revisions 0 ≡ Some r
+      (k : ℕ) (stem : Stem) (r : Revision) → slice_get stems k ≡ Some stem
+      → slice_get stem.revisions 0 ≡ Some r
       → has_revision (take k stems) r ≡ false
   pub fresh :
       (k : ℕ) (stem : Stem) → slice_get stems k ≡ Some stem → stem.joins ≡ false

@@ -1,6 +1,8 @@
 //! The stored edits of a document, which share what stands behind them.
 
-ghost use Rattle.std.specs.Prelude.{◌≡◌, ◌≤◌, ◌<◌, ◌+◌, ◌++◌, ◌∷◌, List, Some, [], ◌-◌, ◌^◌, length, map, min, take, is_some, false, find, not, ◌&&◌, option_map, option_and_then, slice_get, IfSome, IfOk, IsSomeAnd, IsTrue, OnOk, OnErr};
+ghost use Rattle.std.specs.Prelude.{◌≡◌, ◌≤◌, ◌<◌, ◌+◌, ◌++◌, ◌∷◌, List, Some, [], ◌-◌, ◌^◌, length, map};
+ghost use Rattle.std.specs.Prelude.{min, take, is_some, false, find, not, ◌&&◌, option_map, option_and_then};
+ghost use Rattle.std.specs.Prelude.{slice_get, IfSome, IfOk, IsSomeAnd, IsTrue, OnOk, OnErr};
 ghost use Rattle.std.specs.List.{list_any, list_all};
 ghost use Rattle.hex.specs.Hex.{encode_lower};
 ghost use Rattle.hub_document.specs.Changes.{IsDigestText};
@@ -59,9 +61,13 @@ impl Model for Branches {
     ghost use Rattle.hub_revtree.specs.Mark.{AreMarked};
     ghost use Rattle.hub_revtree.specs.Stem.{AreStems, AreUpTo, branches_of};
 
-    ghost view = { λ a. record { list = branches_of a.stems.items; spare = vec_capacity a.stems - vec_len a.stems } };
+    ghost view = { λ a.
+        record { list = branches_of a.stems.items; spare = vec_capacity a.stems - vec_len a.stems } };
 
-    ghost invariant = { λ a. AreStems a.stems.items × AreUpTo a.stems.items a.highest × IsIndexed (option_map (λ i. i.value) a.index) a.stems.items × AreMarked a.stems.items × IfSome (candidates_in (option_map (λ i. i.value) a.index)) (AreCandidates (branches_of a.stems.items)) };
+    ghost invariant = { λ a. AreStems a.stems.items × AreUpTo a.stems.items a.highest
+        × IsIndexed (option_map (λ i. i.value) a.index) a.stems.items × AreMarked a.stems.items
+        × IfSome (candidates_in (option_map (λ i. i.value) a.index))
+        (AreCandidates (branches_of a.stems.items)) };
 }
 
 // The index as it is lent, if there is one.
@@ -108,8 +114,10 @@ fn kept(run: Run, path: Run, count: usize) -> (Run, Option<Line>)
 
 // The index without the path that it keeps.
 fn without_line(index: Option<Box<Index>>) -> Option<Box<Index>>
-    ensures candidates { candidates_in (option_map (λ i. i.value) result) ≡ candidates_in (option_map (λ i. i.value) index) }
-    ensures index { (stems : List Stem) → IsIndexed (option_map (λ i. i.value) index) stems → IsIndexed (option_map (λ i. i.value) result) stems }
+    ensures candidates { candidates_in (option_map (λ i. i.value) result)
+        ≡ candidates_in (option_map (λ i. i.value) index) }
+    ensures index { (stems : List Stem) → IsIndexed (option_map (λ i. i.value) index) stems
+        → IsIndexed (option_map (λ i. i.value) result) stems }
 {
     match index {
         Some(mut index) => {
@@ -192,8 +200,10 @@ impl Branches {
 
     /// The edit of this number. Constant time.
     pub(crate) fn edit(&self, at: usize) -> Option<StoredEdit<'_>>
-        ensures tip { option_map (λ e. tip e.rev e.deleted e.body.now) result ≡ option_map (λ b. tip_of (edit_of b)) (slice_get self.now.list at) }
-        ensures count { option_map (λ e. e.count) result ≡ option_map (λ b. length b.path) (slice_get self.now.list at) }
+        ensures tip { option_map (λ e. tip e.rev e.deleted e.body.now) result
+            ≡ option_map (λ b. tip_of (edit_of b)) (slice_get self.now.list at) }
+        ensures count { option_map (λ e. e.count) result
+            ≡ option_map (λ b. length b.path) (slice_get self.now.list at) }
         ensures some { IfSome result (λ e. 1 ≤ e.count) }
     {
         let stem = self.stems.as_slice().get(at)?;
@@ -202,8 +212,10 @@ impl Branches {
 
     /// The edit that the revision heads. One find.
     pub(crate) fn headed(&self, rev: &RevId) -> Option<StoredEdit<'_>>
-        ensures tip { option_map (λ e. tip e.rev e.deleted e.body.now) result ≡ option_map (λ b. tip_of (edit_of b)) (find (λ b. is_first rev.now b.path) self.now.list) }
-        ensures count { option_map (λ e. e.count) result ≡ option_map (λ b. length b.path) (find (λ b. is_first rev.now b.path) self.now.list) }
+        ensures tip { option_map (λ e. tip e.rev e.deleted e.body.now) result
+            ≡ option_map (λ b. tip_of (edit_of b)) (find (λ b. is_first rev.now b.path) self.now.list) }
+        ensures count { option_map (λ e. e.count) result
+            ≡ option_map (λ b. length b.path) (find (λ b. is_first rev.now b.path) self.now.list) }
     {
         let stem = headed(self.stems.as_slice(), lent(&self.index), rev)?;
         Some(stored(stem))
@@ -236,8 +248,12 @@ impl Branches {
     /// digest's text. Constant time.
     pub(crate) fn head_alone(&self, alloc: Global, at: usize) -> Result<Changes, AllocError>
         requires { at < length self.now.list }
-        ensures ok { IfOk result (λ changes. option_map (λ w. w.rev ∷ []) (option_and_then head_in (slice_get self.now.list at)) ≡ Some changes) }
-        ensures memory { OnErr result (IsSomeAnd (option_and_then head_in (slice_get self.now.list at)) (λ w. ¬ IsDigestText w.rev.hash)) }
+        ensures ok { IfOk result (λ changes.
+            option_map (λ w. w.rev ∷ []) (option_and_then head_in (slice_get self.now.list at))
+            ≡ Some changes) }
+        ensures memory { OnErr result
+            (IsSomeAnd (option_and_then head_in (slice_get self.now.list at))
+            (λ w. ¬ IsDigestText w.rev.hash)) }
     {
         let changes = self.stems[at].newest(alloc)?;
         Ok(changes)
@@ -255,7 +271,8 @@ impl Branches {
     /// Whether the edit of this number deletes the document. Constant time.
     pub(crate) fn is_head_deleted(&self, at: usize) -> bool
         requires { at < length self.now.list }
-        ensures { option_map (λ w. w.deleted) (option_and_then head_in (slice_get self.now.list at)) ≡ Some result }
+        ensures { option_map (λ w. w.deleted) (option_and_then head_in (slice_get self.now.list at))
+            ≡ Some result }
     {
         self.stems[at].deleted()
     }
@@ -270,14 +287,16 @@ impl Branches {
     /// Whether the revision of the edit of this number stands behind a head. Constant time.
     pub(crate) fn is_head_inner(&self, at: usize) -> bool
         requires { at < length self.now.list }
-        ensures { (w : Winner) → option_and_then head_in (slice_get self.now.list at) ≡ Some w → result ≡ list_any (λ b. stands_behind_head w.rev (edit_of b)) self.now.list }
+        ensures { (w : Winner) → option_and_then head_in (slice_get self.now.list at) ≡ Some w
+            → result ≡ list_any (λ b. stands_behind_head w.rev (edit_of b)) self.now.list }
     {
         self.stems[at].is_inner()
     }
 
     /// Whether a path names the revision, and it stands behind no head. One find.
     pub(crate) fn is_leaf(&self, rev: &RevId) -> bool
-        ensures { result ≡ (list_any (λ b. names b.path rev.now) self.now.list && not (list_any (λ b. stands_behind_head rev.now (edit_of b)) self.now.list)) }
+        ensures { result ≡ (list_any (λ b. names b.path rev.now) self.now.list
+            && not (list_any (λ b. stands_behind_head rev.now (edit_of b)) self.now.list)) }
     {
         match headed(self.stems.as_slice(), lent(&self.index), rev) {
             Some(stem) => !stem.is_inner(),
@@ -305,7 +324,8 @@ impl Branches {
     /// for the edit that goes on: two looks in the index, or a look at each edit where there is none.
     pub(crate) fn append_line(&self, rev: &RevId, line: &mut Vec<RevId>) -> Result<(), AllocError>
         requires { IsLegal (edits_in self.now.list) }
-        ensures { OnOk result (line.new.items ≡ line.old.items ++ line_to (edits_in self.now.list) (Some rev.now)) }
+        ensures { OnOk result
+            (line.new.items ≡ line.old.items ++ line_to (edits_in self.now.list) (Some rev.now)) }
     {
         let index = lent(&self.index);
         match place_of(self.stems.as_slice(), index, rev) {
@@ -323,7 +343,10 @@ impl Branches {
         digests: &mut Vec<[u8; 16]>,
     ) -> Result<bool, AllocError>
         requires { IsLegal (edits_in self.now.list) }
-        ensures { IfOk result (λ all. IsTrue all → map encode_lower digests.new.items ≡ map encode_lower digests.old.items ++ map (λ r. r.hash) (line_to (edits_in self.now.list) (Some rev.now))) }
+        ensures { IfOk result (λ all. IsTrue all
+            → map encode_lower digests.new.items
+            ≡ map encode_lower digests.old.items
+            ++ map (λ r. r.hash) (line_to (edits_in self.now.list) (Some rev.now))) }
     {
         let index = lent(&self.index);
         match place_of(self.stems.as_slice(), index, rev) {
@@ -341,7 +364,8 @@ impl Branches {
     /// these are kept to be shared. Constant time.
     pub(crate) fn newest_line(&self, rev: &RevId) -> Option<&Line>
         requires { IsLegal (edits_in self.now.list) }
-        ensures { IfSome result (λ line. map encode_lower line.now ≡ map (λ r. r.hash) (line_to (edits_in self.now.list) (Some rev.now))) }
+        ensures { IfSome result (λ line.
+            map encode_lower line.now ≡ map (λ r. r.hash) (line_to (edits_in self.now.list) (Some rev.now))) }
     {
         let index = lent(&self.index)?;
         let line = index.line()?;

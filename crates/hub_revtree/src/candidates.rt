@@ -1,6 +1,7 @@
 //! Revisions that may be the best leaf.
 
-ghost use Rattle.std.specs.Prelude.{◌≡◌, ◌<◌, ◌+◌, [], List, Some, length, option_and_then, refl, slice_get, IfOk, OnOk};
+ghost use Rattle.std.specs.Prelude.{◌≡◌, ◌<◌, ◌+◌, [], List, Some, length};
+ghost use Rattle.std.specs.Prelude.{option_and_then, refl, slice_get, IfOk, OnOk};
 ghost use Rattle.std.specs.Ordering.{eq_by_cmp};
 ghost use Rattle.std.specs.Cmp.{partial_equiv_from_equiv, partial_order_from_total};
 ghost use Rattle.hub_model.specs.Journal.{IsLegal};
@@ -40,7 +41,11 @@ impl Model for Candidate {
     ghost use Rattle.std.specs.Prelude.{[], slice_get, unwrap_or};
     ghost use Rattle.hub_model.specs.Path.{IsPath};
 
-    ghost view = { λ a. record { rev = unwrap_or (slice_get a.rev 0) (record { generation = 0; hash = [] }); deleted = a.deleted; number = a.number } };
+    ghost view = { λ a. record {
+      rev = unwrap_or (slice_get a.rev 0) (record { generation = 0; hash = [] });
+      deleted = a.deleted;
+      number = a.number;
+    } };
 
     ghost invariant = { λ a. IsPath a.rev };
 }
@@ -107,9 +112,9 @@ impl Ord for Candidate {
     }
 }
 
-/// The revisions of a tree's first edits, so many as were looked at, that were leaves then, in the order of
-/// leaves. Those that are leaves no more stay among them until they come to the top. For each it takes 40 to 80
-/// bytes, and 68 more where its hash is the text of no digest.
+/// The revisions of a tree's first edits, so many as were looked at, that were leaves then, in the
+/// order of leaves. Those that are leaves no more stay among them until they come to the top. For
+/// each it takes 40 to 80 bytes, and 68 more where its hash is the text of no digest.
 #[derive(Debug, Drop)]
 pub(crate) struct Candidates {
     heap: BinaryHeap<Candidate>,
@@ -128,8 +133,8 @@ impl Candidates {
         }
     }
 
-    // Looks at the next edit: where its revision is a leaf, it becomes a candidate. At most log n comparisons of
-    // revisions.
+    // Looks at the next edit: where its revision is a leaf, it becomes a candidate. At most log n
+    // comparisons of revisions.
     fn add_next(&mut self, branches: &Branches) -> Result<(), AllocError>
         requires candidates { AreCandidates branches.now.list self.old }
         requires more { self.old.count < length branches.now.list }
@@ -160,15 +165,16 @@ impl Candidates {
         Ok(())
     }
 
-    /// The number of the best leaf's edit, where all edits were looked at; how many edits there are, where there
-    /// is none. It gives up each candidate above it, which is no leaf any more, at log n comparisons of revisions
-    /// each.
+    /// The number of the best leaf's edit, where all edits were looked at; how many edits there
+    /// are, where there is none. It gives up each candidate above it, which is no leaf any more, at
+    /// log n comparisons of revisions each.
     pub(crate) fn best(&mut self, branches: &Branches) -> usize
         requires candidates { AreCandidates branches.now.list self.old }
         requires all { self.old.count ≡ length branches.now.list }
         requires legal { IsLegal (edits_in branches.now.list) }
         ensures candidates { AreCandidates branches.now.list self.new }
-        ensures best { option_and_then head_in (slice_get branches.now.list result) ≡ winner_of (leaves_of (edits_in branches.now.list) []) }
+        ensures best { option_and_then head_in (slice_get branches.now.list result)
+            ≡ winner_of (leaves_of (edits_in branches.now.list) []) }
     {
         while let Some(top) = self.heap.peek() {
             let number = top.number as usize;

@@ -1,9 +1,11 @@
 //! Edits that are made here.
 
-ghost use Rattle.std.specs.Prelude.{◌≡◌, ◌⊎◌, ◌≤◌, ◌<◌, ◌++◌, ◌∷◌, [], length, map, option_map, Some, None, Ok, Err, IfOk, IfErr, IfSome, IsTrue, OnOk};
+ghost use Rattle.std.specs.Prelude.{◌≡◌, ◌⊎◌, ◌≤◌, ◌<◌, ◌++◌, ◌∷◌, [], length, map, option_map};
+ghost use Rattle.std.specs.Prelude.{Some, None, Ok, Err, IfOk, IfErr, IfSome, IsTrue, OnOk};
 ghost use Rattle.std.specs.Result.{result_ok};
 ghost use Rattle.hex.specs.Hex.{encode_lower};
-ghost use Rattle.hub_model.specs.Draft.{HasNextRevision, extended as extended_in, generation_of, made, parent_of};
+ghost use Rattle.hub_model.specs.Draft.{HasNextRevision, extended as extended_in};
+ghost use Rattle.hub_model.specs.Draft.{generation_of, made, parent_of};
 ghost use Rattle.hub_model.specs.Journal.{Edit, IsAcceptable, head_of};
 ghost use Rattle.hub_model.specs.Leaves.{leaves_of};
 ghost use Rattle.hub_model.specs.Path.{IsHistory};
@@ -27,7 +29,8 @@ fn next_rev(
 ) -> Result<DigestRev, EditFault>
     ensures ok { IfOk result (λ rev. rev ≡ made (draft id.now parent deleted body.now) parent) }
     ensures below { OnOk result (generation_of parent < 65535) }
-    ensures err { IfErr result (λ e. (e ≡ EditFault.NoMemory) ⊎ ((e ≡ EditFault.GenerationLimit) × (65535 ≤ generation_of parent))) }
+    ensures err { IfErr result
+        (λ e. (e ≡ EditFault.NoMemory) ⊎ ((e ≡ EditFault.GenerationLimit) × (65535 ≤ generation_of parent))) }
     ensures memory { result ≡ Err EditFault.NoMemory → generation_of parent < 65535 }
 {
     if generation(&parent) == u16::MAX {
@@ -51,7 +54,8 @@ impl RevTree {
     // The leaf that is named. One find.
     fn leaf(&self, rev: RevId) -> Result<Option<RevId>, EditFault>
         ensures tree { IsRevTree self.now.edits }
-        ensures line { option_map (line_to self.now.edits) (result_ok result) ≡ extended_in self.now.edits [] (leaves_of self.now.edits []) (Some rev) }
+        ensures line { option_map (line_to self.now.edits) (result_ok result)
+            ≡ extended_in self.now.edits [] (leaves_of self.now.edits []) (Some rev) }
         ensures first { IfOk result (λ older. parent_of (line_to self.now.edits older) ≡ older) }
         ensures conflict { IfErr result (λ e. e ≡ EditFault.Conflict) }
     {
@@ -64,7 +68,8 @@ impl RevTree {
     // The winner where it is deleted, and nothing of a tree with no edit.
     fn dead(&self) -> Result<Option<RevId>, EditFault>
         ensures tree { IsRevTree self.now.edits }
-        ensures line { option_map (line_to self.now.edits) (result_ok result) ≡ extended_in self.now.edits [] (leaves_of self.now.edits []) None }
+        ensures line { option_map (line_to self.now.edits) (result_ok result)
+            ≡ extended_in self.now.edits [] (leaves_of self.now.edits []) None }
         ensures first { IfOk result (λ older. parent_of (line_to self.now.edits older) ≡ older) }
         ensures conflict { IfErr result (λ e. e ≡ EditFault.Conflict) }
     {
@@ -80,7 +85,8 @@ impl RevTree {
     // The revision that an edit extends, or nothing.
     fn extended(&self, parent: Option<RevId>) -> Result<Option<RevId>, EditFault>
         ensures tree { IsRevTree self.now.edits }
-        ensures line { option_map (line_to self.now.edits) (result_ok result) ≡ extended_in self.now.edits [] (leaves_of self.now.edits []) parent }
+        ensures line { option_map (line_to self.now.edits) (result_ok result)
+            ≡ extended_in self.now.edits [] (leaves_of self.now.edits []) parent }
         ensures first { IfOk result (λ older. parent_of (line_to self.now.edits older) ≡ older) }
         ensures conflict { IfErr result (λ e. e ≡ EditFault.Conflict) }
     {
@@ -107,7 +113,9 @@ impl RevTree {
         rev: &Option<RevId>,
         digests: &mut Vec<[u8; 16]>,
     ) -> Result<bool, AllocError>
-        ensures { IfOk result (λ all. IsTrue all → map encode_lower digests.new.items ≡ map encode_lower digests.old.items ++ map (λ r. r.hash) (line_to self.now.edits rev.now)) }
+        ensures { IfOk result (λ all. IsTrue all
+            → map encode_lower digests.new.items
+            ≡ map encode_lower digests.old.items ++ map (λ r. r.hash) (line_to self.now.edits rev.now)) }
     {
         match rev {
             Some(rev) => self.branches().append_digests(rev, digests),
@@ -124,7 +132,8 @@ impl RevTree {
         older: &Option<RevId>,
     ) -> Result<Option<Run>, AllocError>
         requires { IsHistory (rev.now ∷ line_to self.now.edits older.now) }
-        ensures { IfOk result (λ found. IfSome found (λ path. path ≡ rev.now ∷ line_to self.now.edits older.now)) }
+        ensures { IfOk result
+            (λ found. IfSome found (λ path. path ≡ rev.now ∷ line_to self.now.edits older.now)) }
     {
         let mut digests = Vec::with_capacity(alloc, 1 + usize::from(self.line_length(older)))?;
         digests.push(rev.digest())?;
@@ -138,7 +147,8 @@ impl RevTree {
     // in a tree of fewer, and where one of the revisions is kept otherwise. Constant time where the revision
     // is that of the newest edit, and the tree keeps its path.
     fn shared_line(&self, alloc: Global, rev: &RevId) -> Result<Option<Line>, AllocError>
-        ensures { IfOk result (λ found. IfSome found (λ line. map encode_lower line ≡ map (λ r. r.hash) (line_to self.now.edits (Some rev.now)))) }
+        ensures { IfOk result (λ found. IfSome found
+            (λ line. map encode_lower line ≡ map (λ r. r.hash) (line_to self.now.edits (Some rev.now)))) }
     {
         let branches = self.branches();
         if !branches.shares_lines() {
@@ -165,7 +175,8 @@ impl RevTree {
         older: &Option<RevId>,
     ) -> Result<Option<Run>, AllocError>
         requires { IsHistory (rev.now ∷ line_to self.now.edits older.now) }
-        ensures { IfOk result (λ found. IfSome found (λ path. path ≡ rev.now ∷ line_to self.now.edits older.now)) }
+        ensures { IfOk result
+            (λ found. IfSome found (λ path. path ≡ rev.now ∷ line_to self.now.edits older.now)) }
     {
         let Some(older) = older else {
             return Ok(None);
@@ -223,7 +234,8 @@ impl RevTree {
     ) -> Result<Ready, AllocError>
         requires { IsHistory (rev.now ∷ line_to self.old.edits older.now) }
         ensures edits { self.new.edits ≡ self.old.edits }
-        ensures ready { IfOk result (λ ready. ready ≡ nameless (rev.now ∷ line_to self.old.edits older.now) deleted body) }
+        ensures ready { IfOk result
+            (λ ready. ready ≡ nameless (rev.now ∷ line_to self.old.edits older.now) deleted body) }
         ensures room { IfOk result (λ ready. length ready.path ≤ self.new.room) }
     {
         let alloc = self.allocator();
@@ -233,11 +245,11 @@ impl RevTree {
 
     /// Looks what becomes of an edit that is made here, on the leaf that is named, or, without a
     /// name, on nothing where the document is unknown and on its winner where that is deleted: the
-    /// edit with the revision that is made for it, with memory for it. `id` is the document's, which
-    /// the revision's hash has in it. It costs finds of the leaf and of the new revision, and the lengths of the
-    /// path and the body: of the path a copy of 16 bytes a revision where the hashes are digests, else of 68.
-    /// Where the leaf is the newest edit of 256 and more, and was made on the one before it, it costs nothing
-    /// of the path's length.
+    /// edit with the revision that is made for it, with memory for it. `id` is the document's,
+    /// which the revision's hash has in it. It costs finds of the leaf and of the new revision, and
+    /// the lengths of the path and the body: of the path a copy of 16 bytes a revision where the
+    /// hashes are digests, else of 68. Where the leaf is the newest edit of 256 and more, and was
+    /// made on the one before it, it costs nothing of the path's length.
     pub fn look_extend(
         &mut self,
         id: &DocId,
@@ -247,11 +259,14 @@ impl RevTree {
     ) -> Result<Ready, EditFault>
         ensures edits { self.new.edits ≡ self.old.edits }
         ensures tree { IsRevTree self.new.edits }
-        ensures ok { IfOk result (λ ready. extends self.old.edits (draft id.now parent deleted body) ≡ Ok ready) }
+        ensures ok { IfOk result
+            (λ ready. extends self.old.edits (draft id.now parent deleted body) ≡ Ok ready) }
         ensures acceptable { IfOk result (IsAcceptable self.old.edits) }
         ensures room { IfOk result (λ ready. length ready.path ≤ self.new.room) }
-        ensures err { IfErr result (λ e. (e ≡ EditFault.NoMemory) ⊎ (extends self.old.edits (draft id.now parent deleted body) ≡ Err e)) }
-        ensures memory { result ≡ Err EditFault.NoMemory → HasNextRevision self.old.edits (draft [] parent deleted body) }
+        ensures err { IfErr result (λ e.
+            (e ≡ EditFault.NoMemory) ⊎ (extends self.old.edits (draft id.now parent deleted body) ≡ Err e)) }
+        ensures memory { result ≡ Err EditFault.NoMemory
+            → HasNextRevision self.old.edits (draft [] parent deleted body) }
     {
         let alloc = self.allocator();
         let older = self.extended(parent)?;
@@ -275,11 +290,14 @@ impl RevTree {
         deleted: bool,
         body: Body,
     ) -> Result<RevId, EditFault>
-        ensures ok { IfOk result (λ rev. (made : Edit) × (extends self.old.edits (draft id.now parent deleted body) ≡ Ok made)
+        ensures ok { IfOk result (λ rev.
+            (made : Edit) × (extends self.old.edits (draft id.now parent deleted body) ≡ Ok made)
             × (head_of made ≡ Some rev) × (self.new.edits ≡ self.old.edits ++ made ∷ [])) }
-        ensures err { IfErr result (λ e. ((e ≡ EditFault.NoMemory) ⊎ (extends self.old.edits (draft id.now parent deleted body) ≡ Err e))
+        ensures err { IfErr result (λ e.
+            ((e ≡ EditFault.NoMemory) ⊎ (extends self.old.edits (draft id.now parent deleted body) ≡ Err e))
             × (self.new.edits ≡ self.old.edits)) }
-        ensures memory { result ≡ Err EditFault.NoMemory → HasNextRevision self.old.edits (draft [] parent deleted body) }
+        ensures memory { result ≡ Err EditFault.NoMemory
+            → HasNextRevision self.old.edits (draft [] parent deleted body) }
     {
         match self.look_extend(id, parent, deleted, body) {
             Ok(ready) => {

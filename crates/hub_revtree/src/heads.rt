@@ -26,8 +26,10 @@ pub struct StoredEdit<'a> {
 impl RevTree {
     /// The edit of this number, from 0 in the order in which they were taken. Constant time.
     pub fn edit(&self, at: usize) -> Option<StoredEdit<'_>>
-        ensures tip { option_map (λ e. tip e.rev e.deleted e.body.now) result ≡ option_map tip_of (slice_get self.now.edits at) }
-        ensures path { option_map (λ e. option_map (take e.count) (path_to self.now.edits e.rev)) result ≡ option_map (λ e. Some e.path) (slice_get self.now.edits at) }
+        ensures tip { option_map (λ e. tip e.rev e.deleted e.body.now) result
+            ≡ option_map tip_of (slice_get self.now.edits at) }
+        ensures path { option_map (λ e. option_map (take e.count) (path_to self.now.edits e.rev)) result
+            ≡ option_map (λ e. Some e.path) (slice_get self.now.edits at) }
         ensures some { IfSome result (λ e. 1 ≤ e.count) }
     {
         self.branches().edit(at)
@@ -36,8 +38,10 @@ impl RevTree {
     /// The edit that the revision heads; None where it heads none, as an ancestor does that came
     /// inside a history alone. One find.
     pub fn headed(&self, rev: &RevId) -> Option<StoredEdit<'_>>
-        ensures tip { option_map (λ e. tip e.rev e.deleted e.body.now) result ≡ option_map tip_of (find (is_head rev.now) (edits_of self.now.edits [])) }
-        ensures path { option_map (λ e. option_map (take e.count) (path_to self.now.edits e.rev)) result ≡ option_map (λ e. Some e.path) (find (is_head rev.now) (edits_of self.now.edits [])) }
+        ensures tip { option_map (λ e. tip e.rev e.deleted e.body.now) result
+            ≡ option_map tip_of (find (is_head rev.now) (edits_of self.now.edits [])) }
+        ensures path { option_map (λ e. option_map (take e.count) (path_to self.now.edits e.rev)) result
+            ≡ option_map (λ e. Some e.path) (find (is_head rev.now) (edits_of self.now.edits [])) }
     {
         self.branches().headed(rev)
     }

@@ -1,13 +1,15 @@
 //! An index of a tree's revisions.
 
-ghost use Rattle.std.specs.Prelude.{◌≡◌, ℕ, [], ◌+◌, ◌-◌, ◌<◌, ◌≤◌, List, Some, false, None, length, nat_eq, option_map, take, unwrap_or, IfNone, IfOk, IfSome, OnOk};
+ghost use Rattle.std.specs.Prelude.{◌≡◌, ℕ, [], ◌+◌, ◌-◌, ◌<◌, ◌≤◌, List, Some, false, None, length};
+ghost use Rattle.std.specs.Prelude.{nat_eq, option_map, take, unwrap_or, IfNone, IfOk, IfSome, OnOk};
 ghost use Rattle.std.specs.BTreeMap.{get as ordered_get};
 ghost use Rattle.std.specs.Ordering.{eq_by_cmp};
 ghost use Rattle.hub_model.specs.Revision.{Revision, revision_cmp};
 ghost use Rattle.hub_revtree.specs.Branch.{Branch};
 ghost use Rattle.hub_revtree.specs.Candidates.{AreCandidates, candidates_in};
 ghost use Rattle.hub_revtree.specs.First.{first_put};
-ghost use Rattle.hub_revtree.specs.Index.{AreLinked, AreTold, Has, HasTo, IsFirstPlace, IsIndex, IsIndexed, IsNewestLine, entry_in, link_in, other_in};
+ghost use Rattle.hub_revtree.specs.Index.{AreLinked, AreTold, Has, HasTo, IsFirstPlace, IsIndex};
+ghost use Rattle.hub_revtree.specs.Index.{IsIndexed, IsNewestLine, entry_in, link_in, other_in};
 ghost use Rattle.hub_revtree.specs.Stem.{AreStems, has_revision, revisions_at};
 
 use crate::candidates::Candidates;
@@ -42,8 +44,8 @@ pub(crate) struct Index {
     /// The newest stem's newest revision and all that stands behind it, for the next one that stands on it;
     /// None where it was not made so, and where the memory for it was not to be had.
     line: Option<Line>,
-    /// What was looked at so that the best leaf is found soon; None before one was sought that costs a look at
-    /// each edit, and where the memory for it was not to be had.
+    /// What was looked at so that the best leaf is found soon; None before one was sought that
+    /// costs a look at each edit, and where the memory for it was not to be had.
     candidates: Option<Candidates>,
 }
 
@@ -56,7 +58,10 @@ fn number_at(map: &BTreeMap<RevKey, u32>, rev: &RevId) -> Option<u32>
 
 // Puts the number at the revision, where the map has none there. At most log n comparisons of revisions.
 fn put_at(map: &mut BTreeMap<RevKey, u32>, rev: &RevId, number: u32) -> Result<(), AllocError>
-    ensures { OnOk result ((r : Revision) → ordered_get revision_cmp map.new r ≡ first_put (eq_by_cmp revision_cmp) (ordered_get revision_cmp map.old) rev.now number r) }
+    ensures { OnOk result
+        ((r : Revision)
+        → ordered_get revision_cmp map.new r
+        ≡ first_put (eq_by_cmp revision_cmp) (ordered_get revision_cmp map.old) rev.now number r) }
 {
     let key = RevKey::new(rev);
     if map.contains_key(&key) {
@@ -81,7 +86,8 @@ impl Index {
     // time.
     fn put(&mut self, key: u64, number: u32) -> Result<u32, AllocError>
         ensures first { IfOk result (λ first. first ≡ unwrap_or (entry_in self.old key) number) }
-        ensures entries { OnOk result ((q : ℕ) → entry_in self.new q ≡ first_put nat_eq (entry_in self.old) key number q) }
+        ensures entries { OnOk result
+            ((q : ℕ) → entry_in self.new q ≡ first_put nat_eq (entry_in self.old) key number q) }
         ensures others { self.new.others ≡ self.old.others }
         ensures links { self.new.links ≡ self.old.links }
         ensures candidates { self.new.candidates ≡ self.old.candidates }
@@ -101,7 +107,8 @@ impl Index {
         requires newest { number + 1 ≡ length stems.now }
         requires within { at < length (revisions_at stems.now number) }
         requires told { AreTold (HasTo stems.now number at) (entry_in self.old) (other_in self.old) }
-        ensures told { OnOk result (AreTold (HasTo stems.now number (at + 1)) (entry_in self.new) (other_in self.new)) }
+        ensures told { OnOk result
+            (AreTold (HasTo stems.now number (at + 1)) (entry_in self.new) (other_in self.new)) }
         ensures links { self.new.links ≡ self.old.links }
         ensures candidates { self.new.candidates ≡ self.old.candidates }
     {
@@ -143,7 +150,8 @@ impl Index {
         requires within { at < length (revisions_at stems.now number) }
         requires told { AreTold (Has stems.now) (entry_in self.old) (other_in self.old) }
         requires linked { AreLinked (HasTo stems.now number at) stems.now (link_in self.old) }
-        ensures linked { OnOk result (AreLinked (HasTo stems.now number (at + 1)) stems.now (link_in self.new)) }
+        ensures linked { OnOk result
+            (AreLinked (HasTo stems.now number (at + 1)) stems.now (link_in self.new)) }
         ensures entries { self.new.stems ≡ self.old.stems }
         ensures others { self.new.others ≡ self.old.others }
         ensures candidates { self.new.candidates ≡ self.old.candidates }
@@ -176,8 +184,8 @@ impl Index {
         Ok(())
     }
 
-    // Takes in the newest of the stems, of all others of which it is an index. It costs what `add_at` does for
-    // each of its revisions, and where it joins others what `link_at` does.
+    // Takes in the newest of the stems, of all others of which it is an index. It costs what
+    // `add_at` does for each of its revisions, and where it joins others what `link_at` does.
     fn add(&mut self, stems: &[Stem]) -> Result<(), AllocError>
         requires stems { AreStems stems.now }
         requires some { 1 ≤ length stems.now }
@@ -219,7 +227,8 @@ impl Index {
         ensures links { self.new.links ≡ self.old.links }
         ensures line { self.new.line ≡ self.old.line }
         ensures candidates { self.new.candidates ≡ None }
-        ensures taken { (branches : List Branch) → IfSome self.old.candidates (AreCandidates branches) → AreCandidates branches result }
+        ensures taken { (branches : List Branch) → IfSome self.old.candidates (AreCandidates branches)
+            → AreCandidates branches result }
     {
         match self.candidates.take() {
             Some(candidates) => candidates,
@@ -364,7 +373,8 @@ pub(crate) fn renewed(
     requires stems { AreStems stems.now }
     requires index { IsIndexed (option_map (λ i. i.value) index) (take (length stems.now - 1) stems.now) }
     ensures index { IsNewestLine line stems.now → IsIndexed (option_map (λ i. i.value) result) stems.now }
-    ensures candidates { IfSome (candidates_in (option_map (λ i. i.value) result)) (λ c. candidates_in (option_map (λ i. i.value) index) ≡ Some c) }
+    ensures candidates { IfSome (candidates_in (option_map (λ i. i.value) result))
+        (λ c. candidates_in (option_map (λ i. i.value) index) ≡ Some c) }
 {
     match index {
         Some(index) => with_newest(index, stems, line),

@@ -1,6 +1,7 @@
 //! Which of the stems' newest revisions stand behind others.
 
-ghost use Rattle.std.specs.Prelude.{◌≡◌, ◌<◌, ◌||◌, Some, drop, false, length, map, option_map, slice_get, slice_set, true, vec_capacity, vec_len, IfSome};
+ghost use Rattle.std.specs.Prelude.{◌≡◌, ◌<◌, ◌||◌, Some, drop, false, length, map, option_map};
+ghost use Rattle.std.specs.Prelude.{slice_get, slice_set, true, vec_capacity, vec_len, IfSome};
 ghost use Rattle.std.specs.List.{list_any};
 ghost use Rattle.hub_model.specs.Revision.{is_same};
 ghost use Rattle.hub_model.specs.Path.{IsPath, names};
@@ -17,7 +18,8 @@ use hub_document::RevId;
 // Notes the stem of this number as inner. Constant time.
 fn note(stems: &mut [Stem], number: usize)
     requires { number < length stems.old }
-    ensures { (s : StemModel) → slice_get stems.old number ≡ Some s → stems.new ≡ slice_set stems.old number (with_note true s) }
+    ensures { (s : StemModel) → slice_get stems.old number ≡ Some s
+        → stems.new ≡ slice_set stems.old number (with_note true s) }
 {
     stems[number].pass();
 }
@@ -85,8 +87,8 @@ fn note_joined(stems: &mut [Stem], index: Option<&Index>, run: &Run, joins: bool
     }
 }
 
-// Notes the stems as inner whose newest revisions stand behind that of the stem with these revisions, which is
-// to come behind them.
+// Notes the stems as inner whose newest revisions stand behind that of the stem with these
+// revisions, which is to come behind them.
 fn note_behind(stems: &mut [Stem], index: Option<&Index>, run: &Run, standing: &Standing)
     requires stems { AreStems stems.old }
     requires index { IsIndexed (option_map (λ i. i.now) index) stems.old }
@@ -94,7 +96,8 @@ fn note_behind(stems: &mut [Stem], index: Option<&Index>, run: &Run, standing: &
     requires within { IfSome standing.now.parent (IsWithin stems.old) }
     requires fresh { standing.now.joins ≡ false → list_any (has_revision stems.old) run.now ≡ false }
     ensures plain { map plain stems.new ≡ map plain stems.old }
-    ensures noted { Notes stems.old (λ r. is_at stems.old r standing.now.parent || names (drop 1 run.now) r) stems.new }
+    ensures noted { Notes stems.old
+        (λ r. is_at stems.old r standing.now.parent || names (drop 1 run.now) r) stems.new }
 {
     note_joined(stems, index, run, standing.joins);
     note_parent(stems, standing.parent);
@@ -114,7 +117,8 @@ pub(crate) fn note_inner(
     requires within { IfSome standing.now.parent (IsWithin stems.old.items) }
     requires fresh { standing.now.joins ≡ false → list_any (has_revision stems.old.items) run.now ≡ false }
     ensures plain { map plain stems.new.items ≡ map plain stems.old.items }
-    ensures noted { Notes stems.old.items (λ r. is_at stems.old.items r standing.now.parent || names (drop 1 run.now) r) stems.new.items }
+    ensures noted { Notes stems.old.items
+        (λ r. is_at stems.old.items r standing.now.parent || names (drop 1 run.now) r) stems.new.items }
     ensures len { vec_len stems.new ≡ vec_len stems.old }
     ensures capacity { vec_capacity stems.new ≡ vec_capacity stems.old }
 {

@@ -1,12 +1,14 @@
 //! The order of leaves.
 
-ghost use Rattle.std.specs.Prelude.{◌≡◌, ◌<◌, [], Some, length, map, option_and_then, option_map, reverse, slice_get, List, IfOk, IfSome};
+ghost use Rattle.std.specs.Prelude.{◌≡◌, ◌<◌, [], Some, length, map, option_and_then};
+ghost use Rattle.std.specs.Prelude.{option_map, reverse, slice_get, List, IfOk, IfSome};
 ghost use Rattle.std.specs.List.{list_any};
 ghost use Rattle.hub_model.specs.Revision.{revision_cmp};
 ghost use Rattle.hub_model.specs.Journal.{IsLegal};
 ghost use Rattle.hub_model.specs.Leaves.{Leaf, leaf_cmp, leaves_among, leaves_of, best_first, with_leaf};
 ghost use Rattle.hub_revtree.specs.Branch.{earlier_branches, edit_of, edits_in};
-ghost use Rattle.hub_revtree.specs.Winner.{HasWinner, has_below, head_in, winner_of, is_better_than, winners_of};
+ghost use Rattle.hub_revtree.specs.Winner.{HasWinner, has_below, head_in};
+ghost use Rattle.hub_revtree.specs.Winner.{winner_of, is_better_than, winners_of};
 
 use crate::branches::Branches;
 use hub_document::RevId;
@@ -73,12 +75,13 @@ pub(crate) fn best_leaf(branches: &Branches) -> usize
     number
 }
 
-// The same by the candidates; None where there is no memory for them. Each edit becomes a candidate once at most,
-// and is given up once, at log n comparisons of revisions each time.
+// The same by the candidates; None where there is no memory for them. Each edit becomes a candidate
+// once at most, and is given up once, at log n comparisons of revisions each time.
 fn best_candidate(branches: &mut Branches) -> Option<usize>
     requires { IsLegal (edits_in branches.old.list) }
     ensures list { branches.new.list ≡ branches.old.list }
-    ensures best { IfSome result (λ best. option_and_then head_in (slice_get branches.old.list best) ≡ winner_of (leaves_of (edits_in branches.old.list) [])) }
+    ensures best { IfSome result (λ best. option_and_then head_in (slice_get branches.old.list best)
+        ≡ winner_of (leaves_of (edits_in branches.old.list) [])) }
 {
     let mut candidates = branches.take_candidates()?;
     if candidates.add_newer(branches).is_err() {
@@ -89,15 +92,18 @@ fn best_candidate(branches: &mut Branches) -> Option<usize>
     Some(best)
 }
 
-/// The same where only the newest edit has come since the winner's edit had this number. Constant time where
-/// the newest edit wins, or the winner is not what it stands on. Else it costs what `best_candidate` does where
-/// the edits have an index, and memory for candidates, and where not what `best_leaf` does.
+/// The same where only the newest edit has come since the winner's edit had this number. Constant
+/// time where the newest edit wins, or the winner is not what it stands on. Else it costs what
+/// `best_candidate` does where the edits have an index, and memory for candidates, and where not
+/// what `best_leaf` does.
 pub(crate) fn best_with_newest(branches: &mut Branches, best: usize) -> usize
     requires some { 0 < length branches.old.list }
     requires legal { IsLegal (edits_in branches.old.list) }
-    requires winner { HasWinner (edits_in (earlier_branches branches.old.list)) (option_and_then head_in (slice_get (earlier_branches branches.old.list) best)) }
+    requires winner { HasWinner (edits_in (earlier_branches branches.old.list))
+        (option_and_then head_in (slice_get (earlier_branches branches.old.list) best)) }
     ensures list { branches.new.list ≡ branches.old.list }
-    ensures best { option_and_then head_in (slice_get branches.old.list result) ≡ winner_of (leaves_of (edits_in branches.old.list) []) }
+    ensures best { option_and_then head_in (slice_get branches.old.list result)
+        ≡ winner_of (leaves_of (edits_in branches.old.list) []) }
 {
     let newest = branches.len() - 1;
     let leaf = branches.head(newest);
@@ -120,14 +126,16 @@ pub(crate) fn best_with_newest(branches: &mut Branches, best: usize) -> usize
 // Puts leaves in order, the best first: the same as the definition does. A sort in place: their number times
 // its logarithm.
 fn put_in_order(leaves: &mut [Winner])
-    ensures { (found : List Leaf) → leaves.old ≡ reverse (winners_of found) → leaves.new ≡ winners_of (best_first found) }
+    ensures { (found : List Leaf) → leaves.old ≡ reverse (winners_of found)
+        → leaves.new ≡ winners_of (best_first found) }
 {
     leaves.sort_unstable_by(|leaf, other| leaf_order(other, leaf));
 }
 
 /// The edits' revisions that stand behind no head, best first. One step an edit, and a sort of the leaves.
 pub(crate) fn best_leaves(alloc: Global, branches: &Branches) -> Result<Vec<Winner>, AllocError>
-    ensures { IfOk result (λ leaves. leaves.items ≡ winners_of (best_first (leaves_among (edits_in branches.now.list) (edits_in branches.now.list)))) }
+    ensures { IfOk result (λ leaves. leaves.items ≡ winners_of (best_first (leaves_among
+        (edits_in branches.now.list) (edits_in branches.now.list)))) }
 {
     let mut leaves = Vec::new(alloc);
     for at in (0..branches.len()).rev() {
@@ -144,7 +152,10 @@ pub(crate) fn best_leaves(alloc: Global, branches: &Branches) -> Result<Vec<Winn
 // Whether the head of the edit of this number is a leaf, and of a generation below this one. Constant time.
 fn is_leaf_below(branches: &Branches, at: usize, generation: u16) -> bool
     requires { at < length branches.now.list }
-    ensures { option_map (λ b. has_below generation (with_leaf (edits_in branches.now.list) (edit_of b) b.path [])) (slice_get branches.now.list at) ≡ Some result }
+    ensures { option_map (λ b.
+        has_below generation (with_leaf (edits_in branches.now.list) (edit_of b) b.path []))
+        (slice_get branches.now.list at)
+        ≡ Some result }
 {
     let head = branches.head(at);
     head.rev.generation() < generation && !branches.is_head_inner(at)
@@ -152,7 +163,9 @@ fn is_leaf_below(branches: &Branches, at: usize, generation: u16) -> bool
 
 /// Whether a leaf is of a generation below this one. One step an edit.
 pub(crate) fn has_leaf_below(branches: &Branches, generation: u16) -> bool
-    ensures { result ≡ list_any (λ b. has_below generation (with_leaf (edits_in branches.now.list) (edit_of b) b.path [])) branches.now.list }
+    ensures { result ≡ list_any (λ b.
+        has_below generation (with_leaf (edits_in branches.now.list) (edit_of b) b.path []))
+        branches.now.list }
 {
     for at in 0..branches.len() {
         if is_leaf_below(branches, at, generation) {

@@ -58,7 +58,8 @@ impl RevTree {
     /// The members of the edit that the revision heads; None where it heads none, as an ancestor
     /// does that came inside a history alone. One find.
     pub fn body(&self, rev: &RevId) -> Option<&Body>
-        ensures { option_map (λ b. b.now) result ≡ option_map (λ e. e.body) (find (is_head rev.now) self.now.edits) }
+        ensures { option_map (λ b. b.now) result
+            ≡ option_map (λ e. e.body) (find (is_head rev.now) self.now.edits) }
     {
         match self.branches().headed(rev) {
             Some(edit) => Some(edit.body),

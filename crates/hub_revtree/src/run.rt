@@ -1,6 +1,8 @@
 //! Runs of revisions, in little memory.
 
-ghost use Rattle.std.specs.Prelude.{◌≡◌, ◌≤◌, ◌<◌, ◌++◌, ◌∷◌, ◌-◌, [], ◌&&◌, nat_eq, List, length, min, Some, false, drop, map, option_map, slice_get, take, IfSome, IfNone, IfOk, IsSomeAnd, IsTrue, OnErr, OnOk};
+ghost use Rattle.std.specs.Prelude.{◌≡◌, ◌≤◌, ◌<◌, ◌++◌, ◌∷◌, ◌-◌, [], ◌&&◌, nat_eq, List};
+ghost use Rattle.std.specs.Prelude.{length, min, Some, false, drop, map, option_map, slice_get};
+ghost use Rattle.std.specs.Prelude.{take, IfSome, IfNone, IfOk, IsSomeAnd, IsTrue, OnErr, OnOk};
 ghost use Rattle.std.specs.Str.{bytes_eq};
 ghost use Rattle.hex.specs.Hex.{encode_lower};
 ghost use Rattle.hub_document.specs.Changes.{IsDigestText};
@@ -52,7 +54,9 @@ impl Model for Run {
 
 // The digests whose texts the hashes are; None where a hash is another text. It costs their number.
 fn digests_of(alloc: Global, revisions: &[RevId]) -> Result<Option<Vec<[u8; 16]>>, AllocError>
-    ensures { IfOk result (λ found. IfSome found (λ digests. map encode_lower digests.items ≡ map (λ r. r.hash) revisions.now)) }
+    ensures { IfOk result
+        (λ found.
+        IfSome found (λ digests. map encode_lower digests.items ≡ map (λ r. r.hash) revisions.now)) }
 {
     let mut digests = Vec::with_capacity(alloc, revisions.len())?;
     for rev in revisions {
@@ -149,7 +153,8 @@ fn cut_kept(kept: Kept, count: usize) -> Kept
 
 // Whether the revision is of this generation, and its hash the text of the digest.
 fn is_of(generation: u16, digest: &[u8; 16], sought: &Sought) -> bool
-    ensures { result ≡ (nat_eq sought.now.generation generation && bytes_eq sought.now.hash (encode_lower digest.now)) }
+    ensures { result ≡ (nat_eq sought.now.generation generation
+        && bytes_eq sought.now.hash (encode_lower digest.now)) }
 {
     sought.generation() == generation && sought.has_digest(digest)
 }
@@ -361,7 +366,9 @@ impl Run {
         digests: &mut Vec<[u8; 16]>,
     ) -> Result<bool, AllocError>
         requires { at < length self.now }
-        ensures { IfOk result (λ all. IsTrue all → map encode_lower digests.new.items ≡ map encode_lower digests.old.items ++ map (λ r. r.hash) (drop at self.now)) }
+        ensures { IfOk result (λ all. IsTrue all
+            → map encode_lower digests.new.items
+            ≡ map encode_lower digests.old.items ++ map (λ r. r.hash) (drop at self.now)) }
     {
         match &self.kept {
             Kept::One(_, digest) => digests.push(*digest)?,

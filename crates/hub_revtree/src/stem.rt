@@ -1,6 +1,7 @@
 //! What one edit of a tree brought.
 
-ghost use Rattle.std.specs.Prelude.{◌≡◌, ◌≤◌, ◌<◌, ◌++◌, Some, false, true, drop, length, map, option_map, slice_get, take, IfSome, IfNone, IfOk, IsSomeAnd, IsTrue, OnErr, OnOk};
+ghost use Rattle.std.specs.Prelude.{◌≡◌, ◌≤◌, ◌<◌, ◌++◌, Some, false, true, drop, length, map, option_map};
+ghost use Rattle.std.specs.Prelude.{slice_get, take, IfSome, IfNone, IfOk, IsSomeAnd, IsTrue, OnErr, OnOk};
 ghost use Rattle.hex.specs.Hex.{encode_lower};
 ghost use Rattle.hub_document.specs.Changes.{IsDigestText};
 ghost use Rattle.hub_model.specs.Path.{IsPath, names, is_first};
@@ -68,7 +69,16 @@ impl Model for Stem {
     ghost use Rattle.std.specs.Prelude.{length, nat_lt};
     ghost use Rattle.hub_revtree.specs.Mark.{deletes, is_passed};
 
-    ghost view = { λ a. record { revisions = a.run; parent = standing (nat_lt (length a.run) a.reach) a.below a.at; count = a.count; reach = a.reach; joins = a.joins; deleted = deletes a.mark; inner = is_passed a.mark; body = a.body } };
+    ghost view = { λ a. record {
+      revisions = a.run;
+      parent = standing (nat_lt (length a.run) a.reach) a.below a.at;
+      count = a.count;
+      reach = a.reach;
+      joins = a.joins;
+      deleted = deletes a.mark;
+      inner = is_passed a.mark;
+      body = a.body;
+    } };
 }
 
 impl Stem {
@@ -76,7 +86,16 @@ impl Stem {
     pub(crate) fn new(run: Run, standing: Standing, deleted: bool, body: Body) -> Stem
         requires stands { IfSome standing.parent (λ _. length run < standing.reach) }
         requires free { IfNone standing.parent (standing.reach ≤ length run) }
-        ensures { result ≡ record { revisions = run; parent = standing.parent; count = standing.count; reach = standing.reach; joins = standing.joins; deleted = deleted; inner = false; body = body } }
+        ensures { result ≡ record {
+          revisions = run;
+          parent = standing.parent;
+          count = standing.count;
+          reach = standing.reach;
+          joins = standing.joins;
+          deleted = deleted;
+          inner = false;
+          body = body;
+        } }
     {
         let place = standing.parent.unwrap_or(Place { stem: 0, at: 0 });
         Stem {
@@ -178,7 +197,8 @@ impl Stem {
     pub(crate) fn newest(&self, alloc: Global) -> Result<Changes, AllocError>
         requires { IsPath self.now.revisions }
         ensures ok { IfOk result (λ changes. changes ≡ take 1 self.now.revisions) }
-        ensures memory { OnErr result (IsSomeAnd (slice_get self.now.revisions 0) (λ r. ¬ IsDigestText r.hash)) }
+        ensures memory { OnErr result
+            (IsSomeAnd (slice_get self.now.revisions 0) (λ r. ¬ IsDigestText r.hash)) }
     {
         self.run.newest(alloc)
     }
@@ -215,7 +235,9 @@ impl Stem {
         digests: &mut Vec<[u8; 16]>,
     ) -> Result<bool, AllocError>
         requires { at < length self.now.revisions }
-        ensures { IfOk result (λ all. IsTrue all → map encode_lower digests.new.items ≡ map encode_lower digests.old.items ++ map (λ r. r.hash) (drop at self.now.revisions)) }
+        ensures { IfOk result (λ all. IsTrue all
+            → map encode_lower digests.new.items
+            ≡ map encode_lower digests.old.items ++ map (λ r. r.hash) (drop at self.now.revisions)) }
     {
         self.run.append_digests(usize::from(at), digests)
     }

@@ -1,6 +1,8 @@
 //! The revisions of a tree, as its edits brought them.
 
-ghost use Rattle.std.specs.Prelude.{◌≡◌, ◌≤◌, ◌<◌, ◌-◌, ◌^◌, ◌++◌, length, Some, None, false, map, take, filter, not, find, is_some, slice_get, option_map, IsTrue, IfSome, IfNone, IfOk, OnOk};
+ghost use Rattle.std.specs.Prelude.{◌≡◌, ◌≤◌, ◌<◌, ◌-◌, ◌^◌, ◌++◌, length, Some, None, false};
+ghost use Rattle.std.specs.Prelude.{map, take, filter, not, find, is_some, slice_get};
+ghost use Rattle.std.specs.Prelude.{option_map, IsTrue, IfSome, IfNone, IfOk, OnOk};
 ghost use Rattle.std.specs.List.{list_any, list_all};
 ghost use Rattle.hex.specs.Hex.{encode_lower};
 ghost use Rattle.hub_model.specs.Journal.{IsLegal};
@@ -11,7 +13,9 @@ ghost use Rattle.hub_revtree.specs.Branch.{edits_in};
 ghost use Rattle.hub_revtree.specs.Common.{common as common_of, last_in};
 ghost use Rattle.hub_revtree.specs.Extend.{line_to};
 ghost use Rattle.hub_revtree.specs.Index.{AreLinked, GoesOn, Has, IsIndex, IsIndexed, link_in};
-ghost use Rattle.hub_revtree.specs.Stem.{Stem as StemModel, AreStems, AreUpTo, IsBrought, IsWithin, branches_of, chain_from, chains_of, has_revision, own_path, rev_at, revisions_at};
+ghost use Rattle.hub_revtree.specs.Stem.{Stem as StemModel, AreStems, AreUpTo, IsBrought};
+ghost use Rattle.hub_revtree.specs.Stem.{IsWithin, branches_of, chain_from, chains_of};
+ghost use Rattle.hub_revtree.specs.Stem.{has_revision, own_path, rev_at, revisions_at};
 
 use crate::index::Index;
 use crate::run::Run;
@@ -23,7 +27,8 @@ use std::alloc::AllocError;
 // Where the revision stands. One look an edit, from the newest on up to the one that brought it.
 fn place_among(stems: &[Stem], rev: &RevId) -> Option<Place>
     requires { AreStems stems.now }
-    ensures found { IfSome result (λ place. slice_get (revisions_at stems.now place.stem) place.at ≡ Some rev.now) }
+    ensures found { IfSome result
+        (λ place. slice_get (revisions_at stems.now place.stem) place.at ≡ Some rev.now) }
     ensures none { IfNone result (has_revision stems.now rev.now ≡ false) }
 {
     let sought = Sought::among(rev, stems.len());
@@ -38,7 +43,8 @@ fn place_among(stems: &[Stem], rev: &RevId) -> Option<Place>
 /// Where the revision stands in the stem of this number, if it does. Constant time.
 pub(crate) fn place_in(stems: &[Stem], number: usize, rev: &RevId) -> Option<Place>
     requires { AreStems stems.now }
-    ensures found { IfSome result (λ place. slice_get (revisions_at stems.now place.stem) place.at ≡ Some rev.now) }
+    ensures found { IfSome result
+        (λ place. slice_get (revisions_at stems.now place.stem) place.at ≡ Some rev.now) }
     ensures stem { IfSome result (λ place. place.stem ≡ number) }
     ensures none { IfNone result (names (revisions_at stems.now number) rev.now ≡ false) }
 {
@@ -51,14 +57,15 @@ pub(crate) fn place_in(stems: &[Stem], number: usize, rev: &RevId) -> Option<Pla
     }
 }
 
-/// Where the revision stands; None where no edit brought it. With an index it is a look there, and the place
-/// is that in the first stem that has the revision: constant time for digests that differ in their first eight
-/// bytes, else at most log n comparisons of revisions. Without one it is one look an edit, from the newest on
-/// up to the one that brought it.
+/// Where the revision stands; None where no edit brought it. With an index it is a look there, and
+/// the place is that in the first stem that has the revision: constant time for digests that differ
+/// in their first eight bytes, else at most log n comparisons of revisions. Without one it is one
+/// look an edit, from the newest on up to the one that brought it.
 pub(crate) fn place_of(stems: &[Stem], index: Option<&Index>, rev: &RevId) -> Option<Place>
     requires stems { AreStems stems.now }
     requires index { IsIndexed (option_map (λ i. i.now) index) stems.now }
-    ensures found { IfSome result (λ place. slice_get (revisions_at stems.now place.stem) place.at ≡ Some rev.now) }
+    ensures found { IfSome result
+        (λ place. slice_get (revisions_at stems.now place.stem) place.at ≡ Some rev.now) }
     ensures none { IfNone result (has_revision stems.now rev.now ≡ false) }
 {
     match index {
@@ -78,7 +85,8 @@ pub(crate) fn place_up_to(
     requires stems { AreStems stems.now }
     requires index { IsIndexed (option_map (λ i. i.now) index) stems.now }
     requires highest { AreUpTo stems.now highest }
-    ensures found { IfSome result (λ place. slice_get (revisions_at stems.now place.stem) place.at ≡ Some rev.now) }
+    ensures found { IfSome result
+        (λ place. slice_get (revisions_at stems.now place.stem) place.at ≡ Some rev.now) }
     ensures none { IfNone result (has_revision stems.now rev.now ≡ false) }
 {
     if rev.generation() > highest {
@@ -102,8 +110,8 @@ fn headed_among<'a>(stems: &'a [Stem], rev: &RevId) -> Option<&'a Stem>
     None
 }
 
-// The stem that the revision heads, which is the first one that has it: no stem's newest revision is one of an
-// earlier stem. It costs a look in the index.
+// The stem that the revision heads, which is the first one that has it: no stem's newest revision
+// is one of an earlier stem. It costs a look in the index.
 fn headed_by<'a>(stems: &'a [Stem], index: &Index, rev: &RevId) -> Option<&'a Stem>
     requires stems { AreStems stems.now }
     requires index { IsIndex index.now stems.now }
@@ -121,8 +129,8 @@ fn headed_by<'a>(stems: &'a [Stem], index: &Index, rev: &RevId) -> Option<&'a St
     }
 }
 
-/// The stem whose newest revision this is. With an index it costs what `place_of` does; else one look an edit,
-/// from the newest on up to that one.
+/// The stem whose newest revision this is. With an index it costs what `place_of` does; else one
+/// look an edit, from the newest on up to that one.
 pub(crate) fn headed<'a>(stems: &'a [Stem], index: Option<&Index>, rev: &RevId) -> Option<&'a Stem>
     requires stems { AreStems stems.now }
     requires index { IsIndexed (option_map (λ i. i.now) index) stems.now }
@@ -179,7 +187,10 @@ fn append_chain_digests(
 ) -> Result<bool, AllocError>
     requires stems { AreStems stems.now }
     requires within { IsWithin stems.now place }
-    ensures { IfOk result (λ all. IsTrue all → map encode_lower digests.new.items ≡ map encode_lower digests.old.items ++ map (λ r. r.hash) (chain_from (chains_of stems.now) (Some place))) }
+    ensures { IfOk result (λ all. IsTrue all
+        → map encode_lower digests.new.items
+        ≡ map encode_lower digests.old.items
+        ++ map (λ r. r.hash) (chain_from (chains_of stems.now) (Some place))) }
 {
     let mut next = Some(place);
     while let Some(place) = next {
@@ -231,8 +242,11 @@ fn end_of(stems: &[Stem], place: Place) -> RevId
 pub(crate) fn behind_in(stems: &[Stem], number: usize, sought: &Sought) -> Option<Place>
     requires stems { AreStems stems.now }
     requires within { number < length stems.now }
-    ensures found { IfSome result (λ place. IsWithin stems.now place × ((r : Revision) → rev_at stems.now (Some place) ≡ Some r → IsBrought stems.now r sought.now)) }
-    ensures none { IfNone result ((stem : StemModel) (r : Revision) → slice_get stems.now number ≡ Some stem → ¬ IsNext (own_path stems.now stem) sought.now r) }
+    ensures found { IfSome result (λ place. IsWithin stems.now place
+        × ((r : Revision) → rev_at stems.now (Some place) ≡ Some r → IsBrought stems.now r sought.now)) }
+    ensures none { IfNone result
+        ((stem : StemModel) (r : Revision) → slice_get stems.now number ≡ Some stem
+        → ¬ IsNext (own_path stems.now stem) sought.now r) }
     ensures goes { IfSome result (λ _. GoesOn stems.now number sought.now) }
     ensures ends { IfNone result (¬ GoesOn stems.now number sought.now) }
 {
@@ -253,7 +267,8 @@ pub(crate) fn behind_in(stems: &[Stem], number: usize, sought: &Sought) -> Optio
 // The place directly behind the revision in what a stem brought. One look a stem.
 fn behind_among(stems: &[Stem], rev: &RevId) -> Option<Place>
     requires stems { AreStems stems.now }
-    ensures found { IfSome result (λ place. IsWithin stems.now place × ((r : Revision) → rev_at stems.now (Some place) ≡ Some r → IsBrought stems.now r rev.now)) }
+    ensures found { IfSome result (λ place. IsWithin stems.now place
+        × ((r : Revision) → rev_at stems.now (Some place) ≡ Some r → IsBrought stems.now r rev.now)) }
     ensures none { IfNone result ((r : Revision) → ¬ IsBrought stems.now r rev.now) }
 {
     let sought = Sought::among(rev, stems.len());
@@ -270,7 +285,8 @@ fn behind_among(stems: &[Stem], rev: &RevId) -> Option<Place>
 fn linked(stems: &[Stem], index: &Index, rev: &RevId) -> Option<Place>
     requires stems { AreStems stems.now }
     requires links { AreLinked (Has stems.now) stems.now (link_in index.now) }
-    ensures found { IfSome result (λ place. IsWithin stems.now place × ((r : Revision) → rev_at stems.now (Some place) ≡ Some r → IsBrought stems.now r rev.now)) }
+    ensures found { IfSome result (λ place. IsWithin stems.now place
+        × ((r : Revision) → rev_at stems.now (Some place) ≡ Some r → IsBrought stems.now r rev.now)) }
     ensures none { IfNone result (link_in index.now rev.now ≡ None) }
 {
     match index.link(rev) {
@@ -289,7 +305,8 @@ fn linked(stems: &[Stem], index: &Index, rev: &RevId) -> Option<Place>
 fn behind_by(stems: &[Stem], index: &Index, rev: &RevId) -> Option<Place>
     requires stems { AreStems stems.now }
     requires index { IsIndex index.now stems.now }
-    ensures found { IfSome result (λ place. IsWithin stems.now place × ((r : Revision) → rev_at stems.now (Some place) ≡ Some r → IsBrought stems.now r rev.now)) }
+    ensures found { IfSome result (λ place. IsWithin stems.now place
+        × ((r : Revision) → rev_at stems.now (Some place) ≡ Some r → IsBrought stems.now r rev.now)) }
     ensures none { IfNone result ((r : Revision) → ¬ IsBrought stems.now r rev.now) }
 {
     let Some(place) = index.place(stems, rev) else {
@@ -301,13 +318,14 @@ fn behind_by(stems: &[Stem], index: &Index, rev: &RevId) -> Option<Place>
     }
 }
 
-/// The place directly behind the revision in what a stem brought. With an index it costs what `place_of` does,
-/// and where the first stem that has the revision has none behind it one more look there, at most log n
-/// comparisons of revisions; else one look a stem.
+/// The place directly behind the revision in what a stem brought. With an index it costs what
+/// `place_of` does, and where the first stem that has the revision has none behind it one more look
+/// there, at most log n comparisons of revisions; else one look a stem.
 pub(crate) fn place_behind(stems: &[Stem], index: Option<&Index>, rev: &RevId) -> Option<Place>
     requires stems { AreStems stems.now }
     requires index { IsIndexed (option_map (λ i. i.now) index) stems.now }
-    ensures found { IfSome result (λ place. IsWithin stems.now place × ((r : Revision) → rev_at stems.now (Some place) ≡ Some r → IsBrought stems.now r rev.now)) }
+    ensures found { IfSome result (λ place. IsWithin stems.now place
+        × ((r : Revision) → rev_at stems.now (Some place) ≡ Some r → IsBrought stems.now r rev.now)) }
     ensures none { IfNone result ((r : Revision) → ¬ IsBrought stems.now r rev.now) }
 {
     match index {
@@ -325,7 +343,8 @@ fn beyond(stems: &[Stem], index: Option<&Index>, place: Place) -> Option<Place>
     requires legal { IsLegal (edits_in (branches_of stems.now)) }
     requires within { IsWithin stems.now place }
     ensures within { IfSome result (IsWithin stems.now) }
-    ensures behind { (x : Revision) → last_in (chain_from (chains_of stems.now) (Some place)) ≡ Some x → rev_at stems.now result ≡ behind_of x (edits_in (branches_of stems.now)) }
+    ensures behind { (x : Revision) → last_in (chain_from (chains_of stems.now) (Some place)) ≡ Some x
+        → rev_at stems.now result ≡ behind_of x (edits_in (branches_of stems.now)) }
 {
     let stem = &stems[place.stem];
     if stem.generation() == stem.reach() {
@@ -342,7 +361,8 @@ pub(crate) fn line_length(stems: &[Stem], index: Option<&Index>, place: Place) -
     requires index { IsIndexed (option_map (λ i. i.now) index) stems.now }
     requires legal { IsLegal (edits_in (branches_of stems.now)) }
     requires within { IsWithin stems.now place }
-    requires short { length (line_to (edits_in (branches_of stems.now)) (rev_at stems.now (Some place))) < 2 ^ 16 }
+    requires short { length (line_to (edits_in (branches_of stems.now)) (rev_at stems.now (Some place)))
+        < 2 ^ 16 }
     ensures { result ≡ length (line_to (edits_in (branches_of stems.now)) (rev_at stems.now (Some place))) }
 {
     let mut count = 0usize;
@@ -366,7 +386,9 @@ pub(crate) fn append_from(
     requires index { IsIndexed (option_map (λ i. i.now) index) stems.now }
     requires legal { IsLegal (edits_in (branches_of stems.now)) }
     requires within { IsWithin stems.now place }
-    ensures { OnOk result (line.new.items ≡ line.old.items ++ line_to (edits_in (branches_of stems.now)) (rev_at stems.now (Some place))) }
+    ensures { OnOk result
+        (line.new.items ≡ line.old.items ++ line_to (edits_in (branches_of stems.now))
+        (rev_at stems.now (Some place))) }
 {
     let mut next = Some(place);
     while let Some(place) = next {
@@ -389,7 +411,10 @@ pub(crate) fn append_digests(
     requires index { IsIndexed (option_map (λ i. i.now) index) stems.now }
     requires legal { IsLegal (edits_in (branches_of stems.now)) }
     requires within { IsWithin stems.now place }
-    ensures { IfOk result (λ all. IsTrue all → map encode_lower digests.new.items ≡ map encode_lower digests.old.items ++ map (λ r. r.hash) (line_to (edits_in (branches_of stems.now)) (rev_at stems.now (Some place)))) }
+    ensures { IfOk result (λ all. IsTrue all
+        → map encode_lower digests.new.items
+        ≡ map encode_lower digests.old.items
+        ++ map (λ r. r.hash) (line_to (edits_in (branches_of stems.now)) (rev_at stems.now (Some place)))) }
 {
     let mut next = Some(place);
     while let Some(place) = next {
@@ -439,7 +464,8 @@ pub(crate) fn agreeing(
     requires highest { AreUpTo stems.now highest }
     requires legal { IsLegal (edits_in (branches_of stems.now)) }
     requires history { IsHistory revisions.now }
-    ensures agrees { is_some result ≡ list_all (λ b. agrees_with revisions.now b.path) (branches_of stems.now) }
+    ensures agrees { is_some result ≡ list_all (λ b. agrees_with revisions.now b.path)
+        (branches_of stems.now) }
     ensures within { IfSome result (λ n. n ≤ length revisions.now) }
 {
     let mut at = 0usize;
@@ -490,7 +516,8 @@ pub(crate) fn met_by(stems: &[Stem], index: Option<&Index>, highest: u16, path: 
     ensures behind { result.behind ≡ length (chain_from (chains_of stems.now) result.place) }
     ensures rest { length path.now - result.at ≤ result.behind }
     ensures none { IfNone result.place (result.at ≡ length path.now) }
-    ensures fresh { result.joins ≡ false → list_any (has_revision stems.now) (take result.at path.now) ≡ false }
+    ensures fresh { result.joins ≡ false
+        → list_any (has_revision stems.now) (take result.at path.now) ≡ false }
 {
     let mut at = 0usize;
     let mut joins = false;
@@ -525,7 +552,8 @@ pub(crate) fn met_by(stems: &[Stem], index: Option<&Index>, highest: u16, path: 
 pub(crate) fn new_in(stems: &[Stem], number: usize) -> usize
     requires stems { AreStems stems.now }
     requires within { number < length stems.now }
-    ensures { (stem : StemModel) → slice_get stems.now number ≡ Some stem → result ≡ length (filter (λ r. not (has_revision (take number stems.now) r)) stem.revisions) }
+    ensures { (stem : StemModel) → slice_get stems.now number ≡ Some stem
+        → result ≡ length (filter (λ r. not (has_revision (take number stems.now) r)) stem.revisions) }
 {
     let stem = &stems[number];
     if !stem.joins() {

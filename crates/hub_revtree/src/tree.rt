@@ -1,6 +1,8 @@
 //! The tree of a document's revisions.
 
-ghost use Rattle.std.specs.Prelude.{Bool, true, ◌≡◌, ◌≤◌, ◌-◌, ◌^◌, min, ◌++◌, ◌∷◌, ◌↔◌, [], length, slice_get, take, IsTrue, IsSome, IsNone, IsSomeAnd, IfSome, IfNone, IfOk, OnOk, OnErr, option_map, None, Some};
+ghost use Rattle.std.specs.Prelude.{Bool, true, ◌≡◌, ◌≤◌, ◌-◌, ◌^◌, min, ◌++◌, ◌∷◌, ◌↔◌, []};
+ghost use Rattle.std.specs.Prelude.{length, slice_get, take, IsTrue, IsSome, IsNone, IsSomeAnd};
+ghost use Rattle.std.specs.Prelude.{IfSome, IfNone, IfOk, OnOk, OnErr, option_map, None, Some};
 ghost use Rattle.hub_document.specs.Changes.{IsDigestText};
 ghost use Rattle.hub_model.specs.Journal.{IsKnown, IsAcceptable, head_of};
 ghost use Rattle.hub_model.specs.Leaves.{IsMarked, IsWinner, leaves_of, revisions_of};
@@ -54,7 +56,8 @@ impl Model for RevTree {
 
     ghost view = { λ a. record { edits = edits_in a.branches.list; room = 65535 * a.branches.spare } };
 
-    ghost invariant = { λ a. HasWinner (edits_in a.branches.list) (option_and_then head_in (slice_get a.branches.list a.best)) };
+    ghost invariant = { λ a.
+        HasWinner (edits_in a.branches.list) (option_and_then head_in (slice_get a.branches.list a.best)) };
 }
 
 /// An edit that a tree can take, and has memory for.
@@ -210,7 +213,9 @@ impl RevTree {
     /// where its hash is no digest's text. Constant time.
     pub fn winner_alone(&self, alloc: Global) -> Result<Changes, AllocError>
         ensures ok { IfOk result (λ changes. changes ≡ take 1 (revisions_of (leaves_of self.now.edits []))) }
-        ensures memory { OnErr result (IsSomeAnd (slice_get (revisions_of (leaves_of self.now.edits [])) 0) (λ r. ¬ IsDigestText r.hash)) }
+        ensures memory { OnErr result
+            (IsSomeAnd (slice_get (revisions_of (leaves_of self.now.edits [])) 0)
+            (λ r. ¬ IsDigestText r.hash)) }
     {
         if self.best < self.branches.len() {
             self.branches.head_alone(alloc, self.best)
@@ -266,8 +271,11 @@ impl RevTree {
         ensures ready { IfOk result (λ looked. IfSome looked (λ ready. ready ≡ nameless path deleted body)) }
         ensures acceptable { IfOk result (λ looked. IfSome looked (IsAcceptable self.old.edits)) }
         ensures room { IfOk result (λ looked. IfSome looked (λ ready. length ready.path ≤ self.new.room)) }
-        ensures contradicts { result ≡ Err MergeFault.Contradicts → (¬ HasKnownHead self.old.edits path) × (¬ IsAcceptable self.old.edits (nameless path deleted body)) }
-        ensures memory { result ≡ Err MergeFault.NoMemory → IsAcceptable self.old.edits (nameless path deleted body) }
+        ensures contradicts { result ≡ Err MergeFault.Contradicts
+            → (¬ HasKnownHead self.old.edits path)
+            × (¬ IsAcceptable self.old.edits (nameless path deleted body)) }
+        ensures memory { result ≡ Err MergeFault.NoMemory
+            → IsAcceptable self.old.edits (nameless path deleted body) }
     {
         let head = path.head();
         if self.branches.is_named(&head) {
@@ -280,18 +288,20 @@ impl RevTree {
         Ok(Some(ready))
     }
 
-    /// Takes an edit that `look_merge` or `look_extend` made ready. It takes memory for the index, for a path
-    /// that is shared and for candidates for the winner, and where there is none to be had the tree goes on
-    /// without these, which changes no answer. It gives back the path's: the tree keeps the revisions that are
-    /// new as the look made them. Where the look found more or fewer, as it may in a tree that is not this one,
-    /// the path's memory is cut to them instead. It costs what `look_merge` does.
+    /// Takes an edit that `look_merge` or `look_extend` made ready. It takes memory for the index,
+    /// for a path that is shared and for candidates for the winner, and where there is none to be
+    /// had the tree goes on without these, which changes no answer. It gives back the path's: the
+    /// tree keeps the revisions that are new as the look made them. Where the look found more or
+    /// fewer, as it may in a tree that is not this one, the path's memory is cut to them instead.
+    /// It costs what `look_merge` does.
     ///
-    /// The winner takes constant time where it is the edit's revision, or the old one which the edit does not
-    /// stand on; else it is found anew. This costs a tree with an index at most log n comparisons of revisions
-    /// for each edit that it ever takes, since each becomes a candidate once at most, and is given up once. It
-    /// costs a tree without one, or without memory for the candidates, one step an edit. So an edit that
-    /// `look_extend` made on the newest one of a line takes constant time, but that its path's memory is given
-    /// back, and that the index and the shared path grow, or are made.
+    /// The winner takes constant time where it is the edit's revision, or the old one which the
+    /// edit does not stand on; else it is found anew. This costs a tree with an index at most log n
+    /// comparisons of revisions for each edit that it ever takes, since each becomes a candidate
+    /// once at most, and is given up once. It costs a tree without one, or without memory for the
+    /// candidates, one step an edit. So an edit that `look_extend` made on the newest one of a line
+    /// takes constant time, but that its path's memory is given back, and that the index and the
+    /// shared path grow, or are made.
     pub fn adopt(&mut self, ready: Ready)
         requires acceptable { IsAcceptable self.old.edits ready }
         requires room { length ready.path ≤ self.old.room }
@@ -312,10 +322,14 @@ impl RevTree {
     pub fn merge(&mut self, path: Path, deleted: bool, body: Body) -> Result<Merged, MergeFault>
         ensures added { result ≡ Ok Merged.Added → IsAcceptable self.old.edits (nameless path deleted body)
             × (self.new.edits ≡ self.old.edits ++ nameless path deleted body ∷ []) }
-        ensures known { result ≡ Ok Merged.Known → HasKnownHead self.old.edits path × (self.new.edits ≡ self.old.edits) }
+        ensures known { result ≡ Ok Merged.Known
+            → HasKnownHead self.old.edits path × (self.new.edits ≡ self.old.edits) }
         ensures err { OnErr result (self.new.edits ≡ self.old.edits) }
-        ensures contradicts { result ≡ Err MergeFault.Contradicts → (¬ HasKnownHead self.old.edits path) × (¬ IsAcceptable self.old.edits (nameless path deleted body)) }
-        ensures memory { result ≡ Err MergeFault.NoMemory → IsAcceptable self.old.edits (nameless path deleted body) }
+        ensures contradicts { result ≡ Err MergeFault.Contradicts
+            → (¬ HasKnownHead self.old.edits path)
+            × (¬ IsAcceptable self.old.edits (nameless path deleted body)) }
+        ensures memory { result ≡ Err MergeFault.NoMemory
+            → IsAcceptable self.old.edits (nameless path deleted body) }
     {
         match self.look_merge(path, deleted, body)? {
             Some(ready) => {

@@ -1,5 +1,7 @@
 -- A document that is read is one that its text gives back.
-use Rattle.std.proofs.Common.{◌≡◌, ℕ, ◌-◌, ◌<◌, ◌≤◌, ◌^◌, max, List, [], ◌∷◌, length, Bool, true, false, cond, Option, Some, None, option_map, option_and_then, codes, IsUtf8, refl, ap, ◌∙◌, subst, arith, eqb, ltb}
+use Rattle.std.proofs.Common.{◌≡◌, ℕ, ◌-◌, ◌<◌, ◌≤◌, ◌^◌, max, List, [], ◌∷◌, length, Bool, true}
+use Rattle.std.proofs.Common.{false, cond, Option, Some, None, option_map, option_and_then, codes}
+use Rattle.std.proofs.Common.{IsUtf8, refl, ap, ◌∙◌, subst, arith, eqb, ltb}
 use Rattle.std.proofs.lemmas.Bool.Decides.{nat_tests, Decides-eqb}
 use Rattle.std.proofs.lemmas.List.Elements.{All-from_recursion}
 use Rattle.std.proofs.lemmas.List.Sums.{AllPass-from_list_all}
@@ -8,20 +10,25 @@ use Rattle.std.specs.List.{AllByRecursion}
 use Rattle.std.specs.Prelude.{⊤, ◌&&◌, not, is_some, nat_lt, slice_get, Result, Ok, IfSome}
 use Rattle.hub_model.specs.Path.{IsHistory}
 use Rattle.hub_model.specs.Revision.{Revision, IsRevision, is_hash_byte}
-use Rattle.serde_json.specs.Data.{Data, null, boolean, number, string, array, object, Items, no_items, item, Members, no_members, member, depth, members_depth}
+use Rattle.serde_json.specs.Data.{Data, null, boolean, number, string, array, object, Items}
+use Rattle.serde_json.specs.Data.{no_items, item, Members, no_members, member, depth, members_depth}
 use Rattle.serde_json.specs.Find.{get, as_str, as_object, as_array, as_number, as_u64}
 use Rattle.serde_json.specs.Read.{max_depth}
 use Rattle.serde_json.specs.Written.{members_have_float}
 use Rattle.serde_json.proofs.Nesting.{depth-read}
 use Rattle.hub_document.specs.BodyText.{is_hidden, plain, body_text}
-use Rattle.hub_document.specs.Histories.{rev_in, read_or, rev_of, falling, starting, history_in, is_head, if_head, alone, path_of}
+use Rattle.hub_document.specs.Histories.{rev_in, read_or, rev_of, falling, starting}
+use Rattle.hub_document.specs.Histories.{history_in, is_head, if_head, alone, path_of}
 use Rattle.hub_document.specs.Ids.{id_of, if_id, is_id}
-use Rattle.hub_document.specs.Read.{or_fault, if_holds, history_of, with_path, with_id, document_of, json_of, doc_in}
+use Rattle.hub_document.specs.Read.{or_fault, if_holds, history_of, with_path}
+use Rattle.hub_document.specs.Read.{with_id, document_of, json_of, doc_in}
 use Rattle.hub_document.specs.RevisionText.{is_hash, with_hash, revision_of}
-use Rattle.hub_round_trip.specs.RoundTrip.{IsWritable, AreWritableMembers, IsOrdered, AreOrderedMembers, IsBody, IsPathOf, IsDoc}
+use Rattle.hub_round_trip.specs.RoundTrip.{IsWritable, AreWritableMembers, IsOrdered}
+use Rattle.hub_round_trip.specs.RoundTrip.{AreOrderedMembers, IsBody, IsPathOf, IsDoc}
 use Rattle.hub_document.specs.SpecialMembers.{are_good_members, deleted_of}
 use Rattle.hub_document.specs.declared.doc.DocFault.{DocFault}
-use Rattle.hub_document.specs.declared.doc.DocFault.TheVariants.{NotJson, NotObject, BadNumber, BadId, BadRev, BadRevisions, BadMember, TooLong}
+use Rattle.hub_document.specs.declared.doc.DocFault.TheVariants.{NotJson, NotObject, BadNumber, BadId}
+use Rattle.hub_document.specs.declared.doc.DocFault.TheVariants.{BadRev, BadRevisions, BadMember, TooLong}
 use Rattle.hub_document.specs.declared.doc.Doc.{Doc}
 use Rattle.hub_document.proofs.PathLemmas.{map_some, history_is_path, one_is_history}
 use Rattle.hub_round_trip.proofs.MemberLemmas.{rise_plain, own_plain}
@@ -30,7 +37,8 @@ use Rattle.hub_document.proofs.TextLemmas.{IsRevision-revision_of}
 
 -- ---- steps that may fail
 
-or_fault_ok : {A B P : Type 0} (o : Option A) (e : DocFault) (next : A → Result B DocFault) (b : B) → or_fault o e next ≡ Ok b → ((a : A) → o ≡ Some a → next a ≡ Ok b → P) → P
+or_fault_ok : {A B P : Type 0} (o : Option A) (e : DocFault) (next : A → Result B DocFault) (b : B)
+    → or_fault o e next ≡ Ok b → ((a : A) → o ≡ Some a → next a ≡ Ok b → P) → P
 or_fault_ok None e next b h go = absurd (cc)
 or_fault_ok (Some a) e next b h go = go a refl h
 
@@ -49,12 +57,15 @@ string_is (array ds) s e w = absurd (cc)
 string_is (object ms) s e w = absurd (cc)
 
 -- an id of any length, of UTF-8
-id_is : (ms : Members) (id : List ℕ) → AreWritableMembers ms → id_of (object ms) ≡ Some id → (is_id id ≡ true) × IsUtf8 id
+id_is : (ms : Members) (id : List ℕ) → AreWritableMembers ms → id_of (object ms) ≡ Some id
+    → (is_id id ≡ true) × IsUtf8 id
 id_is ms id w e =
-    option_and_then_some {P = (is_id id ≡ true) × IsUtf8 id} if_id (option_and_then as_str (get (codes "_id") (object ms))) id e (λ s text good.
-    option_and_then_some {P = (is_id id ≡ true) × IsUtf8 id} as_str (get (codes "_id") (object ms)) s text (λ d there is.
+    option_and_then_some {P = (is_id id ≡ true) × IsUtf8 id} if_id
+    (option_and_then as_str (get (codes "_id") (object ms))) id e (λ s text good. option_and_then_some
+    {P = (is_id id ≡ true) × IsUtf8 id} as_str (get (codes "_id") (object ms)) s text (λ d there is.
     let id_good = cond_some (is_id s) s id good in
-    let utf8 : IsUtf8 s = string_is d s is (subst (λ o. IfSome o IsWritable) there (member_writable (codes "_id") ms w)) in
+    let utf8 : IsUtf8 s =
+    string_is d s is (subst (λ o. IfSome o IsWritable) there (member_writable (codes "_id") ms w)) in
     subst (λ i. (is_id i ≡ true) × IsUtf8 i) id_good.1 (id_good.0, utf8)))
 
 -- ---- the revision
@@ -63,7 +74,9 @@ missing_is : (b : Bool) (rev : Option Revision) → cond b (Some None) None ≡ 
 missing_is true rev e = let is : None ≡ rev = cc in subst (λ r. IfSome r IsRevision) is tt
 missing_is false rev e = absurd (cc)
 
-rev_is : (o : Option Data) (missing : Bool) (rev : Option Revision) → read_or (cond missing (Some None) None) (λ r. option_map Some (rev_in r)) o ≡ Some rev → IfSome rev IsRevision
+rev_is : (o : Option Data) (missing : Bool) (rev : Option Revision)
+    → read_or (cond missing (Some None) None) (λ r. option_map Some (rev_in r)) o ≡ Some rev
+    → IfSome rev IsRevision
 rev_is None missing rev e = missing_is missing rev e
 rev_is (Some d) missing rev e =
     map_some {P = IfSome rev IsRevision} Some (rev_in d) rev e (λ r read is.
@@ -77,47 +90,67 @@ hash_is n h r some small e =
     let c = cond_some (is_hash h) _ r e in
     let good = c.0 in
     let is : IsRevision (record { generation = n; hash = h }) =
-    record { from_one = omega arith; below = small; some = grind (arith, nat_tests); short = grind (arith, nat_tests); letters = AllPass-from_list_all is_hash_byte h (grind (arith, nat_tests)) } in
+    record {
+      from_one = omega arith;
+      below = small;
+      some = grind (arith, nat_tests);
+      short = grind (arith, nat_tests);
+      letters = AllPass-from_list_all is_hash_byte h (grind (arith, nat_tests));
+    } in
     subst IsRevision c.1 is
 
-revs_item : (n : ℕ) (d : Data) (ds : Items) (rs : List Revision) (t : Bool) → eqb n 0 ≡ t → n < 2 ^ 16 → falling n (item d ds) ≡ Some rs
-    → ((rest : List Revision) → falling (n - 1) ds ≡ Some rest → AllByRecursion IsRevision rest) → AllByRecursion IsRevision rs
+revs_item : (n : ℕ) (d : Data) (ds : Items) (rs : List Revision) (t : Bool) → eqb n 0 ≡ t → n < 2 ^ 16
+    → falling n (item d ds) ≡ Some rs
+    → ((rest : List Revision) → falling (n - 1) ds ≡ Some rest → AllByRecursion IsRevision rest)
+    → AllByRecursion IsRevision rs
 revs_item n d ds rs true z small h later = let e : None ≡ Some rs = rw z at h in absurd (cc)
 revs_item n d ds rs false z small h later =
     let some : 0 < n = grind (arith, nat_tests) in
-    option_and_then_some {P = AllByRecursion IsRevision rs} (λ r. option_map (λ rest. r ∷ rest) (falling (n - 1) ds)) (option_and_then (with_hash n) (as_str d)) rs (rw z at h) (λ r read more.
-    map_some {P = AllByRecursion IsRevision rs} (λ rest. r ∷ rest) (falling (n - 1) ds) rs more (λ rest ends is.
-    option_and_then_some {P = AllByRecursion IsRevision rs} (with_hash n) (as_str d) r read (λ s text hash.
-    subst (AllByRecursion IsRevision) is (hash_is n s r some small hash, later rest ends))))
+    option_and_then_some {P = AllByRecursion IsRevision rs}
+    (λ r. option_map (λ rest. r ∷ rest) (falling (n - 1) ds)) (option_and_then (with_hash n) (as_str d)) rs
+    (rw z at h) (λ r read more.
+    map_some {P = AllByRecursion IsRevision rs} (λ rest. r ∷ rest) (falling (n - 1) ds) rs more
+    (λ rest ends is. option_and_then_some {P = AllByRecursion IsRevision rs} (with_hash n) (as_str d) r read
+    (λ s text hash. subst (AllByRecursion IsRevision) is (hash_is n s r some small hash, later rest ends))))
 
-revs_of_falling : (n : ℕ) (ds : Items) (rs : List Revision) → n < 2 ^ 16 → falling n ds ≡ Some rs → AllByRecursion IsRevision rs
+revs_of_falling : (n : ℕ) (ds : Items) (rs : List Revision) → n < 2 ^ 16 → falling n ds ≡ Some rs
+    → AllByRecursion IsRevision rs
 revs_of_falling n no_items rs small h = let is : [] ≡ rs = cc in subst (AllByRecursion IsRevision) is tt
-revs_of_falling n (item d ds) rs small h = revs_item n d ds rs _ refl small h (λ rest. revs_of_falling (n - 1) ds rest (omega arith))
+revs_of_falling n (item d ds) rs small h =
+    revs_item n d ds rs _ refl small h (λ rest. revs_of_falling (n - 1) ds rest (omega arith))
 
-revs_starting : (start : ℕ) (ids : Items) (rs : List Revision) → starting start ids ≡ Some rs → AllByRecursion IsRevision rs
+revs_starting : (start : ℕ) (ids : Items) (rs : List Revision) → starting start ids ≡ Some rs
+    → AllByRecursion IsRevision rs
 revs_starting start no_items rs h = absurd (cc)
 revs_starting start (item d ds) rs h = from (ltb 0 start && ltb start (2 ^ 16)) refl h
   where
-    from : (t : Bool) → (ltb 0 start && ltb start (2 ^ 16)) ≡ t → starting start (item d ds) ≡ Some rs → AllByRecursion IsRevision rs
+    from : (t : Bool) → (ltb 0 start && ltb start (2 ^ 16)) ≡ t → starting start (item d ds) ≡ Some rs
+        → AllByRecursion IsRevision rs
     from true fits h = revs_of_falling start (item d ds) rs (grind (arith, nat_tests)) (rw fits at h)
     from false fits h = let e : ◌≡◌ {A = Option (List Revision)} None (Some rs) = rw fits at h in absurd (cc)
 
 revs_of_history : (d : Data) (rs : List Revision) → history_in d ≡ Some rs → AllByRecursion IsRevision rs
 revs_of_history d rs h =
-    option_and_then_some {P = AllByRecursion IsRevision rs} (λ start. option_and_then (starting start) (option_and_then as_array (get (codes "ids") d))) (option_and_then as_u64 (option_and_then as_number (get (codes "start") d))) rs h (λ start first more.
-    option_and_then_some {P = AllByRecursion IsRevision rs} (starting start) (option_and_then as_array (get (codes "ids") d)) rs more (λ ids list read. revs_starting start ids rs read))
+    option_and_then_some {P = AllByRecursion IsRevision rs}
+    (λ start. option_and_then (starting start) (option_and_then as_array (get (codes "ids") d)))
+    (option_and_then as_u64 (option_and_then as_number (get (codes "start") d))) rs h (λ start first more.
+    option_and_then_some {P = AllByRecursion IsRevision rs}
+    (starting start) (option_and_then as_array (get (codes "ids") d)) rs more
+    (λ ids list read. revs_starting start ids rs read))
 
 -- a history of revisions
 abbrev IsGood : List Revision → Type 0
 IsGood path = IsHistory path × AllByRecursion IsRevision path
 
-alone_is : (rev : Option Revision) (path : List Revision) → IfSome rev IsRevision → alone rev ≡ Some path → IsGood path
+alone_is : (rev : Option Revision) (path : List Revision) → IfSome rev IsRevision → alone rev ≡ Some path
+    → IsGood path
 alone_is None path good e = absurd (cc)
 alone_is (Some r) path good e =
     let is : r ∷ [] ≡ path = cc in
     subst IsGood is (one_is_history r good.from_one, (good, tt))
 
-path_is : (o : Option Data) (rev : Option Revision) (path : List Revision) → IfSome rev IsRevision → read_or (alone rev) (λ v. option_and_then (if_head rev) (history_in v)) o ≡ Some path → IsGood path
+path_is : (o : Option Data) (rev : Option Revision) (path : List Revision) → IfSome rev IsRevision
+    → read_or (alone rev) (λ v. option_and_then (if_head rev) (history_in v)) o ≡ Some path → IsGood path
 path_is None rev path good e = alone_is rev path good e
 path_is (Some v) rev path good e =
     option_and_then_some {P = IsGood path} (if_head rev) (history_in v) path e (λ rs read head.
@@ -134,12 +167,22 @@ head_of : (path : List Revision) → AllByRecursion IsRevision path → IfSome (
 head_of [] h = tt
 head_of (r ∷ path) h = h.0
 
-history_is : (new_edits : Bool) (rev : Option Revision) (d : Data) (p : Option Revision × Option (List Revision)) → IfSome rev IsRevision → history_of new_edits rev d ≡ Some p → IsHistoryOf new_edits p
-history_is true rev d p good e = let is : (rev, None) ≡ p = cc in subst (IsHistoryOf true) is (record { rev = good; path = tt; kind = refl })
+history_is : (new_edits : Bool) (rev : Option Revision) (d : Data)
+    (p : Option Revision × Option (List Revision))
+    → IfSome rev IsRevision → history_of new_edits rev d ≡ Some p → IsHistoryOf new_edits p
+history_is true rev d p good e =
+    let is : (rev, None) ≡ p = cc in
+    subst (IsHistoryOf true) is (record { rev = good; path = tt; kind = refl })
 history_is false rev d p good e =
-    map_some {P = IsHistoryOf false p} (λ path. (slice_get path 0, Some path)) (path_of rev d) p e (λ path read is.
+    map_some {P = IsHistoryOf false p} (λ path. (slice_get path 0, Some path)) (path_of rev d) p e
+    (λ path read is.
     let h = path_is (get (codes "_revisions") d) rev path good read in
-    subst (IsHistoryOf false) is (record { rev = head_of path h.1; path = record { history = h.0; revisions = All-from_recursion IsRevision path h.1; head = refl }; kind = refl }))
+    subst (IsHistoryOf false) is
+    (record {
+      rev = head_of path h.1;
+      path = record { history = h.0; revisions = All-from_recursion IsRevision path h.1; head = refl };
+      kind = refl;
+    }))
 
 -- ---- the body
 
@@ -147,7 +190,8 @@ writable_plain : (ms : Members) → AreWritableMembers ms → AreWritableMembers
 writable_plain no_members h = tt
 writable_plain (member k d ms) h = at (is_hidden k) (writable_plain ms h.2)
   where
-    at : (b : Bool) → AreWritableMembers (plain ms) → AreWritableMembers (cond b (plain ms) (member k d (plain ms)))
+    at : (b : Bool) → AreWritableMembers (plain ms)
+        → AreWritableMembers (cond b (plain ms) (member k d (plain ms)))
     at true rest = rest
     at false rest = (h.0, h.1, rest)
 
@@ -155,7 +199,8 @@ ordered_plain : (ms : Members) → AreOrderedMembers ms → AreOrderedMembers (p
 ordered_plain no_members h = tt
 ordered_plain (member k d ms) h = at (is_hidden k) (ordered_plain ms h.1)
   where
-    at : (b : Bool) → AreOrderedMembers (plain ms) → AreOrderedMembers (cond b (plain ms) (member k d (plain ms)))
+    at : (b : Bool) → AreOrderedMembers (plain ms)
+        → AreOrderedMembers (cond b (plain ms) (member k d (plain ms)))
     at true rest = rest
     at false rest = (h.0, rest)
 
@@ -163,11 +208,13 @@ plain_depth : (ms : Members) → members_depth (plain ms) ≤ members_depth ms
 plain_depth no_members = omega arith
 plain_depth (member k d ms) = at (is_hidden k) (plain_depth ms)
   where
-    at : (b : Bool) → members_depth (plain ms) ≤ members_depth ms → members_depth (cond b (plain ms) (member k d (plain ms))) ≤ max (depth d) (members_depth ms)
+    at : (b : Bool) → members_depth (plain ms) ≤ members_depth ms
+        → members_depth (cond b (plain ms) (member k d (plain ms))) ≤ max (depth d) (members_depth ms)
     at true rest = omega arith
     at false rest = omega arith
 
-body_is : (ms : Members) → AreWritableMembers ms → IsOrdered (object ms) → depth (object ms) ≤ max_depth → IsBody (body_text ms)
+body_is : (ms : Members) → AreWritableMembers ms → IsOrdered (object ms) → depth (object ms) ≤ max_depth
+    → IsBody (body_text ms)
 body_is ms w o shallow =
     record {
       members = plain ms;
@@ -191,30 +238,47 @@ object_is (string s) ms e = absurd (cc)
 object_is (array ds) ms e = absurd (cc)
 object_is (object ns) ms e = let is : ns ≡ ms = cc in ap object is
 
-module _ (new_edits : Bool) (ms : Members) (d : Doc) (w : AreWritableMembers ms) (o : IsOrdered (object ms)) (shallow : depth (object ms) ≤ max_depth) where
-  rest_is : (id : List ℕ) (p : Option Revision × Option (List Revision)) → (is_id id ≡ true) × IsUtf8 id → IsHistoryOf new_edits p → with_path (object ms) ms id p.0 p.1 ≡ Ok d → Reads new_edits d
+module _ (new_edits : Bool) (ms : Members) (d : Doc) (w : AreWritableMembers ms) (o : IsOrdered (object ms))
+    (shallow : depth (object ms) ≤ max_depth) where
+  rest_is : (id : List ℕ) (p : Option Revision × Option (List Revision)) → (is_id id ≡ true) × IsUtf8 id
+      → IsHistoryOf new_edits p → with_path (object ms) ms id p.0 p.1 ≡ Ok d → Reads new_edits d
   rest_is id p good h e =
       or_fault_ok {P = Reads new_edits d} (if_holds (are_good_members ms)) BadMember _ d e (λ u members more.
-      or_fault_ok {P = Reads new_edits d} (if_holds (not (nat_lt 512 (length id)))) TooLong _ d more (λ v fits made.
+      or_fault_ok {P = Reads new_edits d} (if_holds (not (nat_lt 512 (length id)))) TooLong _ d more
+      (λ v fits made.
       let short = holds (not (nat_lt 512 (length id))) v fits in
-      let made_of : Doc = record { id = id; rev = p.0; path = p.1; deleted = deleted_of (object ms); body = body_text ms } in
+      let made_of : Doc =
+      record { id = id; rev = p.0; path = p.1; deleted = deleted_of (object ms); body = body_text ms } in
       let is : made_of ≡ d = cc in
-      let doc : IsDoc made_of = record { id = record { id = good.0; short = grind (arith, nat_tests) }; utf8 = good.1; rev = h.rev; path = h.path; body = body_is ms w o shallow } in
+      let doc : IsDoc made_of = record {
+        id = record { id = good.0; short = grind (arith, nat_tests) };
+        utf8 = good.1;
+        rev = h.rev;
+        path = h.path;
+        body = body_is ms w o shallow;
+      } in
       subst (Reads new_edits) is (doc, h.kind)))
 
-  id_known : (id : List ℕ) → id_of (object ms) ≡ Some id → with_id new_edits (object ms) ms id ≡ Ok d → Reads new_edits d
+  id_known : (id : List ℕ) → id_of (object ms) ≡ Some id → with_id new_edits (object ms) ms id ≡ Ok d
+      → Reads new_edits d
   id_known id found e =
       or_fault_ok {P = Reads new_edits d} (rev_of new_edits (object ms)) BadRev _ d e (λ rev named more.
-      or_fault_ok {P = Reads new_edits d} (history_of new_edits rev (object ms)) BadRevisions _ d more (λ p history made.
-      rest_is id p (id_is ms id w found) (history_is new_edits rev (object ms) p (rev_is (get (codes "_rev") (object ms)) _ rev named) history) made))
+      or_fault_ok {P = Reads new_edits d} (history_of new_edits rev (object ms)) BadRevisions _ d more
+      (λ p history made. rest_is id p (id_is ms id w found)
+      (history_is new_edits rev (object ms) p (rev_is (get (codes "_rev") (object ms)) _ rev named) history)
+      made))
 
-doc_is : (new_edits : Bool) (text : List ℕ) (v : Data) (ms : Members) (d : Doc) → json_of text ≡ Some v → v ≡ object ms → document_of new_edits v ms ≡ Ok d → Reads new_edits d
+doc_is : (new_edits : Bool) (text : List ℕ) (v : Data) (ms : Members) (d : Doc) → json_of text ≡ Some v
+    → v ≡ object ms → document_of new_edits v ms ≡ Ok d → Reads new_edits d
 doc_is new_edits text v ms d json is e =
     let here : json_of text ≡ Some (object ms) = json ∙ ap Some is in
     let known = json_of_is text (object ms) here in
-    let made : document_of new_edits (object ms) ms ≡ Ok d = subst (λ x. document_of new_edits x ms ≡ Ok d) is e in
-    or_fault_ok {P = Reads new_edits d} (if_holds (not (members_have_float ms))) BadNumber _ d made (λ u whole more.
-    let no_float : members_have_float ms ≡ false = negated (members_have_float ms) (holds (not (members_have_float ms)) u whole) in
+    let made : document_of new_edits (object ms) ms ≡ Ok d =
+    subst (λ x. document_of new_edits x ms ≡ Ok d) is e in
+    or_fault_ok {P = Reads new_edits d} (if_holds (not (members_have_float ms))) BadNumber _ d made
+    (λ u whole more.
+    let no_float : members_have_float ms ≡ false =
+    negated (members_have_float ms) (holds (not (members_have_float ms)) u whole) in
     or_fault_ok {P = Reads new_edits d} (id_of (object ms)) BadId _ d more (λ id found rest.
     id_known new_edits ms d (known.1 no_float) known.0 (depth-read text (object ms) known.2) id found rest))
   where
@@ -222,7 +286,8 @@ doc_is new_edits text v ms d json is e =
     negated true h = absurd (cc)
     negated false h = refl
 
-pub reads_are_docs : (new_edits : Bool) (text : List ℕ) (d : Doc) → doc_in new_edits text ≡ Ok d → IsDoc d × (is_some d.path ≡ not new_edits)
+pub reads_are_docs : (new_edits : Bool) (text : List ℕ) (d : Doc) → doc_in new_edits text ≡ Ok d
+    → IsDoc d × (is_some d.path ≡ not new_edits)
 reads_are_docs new_edits text d e =
     or_fault_ok {P = Reads new_edits d} (json_of text) NotJson _ d e (λ v json more.
     or_fault_ok {P = Reads new_edits d} (as_object v) NotObject _ d more (λ ms members made.

@@ -1,5 +1,6 @@
 -- A history that is written reads as itself.
-use Rattle.std.proofs.Common.{◌≡◌, ℕ, ◌-◌, ◌<◌, ◌^◌, List, [], ◌∷◌, ◌++◌, true, false, Option, Some, None, codes, decimal, IsUtf8, refl, sym, subst, arith, ne_eqb, lt-ltb}
+use Rattle.std.proofs.Common.{◌≡◌, ℕ, ◌-◌, ◌<◌, ◌^◌, List, [], ◌∷◌, ◌++◌, true, false, Option, Some}
+use Rattle.std.proofs.Common.{None, codes, decimal, IsUtf8, refl, sym, subst, arith, ne_eqb, lt-ltb}
 use Rattle.std.proofs.lemmas.Bool.{and_from, and_parts}
 use Rattle.std.proofs.lemmas.Bool.Decides.{nat_tests}
 use Rattle.std.proofs.lemmas.Fmt.{IsAscii-decimal}
@@ -31,7 +32,8 @@ letter_is_ascii b h = grind (arith, nat_tests)
 
 letters_are_ascii : (h : List ℕ) → list_all is_hash_byte h ≡ true → are_ascii h ≡ true
 letters_are_ascii [] e = refl
-letters_are_ascii (b ∷ h) e = let p = and_parts _ _ e in and_from _ _ (letter_is_ascii b p.0) (letters_are_ascii h p.1)
+letters_are_ascii (b ∷ h) e =
+    let p = and_parts _ _ e in and_from _ _ (letter_is_ascii b p.0) (letters_are_ascii h p.1)
 
 letters : (r : Revision) → IsRevision r → list_all is_hash_byte r.hash ≡ true
 letters r good = list_all-from_AllPass is_hash_byte r.hash good.letters
@@ -41,7 +43,8 @@ utf8-hash r good = IsUtf8-are_ascii r.hash (letters_are_ascii r.hash (letters r 
 
 pub utf8-text_of : (r : Revision) → IsRevision r → IsUtf8 (text_of r)
 utf8-text_of r good =
-    IsUtf8-append (decimal r.generation) _ (IsUtf8-from_ascii _ (IsAscii-decimal r.generation (let h = good.below in omega arith)))
+    IsUtf8-append (decimal r.generation) _
+    (IsUtf8-from_ascii _ (IsAscii-decimal r.generation (let h = good.below in omega arith)))
     (IsUtf8-append (45 ∷ []) r.hash (IsUtf8-are_ascii (45 ∷ []) refl) (utf8-hash r good))
 
 hashes_writable : (path : List Revision) → AllByRecursion IsRevision path → AreWritable (hashes path)
@@ -64,9 +67,12 @@ hashes_whole (r ∷ path) = hashes_whole path
 
 -- as it is read, its keys in order
 abbrev pub history_read : List Revision → Data
-history_read path = object (member (codes "ids") (array (hashes path)) (member (codes "start") (number (unsigned (generation_of (parent_of path)))) no_members))
+history_read path =
+    object (member (codes "ids") (array (hashes path))
+    (member (codes "start") (number (unsigned (generation_of (parent_of path)))) no_members))
 
-head_fits : (path : List Revision) → IsPath path → AllByRecursion IsRevision path → (0 < generation_of (parent_of path)) × (generation_of (parent_of path) < 2 ^ 16)
+head_fits : (path : List Revision) → IsPath path → AllByRecursion IsRevision path
+    → (0 < generation_of (parent_of path)) × (generation_of (parent_of path) < 2 ^ 16)
 head_fits [] h good = absurd h
 head_fits (r ∷ path) h good = (good.0.from_one, good.0.below)
 
@@ -78,7 +84,11 @@ module _ (rev : Option Revision) (path : List Revision) (h : IsPathOf rev path) 
   fits = head_fits path h.history.falls good
 
   pub history_writable : IsWritable (history_written path)
-  history_writable = (IsUtf8-are_ascii _ refl, (let small = fits.1 in omega arith), (IsUtf8-are_ascii _ refl, hashes_writable path good, tt))
+  history_writable = (
+    IsUtf8-are_ascii _ refl,
+    (let small = fits.1 in omega arith),
+    (IsUtf8-are_ascii _ refl, hashes_writable path good, tt),
+  )
 
 -- ---- it reads as the history
 
@@ -91,29 +101,39 @@ falls_down r (s ∷ path) h =
 hash_read : (n : ℕ) (r : Revision) → r.generation ≡ n → IsRevision r → with_hash n r.hash ≡ Some r
 hash_read n r is good =
     let all = letters r good in
-    let hash : is_hash r.hash ≡ true = (let a = good.some in let b = good.short in grind (arith, nat_tests)) in
+    let hash : is_hash r.hash ≡ true =
+    (let a = good.some in let b = good.short in grind (arith, nat_tests)) in
     rw (← is, hash) refl
 
-falling_back : (n : ℕ) (path : List Revision) → FallsFrom n path → AllByRecursion IsRevision path → falling n (hashes path) ≡ Some path
+falling_back : (n : ℕ) (path : List Revision) → FallsFrom n path → AllByRecursion IsRevision path
+    → falling n (hashes path) ≡ Some path
 falling_back n [] h good = refl
 falling_back n (r ∷ path) h good =
-    rw (ne_eqb n 0 (λ e. omega (arith, h.1)), hash_read n r h.0 good.0, falling_back (n - 1) path h.2 good.1) refl
+    rw (ne_eqb n 0 (λ e. omega (arith, h.1)), hash_read n r h.0 good.0, falling_back (n - 1) path h.2 good.1)
+    refl
 
-starting_back : (path : List Revision) → IsPath path → AllByRecursion IsRevision path → starting (generation_of (parent_of path)) (hashes path) ≡ Some path
+starting_back : (path : List Revision) → IsPath path → AllByRecursion IsRevision path
+    → starting (generation_of (parent_of path)) (hashes path) ≡ Some path
 starting_back [] h good = absurd h
-starting_back (r ∷ path) h good = rw (lt-ltb _ _ good.0.from_one, lt-ltb _ _ good.0.below) (falling_back r.generation (r ∷ path) (falls_down r path h) good)
+starting_back (r ∷ path) h good =
+    rw (lt-ltb _ _ good.0.from_one, lt-ltb _ _ good.0.below)
+    (falling_back r.generation (r ∷ path) (falls_down r path h) good)
 
 module _ (rev : Option Revision) (path : List Revision) (h : IsPathOf rev path) where
   pub of_json-history : of_json (outline (history_written path)) ≡ Some (history_read path)
   of_json-history =
-      rw (number_of-decimal (generation_of (parent_of path)) (let small = (fits rev path h).1 in omega arith), of_items-items_outline (hashes path) (hashes_writable path (good rev path h)) (hashes_ordered path)) refl
+      rw (
+        number_of-decimal (generation_of (parent_of path)) (let small = (fits rev path h).1 in omega arith),
+        of_items-items_outline (hashes path) (hashes_writable path (good rev path h)) (hashes_ordered path),
+      ) refl
 
   pub history_in-history_read : history_in (history_read path) ≡ Some path
   history_in-history_read =
       starting_back path h.history.falls (good rev path h)
 
 -- and the revision that is named is its first
-pub head_is_head : (rev : Option Revision) (path : List Revision) → slice_get path 0 ≡ rev → is_head rev path ≡ true
+pub head_is_head : (rev : Option Revision) (path : List Revision) → slice_get path 0 ≡ rev
+    → is_head rev path ≡ true
 head_is_head None path h = refl
 head_is_head (Some r) [] h = absurd (cc)
 head_is_head (Some r) (x ∷ path) h = let same : x ≡ r = cc in rw same (same_self r)

@@ -1,5 +1,6 @@
 -- What members that are put one after another hold.
-use Rattle.std.proofs.Common.{◌≡◌, ℕ, List, Bool, true, false, Ordering, Less, Equal, Greater, nat_cmp, cond, refl, sym, ap, ◌∙◌, subst, true≢false}
+use Rattle.std.proofs.Common.{◌≡◌, ℕ, List, Bool, true, false, Ordering, Less, Equal}
+use Rattle.std.proofs.Common.{Greater, nat_cmp, cond, refl, sym, ap, ◌∙◌, subst, true≢false}
 use Rattle.std.proofs.lemmas.Bool.{and_from}
 use Rattle.std.proofs.lemmas.Cmp.{nat_list_cmp_total}
 use Rattle.std.proofs.lemmas.Map.Text.{is_eq-slice_cmp}
@@ -7,12 +8,14 @@ use Rattle.std.proofs.lemmas.Slice.Eq.{bytes_eq-Decides}
 use Rattle.std.specs.Cmp.Lexicographic.{slice_cmp}
 use Rattle.std.specs.Ordering.{match_ordering, ordering_reverse, is_eq}
 use Rattle.std.specs.Prelude.{⊤, ◌||◌}
-use Rattle.serde_json.specs.Data.{Num, unsigned, negative, float, Data, null, boolean, number, string, array, object, Items, no_items, item, Members, no_members, member, put}
+use Rattle.serde_json.specs.Data.{Num, unsigned, negative, float, Data, null, boolean, number, string}
+use Rattle.serde_json.specs.Data.{array, object, Items, no_items, item, Members, no_members, member, put}
 use Rattle.serde_json.specs.Find.{get_member}
 use Rattle.serde_json.specs.Written.{has_float, items_have_float, members_have_float}
 use Rattle.serde_json.proofs.Views.{get_member-put_other}
 use Rattle.hub_document.specs.BodyText.{is_hidden, plain}
-use Rattle.hub_round_trip.specs.RoundTrip.{IsWhole, IsWritable, AreWritable, AreWritableMembers, IsBefore, DoKeysRise, AreOwn}
+use Rattle.hub_round_trip.specs.RoundTrip.{IsWhole, IsWritable, AreWritable}
+use Rattle.hub_round_trip.specs.RoundTrip.{AreWritableMembers, IsBefore, DoKeysRise, AreOwn}
 use Rattle.hub_document.specs.SpecialMembers.{is_good_member, are_good_members}
 use Rattle.hub_round_trip.proofs.ValueLemmas.{puts}
 
@@ -23,24 +26,29 @@ same_key k l e = (bytes_eq-Decides k l).0 (sym (is_eq-slice_cmp k l) ∙ ap is_e
 
 -- ---- keys that rise
 
-before_put_at : (o : Ordering) (k j l : List ℕ) (d e : Data) (ms : Members) → slice_cmp nat_cmp j l ≡ o → slice_cmp nat_cmp k j ≡ Less → IsBefore k (member l e ms) → IsBefore k (put j d ms)
+before_put_at : (o : Ordering) (k j l : List ℕ) (d e : Data) (ms : Members) → slice_cmp nat_cmp j l ≡ o
+    → slice_cmp nat_cmp k j ≡ Less → IsBefore k (member l e ms) → IsBefore k (put j d ms)
     → IsBefore k (match_ordering o (member j d (member l e ms)) (member l d ms) (member l e (put j d ms)))
 before_put_at Less k j l d e ms is first h later = (first, h)
 before_put_at Equal k j l d e ms is first h later = h
 before_put_at Greater k j l d e ms is first h later = (h.0, later)
 
-before_put : (k j : List ℕ) (d : Data) (ms : Members) → slice_cmp nat_cmp k j ≡ Less → IsBefore k ms → IsBefore k (put j d ms)
+before_put : (k j : List ℕ) (d : Data) (ms : Members) → slice_cmp nat_cmp k j ≡ Less → IsBefore k ms
+    → IsBefore k (put j d ms)
 before_put k j d no_members first h = (first, tt)
-before_put k j d (member l e ms) first h = before_put_at _ k j l d e ms refl first h (before_put k j d ms first h.1)
+before_put k j d (member l e ms) first h =
+    before_put_at _ k j l d e ms refl first h (before_put k j d ms first h.1)
 
 before_all : (k l : List ℕ) (ms : Members) → slice_cmp nat_cmp k l ≡ Less → IsBefore l ms → IsBefore k ms
 before_all k l no_members first h = tt
-before_all k l (member m e ms) first h = (nat_list_cmp_total.trans k l m first h.0, before_all k l ms first h.1)
+before_all k l (member m e ms) first h =
+    (nat_list_cmp_total.trans k l m first h.0, before_all k l ms first h.1)
 
 past : (k l : List ℕ) → slice_cmp nat_cmp k l ≡ Greater → slice_cmp nat_cmp l k ≡ Less
 past k l e = nat_list_cmp_total.antisymm l k ∙ ap ordering_reverse e
 
-rise_put_at : (o : Ordering) (k l : List ℕ) (d e : Data) (ms : Members) → slice_cmp nat_cmp k l ≡ o → DoKeysRise (member l e ms) → DoKeysRise (put k d ms)
+rise_put_at : (o : Ordering) (k l : List ℕ) (d e : Data) (ms : Members) → slice_cmp nat_cmp k l ≡ o
+    → DoKeysRise (member l e ms) → DoKeysRise (put k d ms)
     → DoKeysRise (match_ordering o (member k d (member l e ms)) (member l d ms) (member l e (put k d ms)))
 rise_put_at Less k l d e ms is h later = ((is, before_all k l ms is h.0), h)
 rise_put_at Equal k l d e ms is h later = h
@@ -61,7 +69,8 @@ pub before_plain : (k : List ℕ) (ms : Members) → IsBefore k ms → IsBefore 
 before_plain k no_members h = tt
 before_plain k (member l e ms) h = at (is_hidden l) h.0 (before_plain k ms h.1)
   where
-    at : (b : Bool) → slice_cmp nat_cmp k l ≡ Less → IsBefore k (plain ms) → IsBefore k (cond b (plain ms) (member l e (plain ms)))
+    at : (b : Bool) → slice_cmp nat_cmp k l ≡ Less → IsBefore k (plain ms)
+        → IsBefore k (cond b (plain ms) (member l e (plain ms)))
     at true first rest = rest
     at false first rest = (first, rest)
 
@@ -69,7 +78,8 @@ pub rise_plain : (ms : Members) → DoKeysRise ms → DoKeysRise (plain ms)
 rise_plain no_members h = tt
 rise_plain (member l e ms) h = at (is_hidden l) (before_plain l ms h.0) (rise_plain ms h.1)
   where
-    at : (b : Bool) → IsBefore l (plain ms) → DoKeysRise (plain ms) → DoKeysRise (cond b (plain ms) (member l e (plain ms)))
+    at : (b : Bool) → IsBefore l (plain ms) → DoKeysRise (plain ms)
+        → DoKeysRise (cond b (plain ms) (member l e (plain ms)))
     at true first rest = rest
     at false first rest = (first, rest)
 
@@ -82,26 +92,34 @@ own_plain (member l e ms) = at (is_hidden l) refl (own_plain ms)
     at false is rest = (is, rest)
 
 -- one is put among the own members alone
-plain_put_at : (o : Ordering) (b : Bool) (k l : List ℕ) (d e : Data) (ms : Members) → slice_cmp nat_cmp k l ≡ o → is_hidden l ≡ b → is_hidden k ≡ false → DoKeysRise (member l e ms)
+plain_put_at : (o : Ordering) (b : Bool) (k l : List ℕ) (d e : Data) (ms : Members)
+    → slice_cmp nat_cmp k l ≡ o → is_hidden l ≡ b → is_hidden k ≡ false → DoKeysRise (member l e ms)
     → plain (put k d ms) ≡ put k d (plain ms)
-    → plain (match_ordering o (member k d (member l e ms)) (member l d ms) (member l e (put k d ms))) ≡ put k d (cond b (plain ms) (member l e (plain ms)))
-plain_put_at Less true k l d e ms is hides own h later = rw (own, hides) (sym (put_first k d (plain ms) (before_plain k ms (before_all k l ms is h.0))))
+    → plain (match_ordering o (member k d (member l e ms)) (member l d ms) (member l e (put k d ms)))
+    ≡ put k d (cond b (plain ms) (member l e (plain ms)))
+plain_put_at Less true k l d e ms is hides own h later =
+    rw (own, hides) (sym (put_first k d (plain ms) (before_plain k ms (before_all k l ms is h.0))))
 plain_put_at Less false k l d e ms is hides own h later = rw (own, hides, is) refl
-plain_put_at Equal true k l d e ms is hides own h later = absurd (true≢false (sym hides ∙ sym (ap is_hidden (same_key k l is)) ∙ own))
+plain_put_at Equal true k l d e ms is hides own h later =
+    absurd (true≢false (sym hides ∙ sym (ap is_hidden (same_key k l is)) ∙ own))
 plain_put_at Equal false k l d e ms is hides own h later = rw (hides, is) refl
 plain_put_at Greater true k l d e ms is hides own h later = rw hides later
 plain_put_at Greater false k l d e ms is hides own h later = rw (hides, is) (ap (member l e) later)
 
-plain_put : (k : List ℕ) (d : Data) (ms : Members) → is_hidden k ≡ false → DoKeysRise ms → plain (put k d ms) ≡ put k d (plain ms)
+plain_put : (k : List ℕ) (d : Data) (ms : Members) → is_hidden k ≡ false → DoKeysRise ms
+    → plain (put k d ms) ≡ put k d (plain ms)
 plain_put k d no_members own h = rw own refl
 plain_put k d (member l e ms) own h = plain_put_at _ _ k l d e ms refl refl own h (plain_put k d ms own h.1)
 
-pub plain-puts : (ms found : Members) → AreOwn ms → DoKeysRise found → plain (puts ms found) ≡ puts ms (plain found)
+pub plain-puts : (ms found : Members) → AreOwn ms → DoKeysRise found
+    → plain (puts ms found) ≡ puts ms (plain found)
 plain-puts no_members found own h = refl
-plain-puts (member k d ms) found own h = plain-puts ms (put k d found) own.1 (rise_put k d found h) ∙ ap (puts ms) (plain_put k d found own.0 h)
+plain-puts (member k d ms) found own h =
+    plain-puts ms (put k d found) own.1 (rise_put k d found h) ∙ ap (puts ms) (plain_put k d found own.0 h)
 
 -- and those that are not keep their values
-pub get_member-puts : (q : List ℕ) (ms found : Members) → is_hidden q ≡ true → AreOwn ms → get_member q (puts ms found) ≡ get_member q found
+pub get_member-puts : (q : List ℕ) (ms found : Members) → is_hidden q ≡ true → AreOwn ms
+    → get_member q (puts ms found) ≡ get_member q found
 get_member-puts q no_members found hides own = refl
 get_member-puts q (member k d ms) found hides own =
     let other : q ≡ k → ⊥ = λ same. true≢false (sym hides ∙ ap is_hidden same ∙ own.0) in
@@ -114,15 +132,19 @@ abbrev pub AllFit : Members → Type 0
 AllFit no_members = ⊤
 AllFit (member k d ms) = (is_good_member k d ≡ true) × (has_float d ≡ false) × AllFit ms
 
-fit_put_at : (o : Ordering) (k l : List ℕ) (d e : Data) (ms : Members) → slice_cmp nat_cmp k l ≡ o → is_good_member k d ≡ true → has_float d ≡ false → AllFit (member l e ms) → AllFit (put k d ms)
+fit_put_at : (o : Ordering) (k l : List ℕ) (d e : Data) (ms : Members) → slice_cmp nat_cmp k l ≡ o
+    → is_good_member k d ≡ true → has_float d ≡ false → AllFit (member l e ms) → AllFit (put k d ms)
     → AllFit (match_ordering o (member k d (member l e ms)) (member l d ms) (member l e (put k d ms)))
 fit_put_at Less k l d e ms is good whole h later = (good, whole, h)
-fit_put_at Equal k l d e ms is good whole h later = (subst (λ m. is_good_member m d ≡ true) (same_key k l is) good, whole, h.2)
+fit_put_at Equal k l d e ms is good whole h later =
+    (subst (λ m. is_good_member m d ≡ true) (same_key k l is) good, whole, h.2)
 fit_put_at Greater k l d e ms is good whole h later = (h.0, h.1, later)
 
-pub fit_put : (k : List ℕ) (d : Data) (ms : Members) → is_good_member k d ≡ true → has_float d ≡ false → AllFit ms → AllFit (put k d ms)
+pub fit_put : (k : List ℕ) (d : Data) (ms : Members) → is_good_member k d ≡ true → has_float d ≡ false
+    → AllFit ms → AllFit (put k d ms)
 fit_put k d no_members good whole h = (good, whole, tt)
-fit_put k d (member l e ms) good whole h = fit_put_at _ k l d e ms refl good whole h (fit_put k d ms good whole h.2)
+fit_put k d (member l e ms) good whole h =
+    fit_put_at _ k l d e ms refl good whole h (fit_put k d ms good whole h.2)
 
 whole_number : (n : Num) → IsWhole n → has_float (number n) ≡ false
 whole_number (unsigned n) h = refl
@@ -153,9 +175,12 @@ mutual
 own_is_good : (k : List ℕ) (d : Data) → is_hidden k ≡ false → is_good_member k d ≡ true
 own_is_good k d own = rw own refl
 
-pub fit-puts : (ms found : Members) → AreOwn ms → AreWritableMembers ms → AllFit found → AllFit (puts ms found)
+pub fit-puts : (ms found : Members) → AreOwn ms → AreWritableMembers ms → AllFit found
+    → AllFit (puts ms found)
 fit-puts no_members found own h fit = fit
-fit-puts (member k d ms) found own h fit = fit-puts ms (put k d found) own.1 h.2 (fit_put k d found (own_is_good k d own.0) (whole-writable d h.1) fit)
+fit-puts (member k d ms) found own h fit =
+    fit-puts ms (put k d found) own.1 h.2
+    (fit_put k d found (own_is_good k d own.0) (whole-writable d h.1) fit)
 
 pub good-fit : (ms : Members) → AllFit ms → are_good_members ms ≡ true
 good-fit no_members h = refl

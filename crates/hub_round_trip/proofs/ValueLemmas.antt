@@ -1,5 +1,7 @@
 -- The compact text of a value reads as the value.
-use Rattle.std.proofs.Common.{◌≡◌, ℕ, suc, ◌≤◌, pos, negsuc, List, [], ◌∷◌, ◌++◌, Bool, true, false, Some, option_map, option_and_then, Less, Greater, nat_cmp, IsUtf8, refl, sym, ap, ◌∙◌, subst, arith, append-nil}
+use Rattle.std.proofs.Common.{◌≡◌, ℕ, suc, ◌≤◌, pos, negsuc, List, [], ◌∷◌, ◌++◌, Bool}
+use Rattle.std.proofs.Common.{true, false, Some, option_map, option_and_then, Less, Greater}
+use Rattle.std.proofs.Common.{nat_cmp, IsUtf8, refl, sym, ap, ◌∙◌, subst, arith, append-nil}
 use Rattle.std.proofs.lemmas.Cmp.{nat_list_cmp_total}
 use Rattle.std.proofs.lemmas.Fmt.{IsAscii-decimal, IsAscii-signed}
 use Rattle.std.proofs.lemmas.Str.{IsUtf8-append, IsUtf8-from_ascii}
@@ -13,12 +15,16 @@ use Rattle.json.proofs.Printed.Decimals.{IsNumber-decimal, IsNumber-signed_decim
 use Rattle.json.proofs.Printed.Tokens.{tokens-print}
 use Rattle.json.proofs.Printed.Trees.{value-json_tokens, ArePrintable-json_tokens}
 use Rattle.json.proofs.Printed.Utf8.{IsUtf8-are_ascii, IsUtf8-quoted, IsUtf8-boolean}
-use Rattle.serde_json.specs.Data.{Num, unsigned, negative, float, Data, null, boolean, number, string, array, object, Items, no_items, item, Members, no_members, member, put, depth, items_depth, members_depth}
+use Rattle.serde_json.specs.Data.{Num, unsigned, negative, float, Data, null, boolean, number}
+use Rattle.serde_json.specs.Data.{string, array, object, Items, no_items, item, Members}
+use Rattle.serde_json.specs.Data.{no_members, member, put, depth, items_depth, members_depth}
 use Rattle.serde_json.specs.Read.{number_of, of_json, of_items, of_members, max_depth, read}
-use Rattle.serde_json.specs.Written.{number_text, outline, items_outline, members_outline, comma_if, compact_text, items_text, members_text}
+use Rattle.serde_json.specs.Written.{number_text, outline, items_outline, members_outline}
+use Rattle.serde_json.specs.Written.{comma_if, compact_text, items_text, members_text}
 use Rattle.serde_json.proofs.Numbers.{number_of-decimal, number_of-negative}
 use Rattle.serde_json.proofs.Texts.{print-outline}
-use Rattle.hub_round_trip.specs.RoundTrip.{IsWhole, IsWritable, AreWritable, AreWritableMembers, IsBefore, DoKeysRise, IsOrdered, AreOrdered, AreOrderedMembers}
+use Rattle.hub_round_trip.specs.RoundTrip.{IsWhole, IsWritable, AreWritable, AreWritableMembers, IsBefore}
+use Rattle.hub_round_trip.specs.RoundTrip.{DoKeysRise, IsOrdered, AreOrdered, AreOrderedMembers}
 
 -- ---- what is written is JSON
 
@@ -41,7 +47,8 @@ mutual
   numbers-items_outline no_items h = tt
   numbers-items_outline (item d ds) h = (numbers-outline d h.0, numbers-items_outline ds h.1)
 
-  numbers-members_outline : (ms : Members) → AreWritableMembers ms → tree.MembersHaveNumbers (members_outline ms)
+  numbers-members_outline : (ms : Members) → AreWritableMembers ms
+      → tree.MembersHaveNumbers (members_outline ms)
   numbers-members_outline no_members h = tt
   numbers-members_outline (member k d ms) h = (numbers-outline d h.1, numbers-members_outline ms h.2)
 
@@ -63,13 +70,18 @@ mutual
   depth-members_outline (member k d ms) = rw (depth-outline d, depth-members_outline ms) refl
 
 -- a text is read as what its outline is
-pub read-compact_text : (d : Data) → IsWritable d → depth d ≤ max_depth → read (compact_text d) ≡ of_json (outline d)
+pub read-compact_text : (d : Data) → IsWritable d → depth d ≤ max_depth
+    → read (compact_text d) ≡ of_json (outline d)
 read-compact_text d h shallow =
     let j = outline d in
     let same : tokens (compact_text d) ≡ tree.json_tokens j ++ [] =
-    ap tokens (sym (print-outline d)) ∙ tokens-print (tree.json_tokens j) (ArePrintable-json_tokens j (numbers-outline d h)) ∙ sym (append-nil _) in
-    ap (λ ts. option_and_then of_json (option_and_then (λ p. json.if_last p.0 p.1) (json.value max_depth ts))) same
-    ∙ ap (λ o. option_and_then of_json (option_and_then (λ p. json.if_last p.0 p.1) o)) (value-json_tokens j max_depth [] (omega (arith, shallow, depth-outline d)))
+    ap tokens (sym (print-outline d))
+    ∙ tokens-print (tree.json_tokens j) (ArePrintable-json_tokens j (numbers-outline d h))
+    ∙ sym (append-nil _) in
+    ap (λ ts. option_and_then of_json (option_and_then (λ p. json.if_last p.0 p.1) (json.value max_depth ts)))
+    same
+    ∙ ap (λ o. option_and_then of_json (option_and_then (λ p. json.if_last p.0 p.1) o))
+    (value-json_tokens j max_depth [] (omega (arith, shallow, depth-outline d)))
 
 -- ---- and UTF-8
 
@@ -83,9 +95,11 @@ pub utf8-comma_if : (b : Bool) (s : List ℕ) → IsUtf8 s → IsUtf8 (comma_if 
 utf8-comma_if true s h = IsUtf8-append (44 ∷ []) s (IsUtf8-are_ascii (44 ∷ []) refl) h
 utf8-comma_if false s h = h
 
-pub utf8-member : (k s rest : List ℕ) → IsUtf8 k → IsUtf8 s → IsUtf8 rest → IsUtf8 (quoted k ++ 58 ∷ (s ++ rest))
+pub utf8-member : (k s rest : List ℕ) → IsUtf8 k → IsUtf8 s → IsUtf8 rest
+    → IsUtf8 (quoted k ++ 58 ∷ (s ++ rest))
 utf8-member k s rest key value more =
-    IsUtf8-append (quoted k) _ (IsUtf8-quoted k key) (IsUtf8-append (58 ∷ []) _ (IsUtf8-are_ascii (58 ∷ []) refl) (IsUtf8-append s rest value more))
+    IsUtf8-append (quoted k) _ (IsUtf8-quoted k key)
+    (IsUtf8-append (58 ∷ []) _ (IsUtf8-are_ascii (58 ∷ []) refl) (IsUtf8-append s rest value more))
 
 mutual
   pub utf8-compact_text : (d : Data) → IsWritable d → IsUtf8 (compact_text d)
@@ -93,16 +107,21 @@ mutual
   utf8-compact_text (boolean b) h = IsUtf8-boolean b
   utf8-compact_text (number n) h = utf8-number n h
   utf8-compact_text (string s) h = IsUtf8-quoted s h
-  utf8-compact_text (array ds) h = IsUtf8-append (91 ∷ []) _ (IsUtf8-are_ascii (91 ∷ []) refl) (utf8-items_text false ds h)
-  utf8-compact_text (object ms) h = IsUtf8-append (123 ∷ []) _ (IsUtf8-are_ascii (123 ∷ []) refl) (utf8-members_text false ms h)
+  utf8-compact_text (array ds) h =
+      IsUtf8-append (91 ∷ []) _ (IsUtf8-are_ascii (91 ∷ []) refl) (utf8-items_text false ds h)
+  utf8-compact_text (object ms) h =
+      IsUtf8-append (123 ∷ []) _ (IsUtf8-are_ascii (123 ∷ []) refl) (utf8-members_text false ms h)
 
   utf8-items_text : (later : Bool) (ds : Items) → AreWritable ds → IsUtf8 (items_text later ds)
   utf8-items_text later no_items h = IsUtf8-are_ascii (93 ∷ []) refl
-  utf8-items_text later (item d ds) h = utf8-comma_if later _ (IsUtf8-append _ _ (utf8-compact_text d h.0) (utf8-items_text true ds h.1))
+  utf8-items_text later (item d ds) h =
+      utf8-comma_if later _ (IsUtf8-append _ _ (utf8-compact_text d h.0) (utf8-items_text true ds h.1))
 
   utf8-members_text : (later : Bool) (ms : Members) → AreWritableMembers ms → IsUtf8 (members_text later ms)
   utf8-members_text later no_members h = IsUtf8-are_ascii (125 ∷ []) refl
-  utf8-members_text later (member k d ms) h = utf8-comma_if later _ (utf8-member k (compact_text d) _ h.0 (utf8-compact_text d h.1) (utf8-members_text true ms h.2))
+  utf8-members_text later (member k d ms) h =
+      utf8-comma_if later _
+      (utf8-member k (compact_text d) _ h.0 (utf8-compact_text d h.1) (utf8-members_text true ms h.2))
 
 -- ---- members that are put one after another
 
@@ -118,25 +137,32 @@ append-no_members : (ms : Members) → append ms no_members ≡ ms
 append-no_members no_members = refl
 append-no_members (member k d ms) = ap (member k d) (append-no_members ms)
 
-one_more : (found : Members) (k : List ℕ) (d : Data) (rest : Members) → append (append found (member k d no_members)) rest ≡ append found (member k d rest)
+one_more : (found : Members) (k : List ℕ) (d : Data) (rest : Members)
+    → append (append found (member k d no_members)) rest ≡ append found (member k d rest)
 one_more no_members k d rest = refl
 one_more (member l e ms) k d rest = ap (member l e) (one_more ms k d rest)
 
-before_middle : (l : List ℕ) (found : Members) (k : List ℕ) (d : Data) (rest : Members) → IsBefore l (append found (member k d rest)) → slice_cmp nat_cmp l k ≡ Less
+before_middle : (l : List ℕ) (found : Members) (k : List ℕ) (d : Data) (rest : Members)
+    → IsBefore l (append found (member k d rest)) → slice_cmp nat_cmp l k ≡ Less
 before_middle l no_members k d rest h = h.0
 before_middle l (member m e ms) k d rest h = before_middle l ms k d rest h.1
 
 -- a key past the others goes last
-put_last : (found : Members) (k : List ℕ) (d : Data) (rest : Members) → DoKeysRise (append found (member k d rest)) → put k d found ≡ append found (member k d no_members)
+put_last : (found : Members) (k : List ℕ) (d : Data) (rest : Members)
+    → DoKeysRise (append found (member k d rest)) → put k d found ≡ append found (member k d no_members)
 put_last no_members k d rest h = refl
 put_last (member l e ms) k d rest h =
-    let past : slice_cmp nat_cmp k l ≡ Greater = nat_list_cmp_total.antisymm k l ∙ ap ordering_reverse (before_middle l ms k d rest h.0) in
+    let past : slice_cmp nat_cmp k l ≡ Greater =
+    nat_list_cmp_total.antisymm k l ∙ ap ordering_reverse (before_middle l ms k d rest h.0) in
     rw past (ap (member l e) (put_last ms k d rest h.1))
 
 puts_in_order : (ms found : Members) → DoKeysRise (append found ms) → puts ms found ≡ append found ms
 puts_in_order no_members found h = sym (append-no_members found)
 puts_in_order (member k d ms) found h =
-    rw (put_last found k d ms h) (puts_in_order ms (append found (member k d no_members)) (subst DoKeysRise (sym (one_more found k d ms)) h) ∙ one_more found k d ms)
+    rw (put_last found k d ms h)
+    (puts_in_order ms (append found (member k d no_members))
+    (subst DoKeysRise (sym (one_more found k d ms)) h)
+    ∙ one_more found k d ms)
 
 pub puts-no_members : (ms : Members) → DoKeysRise ms → puts ms no_members ≡ ms
 puts-no_members ms h = puts_in_order ms no_members h
@@ -156,12 +182,18 @@ mutual
   of_json-outline (number n) h o = ap (option_map number) (number_back n h)
   of_json-outline (string s) h o = refl
   of_json-outline (array ds) h o = ap (option_map array) (of_items-items_outline ds h o)
-  of_json-outline (object ms) h o = ap (option_map object) (of_members-members_outline ms no_members h o.1 ∙ ap Some (puts-no_members ms o.0))
+  of_json-outline (object ms) h o =
+      ap (option_map object)
+      (of_members-members_outline ms no_members h o.1 ∙ ap Some (puts-no_members ms o.0))
 
-  pub of_items-items_outline : (ds : Items) → AreWritable ds → AreOrdered ds → of_items (items_outline ds) ≡ Some ds
+  pub of_items-items_outline : (ds : Items) → AreWritable ds → AreOrdered ds
+      → of_items (items_outline ds) ≡ Some ds
   of_items-items_outline no_items h o = refl
-  of_items-items_outline (item d ds) h o = rw (of_json-outline d h.0 o.0, of_items-items_outline ds h.1 o.1) refl
+  of_items-items_outline (item d ds) h o =
+      rw (of_json-outline d h.0 o.0, of_items-items_outline ds h.1 o.1) refl
 
-  pub of_members-members_outline : (ms found : Members) → AreWritableMembers ms → AreOrderedMembers ms → of_members (members_outline ms) found ≡ Some (puts ms found)
+  pub of_members-members_outline : (ms found : Members) → AreWritableMembers ms → AreOrderedMembers ms
+      → of_members (members_outline ms) found ≡ Some (puts ms found)
   of_members-members_outline no_members found h o = refl
-  of_members-members_outline (member k d ms) found h o = rw (of_json-outline d h.1 o.0) (of_members-members_outline ms (put k d found) h.2 o.1)
+  of_members-members_outline (member k d ms) found h o =
+      rw (of_json-outline d h.1 o.0) (of_members-members_outline ms (put k d found) h.2 o.1)

@@ -1,5 +1,7 @@
 -- Where requests go.
-use Rattle.std.proofs.Common.{◌≡◌, ◌≢◌, ◌⊎◌, Result, inl, inr, Ok, Err, String, Vec, string_bytes, ℕ, ◌+◌, ◌-◌, ◌≤◌, Bool, true, false, cond, List, [], length, take, drop, take_all, Some, None, refl, sym, ap, ◌∙◌, arith}
+use Rattle.std.proofs.Common.{◌≡◌, ◌≢◌, ◌⊎◌, Result, inl, inr, Ok, Err, String, Vec, string_bytes}
+use Rattle.std.proofs.Common.{ℕ, ◌+◌, ◌-◌, ◌≤◌, Bool, true, false, cond, List, [], length, take}
+use Rattle.std.proofs.Common.{drop, take_all, Some, None, refl, sym, ap, ◌∙◌, arith}
 use Rattle.std.specs.Prelude.{position, is_ok, IsOk, IfErr}
 use Rattle.std.specs.List.{before_first, after_first, position_or_len}
 use Rattle.std.specs.Str.{IsUtf8}
@@ -8,7 +10,8 @@ use Rattle.std.proofs.lemmas.Grind.{common_steps}
 use Rattle.std.proofs.lemmas.Bool.Decides.{nat_tests}
 use Rattle.hub_http.specs.Stream.{Asked}
 use Rattle.hub_routes.specs.Paths.{path_of, query_of, name_part, id_part, HasPercent, NeedsRoomForKind}
-use Rattle.hub_routes.specs.Routes.{service_of, database_of, document_of, IsOfTable, IsBadId, IsWhole, kind, name, document, copies, route_to, GoesTo}
+use Rattle.hub_routes.specs.Routes.{service_of, database_of, document_of, IsOfTable, IsBadId}
+use Rattle.hub_routes.specs.Routes.{IsWhole, kind, name, document, copies, route_to, GoesTo}
 use Rattle.hub_routes.specs.declared.service.Service.{Service}
 use Rattle.hub_routes.specs.declared.service.Service.TheVariants as service
 use Rattle.hub_routes.specs.Services.{has_document}
@@ -31,8 +34,11 @@ place_is p xs i e = some_of _ _ i e
 pub cut_before : (p : ℕ → Bool) (xs : List ℕ) (i : ℕ) → position p xs ≡ Some i → take i xs ≡ before_first p xs
 cut_before p xs i e = ap (λ n. take n xs) (sym (place_is p xs i e))
 
-pub cut_after : (p : ℕ → Bool) (xs : List ℕ) (i : ℕ) → position p xs ≡ Some i → take (length xs - (i + 1)) (drop (i + 1) xs) ≡ after_first p xs
-cut_after p xs i e = let whole : take (length xs - (i + 1)) (drop (i + 1) xs) ≡ drop (i + 1) xs = grind (arith, common_steps) in
+pub cut_after : (p : ℕ → Bool) (xs : List ℕ) (i : ℕ) → position p xs ≡ Some i
+    → take (length xs - (i + 1)) (drop (i + 1) xs) ≡ after_first p xs
+cut_after p xs i e =
+    let whole : take (length xs - (i + 1)) (drop (i + 1) xs) ≡ drop (i + 1) xs =
+    grind (arith, common_steps) in
     whole ∙ ap (λ n. drop (n + 1) xs) (sym (place_is p xs i e))
 
 past : (p : ℕ → Bool) (xs : List ℕ) → position p xs ≡ None → length xs ≤ position_or_len p xs
@@ -43,7 +49,9 @@ pub all_before : (p : ℕ → Bool) (xs : List ℕ) → position p xs ≡ None �
 all_before p xs e = sym (take_all _ xs (past p xs e))
 
 pub none_after : (p : ℕ → Bool) (xs : List ℕ) → position p xs ≡ None → [] ≡ after_first p xs
-none_after p xs e = let h = past p xs e in let end : [] ≡ drop (position_or_len p xs + 1) xs = grind (arith, common_steps, h) in end
+none_after p xs e =
+    let h = past p xs e in
+    let end : [] ≡ drop (position_or_len p xs + 1) xs = grind (arith, common_steps, h) in end
 
 -- whatever the error
 pub at_any_error : {A E : Type 0} (r : Result A E) (P : Type 0) → P → IfErr r (λ _. P)
@@ -51,7 +59,9 @@ at_any_error (Ok x) P p = tt
 at_any_error (Err e) P p = p
 
 -- a request whose path has no room, or that the table refuses
-pub table_refuses : (a : Asked) (e : RouteFault) → ((e ≡ NoMemory) × NeedsRoomForKind (path_of a.target)) ⊎ ((service_of a ≡ Err e) × IsOfTable e) → GoesTo a (Err e)
+pub table_refuses : (a : Asked) (e : RouteFault)
+    → ((e ≡ NoMemory) × NeedsRoomForKind (path_of a.target)) ⊎ ((service_of a ≡ Err e) × IsOfTable e)
+    → GoesTo a (Err e)
 table_refuses a e (inl (none, room)) = rw none (kind room)
 table_refuses a e (inr (h, inl m)) = rw m (rw m at h)
 table_refuses a e (inr (h, inr m)) = rw m (rw m at h)
@@ -60,7 +70,10 @@ ok_of : (x : Result Service RouteFault) (s : Service) → x ≡ Ok s → IsOk x
 ok_of x s e = ap is_ok e
 
 -- a request whose name has no room, or is refused
-pub name_refuses : (a : Asked) (s : Service) (e : RouteFault) → service_of a ≡ Ok s → ((e ≡ NoMemory) × HasPercent (name_part (path_of a.target))) ⊎ ((e ≡ BadName) × ¬ IsUtf8 (database_of a)) → GoesTo a (Err e)
+pub name_refuses : (a : Asked) (s : Service) (e : RouteFault) → service_of a ≡ Ok s
+    → ((e ≡ NoMemory) × HasPercent (name_part (path_of a.target)))
+    ⊎ ((e ≡ BadName) × ¬ IsUtf8 (database_of a))
+    → GoesTo a (Err e)
 name_refuses a s e asked (inl (none, room)) = rw none (name (ok_of _ s asked) room)
 name_refuses a s e asked (inr (m, bad)) = rw m (ok_of _ s asked, bad)
 

@@ -52,6 +52,8 @@ pub fn sample_ids()
 
 /// The escapes of a name behind `_design/` or `_local/` are read, and the rest stands as it is.
 pub fn prefixes_stay()
-    ensures design { (name : List ℕ) → id_of (codes "/d/_design/" ++ name) ≡ codes "_design/" ++ percent_decode name }
-    ensures local { (name : List ℕ) → id_of (codes "/d/_local/" ++ name) ≡ codes "_local/" ++ percent_decode name }
+    ensures design { (name : List ℕ)
+        → id_of (codes "/d/_design/" ++ name) ≡ codes "_design/" ++ percent_decode name }
+    ensures local { (name : List ℕ)
+        → id_of (codes "/d/_local/" ++ name) ≡ codes "_local/" ++ percent_decode name }
 {}

@@ -8,9 +8,9 @@ use hub_shared::{Clock, Feed, Gate, HostFeed, Plain, Point, Pumped, UpdatesFeed}
 use std::alloc::{AllocError, Global};
 use std::sync::{Arc, Wait};
 
-/// By threads: a connection hands its feed on itself while the feed has something to hand; where it has not, and
-/// waits, the connection sleeps, and one pump for all feeds of its database that wait hands it what is
-/// written. That pump runs in a thread of its own while there is such a feed.
+/// By threads: a connection hands its feed on itself while the feed has something to hand; where it
+/// has not, and waits, the connection sleeps, and one pump for all feeds of its database that wait
+/// hands it what is written. That pump runs in a thread of its own while there is such a feed.
 #[derive(Drop)]
 pub struct ByThreads<R, G, K> {
     rt: R,

@@ -116,8 +116,9 @@ where
         Ok(())
     }
 
-    /// The next connection. Where none can be accepted while others are open, as where the system has no
-    /// descriptor left, it sleeps until one of them has ended, and tries again. An error is told where none is open.
+    /// The next connection. Where none can be accepted while others are open, as where the system
+    /// has no descriptor left, it sleeps until one of them has ended, and tries again. An error is
+    /// told where none is open.
     fn accept_next<R: Wait>(&self, rt: &R, listener: &TcpListener) -> io::Result<TcpStream>
         ensures { IfErr result (λ e. ¬ IsPassing (error_kind e)) }
     {
@@ -191,13 +192,14 @@ fn accept(listener: &TcpListener) -> io::Result<TcpStream>
     Err(io::Error::from(ErrorKind::Other))
 }
 
-/// Serves so many connections of a hub without databases, each in a thread of its own, with one thread more for
-/// each database of which a feed waits, and comes back once all have ended. Connections are numbered from 1 as
-/// they are accepted; each passes `Point::Request` of its number at the gate before each answer. A connection for
-/// which no thread can be made is closed unanswered; a feed for which the pump of its database is missing, and no
-/// thread can be made, is answered as out of memory. An error says that there was no memory or no thread to
-/// begin with, or that no connection could be accepted while none was open. Where none can be accepted beside those
-/// that are open, the next one waits until one of them has ended.
+/// Serves so many connections of a hub without databases, each in a thread of its own, with one
+/// thread more for each database of which a feed waits, and comes back once all have ended.
+/// Connections are numbered from 1 as they are accepted; each passes `Point::Request` of its number
+/// at the gate before each answer. A connection for which no thread can be made is closed
+/// unanswered; a feed for which the pump of its database is missing, and no thread can be made, is
+/// answered as out of memory. An error says that there was no memory or no thread to begin with, or
+/// that no connection could be accepted while none was open. Where none can be accepted beside
+/// those that are open, the next one waits until one of them has ended.
 pub fn run_server<R, G, K>(
     rt: &R,
     alloc: Global,

@@ -1,6 +1,8 @@
 -- What one look at a database is answered.
-use Rattle.std.proofs.Common.{◌≡◌, ◌≤◌, ◌<◌, ◌^◌, ℕ, zero, suc, List, [], ◌∷◌, Bool, true, false, ◌⊎◌, inl, inr, refl, sym, ap, ◌∙◌, subst, length, take, arith}
-use Rattle.std.specs.Prelude.{Option, Some, None, Result, Ok, Err, IfOk, IfErr, OnErr, IsSome, Contains, if◌then◌else◌, nat_le}
+use Rattle.std.proofs.Common.{◌≡◌, ◌≤◌, ◌<◌, ◌^◌, ℕ, zero, suc, List, [], ◌∷◌, Bool, true, false}
+use Rattle.std.proofs.Common.{◌⊎◌, inl, inr, refl, sym, ap, ◌∙◌, subst, length, take, arith}
+use Rattle.std.specs.Prelude.{Option, Some, None, Result, Ok, Err, IfOk, IfErr}
+use Rattle.std.specs.Prelude.{OnErr, IsSome, Contains, if◌then◌else◌, nat_le}
 use Rattle.std.proofs.lemmas.Bool.{le-leb, lt-leb}
 use Rattle.hub_model.specs.Journal.{Edit}
 use Rattle.hub_model.specs.Outcome.{Stores, stores_all}
@@ -41,8 +43,10 @@ use Rattle.hub_document.specs.declared.doc.DocFault.TheVariants as doc_fault
 use Rattle.serde_json.specs.Data.{Data, Items}
 use Rattle.hub_replies.specs.Bodies.{local_edit_body}
 use Rattle.hub_replies.specs.Bulk.{batch_body}
-use Rattle.hub_service.specs.Bulk.{Batch, batch_if, batch_in, batch_of, faults_of, read_docs, readings, replies_of}
-use Rattle.hub_service.specs.Calls.{edits, keeps, puts_doc, says_batch, says_edit, says_first, says_noted, stores}
+use Rattle.hub_service.specs.Bulk.{Batch, batch_if, batch_in, batch_of}
+use Rattle.hub_service.specs.Bulk.{faults_of, read_docs, readings, replies_of}
+use Rattle.hub_service.specs.Calls.{edits, keeps, puts_doc, says_batch}
+use Rattle.hub_service.specs.Calls.{says_edit, says_first, says_noted, stores}
 use Rattle.hub_service.specs.Feeds.{BeginsRead, IsUnopened}
 use Rattle.hub_service.specs.Moments.{HasDatabase, IsFound, IsKept, IsRead, IsStored, IsWritten, stands}
 use Rattle.hub_service.specs.Refusals.{of_db_fault, of_note_fault, of_open_fault, of_param_fault}
@@ -87,7 +91,15 @@ some_limits = record {
 
 abbrev some_database : Database
 some_database =
-    record { journal = []; deleted = false; locals = []; feeds = []; next_feed = 0; limits = some_limits; life = 1 }
+    record {
+      journal = [];
+      deleted = false;
+      locals = [];
+      feeds = [];
+      next_feed = 0;
+      limits = some_limits;
+      life = 1;
+    }
 
 -- ---- what is said
 
@@ -124,15 +136,21 @@ found_read found says a said r has is same = by (said_or_want said r is)
     by : Says r said ⊎ IsWant r → IsRead says r
     by (inr want) = inr want
     by (inl is) =
-        let standing : stands has.db (says has.db) ≡ says has.db = ap (λ b. if b then Refusing Deleted else says has.db) has.held.0 in
-        inl (record { db = has.db; legal = has.legal; held = subst (Says r) (same has.db has.held.1 ∙ sym standing) is })
+        let standing : stands has.db (says has.db) ≡ says has.db =
+        ap (λ b. if b then Refusing Deleted else says has.db) has.held.0 in
+        inl (record {
+          db = has.db;
+          legal = has.legal;
+          held = subst (Says r) (same has.db has.held.1 ∙ sym standing) is;
+        })
 
 -- where nothing was found that is said
 pub unfound_read : {A : Type 0} (found : Database → A → Type 0) (says : Database → Said) (e : Refusal)
     → IsFound found (Err e) → IsRead says (Err e)
 unfound_read found says e (inl want) = inr (ap Err want)
 unfound_read found says e (inr is) =
-    let gone : stands is.1.db (says is.1.db) ≡ Refusing Deleted = ap (λ b. if b then Refusing Deleted else says is.1.db) is.1.held in
+    let gone : stands is.1.db (says is.1.db) ≡ Refusing Deleted =
+    ap (λ b. if b then Refusing Deleted else says is.1.db) is.1.held in
     inl (record { db = is.1.db; legal = is.1.legal; held = subst (Says (Err e)) (sym gone) is.0 })
 
 -- the answer to a question is what was found
@@ -152,11 +170,14 @@ unfound_answer q e (db, is, inr want) = inl (ap of_db_fault want.1)
 
 -- of one document there is one outcome at most
 one_outcome : (db : Database) (doc : Doc) (o : Outcome Revision) (os : List (Outcome Revision))
-    → o ∷ os ≡ (writes true db.deleted db.limits.journal db.journal (take (length (o ∷ os)) (doc ∷ []))).outcomes
+    → o ∷ os ≡ (writes true db.deleted db.limits.journal db.journal
+    (take (length (o ∷ os)) (doc ∷ []))).outcomes
     → o ≡ (makes_one db.deleted db.limits.journal db.journal doc).outcome
 one_outcome db doc o os is = by db.deleted is
   where
-    by : (deleted : Bool) → o ∷ os ≡ (writes true deleted db.limits.journal db.journal (take (length (o ∷ os)) (doc ∷ []))).outcomes
+    by : (deleted : Bool)
+        → o ∷ os ≡ (writes true deleted db.limits.journal db.journal
+        (take (length (o ∷ os)) (doc ∷ []))).outcomes
         → o ≡ (makes_one deleted db.limits.journal db.journal doc).outcome
     by true is = cc
     by false is = cc
@@ -171,11 +192,20 @@ edit_written status doc a o os r w replies is = by (said_or_want (says_edit stat
     by : Says r (says_edit status doc.id o) ⊎ IsWant r → IsWritten (λ db. edits status db doc) r
     by (inr want) = inr (inl want)
     by (inl is) =
-        let outcome = one_outcome w.db doc o os (subst (λ l. l ≡ (writes true w.db.deleted w.db.limits.journal w.db.journal (take (length l) (doc ∷ []))).outcomes) replies w.replies) in
-        inl (record { db = w.db; legal = w.found.legal; held = subst (λ o. Says r (says_edit status doc.id o)) outcome is })
+        let outcome =
+        one_outcome w.db doc o os
+        (subst (λ l.
+        l ≡ (writes true w.db.deleted w.db.limits.journal w.db.journal (take (length l) (doc ∷ []))).outcomes)
+        replies w.replies) in
+        inl (record {
+          db = w.db;
+          legal = w.found.legal;
+          held = subst (λ o. Says r (says_edit status doc.id o)) outcome is;
+        })
 
 -- of one document there is a receipt only where it was stored
-stored_if : (n : ℕ) (id : List ℕ) (replies : List (Outcome Revision)) → (receipts_from n (id ∷ []) replies ≡ [] → ⊥)
+stored_if : (n : ℕ) (id : List ℕ) (replies : List (Outcome Revision))
+    → (receipts_from n (id ∷ []) replies ≡ [] → ⊥)
     → (rev : Revision) × (os : List (Outcome Revision)) × (replies ≡ Stored rev ∷ os)
 stored_if n id [] some = absurd (some refl)
 stored_if n id (Stored rev ∷ os) some = (rev, os, refl)
@@ -189,7 +219,11 @@ edit_lapsed : (status : ℕ) (doc : Doc) (a : Accepted) (fault : NoteFault)
 edit_lapsed status doc a note_fault.NoMemory w some = inr (inl refl)
 edit_lapsed status doc a note_fault.SequenceFull w some =
     let stored = stored_if (length w.db.journal) doc.id a.replies (λ none. some (w.receipts ∙ none)) in
-    let outcome = one_outcome w.db doc (Stored stored.0) stored.1 (subst (λ l. l ≡ (writes true w.db.deleted w.db.limits.journal w.db.journal (take (length l) (doc ∷ []))).outcomes) stored.2 w.replies) in
+    let outcome =
+    one_outcome w.db doc (Stored stored.0) stored.1
+    (subst (λ l.
+    l ≡ (writes true w.db.deleted w.db.limits.journal w.db.journal (take (length l) (doc ∷ []))).outcomes)
+    stored.2 w.replies) in
     inr (inr (
       refl,
       record {
@@ -200,7 +234,8 @@ edit_lapsed status doc a note_fault.SequenceFull w some =
     ))
 
 -- an edit that was answered by its first outcome
-edit_first : (status : ℕ) (doc : Doc) (a : Accepted) (os : List (Outcome Revision)) (r : Result Response Refusal)
+edit_first : (status : ℕ) (doc : Doc) (a : Accepted) (os : List (Outcome Revision))
+    (r : Result Response Refusal)
     → IsWrittenBy false 0 (record { parts = 0; count = 0 }) true (doc ∷ []) a → a.replies ≡ os
     → IsSaid (says_first status doc.id os) r → IsWritten (λ db. edits status db doc) r
 edit_first status doc a [] r w replies is = inr (inl (is_refused r NoMemory is))
@@ -210,17 +245,20 @@ edit_first status doc a (o ∷ os) r w replies is = edit_written status doc a o 
 edit_noted : (status : ℕ) (doc : Doc) (a : Accepted) (lapsed : Option NoteFault) (r : Result Response Refusal)
     → IsWrittenBy false 0 (record { parts = 0; count = 0 }) true (doc ∷ []) a
     → (IsSome lapsed → a.receipts.items ≡ [] → ⊥)
-    → IsSaid (says_noted lapsed (says_first status doc.id a.replies)) r → IsWritten (λ db. edits status db doc) r
+    → IsSaid (says_noted lapsed (says_first status doc.id a.replies)) r
+    → IsWritten (λ db. edits status db doc) r
 edit_noted status doc a None r w some is = edit_first status doc a a.replies r w refl is
 edit_noted status doc a (Some fault) r w some is =
     subst (IsWritten (λ db. edits status db doc)) (sym (is_refused r (of_note_fault fault) is))
     (edit_lapsed status doc a fault w (some cc))
 
 -- an edit is answered by what the write did
-pub edit_said : (status : ℕ) (doc : Doc) (w : Written) (r : Result Response Refusal) → IsStored true (doc ∷ []) w
+pub edit_said : (status : ℕ) (doc : Doc) (w : Written) (r : Result Response Refusal)
+    → IsStored true (doc ∷ []) w
     → IsSaid (says_noted w.lapsed (says_first status doc.id w.accepted.replies)) r
     → IsWritten (λ db. edits status db doc) r
-edit_said status doc w r stored is = edit_noted status doc w.accepted w.lapsed r stored.accepted stored.lapsed is
+edit_said status doc w r stored is =
+    edit_noted status doc w.accepted w.lapsed r stored.accepted stored.lapsed is
 
 -- ---- local documents
 
@@ -228,14 +266,23 @@ edit_said status doc w r stored is = edit_noted status doc w.accepted w.lapsed r
 pub kept_read : (doc : LocalDoc) (count : ℕ) (r : Result Response Refusal) → IsKept doc (Ok count)
     → ((db : Database) → count ≡ (written db.locals doc).count → IsSaid (keeps (written db.locals doc)) r)
     → IsRead (λ db. keeps (written db.locals doc)) r
-kept_read doc count r (db, standing, is) says = by (said_or_want (keeps (written db.locals doc)) r (says db is))
+kept_read doc count r (db, standing, is) says =
+    by (said_or_want (keeps (written db.locals doc)) r (says db is))
   where
     by : Says r (keeps (written db.locals doc)) ⊎ IsWant r → IsRead (λ db. keeps (written db.locals doc)) r
     by (inr want) = inr want
-    by (inl said) = inl (record { db = record db { journal = [] }; legal = tt; held = subst (Says r) (sym (ap (λ b. if b then Refusing Deleted else keeps (written db.locals doc)) standing)) said })
+    by (inl said) =
+        inl (record {
+          db = record db { journal = [] };
+          legal = tt;
+          held =
+              subst (Says r)
+              (sym (ap (λ b. if b then Refusing Deleted else keeps (written db.locals doc)) standing)) said;
+        })
 
 -- and why nothing was kept
-pub unkept : (doc : LocalDoc) (e : DbFault) → (db : Database) × IsLocalFault db doc e → IsKept doc (Err (of_db_fault e))
+pub unkept : (doc : LocalDoc) (e : DbFault) → (db : Database) × IsLocalFault db doc e
+    → IsKept doc (Err (of_db_fault e))
 unkept doc e (db, inl gone) = inr (inl (ap of_db_fault gone.1, (db, gone.0)))
 unkept doc e (db, inr (standing, inl want)) = inl (ap of_db_fault want.0)
 unkept doc e (db, inr (standing, inr full)) = inr (inr (ap of_db_fault full.0, (db, standing, full.1)))
@@ -247,7 +294,8 @@ pub kept_said : (db : Database) (doc : LocalDoc) (count : ℕ) (r : Result Respo
 kept_said db doc count r few said is =
     let n = (written db.locals doc).count in
     let some : nat_le (2 ^ 64) n ≡ false = lt-leb (2 ^ 64) n (subst (λ n. n < 2 ^ 64) is few) in
-    subst (λ b. IsSaid (if b then Refusing SequenceFull else Body 201 (local_edit_body doc.id n)) r) (sym some)
+    subst (λ b. IsSaid (if b then Refusing SequenceFull else Body 201 (local_edit_body doc.id n)) r)
+    (sym some)
     (subst (λ n. IsSaid (Body 201 (local_edit_body doc.id n)) r) is said)
 
 -- why nothing was kept is said
@@ -258,14 +306,19 @@ unkept_read doc e (inr (inl (gone, (db, deleted)))) =
     inl (record {
       db = record db { journal = [] };
       legal = tt;
-      held = subst (Says (Err e)) (sym (ap (λ b. if b then Refusing Deleted else keeps (written db.locals doc)) deleted)) gone;
+      held =
+          subst (Says (Err e))
+          (sym (ap (λ b. if b then Refusing Deleted else keeps (written db.locals doc)) deleted)) gone;
     })
 unkept_read doc e (inr (inr (full, (db, standing, many)))) =
     inl (record {
       db = record db { journal = [] };
       legal = tt;
-      held = subst (Says (Err e)) (sym (ap (λ b. if b then Refusing Deleted else keeps (written db.locals doc)) standing
-          ∙ ap (λ b. if b then Refusing SequenceFull else Body 201 (local_edit_body doc.id (written db.locals doc).count))
+      held =
+          subst (Says (Err e))
+          (sym (ap (λ b. if b then Refusing Deleted else keeps (written db.locals doc)) standing
+          ∙ ap (λ b. if b then Refusing SequenceFull
+          else Body 201 (local_edit_body doc.id (written db.locals doc).count))
           (le-leb (2 ^ 64) (written db.locals doc).count many))) full;
     })
 
@@ -283,7 +336,8 @@ put_as p doc r is w = subst (λ p. IsWritten (λ db. puts_doc db p) r) (sym is) 
 
 -- and a fault of it is told without a look
 pub put_refused : (p : Result Doc DocFault) (fault : DocFault) (e : Refusal)
-    → (fault ≡ doc_fault.NoMemory) ⊎ (p ≡ Err fault) → e ≡ of_doc_fault fault → IsWritten (λ db. puts_doc db p) (Err e)
+    → (fault ≡ doc_fault.NoMemory) ⊎ (p ≡ Err fault) → e ≡ of_doc_fault fault
+    → IsWritten (λ db. puts_doc db p) (Err e)
 put_refused p fault e (inl want) is = inr (inl (ap Err (is ∙ ap of_doc_fault want)))
 put_refused p fault e (inr same) is =
     written_anyway (λ db. puts_doc db p) (Refusing e) (Err e) refl
@@ -295,14 +349,16 @@ take_whole [] = refl
 take_whole (x ∷ xs) = ap (λ l. x ∷ l) (take_whole xs)
 
 -- a text that was made is said
-pub said_text : {B E : Type 0} (items : B → List ℕ) (status : ℕ) (text : List ℕ) (b : Result B E) (r : Result Response Refusal)
+pub said_text : {B E : Type 0} (items : B → List ℕ) (status : ℕ) (text : List ℕ) (b : Result B E)
+    (r : Result Response Refusal)
     → IfOk b (λ b. items b ≡ text) → IfOk b (λ b. IsSaid (Body status (items b)) r) → OnErr b (IsWant r)
     → IsSaid (Body status text) r
 said_text items status text (Ok b) r is said want = subst (λ t. IsSaid (Body status t) r) is said
 said_text items status text (Err e) r is said want = inr want
 
 -- what is told of each that is such is told of this one
-pub told_of : {B E I : Type 0} (is_such : I → Type 0) (told : B → I → Type 0) (b : Result B E) (one : I) → is_such one
+pub told_of : {B E I : Type 0} (is_such : I → Type 0) (told : B → I → Type 0) (b : Result B E) (one : I)
+    → is_such one
     → IfOk b (λ x. (other : I) → is_such other → told x other) → IfOk b (λ x. told x one)
 told_of is_such told (Ok x) one such all = all one such
 told_of is_such told (Err e) one such all = tt
@@ -319,19 +375,24 @@ batch_outcomes new_edits docs a w goes =
 batch_written : (new_edits : Bool) (items : Items) (a : Accepted) (r : Result Response Refusal)
     → IsWrittenBy false 0 (record { parts = 0; count = 0 }) new_edits (read_docs (readings new_edits items)) a
     → a.stopped ≡ false
-    → IsSaid (Body 201 (batch_body items (replies_of new_edits (faults_of (readings new_edits items)) a.replies))) r
+    → IsSaid (Body 201
+    (batch_body items (replies_of new_edits (faults_of (readings new_edits items)) a.replies))) r
     → IsWritten (λ db. stores db (Ok (record { docs = items; new_edits = new_edits }))) r
 batch_written new_edits items a r w goes (inr want) = inr (inl want)
 batch_written new_edits items a r w goes (inl is) =
     inl (record {
       db = w.db;
       legal = w.found.legal;
-      held = subst (λ l. Says r (Body 201 (batch_body items (replies_of new_edits (faults_of (readings new_edits items)) l)))) (batch_outcomes new_edits _ a w goes) is;
+      held =
+          subst (λ l. Says r
+          (Body 201 (batch_body items (replies_of new_edits (faults_of (readings new_edits items)) l))))
+          (batch_outcomes new_edits _ a w goes) is;
     })
 
 -- what stands in a list stands in a longer one
 stored_behind : (rev : Revision) (o : Outcome Revision) (os ps : List (Outcome Revision))
-    → (Contains os (Stored rev) → Contains ps (Stored rev)) → Contains (o ∷ os) (Stored rev) → Contains (o ∷ ps) (Stored rev)
+    → (Contains os (Stored rev) → Contains ps (Stored rev)) → Contains (o ∷ os) (Stored rev)
+    → Contains (o ∷ ps) (Stored rev)
 stored_behind rev o os ps more (zero, few, is) = (0, omega arith, is)
 stored_behind rev o os ps more (suc k, few, is) =
     let there = more (k, omega (arith, few), is) in
@@ -355,62 +416,79 @@ stored_of_receipt n (id ∷ ids) (Refused fault ∷ os) some =
     (there.0, (suc there.1.0, omega (arith, there.1.1), there.1.2))
 
 -- what is stored of a front of documents is stored of them all
-stored_of_front : (store : List Edit → Doc → Stores) (deleted : Bool) (J : List Edit) (n : ℕ) (docs : List Doc) (rev : Revision)
+stored_of_front : (store : List Edit → Doc → Stores) (deleted : Bool) (J : List Edit) (n : ℕ)
+    (docs : List Doc) (rev : Revision)
     → Contains (stores_all store deleted J (take n docs)).outcomes (Stored rev)
     → Contains (stores_all store deleted J docs).outcomes (Stored rev)
 stored_of_front store deleted J zero docs rev has = none_stored rev has
 stored_of_front store deleted J (suc n) [] rev has = has
 stored_of_front store true J (suc n) (doc ∷ docs) rev has =
-    stored_behind rev (Refused fault.Deleted) (stores_all store true J (take n docs)).outcomes (stores_all store true J docs).outcomes
+    stored_behind rev (Refused fault.Deleted) (stores_all store true J (take n docs)).outcomes
+    (stores_all store true J docs).outcomes
     (stored_of_front store true J n docs rev) has
 stored_of_front store false J (suc n) (doc ∷ docs) rev has =
     let K = (store J doc).journal in
-    stored_behind rev (store J doc).outcome (stores_all store false K (take n docs)).outcomes (stores_all store false K docs).outcomes
+    stored_behind rev (store J doc).outcome (stores_all store false K (take n docs)).outcomes
+    (stores_all store false K docs).outcomes
     (stored_of_front store false K n docs rev) has
 
 -- a batch whose notice lapsed has a document that was stored, where it was written whole as where it stopped
 batch_lapsed : (new_edits : Bool) (items : Items) (a : Accepted) (fault : NoteFault)
     → IsWrittenBy false 0 (record { parts = 0; count = 0 }) new_edits (read_docs (readings new_edits items)) a
     → (a.receipts.items ≡ [] → ⊥)
-    → IsWritten (λ db. stores db (Ok (record { docs = items; new_edits = new_edits }))) (Err (of_note_fault fault))
+    → IsWritten (λ db. stores db (Ok (record { docs = items; new_edits = new_edits })))
+    (Err (of_note_fault fault))
 batch_lapsed new_edits items a note_fault.NoMemory w some = inr (inl refl)
 batch_lapsed new_edits items a note_fault.SequenceFull w some =
     let docs = read_docs (readings new_edits items) in
-    let stored = stored_of_receipt (length w.db.journal) (ids_of docs) a.replies (λ none. some (w.receipts ∙ none)) in
+    let stored =
+    stored_of_receipt (length w.db.journal) (ids_of docs) a.replies (λ none. some (w.receipts ∙ none)) in
     let front = subst (λ (l : List (Outcome Revision)). Contains l (Stored stored.0)) w.replies stored.1 in
     inr (inr (
       refl,
       record {
         db = w.db;
         legal = w.found.legal;
-        held = (stored.0, stored_of_front (stores_doc new_edits w.db.limits.journal) w.db.deleted w.db.journal (length a.replies) docs stored.0 front);
+        held = (
+          stored.0,
+          stored_of_front (stores_doc new_edits w.db.limits.journal) w.db.deleted w.db.journal
+              (length a.replies) docs stored.0 front,
+        );
       },
     ))
 
 -- a batch that was answered by whether it stopped
-batch_stopped : (new_edits : Bool) (items : Items) (a : Accepted) (stopped : Bool) (r : Result Response Refusal)
+batch_stopped : (new_edits : Bool) (items : Items) (a : Accepted) (stopped : Bool)
+    (r : Result Response Refusal)
     → IsWrittenBy false 0 (record { parts = 0; count = 0 }) new_edits (read_docs (readings new_edits items)) a
     → a.stopped ≡ stopped
-    → IsSaid (says_batch (record { docs = items; new_edits = new_edits }) (faults_of (readings new_edits items)) stopped a.replies) r
+    → IsSaid (says_batch (record { docs = items; new_edits = new_edits })
+    (faults_of (readings new_edits items)) stopped a.replies) r
     → IsWritten (λ db. stores db (Ok (record { docs = items; new_edits = new_edits }))) r
 batch_stopped new_edits items a true r w is said = inr (inl (is_refused r NoMemory said))
 batch_stopped new_edits items a false r w is said = batch_written new_edits items a r w is said
 
 -- a batch that was answered by whether it was noted
-batch_noted : (new_edits : Bool) (items : Items) (a : Accepted) (lapsed : Option NoteFault) (r : Result Response Refusal)
+batch_noted : (new_edits : Bool) (items : Items) (a : Accepted) (lapsed : Option NoteFault)
+    (r : Result Response Refusal)
     → IsWrittenBy false 0 (record { parts = 0; count = 0 }) new_edits (read_docs (readings new_edits items)) a
     → (IsSome lapsed → a.receipts.items ≡ [] → ⊥)
-    → IsSaid (says_noted lapsed (says_batch (record { docs = items; new_edits = new_edits }) (faults_of (readings new_edits items)) a.stopped a.replies)) r
+    → IsSaid (says_noted lapsed
+    (says_batch (record { docs = items; new_edits = new_edits })
+    (faults_of (readings new_edits items)) a.stopped a.replies)) r
     → IsWritten (λ db. stores db (Ok (record { docs = items; new_edits = new_edits }))) r
 batch_noted new_edits items a None r w some is = batch_stopped new_edits items a a.stopped r w refl is
 batch_noted new_edits items a (Some fault) r w some is =
-    subst (IsWritten (λ db. stores db (Ok (record { docs = items; new_edits = new_edits })))) (sym (is_refused r (of_note_fault fault) is))
+    subst (IsWritten (λ db. stores db (Ok (record { docs = items; new_edits = new_edits }))))
+    (sym (is_refused r (of_note_fault fault) is))
     (batch_lapsed new_edits items a fault w (some cc))
 
 -- a batch is answered by what the write did
 pub batch_said : (new_edits : Bool) (items : Items) (w : Written) (r : Result Response Refusal)
     → IsStored new_edits (read_docs (readings new_edits items)) w
-    → IsSaid (says_noted w.lapsed (says_batch (record { docs = items; new_edits = new_edits }) (faults_of (readings new_edits items)) w.accepted.stopped w.accepted.replies)) r
+    → IsSaid (says_noted w.lapsed
+    (says_batch (record { docs = items; new_edits = new_edits })
+    (faults_of (readings new_edits items)) w.accepted.stopped w.accepted.replies)) r
     → IsWritten (λ db. stores db (Ok (record { docs = items; new_edits = new_edits }))) r
 batch_said new_edits items w r stored is =
     batch_noted new_edits items w.accepted w.lapsed r stored.accepted stored.lapsed is
@@ -421,7 +499,8 @@ pub stored_as : (b : Result Batch Refusal) (batch : Batch) (r : Result Response 
 stored_as b batch r is w = subst (λ b. IsWritten (λ db. stores db b) r) (sym is) w
 
 -- and its refusal is told without a look
-pub store_refused : (b : Result Batch Refusal) (e : Refusal) → b ≡ Err e → IsWritten (λ db. stores db b) (Err e)
+pub store_refused : (b : Result Batch Refusal) (e : Refusal) → b ≡ Err e
+    → IsWritten (λ db. stores db b) (Err e)
 store_refused b e is =
     written_anyway (λ db. stores db b) (Refusing e) (Err e) refl (λ db. sym (ap (λ b. (stores db b).said) is))
 
@@ -432,7 +511,8 @@ stored_of_body body r d is w = subst (λ o. IsWritten (λ db. stores db (batch_i
 
 -- and a body that has no value is told as that
 pub store_unread : (body : List ℕ) (fault : DocFault) (e : Refusal)
-    → (fault ≡ doc_fault.NoMemory) ⊎ ((fault ≡ doc_fault.NotJson) × (json_of body ≡ None)) → e ≡ of_doc_fault fault
+    → (fault ≡ doc_fault.NoMemory) ⊎ ((fault ≡ doc_fault.NotJson) × (json_of body ≡ None))
+    → e ≡ of_doc_fault fault
     → IsWritten (λ db. stores db (batch_in body)) (Err e)
 store_unread body fault e (inl want) is = inr (inl (ap Err (is ∙ ap of_doc_fault want)))
 store_unread body fault e (inr (bad, none)) is =
@@ -446,9 +526,11 @@ pub read_as : {A : Type 0} (says : Database → Result A DocFault → Said) (p :
 read_as says p a r is given = subst (λ p. IsRead (λ db. says db p) r) (sym is) given
 
 -- and its fault is told without a look
-pub read_refused : {A : Type 0} (says : Database → Result A DocFault → Said) (p : Result A DocFault) (fault : DocFault)
+pub read_refused : {A : Type 0} (says : Database → Result A DocFault → Said)
+    (p : Result A DocFault) (fault : DocFault)
     (e : Refusal) → ((db : Database) → says db (Err fault) ≡ Refusing (of_doc_fault fault))
-    → (fault ≡ doc_fault.NoMemory) ⊎ (p ≡ Err fault) → e ≡ of_doc_fault fault → IsRead (λ db. says db p) (Err e)
+    → (fault ≡ doc_fault.NoMemory) ⊎ (p ≡ Err fault) → e ≡ of_doc_fault fault
+    → IsRead (λ db. says db p) (Err e)
 read_refused says p fault e refused (inl want) is = inr (ap Err (is ∙ ap of_doc_fault want))
 read_refused says p fault e refused (inr same) is =
     read_anyway (λ db. says db p) (Refusing e) (Err e) refl
@@ -488,7 +570,8 @@ pub opened_or_told : {A : Type 0} (counts : Bool) (all_parts : ℕ) (h : HandleS
     → IfErr r (λ e. (db : Database) × IsFoundBy counts all_parts h db × (e ≡ opening_fault (hosted_of db)))
     → IfErr r (λ e. (e ≡ open_fault.NoMemory) ⊎ HasDatabase (λ db. e ≡ opening_fault (hosted_of db)))
 opened_or_told counts all_parts h (Ok feed) told = tt
-opened_or_told counts all_parts h (Err e) (db, found, told) = inr (record { db = db; legal = found.legal; held = told })
+opened_or_told counts all_parts h (Err e) (db, found, told) =
+    inr (record { db = db; legal = found.legal; held = told })
 
 -- what parameters ask is begun
 pub read_feed : (begins : FeedAsked → Result Response Refusal → Type 0) (needs : Type 0)

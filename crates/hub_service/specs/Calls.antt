@@ -1,5 +1,5 @@
--- What a database says to a call (CouchDB API reference: documents, local documents, _bulk_docs, _revs_diff; own
--- for the order of refusals).
+-- What a database says to a call (CouchDB API reference: documents, local documents, _bulk_docs,
+-- _revs_diff; own for the order of refusals).
 use Rattle.std.specs.Prelude.{ℕ, ◌^◌, List, [], ◌∷◌, Bool, true, false, if◌then◌else◌, nat_le}
 use Rattle.std.specs.Prelude.{codes, Option, Some, None, Result, Ok, Err}
 use Rattle.hub_model.specs.Journal.{Edit}
@@ -93,9 +93,9 @@ abbrev pub says_first : ℕ → List ℕ → List (Outcome Revision) → Said
 says_first status id [] = Refusing NoMemory
 says_first status id (o ∷ os) = says_edit status id o
 
--- What a write is answered whose notice may have lapsed. That a notice lapsed is told before anything else: the
--- stored edits stand, and have no note. A batch that stopped for memory behind a stored document, with a full
--- log, is answered sequence_full.
+-- What a write is answered whose notice may have lapsed. That a notice lapsed is told before
+-- anything else: the stored edits stand, and have no note. A batch that stopped for memory behind a
+-- stored document, with a full log, is answered sequence_full.
 abbrev pub says_noted : Option NoteFault → Said → Said
 says_noted None said = said
 says_noted (Some fault) said = Refusing (of_note_fault fault)

@@ -8,7 +8,8 @@ use Rattle.hub_params.specs.DocParams.{doc_asked}
 use Rattle.hub_params.specs.Room.{DocNeedsRoom}
 use Rattle.hub_revtree.specs.declared.leaf.Winner.{Winner}
 use Rattle.hub_http.specs.declared.refusal.Refusal.{Refusal}
-use Rattle.hub_http.specs.declared.refusal.Refusal.TheVariants.{BadRev, Conflict, Missing, Deleted, DocDeleted}
+use Rattle.hub_http.specs.declared.refusal.Refusal.TheVariants.{BadRev, Conflict, Missing}
+use Rattle.hub_http.specs.declared.refusal.Refusal.TheVariants.{Deleted, DocDeleted}
 use Rattle.hub_service.specs.Calls.{deletion, edits, winner_in}
 use Rattle.hub_service.specs.Moments.{HasDatabase, IsRead, IsWritten}
 use Rattle.hub_service.specs.Said.{Refusing, IsWant}

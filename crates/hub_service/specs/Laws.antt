@@ -36,7 +36,8 @@ IsFrontOfUpdates feed items = (rest : List (Item UpdateRow))
 
 -- what is sent of a feed of changes, however its stream ends, is the front of a list that is rightly handed
 abbrev pub StreamsOfChangesAreRight : Type 0
-StreamsOfChangesAreRight = (feed : FeedState ChangeRow) (items : List StreamItem) (end : StreamEnd) (t : Option Sent)
+StreamsOfChangesAreRight =
+    (feed : FeedState ChangeRow) (items : List StreamItem) (end : StreamEnd) (t : Option Sent)
     → feed.taken ≡ [] → items ≢ [] → Streams connection_rules 0 (Some (Changes feed)) items end t
     → (handed : List (Item ChangeRow)) × (items ≡ map Change handed) × IsFrontOfChanges feed handed
 
@@ -49,7 +50,8 @@ CompleteChangesAreRight = (feed : FeedState ChangeRow) (items : List StreamItem)
 
 -- what is sent of a feed of updates, however its stream ends, is the front of a list that is rightly handed
 abbrev pub StreamsOfUpdatesAreRight : Type 0
-StreamsOfUpdatesAreRight = (feed : FeedState UpdateRow) (items : List StreamItem) (end : StreamEnd) (t : Option Sent)
+StreamsOfUpdatesAreRight =
+    (feed : FeedState UpdateRow) (items : List StreamItem) (end : StreamEnd) (t : Option Sent)
     → feed.taken ≡ [] → items ≢ [] → Streams connection_rules 0 (Some (Updates feed)) items end t
     → (handed : List (Item UpdateRow)) × (items ≡ map Update handed) × IsFrontOfUpdates feed handed
 

@@ -34,10 +34,11 @@ IsFound found (Err e) = (e ≡ NoMemory) ⊎ ((e ≡ Deleted) × HasDatabase (λ
 abbrev pub IsRead : (Database → Said) → Result Response Refusal → Type 0
 IsRead says r = HasDatabase (λ db. Says r (stands db (says db))) ⊎ IsWant r
 
--- A call that writes was answered as some database says it, which then has what was written. Or memory was
--- missing. Or a document was stored, and the log of updates was full, so that it has no note of the write. With
--- a log of one note, that of the database's making, each put of a document is stored and answered 503
--- sequence_full. A batch of a known document stores nothing, and is answered 201.
+-- A call that writes was answered as some database says it, which then has what was written. Or
+-- memory was missing. Or a document was stored, and the log of updates was full, so that it has no
+-- note of the write. With a log of one note, that of the database's making, each put of a document
+-- is stored and answered 503 sequence_full. A batch of a known document stores nothing, and is
+-- answered 201.
 abbrev pub IsWritten : (Database → Writing) → Result Response Refusal → Type 0
 IsWritten does r = HasDatabase (λ db. Says r (does db).said)
     ⊎ (IsWant r ⊎ ((r ≡ Err SequenceFull) × HasDatabase (λ db. HasStored (does db).outcomes)))
@@ -53,5 +54,8 @@ pub record IsStored (new_edits : Bool) (docs : List Doc) (w : Written) : Type 0 
 -- before is told the count 3.
 abbrev pub IsKept : LocalDoc → Result ℕ Refusal → Type 0
 IsKept doc (Ok count) = (db : Database) × (db.deleted ≡ false) × (count ≡ (written db.locals doc).count)
-IsKept doc (Err e) = (e ≡ NoMemory) ⊎ (((e ≡ Deleted) × ((db : Database) × (db.deleted ≡ true)))
-    ⊎ ((e ≡ SequenceFull) × ((db : Database) × (db.deleted ≡ false) × (2 ^ 64 ≤ (written db.locals doc).count))))
+IsKept doc (Err e) =
+    (e ≡ NoMemory)
+    ⊎ (((e ≡ Deleted) × ((db : Database) × (db.deleted ≡ true)))
+    ⊎ ((e ≡ SequenceFull)
+    × ((db : Database) × (db.deleted ≡ false) × (2 ^ 64 ≤ (written db.locals doc).count))))

@@ -1,6 +1,6 @@
--- What a connection answers to a request (CouchDB API reference, the server, its databases, and each call on one;
--- own for the order of refusals). Each call looks at a database under its lock, and is answered as the database
--- says it that lies there then.
+-- What a connection answers to a request (CouchDB API reference, the server, its databases, and
+-- each call on one; own for the order of refusals). Each call looks at a database under its lock,
+-- and is answered as the database says it that lies there then.
 use Rattle.std.specs.Prelude.{◌≡◌, ◌⊎◌, ⊤, ℕ, List, true, false, Option, Some, Result, Ok, Err}
 use Rattle.std.specs.Prelude.{string_bytes}
 use Rattle.hub_document.specs.Local.{local_in}
@@ -25,7 +25,8 @@ use Rattle.hub_routes.specs.declared.route.Call.TheVariants as call
 use Rattle.hub_session.specs.declared.service.Answer.{Answer}
 use Rattle.hub_session.specs.declared.service.Answer.TheVariants as answer
 use Rattle.hub_service.specs.Bulk.{batch_in}
-use Rattle.hub_service.specs.Calls.{says_info, says_commit, gets_doc, puts_doc, says_local, puts_local, says_diffs}
+use Rattle.hub_service.specs.Calls.{says_info, says_commit, gets_doc, puts_doc}
+use Rattle.hub_service.specs.Calls.{says_local, puts_local, says_diffs}
 use Rattle.hub_service.specs.Calls.{asked_by, stores}
 use Rattle.hub_service.specs.Deletions.{IsDeletion}
 use Rattle.hub_service.specs.Feeds.{Begins, BeginsChanges, BeginsUpdates, life_of}
@@ -50,7 +51,8 @@ AnswersCall (call.PutDocument id query) name body r =
     IsWritten (λ db. puts_doc db (put_in (string_bytes id) asked.rev asked.new_edits body)) r
 AnswersCall (call.DeleteDocument id query) name body r =
     IsDeletion (string_bytes id) query.items r
-AnswersCall (call.GetLocal id) name body r = IsRead (λ db. says_local (local_of db.locals (string_bytes id))) r
+AnswersCall (call.GetLocal id) name body r =
+    IsRead (λ db. says_local (local_of db.locals (string_bytes id))) r
 AnswersCall (call.PutLocal id) name body r =
     IsRead (λ db. puts_local db (local_in (string_bytes id) body)) r
 
@@ -70,7 +72,8 @@ IsRemoved r = IsSaid (Body 200 ok_body) r ⊎ ((r ≡ Err Absent) ⊎ (r ≡ Err
 -- names of databases were listed, each once, in the order of their bytes
 abbrev pub IsListed : Result Response Refusal → Type 0
 IsListed r =
-    ((names : List (List ℕ)) × AreNames most_databases names × Says r (Body 200 (names_body names))) ⊎ IsWant r
+    ((names : List (List ℕ)) × AreNames most_databases names × Says r (Body 200 (names_body names)))
+    ⊎ IsWant r
 
 -- a call was answered by the database of the name, or there was none
 abbrev pub IsCalled : Call → List ℕ → List ℕ → Result Response Refusal → Type 0
@@ -93,8 +96,8 @@ IsFeed (Listed answer) = ⊥
 IsFeed (Changes feed) = ⊤
 IsFeed (Updates feed) = ⊤
 
--- the response is sent so, and what is being sent is then this: a feed that is begun takes the place of none, and
--- is refused where nothing could be found to hand it its items
+-- the response is sent so, and what is being sent is then this: a feed that is begun takes the
+-- place of none, and is refused where nothing could be found to hand it its items
 abbrev pub IsSent : Result Response Refusal → Answer → Option Sent → Option Sent → Type 0
 IsSent (Ok (response.Body status body)) a s t =
     (a ≡ answer.Whole (Done status body)) × (t ≡ s)

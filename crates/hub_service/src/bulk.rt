@@ -4,7 +4,8 @@ ghost use Rattle.std.specs.Prelude.{◌≡◌, Ok, Err, IfOk, IfErr, codes};
 ghost use Rattle.serde_json.specs.Find.{get};
 ghost use Rattle.serde_json.specs.View.{view, items_view};
 ghost use Rattle.hub_replies.specs.Bulk.{batch_body};
-ghost use Rattle.hub_service.specs.Bulk.{batch_in, batch_of, faults_of, flag_of, read_docs, readings, replies_of, reply_to};
+ghost use Rattle.hub_service.specs.Bulk.{batch_in, batch_of, faults_of, flag_of};
+ghost use Rattle.hub_service.specs.Bulk.{read_docs, readings, replies_of, reply_to};
 ghost use Rattle.hub_service.specs.Calls.{says_batch, says_noted, stores};
 ghost use Rattle.hub_service.specs.Moments.{IsWritten};
 ghost use Rattle.hub_service.specs.Said.{IsSaid};
@@ -33,7 +34,9 @@ fn new_edits_of(request: &Value) -> Option<bool>
 
 // The elements of a batch, and whether their revisions are made here.
 fn batch_of(request: &Value) -> Result<(&Vec<Value>, bool), Refusal>
-    ensures ok { IfOk result (λ b. batch_of (view request.now) ≡ Ok (record { docs = items_view b.0.now.items; new_edits = b.1 })) }
+    ensures ok { IfOk result
+        (λ b.
+        batch_of (view request.now) ≡ Ok (record { docs = items_view b.0.now.items; new_edits = b.1 })) }
     ensures err { IfErr result (λ e. batch_of (view request.now) ≡ Err e) }
 {
     let Some(docs) = request.get("docs").and_then(Value::as_array) else {
@@ -56,8 +59,10 @@ struct Readings {
 
 // Reads each element by itself. It costs the elements' length.
 fn read_elements(alloc: Global, elements: &[Value], new_edits: bool) -> Result<Readings, AllocError>
-    ensures docs { IfOk result (λ r. r.docs.items ≡ read_docs (readings new_edits (items_view elements.now))) }
-    ensures faults { IfOk result (λ r. r.faults.items ≡ faults_of (readings new_edits (items_view elements.now))) }
+    ensures docs { IfOk result
+        (λ r. r.docs.items ≡ read_docs (readings new_edits (items_view elements.now))) }
+    ensures faults { IfOk result
+        (λ r. r.faults.items ≡ faults_of (readings new_edits (items_view elements.now))) }
 {
     let mut docs = Vec::with_capacity(alloc, elements.len())?;
     let mut faults = Vec::with_capacity(alloc, elements.len())?;

@@ -6,7 +6,8 @@ ghost use Rattle.hub_routes.specs.Routes.{GoesTo};
 ghost use Rattle.hub_routes.specs.declared.route.Route.{Route};
 ghost use Rattle.hub_routes.specs.declared.route.RouteFault.{RouteFault};
 ghost use Rattle.hub_service.specs.Laws.{connection_rules};
-ghost use Rattle.hub_service.specs.Requests.{AtName, IsCalled, IsListed, IsMade, IsRemoved, IsFeed, IsSent, Responds};
+ghost use Rattle.hub_service.specs.Requests.{AtName, IsCalled, IsListed, IsMade};
+ghost use Rattle.hub_service.specs.Requests.{IsRemoved, IsFeed, IsSent, Responds};
 
 use crate::database::answer;
 use crate::feeds::begin_updates;

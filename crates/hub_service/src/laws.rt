@@ -1,6 +1,8 @@
 //! What the streams of a connection show.
 
-ghost use Rattle.hub_service.specs.Laws.{CompleteChangesAreRight, CompleteListIsWhole, CompleteUpdatesAreRight, StreamsOfChangesAreRight, StreamsOfUpdatesAreRight};
+ghost use Rattle.hub_service.specs.Laws.{CompleteChangesAreRight, CompleteListIsWhole};
+ghost use Rattle.hub_service.specs.Laws.{CompleteUpdatesAreRight, StreamsOfChangesAreRight};
+ghost use Rattle.hub_service.specs.Laws.{StreamsOfUpdatesAreRight};
 
 /// What a connection sends of a feed is the front of a list that is rightly handed for what was asked;
 /// to its end it is the whole of one: rows that rise, each its document's current row at its step, each

@@ -1,7 +1,8 @@
 //! Why a call is refused.
 
 ghost use Rattle.std.specs.Prelude.{◌≡◌};
-ghost use Rattle.hub_service.specs.Refusals.{of_db_fault, of_hub_fault, of_note_fault, of_open_fault, of_param_fault};
+ghost use Rattle.hub_service.specs.Refusals.{of_db_fault, of_hub_fault, of_note_fault};
+ghost use Rattle.hub_service.specs.Refusals.{of_open_fault, of_param_fault};
 
 use hub_database::DbFault;
 use hub_databases::HubFault;

@@ -38,7 +38,8 @@ pub fn serve_connection<N: Wait, P: Pumping, R: Input, W: Output>(
     ensures writes { W.fault_count writer.old ≤ W.fault_count writer.new }
     ensures failed_writes { W.failure_count writer.old ≤ W.failure_count writer.new }
     ensures reads { faults_of R.fault_count requests.old ≤ faults_of R.fault_count requests.new }
-    ensures failed_reads { failures_of R.failure_count requests.old ≤ failures_of R.failure_count requests.new }
+    ensures failed_reads { failures_of R.failure_count requests.old
+        ≤ failures_of R.failure_count requests.new }
     ensures broken { result ≡ Closing.Broken → Rose (W.fault_count writer.old) (W.fault_count writer.new) }
     ensures tried { result ≡ Closing.Broken → GaveUp (W.failure_count writer.old)
         (W.failure_count writer.new) (W.fault_count writer.old) (W.fault_count writer.new) }
@@ -62,15 +63,17 @@ pub fn answer_stream<N: Wait, R: Input, W: Output>(
     writer: &mut W,
     limits: Limits,
 ) -> Result<Closing, AllocError>
-    ensures session { IsOpen requests.old → IfOk result (λ closing. IfSome (to_come R.left requests.old) (λ bytes.
-        (last : Option Sent) × IsSession connection_rules bytes closing
-        (moment None (W.written writer.old)) (moment last (W.written writer.new)))) }
+    ensures session { IsOpen requests.old → IfOk result (λ closing.
+        IfSome (to_come R.left requests.old) (λ bytes. (last : Option Sent)
+        × IsSession connection_rules bytes closing (moment None (W.written writer.old))
+        (moment last (W.written writer.new)))) }
     ensures ended { HasEnded requests.old → IfOk result (λ closing. (closing ≡ Closing.Fault HttpFault.Ended)
         × (requests.new ≡ requests.old) × (writer.new ≡ writer.old)) }
     ensures writes { W.fault_count writer.old ≤ W.fault_count writer.new }
     ensures failed_writes { W.failure_count writer.old ≤ W.failure_count writer.new }
     ensures reads { faults_of R.fault_count requests.old ≤ faults_of R.fault_count requests.new }
-    ensures failed_reads { failures_of R.failure_count requests.old ≤ failures_of R.failure_count requests.new }
+    ensures failed_reads { failures_of R.failure_count requests.old
+        ≤ failures_of R.failure_count requests.new }
     ensures broken { result ≡ Ok Closing.Broken → Rose (W.fault_count writer.old) (W.fault_count writer.new) }
     ensures tried { result ≡ Ok Closing.Broken → GaveUp (W.failure_count writer.old)
         (W.failure_count writer.new) (W.fault_count writer.old) (W.fault_count writer.new) }

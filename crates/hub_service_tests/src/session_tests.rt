@@ -1,5 +1,6 @@
-//! Sessions as tables: what a client sends, and what the hub answers. Most exchanges over one connection are not
-//! here: they are the stored run of the program (`crates/changes_hub/stdin` and `stdout`).
+//! Sessions as tables: what a client sends, and what the hub answers. Most exchanges over one
+//! connection are not here: they are the stored run of the program (`crates/changes_hub/stdin` and
+//! `stdout`).
 
 use crate::made_again::{again, told};
 use crate::session_tests::Answer::{Created, Replies};

@@ -141,8 +141,8 @@ const FULL_LOG_OF_EDITS: &[Exchange] = &[
     (Line("GET /d"), Found(DELETED)),
 ];
 
-/// The log of updates is full: it has the notes of two databases that were made. A PUT and a DELETE of a document
-/// are told so, and stand. An edit that is refused is told as that.
+/// The log of updates is full: it has the notes of two databases that were made. A PUT and a DELETE
+/// of a document are told so, and stand. An edit that is refused is told as that.
 #[test]
 fn a_full_log_of_edits(rt: HostRuntime) -> Result<(), Fail> {
     assert_session(

@@ -1,5 +1,7 @@
 -- The items of a stream, sent one after the other, and how it ends behind them.
-use Rattle.std.proofs.Common.{◌≡◌, ◌≤◌, ◌⊎◌, ℕ, ◌+◌, List, [], ◌∷◌, ◌++◌, Bool, true, false, MatchBool, Option, Some, Ok, Err, refl, sym, ap, subst, ◌∙◌, inl, inr, append_assoc, append-nil, arith}
+use Rattle.std.proofs.Common.{◌≡◌, ◌≤◌, ◌⊎◌, ℕ, ◌+◌, List, [], ◌∷◌, ◌++◌, Bool, true}
+use Rattle.std.proofs.Common.{false, MatchBool, Option, Some, Ok, Err, refl, sym, ap}
+use Rattle.std.proofs.Common.{subst, ◌∙◌, inl, inr, append_assoc, append-nil, arith}
 use Rattle.std.proofs.lemmas.Bool.{cases_Bool}
 use Rattle.std.specs.Prelude.{if◌then◌else◌}
 use Rattle.std.specs.Io.KnownBytes.{Appends}
@@ -14,35 +16,44 @@ use Rattle.hub_http.specs.Items.{feed_head}
 use Rattle.hub_session.specs.declared.item.StreamItem.{StreamItem}
 use Rattle.hub_session.specs.declared.closing.StreamEnd.{StreamEnd}
 use Rattle.hub_session.specs.declared.closing.StreamEnd.TheVariants.{Broken}
-use Rattle.hub_session.specs.Feeds.{GivesBack, HasStreamed, Streams, IsFed, IsStreamed, sent_text, items_text, feed_text, is_broken, rows_behind}
+use Rattle.hub_session.specs.Feeds.{GivesBack, HasStreamed, Streams, IsFed, IsStreamed}
+use Rattle.hub_session.specs.Feeds.{sent_text, items_text, feed_text, is_broken, rows_behind}
 use Rattle.hub_session.specs.Items.{is_end, is_row, rows_after}
 use Rattle.hub_session.specs.Rules.{Rules, Moment, moment}
 
 -- the texts of items, and then of others
 pub items_text-append : (mode : Mode) (life rows : ℕ) (xs ys : List StreamItem)
-    → items_text mode life rows (xs ++ ys) ≡ items_text mode life rows xs ++ items_text mode life (rows_behind rows xs) ys
+    → items_text mode life rows (xs ++ ys)
+    ≡ items_text mode life rows xs ++ items_text mode life (rows_behind rows xs) ys
 items_text-append mode life rows [] ys = refl
 items_text-append mode life rows (x ∷ xs) ys =
     ap (λ l. sent_text mode life rows x ++ l) (items_text-append mode life (rows_after rows x) xs ys)
-    ∙ sym (append_assoc (sent_text mode life rows x) (items_text mode life (rows_after rows x) xs) (items_text mode life (rows_behind (rows_after rows x) xs) ys))
+    ∙ sym (append_assoc (sent_text mode life rows x) (items_text mode life (rows_after rows x) xs)
+    (items_text mode life (rows_behind (rows_after rows x) xs) ys))
 
 -- the rows behind one more item
-pub rows_behind-push : (rows : ℕ) (xs : List StreamItem) (item : StreamItem) → rows_behind rows (xs ++ item ∷ []) ≡ rows_after (rows_behind rows xs) item
+pub rows_behind-push : (rows : ℕ) (xs : List StreamItem) (item : StreamItem)
+    → rows_behind rows (xs ++ item ∷ []) ≡ rows_after (rows_behind rows xs) item
 rows_behind-push rows [] item = refl
 rows_behind-push rows (x ∷ xs) item = rows_behind-push (rows_after rows x) xs item
 
 module _ {S : Type 0} (rules : Rules S) where
   -- what was sent so far, and then the rest of the stream, is the stream
-  pub streamed_streams : (from : ℕ) (s : S) (first : List StreamItem) (sent : ℕ) (mid : S) (rest : List StreamItem) (end : StreamEnd) (t : S)
-      → HasStreamed rules from s first sent mid → Streams rules sent mid rest end t → Streams rules from s (first ++ rest) end t
+  pub streamed_streams : (from : ℕ) (s : S) (first : List StreamItem) (sent : ℕ) (mid : S)
+      (rest : List StreamItem) (end : StreamEnd) (t : S)
+      → HasStreamed rules from s first sent mid → Streams rules sent mid rest end t
+      → Streams rules from s (first ++ rest) end t
   streamed_streams from s first sent mid rest end t HasStreamed.stands h = h
   streamed_streams from s first sent mid rest end t (HasStreamed.goes_on gives not_end more) h =
       Streams.goes_on gives not_end (streamed_streams _ _ _ sent mid rest end t more h)
 
   -- one more item was sent
-  pub streamed_more : (from : ℕ) (s : S) (first : List StreamItem) (sent : ℕ) (mid : S) (item : StreamItem) (t : S)
-      → HasStreamed rules from s first sent mid → rules.gives mid (Some item) t → is_end item ≡ false → HasStreamed rules from s (first ++ item ∷ []) (sent + 1) t
-  streamed_more from s first sent mid item t HasStreamed.stands gives not_end = HasStreamed.goes_on gives not_end HasStreamed.stands
+  pub streamed_more : (from : ℕ) (s : S) (first : List StreamItem) (sent : ℕ) (mid : S)
+      (item : StreamItem) (t : S)
+      → HasStreamed rules from s first sent mid → rules.gives mid (Some item) t → is_end item ≡ false
+      → HasStreamed rules from s (first ++ item ∷ []) (sent + 1) t
+  streamed_more from s first sent mid item t HasStreamed.stands gives not_end =
+      HasStreamed.goes_on gives not_end HasStreamed.stands
   streamed_more from s first sent mid item t (HasStreamed.goes_on g n more) gives not_end =
       HasStreamed.goes_on g n (streamed_more _ _ _ sent mid item t more gives not_end)
 
@@ -55,25 +66,31 @@ row_more : (rows : ℕ) (item : StreamItem) → rows_after rows item ≤ rows + 
 row_more rows item = choice_more (is_row item) rows
 
 -- there are no more rows than items
-pub rows_within : {S : Type 0} (rules : Rules S) (from : ℕ) (s : S) (items : List StreamItem) (sent : ℕ) (t : S) (rows : ℕ)
+pub rows_within : {S : Type 0} (rules : Rules S) (from : ℕ) (s : S) (items : List StreamItem)
+    (sent : ℕ) (t : S) (rows : ℕ)
     → HasStreamed rules from s items sent t → rows ≤ from → rows_behind rows items ≤ sent
 rows_within rules from s items sent t rows HasStreamed.stands low = low
 rows_within rules from s items sent t rows (HasStreamed.goes_on {item = item} g n more) low =
-    rows_within rules (from + 1) _ _ sent t (rows_after rows item) more (omega (arith, low, row_more rows item))
+    rows_within rules (from + 1) _ _ sent t (rows_after rows item) more
+    (omega (arith, low, row_more rows item))
 
 -- the text of one item is that of its list
-pub one_sent : (mode : Mode) (life : ℕ) (rows : ℕ) (item : StreamItem) (broken : Bool) (a b : Option (List ℕ)) → Sends broken a b (sent_text mode life rows item)
+pub one_sent : (mode : Mode) (life : ℕ) (rows : ℕ) (item : StreamItem) (broken : Bool) (a b : Option (List ℕ))
+    → Sends broken a b (sent_text mode life rows item)
     → Sends broken a b (items_text mode life rows (item ∷ []))
-one_sent mode life rows item broken a b p = subst (Sends broken a b) (sym (append-nil (sent_text mode life rows item))) p
+one_sent mode life rows item broken a b p =
+    subst (Sends broken a b) (sym (append-nil (sent_text mode life rows item))) p
 
 -- what a stream has sent and written since it began
-pub record Went {S : Type 0} (rules : Rules S) (mode : Mode) (life : ℕ) (before : Moment S) (sent rows : ℕ) (now : Moment S) : Type 0 where
+pub record Went {S : Type 0} (rules : Rules S) (mode : Mode) (life : ℕ) (before : Moment S) (sent rows : ℕ)
+    (now : Moment S) : Type 0 where
   pub first : List StreamItem
   pub streamed : HasStreamed rules 0 before.service first sent now.service
   pub rows_is : rows ≡ rows_behind 0 first
   pub written : Appends before.written now.written (items_text mode life 0 first)
 
-pub went_none : {S : Type 0} (rules : Rules S) (mode : Mode) (life : ℕ) (now : Moment S) → Went rules mode life now 0 0 now
+pub went_none : {S : Type 0} (rules : Rules S) (mode : Mode) (life : ℕ) (now : Moment S)
+    → Went rules mode life now 0 0 now
 went_none rules mode life now = record {
   first = [];
   streamed = HasStreamed.stands;
@@ -82,17 +99,22 @@ went_none rules mode life now = record {
 }
 
 -- what items wrote behind others
-pub wrote_behind : {S : Type 0} (rules : Rules S) (mode : Mode) (life rows : ℕ) (before now after : Option (List ℕ)) (first more : List StreamItem) (broken : Bool)
-    → rows ≡ rows_behind 0 first → Appends before now (items_text mode life 0 first) → Sends broken now after (items_text mode life rows more)
+pub wrote_behind : {S : Type 0} (rules : Rules S) (mode : Mode) (life rows : ℕ)
+    (before now after : Option (List ℕ)) (first more : List StreamItem) (broken : Bool)
+    → rows ≡ rows_behind 0 first → Appends before now (items_text mode life 0 first)
+    → Sends broken now after (items_text mode life rows more)
     → Sends broken before after (items_text mode life 0 (first ++ more))
 wrote_behind rules mode life rows before now after first more broken is w p =
     subst (Sends broken before after) (sym (items_text-append mode life 0 first more))
-    (sends_after broken before now after (items_text mode life 0 first) (items_text mode life (rows_behind 0 first) more) w
+    (sends_after broken before now after
+    (items_text mode life 0 first) (items_text mode life (rows_behind 0 first) more) w
     (subst (λ n. Sends broken now after (items_text mode life n more)) is p))
 
-module _ {S : Type 0} (rules : Rules S) (mode : Mode) (life : ℕ) (before : Moment S) (sent rows : ℕ) (now : Moment S) where
+module _ {S : Type 0} (rules : Rules S) (mode : Mode) (life : ℕ) (before : Moment S)
+    (sent rows : ℕ) (now : Moment S) where
   -- one more item that is no End
-  pub went_more : (next : Moment S) (rows_then : ℕ) → Went rules mode life before sent rows now → IsStreamed rules mode life sent rows (Ok rows_then) now next
+  pub went_more : (next : Moment S) (rows_then : ℕ) → Went rules mode life before sent rows now
+      → IsStreamed rules mode life sent rows (Ok rows_then) now next
       → Went rules mode life before (sent + 1) rows_then next
   went_more next rows_then w step =
       let item = step.0 in
@@ -100,23 +122,33 @@ module _ {S : Type 0} (rules : Rules S) (mode : Mode) (life : ℕ) (before : Mom
       step.3 ∙ ap (λ n. rows_after n item) w.rows_is ∙ sym (rows_behind-push 0 w.first item) in
       record {
         first = w.first ++ item ∷ [];
-        streamed = streamed_more rules 0 before.service w.first sent now.service item next.service w.streamed step.1 step.2;
+        streamed =
+            streamed_more rules 0 before.service w.first sent now.service item next.service
+            w.streamed step.1 step.2;
         rows_is = count;
-        written = wrote_behind rules mode life rows before.written now.written next.written w.first (item ∷ []) false w.rows_is w.written
+        written =
+            wrote_behind rules mode life rows before.written now.written next.written w.first
+            (item ∷ []) false w.rows_is w.written
             (one_sent mode life rows item false now.written next.written step.4);
       }
 
   -- the stream ends so
-  pub went_ends : (after : Moment S) (end : StreamEnd) → Went rules mode life before sent rows now → IsStreamed rules mode life sent rows (Err end) now after
+  pub went_ends : (after : Moment S) (end : StreamEnd) → Went rules mode life before sent rows now
+      → IsStreamed rules mode life sent rows (Err end) now after
       → IsFed rules (items_text mode life 0) end before after
   went_ends after end w step = record {
     items = w.first ++ step.0;
-    streams = streamed_streams rules 0 before.service w.first sent now.service step.0 end after.service w.streamed step.1;
-    written = wrote_behind rules mode life rows before.written now.written after.written w.first step.0 (is_broken end) w.rows_is w.written step.2;
+    streams =
+        streamed_streams rules 0 before.service w.first sent now.service step.0
+        end after.service w.streamed step.1;
+    written =
+        wrote_behind rules mode life rows before.written now.written after.written w.first step.0
+        (is_broken end) w.rows_is w.written step.2;
   }
 
 -- behind an item that can't be written the stream has ended, or it gives back what it holds
-pub stream_fails : {S : Type 0} (rules : Rules S) (sent : ℕ) (s mid t : S) (item : StreamItem) → rules.gives s (Some item) mid → GivesBack rules item mid t
+pub stream_fails : {S : Type 0} (rules : Rules S) (sent : ℕ) (s mid t : S) (item : StreamItem)
+    → rules.gives s (Some item) mid → GivesBack rules item mid t
     → Streams rules sent s (item ∷ []) Broken t
 stream_fails rules sent s mid t item given back = from (cases_Bool (is_end item))
   where
@@ -124,24 +156,38 @@ stream_fails rules sent s mid t item given back = from (cases_Bool (is_end item)
     from (inl e) =
         let same : t ≡ mid = subst (λ b. MatchBool b (t ≡ mid) (rules.drops mid t)) e back in
         Streams.ends_broken (subst (λ m. rules.gives s (Some item) m) (sym same) given) e
-    from (inr e) = Streams.goes_on given e (Streams.breaks (subst (λ b. MatchBool b (t ≡ mid) (rules.drops mid t)) e back))
+    from (inr e) =
+        Streams.goes_on given e
+        (Streams.breaks (subst (λ b. MatchBool b (t ≡ mid) (rules.drops mid t)) e back))
 
 -- what a fault says of the front it says of the whole
-pub front_written : (e : ChunkFault) (x y : List ℕ) (a b : Option (List ℕ)) → Writes x (Err e) a b → Writes (x ++ y) (Err e) a b
+pub front_written : (e : ChunkFault) (x y : List ℕ) (a b : Option (List ℕ)) → Writes x (Err e) a b
+    → Writes (x ++ y) (Err e) a b
 front_written chunk.NoMemory x y a b p = p
 front_written chunk.IoFault x y a b p = front_of_more a b x y p
 
 -- the items behind the head
-pub fed_behind : {S : Type 0} (rules : Rules S) (mode : Mode) (life : ℕ) (end : StreamEnd) (before after : Moment S) (mid : Option (List ℕ)) → Appends before.written mid (text_chunks (feed_head mode))
-    → IsFed rules (items_text mode life 0) end (moment before.service mid) after → IsFed rules (feed_text mode life) end before after
+pub fed_behind : {S : Type 0} (rules : Rules S) (mode : Mode) (life : ℕ) (end : StreamEnd)
+    (before after : Moment S) (mid : Option (List ℕ))
+    → Appends before.written mid (text_chunks (feed_head mode))
+    → IsFed rules (items_text mode life 0) end (moment before.service mid) after
+    → IsFed rules (feed_text mode life) end before after
 fed_behind rules mode life end before after mid p f = record {
   items = f.items;
   streams = f.streams;
-  written = sends_after (is_broken end) before.written mid after.written (text_chunks (feed_head mode)) _ p f.written;
+  written =
+      sends_after (is_broken end) before.written mid after.written
+      (text_chunks (feed_head mode)) _ p f.written;
 }
 
 -- the head can't be written
-pub fed_broken : {S : Type 0} (rules : Rules S) (mode : Mode) (life : ℕ) (before after : Moment S) → rules.drops before.service after.service
-    → Sends true before.written after.written (text_chunks (feed_head mode)) → IsFed rules (feed_text mode life) Broken before after
+pub fed_broken : {S : Type 0} (rules : Rules S) (mode : Mode) (life : ℕ) (before after : Moment S)
+    → rules.drops before.service after.service
+    → Sends true before.written after.written (text_chunks (feed_head mode))
+    → IsFed rules (feed_text mode life) Broken before after
 fed_broken rules mode life before after d p =
-    record { items = []; streams = Streams.breaks d; written = front_of_more before.written after.written (text_chunks (feed_head mode)) _ p }
+    record {
+      items = [];
+      streams = Streams.breaks d;
+      written = front_of_more before.written after.written (text_chunks (feed_head mode)) _ p;
+    }

@@ -1,5 +1,6 @@
 -- From one request to all of them.
-use Rattle.std.proofs.Common.{◌≡◌, ◌≤◌, ◌⊎◌, ℕ, ◌+◌, List, [], ◌∷◌, ◌++◌, Option, Some, None, Ok, Err, IfSome, refl, sym, ap, subst, ◌∙◌, append-nil, inl, inr}
+use Rattle.std.proofs.Common.{◌≡◌, ◌≤◌, ◌⊎◌, ℕ, ◌+◌, List, [], ◌∷◌, ◌++◌, Option, Some, None}
+use Rattle.std.proofs.Common.{Ok, Err, IfSome, refl, sym, ap, subst, ◌∙◌, append-nil, inl, inr}
 use Rattle.std.proofs.lemmas.Grind.{flat_map-append}
 use Rattle.std.specs.List.{flat_map}
 use Rattle.std.specs.Io.KnownBytes.{Appends}
@@ -8,15 +9,18 @@ use Rattle.hub_http.specs.Counts.{Sends, last_count}
 use Rattle.hub_http.specs.declared.request.Request.{Request}
 use Rattle.hub_http.specs.declared.fault.HttpFault.{HttpFault}
 use Rattle.hub_http.specs.Stream.{Asked, asked_by, Spells, Leaves, Faults}
-use Rattle.hub_http.specs.declared.fault.HttpFault.TheVariants.{NoMemory, BadHead, HeadTooLong, BodyTooLong, Version, Coding, Ended, IoFault}
+use Rattle.hub_http.specs.declared.fault.HttpFault.TheVariants.{NoMemory, BadHead, HeadTooLong, BodyTooLong}
+use Rattle.hub_http.specs.declared.fault.HttpFault.TheVariants.{Version, Coding, Ended, IoFault}
 use Rattle.hub_session.specs.declared.closing.Closing.{Closing}
 use Rattle.hub_session.specs.declared.closing.Closing.TheVariants.{Finished, Fault, Broken, Exhausted}
 use Rattle.hub_session.specs.Replies.{fault_text}
 use Rattle.hub_session.specs.Rules.{Rules, Moment, moment}
-use Rattle.hub_session.specs.Sessions.{Answers, Exchange, exchange_text, Standing, Ending, Session, HasServed, IsSession, HasAnswer, IsServed, Closes, is_broken, standing}
+use Rattle.hub_session.specs.Sessions.{Answers, Exchange, exchange_text, Standing, Ending, Session, HasServed}
+use Rattle.hub_session.specs.Sessions.{IsSession, HasAnswer, IsServed, Closes, is_broken, standing}
 
 -- a fault of the next request is one that its bytes have
-ends_faulty : (b c : Option (List ℕ)) (e : HttpFault) → IfSome b (λ bytes. Leaves bytes (Err e) c) → IfSome b (λ bytes. Faults bytes e)
+ends_faulty : (b c : Option (List ℕ)) (e : HttpFault) → IfSome b (λ bytes. Leaves bytes (Err e) c)
+    → IfSome b (λ bytes. Faults bytes e)
 ends_faulty None c e s = tt
 ends_faulty (Some y) None e s = absurd s
 ends_faulty (Some y) (Some z) NoMemory s = s.1
@@ -29,19 +33,23 @@ ends_faulty (Some y) (Some z) Ended s = s
 ends_faulty (Some y) (Some z) IoFault s = tt
 
 -- a session closes by a fault that its bytes have, or by an answer to it that can't be written
-pub faulty_closes : (bytes : List ℕ) (e : HttpFault) (closing : Closing) → Faults bytes e → (closing ≡ Fault e) ⊎ (closing ≡ Broken) → Closes bytes closing (fault_text e)
+pub faulty_closes : (bytes : List ℕ) (e : HttpFault) (closing : Closing) → Faults bytes e
+    → (closing ≡ Fault e) ⊎ (closing ≡ Broken) → Closes bytes closing (fault_text e)
 faulty_closes bytes e closing f (inl is) = subst (λ c. Closes bytes c (fault_text e)) (sym is) (f, refl)
 faulty_closes bytes e closing f (inr is) = subst (λ c. Closes bytes c (fault_text e)) (sym is) (e, f, refl)
 
-pub one_answered : {S : Type 0} (rules : Rules S) (before after : Moment S) (b left : Option (List ℕ)) (q : Request) (next : Option Closing)
-    → IfSome b (λ bytes. Leaves bytes (Ok (Some q)) left) → HasAnswer rules (asked_by q) next before after → IfSome b (λ bytes. IsServed rules bytes next left before after)
+pub one_answered : {S : Type 0} (rules : Rules S) (before after : Moment S) (b left : Option (List ℕ))
+    (q : Request) (next : Option Closing)
+    → IfSome b (λ bytes. Leaves bytes (Ok (Some q)) left) → HasAnswer rules (asked_by q) next before after
+    → IfSome b (λ bytes. IsServed rules bytes next left before after)
 one_answered rules before after None left q next l has = tt
 one_answered rules before after (Some x) None q next l has = absurd l
 one_answered rules before after (Some x) (Some y) q next l has =
     IsServed.answered (record { asked = asked_by q; rest = y; spelt = l; left_is = refl; answer = has })
 
 module _ {S : Type 0} (rules : Rules S) (before : Moment S) where
-  pub one_finished : (b left : Option (List ℕ)) → IfSome b (λ bytes. Leaves bytes (Ok None) left) → IfSome b (λ bytes. IsServed rules bytes (Some Finished) left before before)
+  pub one_finished : (b left : Option (List ℕ)) → IfSome b (λ bytes. Leaves bytes (Ok None) left)
+      → IfSome b (λ bytes. IsServed rules bytes (Some Finished) left before before)
   one_finished None left l = tt
   one_finished (Some x) None l = absurd l
   one_finished (Some x) (Some y) l = IsServed.closed (record {
@@ -54,7 +62,8 @@ module _ {S : Type 0} (rules : Rules S) (before : Moment S) where
   })
 
   -- the bytes have this fault, which was answered so
-  pub one_faulted : (new b left : Option (List ℕ)) (e : HttpFault) (closing : Closing) → IfSome b (λ bytes. Leaves bytes (Err e) left)
+  pub one_faulted : (new b left : Option (List ℕ)) (e : HttpFault) (closing : Closing)
+      → IfSome b (λ bytes. Leaves bytes (Err e) left)
       → (closing ≡ Fault e) ⊎ (closing ≡ Broken) → Sends (is_broken closing) before.written new (fault_text e)
       → IfSome b (λ bytes. IsServed rules bytes (Some closing) left before (moment before.service new))
   one_faulted new None left e closing l c p = tt
@@ -68,41 +77,59 @@ module _ {S : Type 0} (rules : Rules S) (before : Moment S) where
   })
 
 -- what was served, and then the rest of the session, is the session
-pub served_session : {S : Type 0} (rules : Rules S) (from : Standing S) (first : List Exchange) (now : Standing S) (more : List Exchange) (ending : Ending S)
-    → HasServed rules from first now → Session rules now more ending → Session rules from (first ++ more) ending
+pub served_session : {S : Type 0} (rules : Rules S) (from : Standing S) (first : List Exchange)
+    (now : Standing S) (more : List Exchange) (ending : Ending S)
+    → HasServed rules from first now → Session rules now more ending
+    → Session rules from (first ++ more) ending
 served_session rules from first now more ending HasServed.stands h = h
 served_session rules from first now more ending (HasServed.goes_on rest mid spelt answers others) h =
     Session.goes_on rest mid spelt answers (served_session rules _ _ now more ending others h)
 
 -- one more request was answered
-pub served_more : {S : Type 0} (rules : Rules S) (from : Standing S) (first : List Exchange) (now : Standing S) (x : Exchange) (rest : List ℕ) (mid : S)
+pub served_more : {S : Type 0} (rules : Rules S) (from : Standing S) (first : List Exchange)
+    (now : Standing S) (x : Exchange) (rest : List ℕ) (mid : S)
     → HasServed rules from first now → Spells now.bytes x.asked rest → Answers rules now.service x None mid
     → HasServed rules from (first ++ x ∷ []) (standing (now.served + 1) rest mid)
-served_more rules from first now x rest mid HasServed.stands spelt answers = HasServed.goes_on rest mid spelt answers HasServed.stands
+served_more rules from first now x rest mid HasServed.stands spelt answers =
+    HasServed.goes_on rest mid spelt answers HasServed.stands
 served_more rules from first now x rest mid (HasServed.goes_on r m s a others) spelt answers =
     HasServed.goes_on r m s a (served_more rules _ _ now x rest mid others spelt answers)
 
 -- `served` requests of these bytes were answered, and these are left
-pub record Served {S : Type 0} (rules : Rules S) (bytes : List ℕ) (before : Moment S) (served : ℕ) (left : Option (List ℕ)) (now : Moment S) : Type 0 where
+pub record Served {S : Type 0} (rules : Rules S) (bytes : List ℕ) (before : Moment S) (served : ℕ)
+    (left : Option (List ℕ)) (now : Moment S) : Type 0 where
   pub first : List Exchange
   pub rest : List ℕ
   pub left_is : left ≡ Some rest
   pub goes : HasServed rules (standing 0 bytes before.service) first (standing served rest now.service)
   pub written : Appends before.written now.written (flat_map exchange_text first)
 
-pub served_none : {S : Type 0} (rules : Rules S) (now : Moment S) (b : Option (List ℕ)) → IfSome b (λ bytes. Served rules bytes now 0 b now)
+pub served_none : {S : Type 0} (rules : Rules S) (now : Moment S) (b : Option (List ℕ))
+    → IfSome b (λ bytes. Served rules bytes now 0 b now)
 served_none rules now None = tt
-served_none rules now (Some x) = record { first = []; rest = x; left_is = refl; goes = HasServed.stands; written = Appends-nil now.written }
+served_none rules now (Some x) = record {
+  first = [];
+  rest = x;
+  left_is = refl;
+  goes = HasServed.stands;
+  written = Appends-nil now.written;
+}
 
-pub one_more : (xs : List Exchange) (x : Exchange) → flat_map exchange_text (xs ++ x ∷ []) ≡ flat_map exchange_text xs ++ exchange_text x
-one_more xs x = flat_map-append exchange_text xs (x ∷ []) ∙ ap (λ l. flat_map exchange_text xs ++ l) (append-nil (exchange_text x))
+pub one_more : (xs : List Exchange) (x : Exchange)
+    → flat_map exchange_text (xs ++ x ∷ []) ≡ flat_map exchange_text xs ++ exchange_text x
+one_more xs x =
+    flat_map-append exchange_text xs (x ∷ [])
+    ∙ ap (λ l. flat_map exchange_text xs ++ l) (append-nil (exchange_text x))
 
-module _ {S : Type 0} (rules : Rules S) (bytes : List ℕ) (before : Moment S) (served : ℕ) (left : Option (List ℕ)) (now : Moment S) where
+module _ {S : Type 0} (rules : Rules S) (bytes : List ℕ) (before : Moment S) (served : ℕ)
+    (left : Option (List ℕ)) (now : Moment S) where
   -- the exchange of a request that the bytes begin with
-  begins_with : (rest : List ℕ) (asked : Asked) (after : List ℕ) (x : Exchange) → Spells rest asked after → x.asked ≡ asked → Spells rest x.asked after
+  begins_with : (rest : List ℕ) (asked : Asked) (after : List ℕ) (x : Exchange) → Spells rest asked after
+      → x.asked ≡ asked → Spells rest x.asked after
   begins_with rest asked after x s e = subst (λ a. Spells rest a after) (sym e) s
 
-  more_by : (w : Served rules bytes before served left now) (left' : Option (List ℕ)) (next : Moment S) → IsServed rules w.rest None left' now next
+  more_by : (w : Served rules bytes before served left now) (left' : Option (List ℕ)) (next : Moment S)
+      → IsServed rules w.rest None left' now next
       → Served rules bytes before (served + 1) left' next
   more_by w left' next (IsServed.answered a) =
       let x = a.answer.exchange in
@@ -110,49 +137,74 @@ module _ {S : Type 0} (rules : Rules S) (bytes : List ℕ) (before : Moment S) (
         first = w.first ++ x ∷ [];
         rest = a.rest;
         left_is = a.left_is;
-        goes = served_more rules (standing 0 bytes before.service) w.first (standing served w.rest now.service) x a.rest next.service w.goes
+        goes =
+            served_more rules (standing 0 bytes before.service) w.first
+            (standing served w.rest now.service) x a.rest next.service w.goes
             (begins_with w.rest a.asked a.rest x a.spelt a.answer.asked_is) a.answer.goes;
-        written = subst (Appends before.written next.written) (sym (one_more w.first x)) (Appends-trans before.written now.written next.written _ _ w.written a.answer.written);
+        written =
+            subst (Appends before.written next.written) (sym (one_more w.first x))
+            (Appends-trans before.written now.written next.written _ _ w.written a.answer.written);
       }
   more_by w left' next (IsServed.closed k) = let e = k.next_is in cc
 
-  ends_by : (w : Served rules bytes before served left now) (closing : Closing) (text : List ℕ) (after : Moment S)
-      → Session rules (standing served w.rest now.service) [] (record { closing = closing; text = text; service = after.service }) → Sends (is_broken closing) now.written after.written text
+  ends_by : (w : Served rules bytes before served left now) (closing : Closing)
+      (text : List ℕ) (after : Moment S)
+      → Session rules (standing served w.rest now.service) []
+      (record { closing = closing; text = text; service = after.service })
+      → Sends (is_broken closing) now.written after.written text
       → IsSession rules bytes closing before after
   ends_by w closing text after h p = record {
     exchanges = w.first;
     last = text;
     mid = now.written;
-    goes = subst (λ l. Session rules (standing 0 bytes before.service) l (record { closing = closing; text = text; service = after.service })) (append-nil w.first)
-        (served_session rules (standing 0 bytes before.service) w.first (standing served w.rest now.service) [] (record { closing = closing; text = text; service = after.service }) w.goes h);
+    goes =
+        subst (λ l. Session rules (standing 0 bytes before.service) l
+        (record { closing = closing; text = text; service = after.service })) (append-nil w.first)
+        (served_session rules (standing 0 bytes before.service) w.first (standing served w.rest now.service)
+        [] (record { closing = closing; text = text; service = after.service }) w.goes h);
     whole = w.written;
     written = p;
   }
 
-  closes_by : (w : Served rules bytes before served left now) (closing : Closing) (left' : Option (List ℕ)) (after : Moment S)
+  closes_by : (w : Served rules bytes before served left now) (closing : Closing)
+      (left' : Option (List ℕ)) (after : Moment S)
       → IsServed rules w.rest (Some closing) left' now after → IsSession rules bytes closing before after
   closes_by w closing left' after (IsServed.answered a) =
       let x = a.answer.exchange in
-      ends_by w closing (exchange_text x) after (Session.closes_behind x a.rest (begins_with w.rest a.asked a.rest x a.spelt a.answer.asked_is) a.answer.goes refl) a.answer.written
+      ends_by w closing (exchange_text x) after
+      (Session.closes_behind x a.rest
+      (begins_with w.rest a.asked a.rest x a.spelt a.answer.asked_is) a.answer.goes refl) a.answer.written
   closes_by w closing left' after (IsServed.closed k) =
       let e : closing ≡ k.closing = let n = k.next_is in cc in
-      ends_by w closing k.text after (Session.closes (subst (λ x. Closes w.rest x k.text) (sym e) k.closes) k.same)
+      ends_by w closing k.text after
+      (Session.closes (subst (λ x. Closes w.rest x k.text) (sym e) k.closes) k.same)
       (subst (λ x. Sends (is_broken x) now.written after.written k.text) (sym e) k.written)
 
-module _ {S : Type 0} (rules : Rules S) (before now after : Moment S) (served : ℕ) (left left' : Option (List ℕ)) where
-  pub serves_more : (b : Option (List ℕ)) → IfSome b (λ bytes. Served rules bytes before served left now) → IfSome left (λ bytes. IsServed rules bytes None left' now after)
+module _ {S : Type 0} (rules : Rules S) (before now after : Moment S) (served : ℕ)
+    (left left' : Option (List ℕ)) where
+  pub serves_more : (b : Option (List ℕ)) → IfSome b (λ bytes. Served rules bytes before served left now)
+      → IfSome left (λ bytes. IsServed rules bytes None left' now after)
       → IfSome b (λ bytes. Served rules bytes before (served + 1) left' after)
   serves_more None w h = tt
   serves_more (Some x) w h =
-      more_by rules x before served left now w left' after (subst (λ l. IfSome l (λ bytes. IsServed rules bytes None left' now after)) w.left_is h)
+      more_by rules x before served left now w left' after
+      (subst (λ l. IfSome l (λ bytes. IsServed rules bytes None left' now after)) w.left_is h)
 
-  pub serves_so : (b : Option (List ℕ)) (closing : Closing) → IfSome b (λ bytes. Served rules bytes before served left now)
-      → IfSome left (λ bytes. IsServed rules bytes (Some closing) left' now after) → IfSome b (λ bytes. IsSession rules bytes closing before after)
+  pub serves_so : (b : Option (List ℕ)) (closing : Closing)
+      → IfSome b (λ bytes. Served rules bytes before served left now)
+      → IfSome left (λ bytes. IsServed rules bytes (Some closing) left' now after)
+      → IfSome b (λ bytes. IsSession rules bytes closing before after)
   serves_so None closing w h = tt
   serves_so (Some x) closing w h =
-      closes_by rules x before served left now w closing left' after (subst (λ l. IfSome l (λ bytes. IsServed rules bytes (Some closing) left' now after)) w.left_is h)
+      closes_by rules x before served left now w closing left' after
+      (subst (λ l. IfSome l (λ bytes. IsServed rules bytes (Some closing) left' now after)) w.left_is h)
 
-pub serves_all : {S : Type 0} (rules : Rules S) (before now : Moment S) (served : ℕ) (left b : Option (List ℕ)) → last_count ≤ served
-    → IfSome b (λ bytes. Served rules bytes before served left now) → IfSome b (λ bytes. IsSession rules bytes Exhausted before now)
+pub serves_all : {S : Type 0} (rules : Rules S) (before now : Moment S) (served : ℕ)
+    (left b : Option (List ℕ))
+    → last_count ≤ served
+    → IfSome b (λ bytes. Served rules bytes before served left now)
+    → IfSome b (λ bytes. IsSession rules bytes Exhausted before now)
 serves_all rules before now served left None n w = tt
-serves_all rules before now served left (Some x) n w = ends_by rules x before served left now w Exhausted [] now (Session.gives_up n refl refl refl) (Appends-nil now.written)
+serves_all rules before now served left (Some x) n w =
+    ends_by rules x before served left now w Exhausted [] now (Session.gives_up n refl refl refl)
+    (Appends-nil now.written)

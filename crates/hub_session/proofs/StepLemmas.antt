@@ -1,10 +1,12 @@
 -- What one step of a session did.
-use Rattle.std.proofs.Common.{◌≡◌, ◌≤◌, ◌⊎◌, ℕ, List, [], Bool, true, Option, Some, None, Ok, Err, refl, sym, ap, subst, ◌∙◌, append-nil, inl, inr}
+use Rattle.std.proofs.Common.{◌≡◌, ◌≤◌, ◌⊎◌, ℕ, List, [], Bool, true, Option, Some, None}
+use Rattle.std.proofs.Common.{Ok, Err, refl, sym, ap, subst, ◌∙◌, append-nil, inl, inr}
 use Rattle.std.specs.Io.KnownBytes.{Appends}
 use Rattle.std.proofs.KnownBytes.{Appends-nil}
 use Rattle.hub_http.specs.Counts.{Sends, last_count}
 use Rattle.hub_http.specs.declared.fault.HttpFault.{HttpFault}
-use Rattle.hub_http.specs.declared.fault.HttpFault.TheVariants.{NoMemory, BadHead, HeadTooLong, BodyTooLong, Version, Coding, Ended, IoFault}
+use Rattle.hub_http.specs.declared.fault.HttpFault.TheVariants.{NoMemory, BadHead, HeadTooLong, BodyTooLong}
+use Rattle.hub_http.specs.declared.fault.HttpFault.TheVariants.{Version, Coding, Ended, IoFault}
 use Rattle.hub_http.specs.Offers.{FaultsSoFar}
 use Rattle.hub_http.specs.Stream.{Asked, Spells, Faults}
 use Rattle.hub_session.specs.declared.closing.Closing.{Closing}
@@ -18,7 +20,8 @@ use Rattle.hub_session.specs.declared.machine.Step.TheVariants as step
 use Rattle.hub_session.specs.Feeds.{IsStreamed, Streams}
 use Rattle.hub_session.specs.Replies.{fault_text}
 use Rattle.hub_session.specs.Rules.{Rules, Moment}
-use Rattle.hub_session.specs.Runs.{HasAnswered, IsOfEnd, IsStepped, Seen, Steps, moment_of, place_behind, step_behind}
+use Rattle.hub_session.specs.Runs.{HasAnswered, IsOfEnd, IsStepped, Seen, Steps}
+use Rattle.hub_session.specs.Runs.{moment_of, place_behind, step_behind}
 use Rattle.hub_session.specs.Sessions.{HasAnswer, IsServed, after_stream, is_broken}
 use Rattle.hub_session.proofs.RunLemmas.{not_end}
 use Rattle.hub_session.proofs.SessionLemmas.{faulty_closes}
@@ -30,37 +33,65 @@ step_broken (Some closing) e = let same : closing ≡ Broken = cc in ap (λ c. S
 
 module _ {S : Type 0} (rules : Rules S) where
   -- a request was answered whole, and the place was set
-  pub answered_whole : (asked : Asked) (next : Option Closing) (old mid new : Seen S) (came : Step) → HasAnswer rules asked next (moment_of old) (moment_of mid)
-      → mid.over ≡ old.over → mid.bytes ≡ old.bytes → new ≡ record mid { place = place_behind next } → came ≡ step_behind next → HasAnswered rules asked old came new
+  pub answered_whole : (asked : Asked) (next : Option Closing) (old mid new : Seen S) (came : Step)
+      → HasAnswer rules asked next (moment_of old) (moment_of mid)
+      → mid.over ≡ old.over → mid.bytes ≡ old.bytes → new ≡ record mid { place = place_behind next }
+      → came ≡ step_behind next → HasAnswered rules asked old came new
   answered_whole asked next old mid new came h over bytes e is =
       subst (HasAnswered rules asked old came) (sym e) (HasAnswered.whole next refl is over bytes h)
 
   -- what came of a step that ended an answer
-  of_next : (old new : Seen S) (next : Option Closing) → Steps rules old new (step_behind next) → IsStepped rules old (step_behind next) new
+  of_next : (old new : Seen S) (next : Option Closing) → Steps rules old new (step_behind next)
+      → IsStepped rules old (step_behind next) new
   of_next old new None h = h
   of_next old new (Some closing) h = inl h
 
-  by_next : (old new : Seen S) (next : Option Closing) (came : Step) → came ≡ step_behind next → Steps rules old new (step_behind next) → IsStepped rules old came new
+  by_next : (old new : Seen S) (next : Option Closing) (came : Step) → came ≡ step_behind next
+      → Steps rules old new (step_behind next) → IsStepped rules old came new
   by_next old new next came is h = subst (λ s. IsStepped rules old s new) (sym is) (of_next old new next h)
 
   -- the next request was answered
-  pub stepped_request : (asked : Asked) (old : Seen S) (bytes : List ℕ) (over : Bool) (new : Seen S) (came : Step) → old.place ≡ Between → over ≡ old.over → Spells old.bytes asked bytes
-      → HasAnswered rules asked (record old { bytes = bytes; over = over }) came new → IsStepped rules old came new
+  pub stepped_request : (asked : Asked) (old : Seen S) (bytes : List ℕ) (over : Bool)
+      (new : Seen S) (came : Step)
+      → old.place ≡ Between → over ≡ old.over → Spells old.bytes asked bytes
+      → HasAnswered rules asked (record old { bytes = bytes; over = over }) came new
+      → IsStepped rules old came new
   stepped_request asked old bytes over new came place kept spelt (HasAnswered.whole next p s o b h) =
-      by_next old new next came s (Steps.exchanges next place p refl (o ∙ kept) (λ e. absurd (not_end rules h.exchange _ next _ h.goes.goes e))
-      (IsServed.answered (record { asked = asked; rest = new.bytes; spelt = subst (λ l. Spells old.bytes asked l) (sym b) spelt; left_is = refl; answer = h })))
-  stepped_request asked old bytes over new came place kept spelt (HasAnswered.begins sending p s o b none answered body sent) =
+      by_next old new next came s
+      (Steps.exchanges next place p refl
+      (o ∙ kept) (λ e. absurd (not_end rules h.exchange _ next _ h.goes.goes e))
+      (IsServed.answered
+      (record {
+        asked = asked;
+        rest = new.bytes;
+        spelt = subst (λ l. Spells old.bytes asked l) (sym b) spelt;
+        left_is = refl;
+        answer = h;
+      })))
+  stepped_request asked old bytes over new came place kept spelt
+      (HasAnswered.begins sending p s o b none answered body sent) =
       subst (λ c. IsStepped rules old c new) (sym s)
-      (Steps.begins asked sending place p refl (o ∙ kept) none (subst (λ l. Spells old.bytes asked l) (sym b) spelt) answered body sent)
+      (Steps.begins asked sending place p refl (o ∙ kept) none
+      (subst (λ l. Spells old.bytes asked l) (sym b) spelt) answered body sent)
 
   -- the input ended between two requests
-  pub stepped_end : (old mid new : Seen S) (came : Step) → old.place ≡ Between → old.over ≡ true → old.bytes ≡ [] → mid.over ≡ old.over → mid.service ≡ old.service → mid.pending ≡ old.pending
-      → new ≡ record mid { place = place_behind (Some Finished) } → came ≡ step_behind (Some Finished) → IsStepped rules old came new
+  pub stepped_end : (old mid new : Seen S) (came : Step) → old.place ≡ Between → old.over ≡ true
+      → old.bytes ≡ [] → mid.over ≡ old.over → mid.service ≡ old.service → mid.pending ≡ old.pending
+      → new ≡ record mid { place = place_behind (Some Finished) } → came ≡ step_behind (Some Finished)
+      → IsStepped rules old came new
   stepped_end old mid new came place over none kept service pending e is =
       subst (IsStepped rules old came) (sym e)
       (by_next old (record mid { place = place_behind (Some Finished) }) (Some Finished) came is
       (Steps.exchanges (Some Finished) place refl refl kept (λ _. over)
-      (IsServed.closed (record { closing = Finished; text = []; next_is = refl; closes = (none, refl); same = service; written = pending ∙ sym (append-nil old.pending) }))))
+      (IsServed.closed
+      (record {
+        closing = Finished;
+        text = [];
+        next_is = refl;
+        closes = (none, refl);
+        same = service;
+        written = pending ∙ sym (append-nil old.pending);
+      }))))
 
 fault_is : (over : Bool) (bytes : List ℕ) (e : HttpFault) → FaultsSoFar over bytes e → Faults bytes e
 fault_is over bytes NoMemory f = f
@@ -73,7 +104,8 @@ fault_is over bytes Ended f = f.1
 fault_is over bytes IoFault f = tt
 
 -- a fault that is an end comes only where the input is over
-fault_ends : (over : Bool) (bytes : List ℕ) (e : HttpFault) → FaultsSoFar over bytes e → IsOfEnd (Some (Fault e)) → over ≡ true
+fault_ends : (over : Bool) (bytes : List ℕ) (e : HttpFault) → FaultsSoFar over bytes e
+    → IsOfEnd (Some (Fault e)) → over ≡ true
 fault_ends over bytes NoMemory f x = absurd x
 fault_ends over bytes BadHead f x = absurd x
 fault_ends over bytes HeadTooLong f x = absurd x
@@ -83,15 +115,22 @@ fault_ends over bytes Coding f x = absurd x
 fault_ends over bytes Ended f x = f.0
 fault_ends over bytes IoFault f x = absurd f
 
-closing_ends : (over : Bool) (bytes : List ℕ) (e : HttpFault) (closing : Closing) → FaultsSoFar over bytes e → (closing ≡ Fault e) ⊎ (closing ≡ Broken) → IsOfEnd (Some closing) → over ≡ true
-closing_ends over bytes e closing f (inl is) = subst (λ c. IsOfEnd (Some c) → over ≡ true) (sym is) (fault_ends over bytes e f)
-closing_ends over bytes e closing f (inr is) = subst (λ c. IsOfEnd (Some c) → over ≡ true) (sym is) (λ x. absurd x)
+closing_ends : (over : Bool) (bytes : List ℕ) (e : HttpFault) (closing : Closing) → FaultsSoFar over bytes e
+    → (closing ≡ Fault e) ⊎ (closing ≡ Broken) → IsOfEnd (Some closing) → over ≡ true
+closing_ends over bytes e closing f (inl is) =
+    subst (λ c. IsOfEnd (Some c) → over ≡ true) (sym is) (fault_ends over bytes e f)
+closing_ends over bytes e closing f (inr is) =
+    subst (λ c. IsOfEnd (Some c) → over ≡ true) (sym is) (λ x. absurd x)
 
 module _ {S : Type 0} (rules : Rules S) where
   -- no request can be read, and the fault was told
-  pub stepped_fault : (e : HttpFault) (closing : Closing) (old mid new : Seen S) (came : Step) → old.place ≡ Between → FaultsSoFar old.over old.bytes e → mid.over ≡ old.over → mid.service ≡ old.service
-      → (closing ≡ Fault e) ⊎ (closing ≡ Broken) → Sends (is_broken closing) (Some old.pending) (Some mid.pending) (fault_text e)
-      → new ≡ record mid { place = place_behind (Some closing) } → came ≡ step_behind (Some closing) → IsStepped rules old came new
+  pub stepped_fault : (e : HttpFault) (closing : Closing) (old mid new : Seen S) (came : Step)
+      → old.place ≡ Between → FaultsSoFar old.over old.bytes e → mid.over ≡ old.over
+      → mid.service ≡ old.service
+      → (closing ≡ Fault e) ⊎ (closing ≡ Broken)
+      → Sends (is_broken closing) (Some old.pending) (Some mid.pending) (fault_text e)
+      → new ≡ record mid { place = place_behind (Some closing) } → came ≡ step_behind (Some closing)
+      → IsStepped rules old came new
   stepped_fault e closing old mid new came place f kept service why sent is came_is =
       subst (IsStepped rules old came) (sym is)
       (by_next rules old (record mid { place = place_behind (Some closing) }) (Some closing) came came_is
@@ -106,23 +145,37 @@ module _ {S : Type 0} (rules : Rules S) where
       }))))
 
   -- a row or a beat of a stream is to go
-  pub stepped_item : (sending : Sending) (rows : ℕ) (close : Bool) (old new : Seen S) → old.place ≡ Within sending close
-      → new.place ≡ Within (record sending { rows = rows }) close → new.over ≡ old.over → new.bytes ≡ old.bytes
-      → IsStreamed rules sending.mode sending.life 0 sending.rows (Ok rows) (moment_of old) (moment_of new) → IsStepped rules old step.Served new
-  stepped_item sending rows close old new place later kept bytes h = Steps.sends sending rows close place later refl kept bytes h
+  pub stepped_item : (sending : Sending) (rows : ℕ) (close : Bool) (old new : Seen S)
+      → old.place ≡ Within sending close
+      → new.place ≡ Within (record sending { rows = rows }) close → new.over ≡ old.over
+      → new.bytes ≡ old.bytes
+      → IsStreamed rules sending.mode sending.life 0 sending.rows (Ok rows) (moment_of old) (moment_of new)
+      → IsStepped rules old step.Served new
+  stepped_item sending rows close old new place later kept bytes h =
+      Steps.sends sending rows close place later refl kept bytes h
 
   -- the stream ended
-  pub stepped_ends : (sending : Sending) (close : Bool) (end : StreamEnd) (next : Option Closing) (old mid new : Seen S) (came : Step) → old.place ≡ Within sending close → next ≡ after_stream close end
+  pub stepped_ends : (sending : Sending) (close : Bool) (end : StreamEnd) (next : Option Closing)
+      (old mid new : Seen S) (came : Step)
+      → old.place ≡ Within sending close → next ≡ after_stream close end
       → mid.over ≡ old.over → mid.bytes ≡ old.bytes
-      → ((sent : ℕ) → sending.rows ≤ sent → IsStreamed rules sending.mode sending.life sent sending.rows (Err end) (moment_of old) (moment_of mid))
-      → new ≡ record mid { place = place_behind next } → came ≡ step_behind next → IsStepped rules old came new
+      → ((sent : ℕ) → sending.rows ≤ sent
+      → IsStreamed rules sending.mode sending.life sent sending.rows (Err end)
+      (moment_of old) (moment_of mid))
+      → new ≡ record mid { place = place_behind next } → came ≡ step_behind next
+      → IsStepped rules old came new
   stepped_ends sending close end next old mid new came place next_is kept bytes h is came_is =
       subst (IsStepped rules old came) (sym is)
       (by_next rules old (record mid { place = place_behind next }) next came came_is
       (Steps.ends sending close end place (ap place_behind next_is) (ap step_behind next_is) kept bytes h))
 
   -- a stream has too many items
-  pub streamed_out : (sending : Sending) (old new : Moment S) → rules.drops old.service new.service → new.written ≡ old.written → sending.rows ≡ last_count
-      → (sent : ℕ) → sending.rows ≤ sent → IsStreamed rules sending.mode sending.life sent sending.rows (Err stream.Exhausted) old new
-  streamed_out sending old new drops same all sent low =
-      ([], Streams.gives_up drops (subst (λ n. n ≤ sent) all low), subst (λ w. Appends old.written w []) (sym same) (Appends-nil old.written))
+  pub streamed_out : (sending : Sending) (old new : Moment S) → rules.drops old.service new.service
+      → new.written ≡ old.written → sending.rows ≡ last_count
+      → (sent : ℕ) → sending.rows ≤ sent
+      → IsStreamed rules sending.mode sending.life sent sending.rows (Err stream.Exhausted) old new
+  streamed_out sending old new drops same all sent low = (
+    [],
+    Streams.gives_up drops (subst (λ n. n ≤ sent) all low),
+    subst (λ w. Appends old.written w []) (sym same) (Appends-nil old.written),
+  )

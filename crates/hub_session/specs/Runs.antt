@@ -1,5 +1,6 @@
 -- own: sessions that are stepped: what one shows, what one step does, and what all of its steps did.
-use Rattle.std.specs.Prelude.{◌≡◌, ⊤, ◌<◌, ◌≤◌, ◌⊎◌, ℕ, List, [], ◌++◌, Bool, true, false, length, Option, Some}
+use Rattle.std.specs.Prelude.{◌≡◌, ⊤, ◌<◌, ◌≤◌, ◌⊎◌, ℕ, List, [], ◌++◌}
+use Rattle.std.specs.Prelude.{Bool, true, false, length, Option, Some}
 use Rattle.std.specs.Prelude.{None, Ok, Err}
 use Rattle.std.specs.List.{flat_map}
 use Rattle.hub_http.specs.Boxes.{came_to, is_over, pending_in}
@@ -16,7 +17,8 @@ use Rattle.hub_session.specs.declared.machine.Place.{Place}
 use Rattle.hub_session.specs.declared.machine.Place.TheVariants.{Between, Within, Closed}
 use Rattle.hub_session.specs.declared.machine.Session.{Session}
 use Rattle.hub_session.specs.declared.machine.Step.{Step}
-use Rattle.hub_session.specs.declared.machine.Step.TheVariants.{Served, WantsInput, WantsRoom, WantsNews, Ended}
+use Rattle.hub_session.specs.declared.machine.Step.TheVariants.{Served, WantsInput}
+use Rattle.hub_session.specs.declared.machine.Step.TheVariants.{WantsRoom, WantsNews, Ended}
 use Rattle.hub_session.specs.Feeds.{HasStreamed, IsStreamed, items_text, rows_behind}
 use Rattle.hub_session.specs.Rules.{Rules, Moment, moment}
 use Rattle.hub_session.specs.Sessions.{Exchange, HasAnswer, HasServed, IsServed, IsSession, after_stream}
@@ -63,7 +65,8 @@ step_behind None = Served
 step_behind (Some closing) = Ended closing
 
 -- what a session shows before and behind the answer to this request, and what came of it
-pub data HasAnswered {S : Type 0} (rules : Rules S) (asked : Asked) (old : Seen S) (step : Step) (new : Seen S)
+pub data HasAnswered {S : Type 0} (rules : Rules S) (asked : Asked) (old : Seen S)
+    (step : Step) (new : Seen S)
     : Type 0 where
   -- it was answered whole
   whole : (next : Option Closing) → new.place ≡ place_behind next → step ≡ step_behind next
@@ -73,7 +76,8 @@ pub data HasAnswered {S : Type 0} (rules : Rules S) (asked : Asked) (old : Seen 
   begins : (sending : Sending) → new.place ≡ Within sending asked.close → step ≡ Served
       → new.over ≡ old.over → new.bytes ≡ old.bytes → sending.rows ≡ 0
       → rules.answers old.service asked (Stream sending.mode sending.life) new.service → is_head asked ≡ false
-      → new.pending ≡ old.pending ++ stream_head asked.close sending.mode → HasAnswered rules asked old step new
+      → new.pending ≡ old.pending ++ stream_head asked.close sending.mode
+      → HasAnswered rules asked old step new
 
 -- What a session shows before and behind a step that did something. Over a GET of a document it is one
 -- exchange. Over one of a feed of two rows it is the head of the stream, then each row, and then its End.
@@ -99,7 +103,8 @@ pub data Steps {S : Type 0} (rules : Rules S) (old new : Seen S) (step : Step) :
   ends : (sending : Sending) (close : Bool) (end : StreamEnd) → old.place ≡ Within sending close
       → new.place ≡ place_behind (after_stream close end) → step ≡ step_behind (after_stream close end)
       → new.over ≡ old.over → new.bytes ≡ old.bytes
-      → ((sent : ℕ) → sending.rows ≤ sent → IsStreamed rules sending.mode sending.life sent sending.rows (Err end)
+      → ((sent : ℕ) → sending.rows ≤ sent
+      → IsStreamed rules sending.mode sending.life sent sending.rows (Err end)
       (moment_of old) (moment_of new))
       → Steps rules old new step
 

@@ -121,7 +121,8 @@ pub record Ending (S : Type 0) : Type 0 where
 -- ends Finished with no text.
 pub data Session {S : Type 0} (rules : Rules S) : Standing S → List Exchange → Ending S → Type 0 where
   -- a request is answered, and the session goes on behind it
-  goes_on : {now : Standing S} {x : Exchange} {xs : List Exchange} {ending : Ending S} (rest : List ℕ) (mid : S)
+  goes_on : {now : Standing S} {x : Exchange} {xs : List Exchange} {ending : Ending S}
+      (rest : List ℕ) (mid : S)
       → Spells now.bytes x.asked rest → Answers rules now.service x None mid
       → Session rules (record { served = now.served + 1; bytes = rest; service = mid }) xs ending
       → Session rules now (x ∷ xs) ending

@@ -4,7 +4,8 @@ ghost use Rattle.hub_http.specs.Counts.{GaveUp, Rose, Sends};
 ghost use Rattle.hub_http.specs.Stream.{asked_by};
 ghost use Rattle.hub_session.specs.Replies.{fault_text};
 ghost use Rattle.hub_session.specs.Rules.{moment};
-ghost use Rattle.hub_session.specs.Sessions.{HasAnswer, HasBegun, after_answer, after_stream, is_broken, is_head, stream_head};
+ghost use Rattle.hub_session.specs.Sessions.{HasAnswer, HasBegun, after_answer};
+ghost use Rattle.hub_session.specs.Sessions.{after_stream, is_broken, is_head, stream_head};
 
 use crate::closing::{Closing, StreamEnd};
 use crate::feed::{begin_items, send_items};
@@ -57,7 +58,8 @@ fn write_head<W: Output, S: Service>(
     mode: Mode,
     close: bool,
 ) -> Result<(), IoFault>
-    ensures sent { Sends (is_err result) (W.written writer.old) (W.written writer.new) (stream_head close mode) }
+    ensures sent { Sends (is_err result) (W.written writer.old) (W.written writer.new)
+        (stream_head close mode) }
     ensures monotone { W.fault_count writer.old ≤ W.fault_count writer.new }
     ensures failures_monotone { W.failure_count writer.old ≤ W.failure_count writer.new }
     ensures fault { OnErr result (Rose (W.fault_count writer.old) (W.fault_count writer.new)) }
@@ -121,7 +123,8 @@ pub(crate) fn answer_one<W: Output, S: Service>(
         (moment service.old (W.written writer.old)) (moment service.new (W.written writer.new)) }
     ensures monotone { W.fault_count writer.old ≤ W.fault_count writer.new }
     ensures failures_monotone { W.failure_count writer.old ≤ W.failure_count writer.new }
-    ensures fault { result ≡ Some Closing.Broken → Rose (W.fault_count writer.old) (W.fault_count writer.new) }
+    ensures fault { result ≡ Some Closing.Broken
+        → Rose (W.fault_count writer.old) (W.fault_count writer.new) }
     ensures tried { result ≡ Some Closing.Broken → GaveUp (W.failure_count writer.old)
         (W.failure_count writer.new) (W.fault_count writer.old) (W.fault_count writer.new) }
 {

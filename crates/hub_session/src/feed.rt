@@ -5,7 +5,8 @@ ghost use Rattle.hub_http.specs.Counts.{GaveUp, Rose, Sends};
 ghost use Rattle.hub_http.specs.Items.{feed_head};
 ghost use Rattle.hub_http.specs.Chunks.{Writes, text_chunks};
 ghost use Rattle.hub_session.specs.Items.{rows_after};
-ghost use Rattle.hub_session.specs.Feeds.{feed_text, items_text, sent_text, behind_item, GivesBack, IsFed, IsStreamed, last_chunk};
+ghost use Rattle.hub_session.specs.Feeds.{feed_text, items_text, sent_text, behind_item};
+ghost use Rattle.hub_session.specs.Feeds.{GivesBack, IsFed, IsStreamed, last_chunk};
 ghost use Rattle.hub_session.specs.Rules.{moment};
 
 use crate::closing::StreamEnd;
@@ -68,7 +69,8 @@ fn finish_item<W: Output, S: Service>(
     service: &S,
     item: &StreamItem,
 ) -> Result<(), IoFault>
-    ensures sent { Sends (is_err result) (W.written writer.old) (W.written writer.new) (behind_item item.now) }
+    ensures sent { Sends (is_err result) (W.written writer.old) (W.written writer.new)
+        (behind_item item.now) }
     ensures monotone { W.fault_count writer.old ≤ W.fault_count writer.new }
     ensures failures_monotone { W.failure_count writer.old ≤ W.failure_count writer.new }
     ensures fault { OnErr result (Rose (W.fault_count writer.old) (W.fault_count writer.new)) }
@@ -93,7 +95,8 @@ fn send_item<W: Output, S: Service>(
         (W.written writer.old) (W.written writer.new) }
     ensures monotone { W.fault_count writer.old ≤ W.fault_count writer.new }
     ensures failures_monotone { W.failure_count writer.old ≤ W.failure_count writer.new }
-    ensures fault { IsErrOf result ChunkFault.IoFault → Rose (W.fault_count writer.old) (W.fault_count writer.new) }
+    ensures fault { IsErrOf result ChunkFault.IoFault
+        → Rose (W.fault_count writer.old) (W.fault_count writer.new) }
     ensures tried { IsErrOf result ChunkFault.IoFault → GaveUp (W.failure_count writer.old)
         (W.failure_count writer.new) (W.fault_count writer.old) (W.fault_count writer.new) }
 {
@@ -152,7 +155,8 @@ pub(crate) fn send_given<W: Output, S: Service>(
     ensures bound { IfOk result (λ rows. rows ≤ sending.rows + 1) }
     ensures monotone { W.fault_count writer.old ≤ W.fault_count writer.new }
     ensures failures_monotone { W.failure_count writer.old ≤ W.failure_count writer.new }
-    ensures fault { IsErrOf result StreamEnd.Broken → Rose (W.fault_count writer.old) (W.fault_count writer.new) }
+    ensures fault { IsErrOf result StreamEnd.Broken
+        → Rose (W.fault_count writer.old) (W.fault_count writer.new) }
     ensures tried { IsErrOf result StreamEnd.Broken → GaveUp (W.failure_count writer.old)
         (W.failure_count writer.new) (W.fault_count writer.old) (W.fault_count writer.new) }
 {
@@ -221,7 +225,8 @@ pub(crate) fn begin_items<W: Output, S: Service>(
     service: &S,
     mode: Mode,
 ) -> Result<(), IoFault>
-    ensures sent { Sends (is_err result) (W.written writer.old) (W.written writer.new) (text_chunks (feed_head mode)) }
+    ensures sent { Sends (is_err result) (W.written writer.old) (W.written writer.new)
+        (text_chunks (feed_head mode)) }
     ensures monotone { W.fault_count writer.old ≤ W.fault_count writer.new }
     ensures failures_monotone { W.failure_count writer.old ≤ W.failure_count writer.new }
     ensures fault { OnErr result (Rose (W.fault_count writer.old) (W.fault_count writer.new)) }

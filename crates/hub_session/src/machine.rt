@@ -1,9 +1,11 @@
 //! Sessions that are stepped.
-ghost use Rattle.std.specs.Prelude.{◌≡◌, ◌<◌, ◌≤◌, ◌⊎◌, ◌+◌, ◌^◌, ◌++◌, ℕ, List, [], false, true, length, take, drop, IsSome, OnOk, OnErr};
+ghost use Rattle.std.specs.Prelude.{◌≡◌, ◌<◌, ◌≤◌, ◌⊎◌, ◌+◌, ◌^◌, ◌++◌, ℕ, List, []};
+ghost use Rattle.std.specs.Prelude.{false, true, length, take, drop, IsSome, OnOk, OnErr};
 ghost use Rattle.hub_http.specs.Boxes.{Hands, faults_in, handed_of, pending_in};
 ghost use Rattle.hub_http.specs.Counts.{Rose};
 ghost use Rattle.hub_http.specs.Stream.{asked_by};
-ghost use Rattle.hub_session.specs.Runs.{HasAnswered, HasRun, IsStepped, Run, Seen, closing_at, new_run, place_behind, seen, step_behind, with_gone, with_offered};
+ghost use Rattle.hub_session.specs.Runs.{HasAnswered, HasRun, IsStepped, Run, Seen, closing_at, new_run};
+ghost use Rattle.hub_session.specs.Runs.{place_behind, seen, step_behind, with_gone, with_offered};
 
 use crate::answering::{Begun, after_stream, answer_fault, begin_answer};
 use crate::closing::{Closing, StreamEnd};
@@ -200,7 +202,8 @@ impl<S: Service> Session<S> {
     /// written last.
     pub fn step(&mut self) -> Step
         ensures told { IsStepped S.rules (seen self.old) result (seen self.new) }
-        ensures run { (run : Run S) → HasRun S.rules run (seen self.old) → HasRun S.rules run (seen self.new) }
+        ensures run { (run : Run S) → HasRun S.rules run (seen self.old)
+            → HasRun S.rules run (seen self.new) }
         ensures broken { result ≡ Step.Ended Closing.Broken
             → ((seen self.old).place ≡ Place.Closed Closing.Broken)
             ⊎ Rose (faults_in self.old.outbox) (faults_in self.new.outbox) }
@@ -231,7 +234,8 @@ impl<S: Service> Session<S> {
     /// Says that no more bytes come.
     pub fn end(&mut self)
         ensures shown { seen self.new ≡ record (seen self.old) { over = true } }
-        ensures run { (run : Run S) → HasRun S.rules run (seen self.old) → HasRun S.rules run (seen self.new) }
+        ensures run { (run : Run S) → HasRun S.rules run (seen self.old)
+            → HasRun S.rules run (seen self.new) }
     {
         self.inbox.end();
     }
@@ -271,7 +275,8 @@ impl<S: Service> Session<S> {
     /// what a stream holds.
     pub fn give_up(&mut self)
         ensures closed { IsSome (closing_at (seen self.new).place) }
-        ensures run { (run : Run S) → HasRun S.rules run (seen self.old) → HasRun S.rules run (seen self.new) }
+        ensures run { (run : Run S) → HasRun S.rules run (seen self.old)
+            → HasRun S.rules run (seen self.new) }
     {
         match self.place {
             Place::Between => self.place = Place::Closed(Closing::Broken),

@@ -2,7 +2,8 @@
 ghost use Rattle.std.specs.Prelude.{◌≡◌, ◌≤◌, is_err, length, OnErr};
 ghost use Rattle.http.specs.StatusCode.{reason_phrase};
 ghost use Rattle.hub_http.specs.Counts.{GaveUp, Rose, Sends};
-ghost use Rattle.hub_http.specs.Texts.{close_line, head_text, length_line, phrase_or_empty, refusal_body, reply_text};
+ghost use Rattle.hub_http.specs.Texts.{close_line, head_text, length_line};
+ghost use Rattle.hub_http.specs.Texts.{phrase_or_empty, refusal_body, reply_text};
 ghost use Rattle.hub_session.specs.Replies.{body_in, parts_text, status_in};
 
 use http::StatusCode;
@@ -26,7 +27,8 @@ fn close_line(close: bool) -> &'static str
 
 /// Writes parts, one behind the other, each mostly by one write, and does not flush.
 fn write_parts<W: Output>(writer: &mut W, parts: &[&[u8]]) -> Result<(), IoFault>
-    ensures sent { Sends (is_err result) (W.written writer.old) (W.written writer.new) (parts_text parts.now) }
+    ensures sent { Sends (is_err result) (W.written writer.old) (W.written writer.new)
+        (parts_text parts.now) }
     ensures monotone { W.fault_count writer.old ≤ W.fault_count writer.new }
     ensures failures_monotone { W.failure_count writer.old ≤ W.failure_count writer.new }
     ensures fault { OnErr result (Rose (W.fault_count writer.old) (W.fault_count writer.new)) }
@@ -46,7 +48,8 @@ fn write_head<W: Output>(
     len: usize,
     close: bool,
 ) -> Result<(), IoFault>
-    ensures sent { Sends (is_err result) (W.written writer.old) (W.written writer.new) (head_text status (length_line len) close) }
+    ensures sent { Sends (is_err result) (W.written writer.old) (W.written writer.new)
+        (head_text status (length_line len) close) }
     ensures monotone { W.fault_count writer.old ≤ W.fault_count writer.new }
     ensures failures_monotone { W.failure_count writer.old ≤ W.failure_count writer.new }
     ensures fault { OnErr result (Rose (W.fault_count writer.old) (W.fault_count writer.new)) }
@@ -75,7 +78,8 @@ fn write_head<W: Output>(
 
 /// Writes the body of a refusal.
 fn write_refusal<W: Output>(writer: &mut W, refusal: Refusal) -> Result<(), IoFault>
-    ensures sent { Sends (is_err result) (W.written writer.old) (W.written writer.new) (refusal_body refusal) }
+    ensures sent { Sends (is_err result) (W.written writer.old) (W.written writer.new)
+        (refusal_body refusal) }
     ensures monotone { W.fault_count writer.old ≤ W.fault_count writer.new }
     ensures failures_monotone { W.failure_count writer.old ≤ W.failure_count writer.new }
     ensures fault { OnErr result (Rose (W.fault_count writer.old) (W.fault_count writer.new)) }
@@ -135,7 +139,8 @@ pub(crate) fn send_in_parts<W: Output>(
     head_only: bool,
     close: bool,
 ) -> Result<(), IoFault>
-    ensures sent { Sends (is_err result) (W.written writer.old) (W.written writer.new) (reply_text reply head_only close) }
+    ensures sent { Sends (is_err result) (W.written writer.old) (W.written writer.new)
+        (reply_text reply head_only close) }
     ensures monotone { W.fault_count writer.old ≤ W.fault_count writer.new }
     ensures failures_monotone { W.failure_count writer.old ≤ W.failure_count writer.new }
     ensures fault { OnErr result (Rose (W.fault_count writer.old) (W.fault_count writer.new)) }

@@ -15,19 +15,29 @@ pub(crate) fn fault_text(fault: HttpFault) -> &'static str
     match fault {
         HttpFault::NoMemory => no_memory_text(false, true),
         HttpFault::BadHead => {
-            "HTTP/1.1 400 Bad Request\r\nContent-Type: application/json\r\nContent-Length: 44\r\nConnection: close\r\n\r\n{\"error\":\"bad_request\",\"reason\":\"bad head\"}\n"
+            "HTTP/1.1 400 Bad Request\r\nContent-Type: application/json\r\n\
+            Content-Length: 44\r\nConnection: close\r\n\r\n\
+            {\"error\":\"bad_request\",\"reason\":\"bad head\"}\n"
         }
         HttpFault::HeadTooLong => {
-            "HTTP/1.1 431 Request Header Fields Too Large\r\nContent-Type: application/json\r\nContent-Length: 51\r\nConnection: close\r\n\r\n{\"error\":\"head_too_long\",\"reason\":\"head too long\"}\n"
+            "HTTP/1.1 431 Request Header Fields Too Large\r\nContent-Type: application/json\r\n\
+            Content-Length: 51\r\nConnection: close\r\n\r\n\
+            {\"error\":\"head_too_long\",\"reason\":\"head too long\"}\n"
         }
         HttpFault::BodyTooLong => {
-            "HTTP/1.1 413 Payload Too Large\r\nContent-Type: application/json\r\nContent-Length: 47\r\nConnection: close\r\n\r\n{\"error\":\"too_large\",\"reason\":\"body too long\"}\n"
+            "HTTP/1.1 413 Payload Too Large\r\nContent-Type: application/json\r\n\
+            Content-Length: 47\r\nConnection: close\r\n\r\n\
+            {\"error\":\"too_large\",\"reason\":\"body too long\"}\n"
         }
         HttpFault::Version => {
-            "HTTP/1.1 505 HTTP Version Not Supported\r\nContent-Type: application/json\r\nContent-Length: 50\r\nConnection: close\r\n\r\n{\"error\":\"http_version\",\"reason\":\"HTTP/1.1 only\"}\n"
+            "HTTP/1.1 505 HTTP Version Not Supported\r\nContent-Type: application/json\r\n\
+            Content-Length: 50\r\nConnection: close\r\n\r\n\
+            {\"error\":\"http_version\",\"reason\":\"HTTP/1.1 only\"}\n"
         }
         HttpFault::Coding => {
-            "HTTP/1.1 501 Not Implemented\r\nContent-Type: application/json\r\nContent-Length: 58\r\nConnection: close\r\n\r\n{\"error\":\"not_implemented\",\"reason\":\"no transfer coding\"}\n"
+            "HTTP/1.1 501 Not Implemented\r\nContent-Type: application/json\r\n\
+            Content-Length: 58\r\nConnection: close\r\n\r\n\
+            {\"error\":\"not_implemented\",\"reason\":\"no transfer coding\"}\n"
         }
         HttpFault::Ended | HttpFault::IoFault => "",
     }
@@ -55,7 +65,8 @@ pub(crate) fn send_reply<W: Output>(
     head_only: bool,
     close: bool,
 ) -> Result<(), IoFault>
-    ensures sent { Sends (is_err result) (W.written writer.old) (W.written writer.new) (reply_text reply head_only close) }
+    ensures sent { Sends (is_err result) (W.written writer.old) (W.written writer.new)
+        (reply_text reply head_only close) }
     ensures monotone { W.fault_count writer.old ≤ W.fault_count writer.new }
     ensures failures_monotone { W.failure_count writer.old ≤ W.failure_count writer.new }
     ensures fault { OnErr result (Rose (W.fault_count writer.old) (W.fault_count writer.new)) }

@@ -30,8 +30,10 @@ pub fn serve_one<R: Input, W: Output, S: Service>(
     ensures monotone { W.fault_count writer.old ≤ W.fault_count writer.new }
     ensures failures_monotone { W.failure_count writer.old ≤ W.failure_count writer.new }
     ensures reads { faults_of R.fault_count requests.old ≤ faults_of R.fault_count requests.new }
-    ensures failed_reads { failures_of R.failure_count requests.old ≤ failures_of R.failure_count requests.new }
-    ensures broken { result ≡ Some Closing.Broken → Rose (W.fault_count writer.old) (W.fault_count writer.new) }
+    ensures failed_reads { failures_of R.failure_count requests.old
+        ≤ failures_of R.failure_count requests.new }
+    ensures broken { result ≡ Some Closing.Broken
+        → Rose (W.fault_count writer.old) (W.fault_count writer.new) }
     ensures tried { result ≡ Some Closing.Broken → GaveUp (W.failure_count writer.old)
         (W.failure_count writer.new) (W.fault_count writer.old) (W.fault_count writer.new) }
     ensures fault { result ≡ Some (Closing.Fault HttpFault.IoFault)
@@ -64,7 +66,8 @@ pub fn serve<R: Input, W: Output, S: Service>(
     ensures monotone { W.fault_count writer.old ≤ W.fault_count writer.new }
     ensures failures_monotone { W.failure_count writer.old ≤ W.failure_count writer.new }
     ensures reads { faults_of R.fault_count requests.old ≤ faults_of R.fault_count requests.new }
-    ensures failed_reads { failures_of R.failure_count requests.old ≤ failures_of R.failure_count requests.new }
+    ensures failed_reads { failures_of R.failure_count requests.old
+        ≤ failures_of R.failure_count requests.new }
     ensures broken { result ≡ Closing.Broken → Rose (W.fault_count writer.old) (W.fault_count writer.new) }
     ensures tried { result ≡ Closing.Broken → GaveUp (W.failure_count writer.old)
         (W.failure_count writer.new) (W.fault_count writer.old) (W.fault_count writer.new) }

@@ -1,18 +1,22 @@
 -- What a sender may send, and what each step of a host with its senders comes to.
-use Rattle.std.proofs.Common.{◌≡◌, ℕ, ◌+◌, List, [], ◌∷◌, ◌++◌, true, ◌&&◌, ap, refl, sym, ◌∙◌, subst, Option, Some, None, option_map}
+use Rattle.std.proofs.Common.{◌≡◌, ℕ, ◌+◌, List, [], ◌∷◌, ◌++◌, true, ◌&&◌, ap}
+use Rattle.std.proofs.Common.{refl, sym, ◌∙◌, subst, Option, Some, None, option_map}
 use Rattle.std.specs.Prelude.{option_and_then}
 use Rattle.std.proofs.lemmas.Option.{none-some}
 use Rattle.std.proofs.lemmas.Bool.{cases_Bool}
 use Rattle.std.proofs.Common.{inl, inr}
 use Rattle.hub_model.specs.Current.{Current}
 use Rattle.hub_model.specs.Entries.{entry_in, changed, without}
-use Rattle.hub_model.specs.Feed.{Feed, Params, Due, DueRow, DueEnd, DueNothing, DueGone, begin, due, after_due, after_nothing, beat_due, expire, is_open, waits}
+use Rattle.hub_model.specs.Feed.{Feed, Params, Due, DueRow, DueEnd, DueNothing, DueGone, begin}
+use Rattle.hub_model.specs.Feed.{due, after_due, after_nothing, beat_due, expire, is_open, waits}
 use Rattle.hub_model.specs.declared.feeds.Item.{Item}
 use Rattle.hub_model.specs.declared.feeds.Item.TheVariants.{Beat}
-use Rattle.hub_model.proofs.Entries.{own_changed, other_changed, own_without, other_without, own_added, other_added}
+use Rattle.hub_model.proofs.Entries.{own_changed, other_changed, own_without}
+use Rattle.hub_model.proofs.Entries.{other_without, own_added, other_added}
 use Rattle.hub_params.specs.FeedModel.{params_in, params_of}
 use Rattle.hub_params.specs.declared.feed_params.FeedParams.{FeedParams}
-use Rattle.hub_feed.specs.Host.{Hosted, with_feeds, answer_of, answered, item_for, item_due, behind_due, behind_answer, handed, expired, finished, opened, is_beat_due}
+use Rattle.hub_feed.specs.Host.{Hosted, with_feeds, answer_of, answered, item_for, item_due, behind_due}
+use Rattle.hub_feed.specs.Host.{behind_answer, handed, expired, finished, opened, is_beat_due}
 use Rattle.hub_feed.specs.Next.{next_of}
 use Rattle.hub_feed.specs.declared.next.Next.TheVariants.{Nothing}
 use Rattle.hub_lane.specs.Ends.{LaneId, behind_push, new_sender}
@@ -23,20 +27,25 @@ use Rattle.hub_shared.specs.Senders.{sends, MaySend}
 use Rattle.hub_shared.proofs.Serving.{sender_of, moves, sender_sends, sender_comes, sender_goes, stays_served}
 
 -- a step keeps what a feed was asked for, and where it began
-step_keeps : (f : Feed) (d : Due) (len : ℕ) → ((after_due f d len).params ≡ f.params) × ((after_due f d len).since ≡ f.since)
+step_keeps : (f : Feed) (d : Due) (len : ℕ)
+    → ((after_due f d len).params ≡ f.params) × ((after_due f d len).since ≡ f.since)
 step_keeps f (DueRow c) len = (refl, refl)
 step_keeps f (DueEnd last_seq) len = (refl, refl)
 step_keeps f DueNothing len = (refl, refl)
 step_keeps f DueGone len = (refl, refl)
 
 expire_keeps : (f : Feed) → ((expire f).params ≡ f.params) × ((expire f).since ≡ f.since)
-expire_keeps f = elim (cases_Bool (is_open f.status && waits f.params.mode)) [ inl t ↦ rw t (refl, refl) | inr t ↦ rw t (refl, refl) ]
+expire_keeps f = elim (cases_Bool (is_open f.status && waits f.params.mode)) [
+  | inl t ↦ rw t (refl, refl)
+  | inr t ↦ rw t (refl, refl)
+]
 
 beat_feed : (o : Option Feed) → is_beat_due o ≡ true → (f : Feed) × (o ≡ Some f) × (beat_due f ≡ true)
 beat_feed None e = absurd (cc)
 beat_feed (Some f) e = (f, refl, e)
 
-nothing_due : {R : Type 0} (show : Current → R) (rows : List Current) (d : Due) → Nothing ≡ next_of show rows d → d ≡ DueNothing
+nothing_due : {R : Type 0} (show : Current → R) (rows : List Current) (d : Due)
+    → Nothing ≡ next_of show rows d → d ≡ DueNothing
 nothing_due show rows (DueRow c) e = absurd (cc)
 nothing_due show rows (DueEnd last_seq) e = absurd (cc)
 nothing_due show rows DueNothing e = refl
@@ -44,20 +53,26 @@ nothing_due show rows DueGone e = absurd (cc)
 
 -- a feed with its sender, once it changes and its sender sent an item, or it changes alone
 module _ {R : Type 0} (fits : Feed → List (Item R) → Type 0) (change : Feed → Feed) where
-  both_change : (item : Item R) (o : Option Feed) (s : Option (FeedSender R)) (f : Feed) (x : FeedSender R) → o ≡ Some f → s ≡ Some x → IsSenderOf fits (change f) (behind_push x item)
+  both_change : (item : Item R) (o : Option Feed) (s : Option (FeedSender R)) (f : Feed) (x : FeedSender R)
+      → o ≡ Some f → s ≡ Some x → IsSenderOf fits (change f) (behind_push x item)
       → IsServed fits (option_map change o) (option_map (λ s. behind_push s item) s)
   both_change item o s f x is holds mine = rw (is, holds) mine
 
-  one_changes : (o : Option Feed) (s : Option (FeedSender R)) → ((f : Feed) (x : FeedSender R) → o ≡ Some f → s ≡ Some x → IsSenderOf fits (change f) x) → IsServed fits o s → IsServed fits (option_map change o) s
+  one_changes : (o : Option Feed) (s : Option (FeedSender R))
+      → ((f : Feed) (x : FeedSender R) → o ≡ Some f → s ≡ Some x → IsSenderOf fits (change f) x)
+      → IsServed fits o s → IsServed fits (option_map change o) s
   one_changes None None each i = tt
   one_changes None (Some x) each i = absurd i
   one_changes (Some f) None each i = absurd i
   one_changes (Some f) (Some x) each i = each f x refl refl
 
-module _ {S R : Type 0} (hosted : S → Hosted R) (with_hosted : S → Hosted R → S) (fits : S → Feed → List (Item R) → Type 0) (right : Params → ℕ → List (Item R) → Type 0)
-    (hosts : (s : S) (feeds : List (ℕ × Feed)) (next : ℕ) → hosted (with_hosted s (with_feeds (hosted s) feeds next)) ≡ with_feeds (hosted s) feeds next)
+module _ {S R : Type 0} (hosted : S → Hosted R) (with_hosted : S → Hosted R → S)
+    (fits : S → Feed → List (Item R) → Type 0) (right : Params → ℕ → List (Item R) → Type 0)
+    (hosts : (s : S) (feeds : List (ℕ × Feed)) (next : ℕ)
+    → hosted (with_hosted s (with_feeds (hosted s) feeds next)) ≡ with_feeds (hosted s) feeds next)
     (rightly : (s : S) (f : Feed) (items : List (Item R)) → fits s f items → right f.params f.since items)
-    (stays : (s : S) (h : Hosted R) (f : Feed) (items : List (Item R)) → fits s f items → fits (with_hosted s h) f items) where
+    (stays : (s : S) (h : Hosted R) (f : Feed) (items : List (Item R)) → fits s f items
+    → fits (with_hosted s h) f items) where
   -- the senders of a host
   abbrev pub Serves : S → List (ℕ × FeedSender R) → Type 0
   Serves s senders = AreSendersOf (fits s) (hosted s) senders
@@ -70,27 +85,43 @@ module _ {S R : Type 0} (hosted : S → Hosted R) (with_hosted : S → Hosted R 
   abbrev moved : S → List (ℕ × Feed) → ℕ → S
   moved s feeds next = with_hosted s (with_feeds (hosted s) feeds next)
 
-  seen : (s : S) (feeds : List (ℕ × Feed)) (next : ℕ) (senders : List (ℕ × FeedSender R)) → AreSendersOf (fits (moved s feeds next)) (with_feeds (hosted s) feeds next) senders → Serves (moved s feeds next) senders
-  seen s feeds next senders d = subst (λ (h : Hosted R). AreSendersOf (fits (moved s feeds next)) h senders) (sym (hosts s feeds next)) d
+  seen : (s : S) (feeds : List (ℕ × Feed)) (next : ℕ) (senders : List (ℕ × FeedSender R))
+      → AreSendersOf (fits (moved s feeds next)) (with_feeds (hosted s) feeds next) senders
+      → Serves (moved s feeds next) senders
+  seen s feeds next senders d =
+      subst (λ (h : Hosted R). AreSendersOf (fits (moved s feeds next)) h senders)
+      (sym (hosts s feeds next)) d
 
   -- what fits the feed behind a step may be sent
-  allowed : (s : S) (f f' : Feed) (x : FeedSender R) (items : List (Item R)) → f'.params ≡ f.params → f'.since ≡ f.since → IsSenderOf (fits s) f x → fits s f' items → Allows x.label items
-  allowed s f f' x items p b i h = subst (λ (z : Params × ℕ). right z.0 z.1 items) (λ k. ((p ∙ sym i.asks) k, (b ∙ sym i.begins) k)) (rightly s f' items h)
+  allowed : (s : S) (f f' : Feed) (x : FeedSender R) (items : List (Item R)) → f'.params ≡ f.params
+      → f'.since ≡ f.since → IsSenderOf (fits s) f x → fits s f' items → Allows x.label items
+  allowed s f f' x items p b i h =
+      subst (λ (z : Params × ℕ). right z.0 z.1 items)
+      (λ k. ((p ∙ sym i.asks) k, (b ∙ sym i.begins) k)) (rightly s f' items h)
 
-  due_feed : (h : Hosted R) (o : Option Feed) (item : Item R) → option_and_then (item_for h) o ≡ Some item → (f : Feed) × (o ≡ Some f) × (item_for h f ≡ Some item)
+  due_feed : (h : Hosted R) (o : Option Feed) (item : Item R) → option_and_then (item_for h) o ≡ Some item
+      → (f : Feed) × (o ≡ Some f) × (item_for h f ≡ Some item)
   due_feed h None item e = absurd (none-some item e)
   due_feed h (Some f) item e = (f, refl, e)
 
   -- an item that is due may be sent, and its feed goes on
-  module _ (handed_fits : (s : S) (f : Feed) (items : List (Item R)) (item : Item R) → item_for (hosted s) f ≡ Some item → fits s f items → fits s (behind_due (hosted s) f) (items ++ item ∷ []))
-      (s : S) (id : ℕ) (senders : List (ℕ × FeedSender R)) (item : Item R) (d : Serves s senders) (is : item_due (hosted s) id ≡ Some item) where
+  module _
+      (handed_fits : (s : S) (f : Feed) (items : List (Item R)) (item : Item R)
+      → item_for (hosted s) f ≡ Some item → fits s f items
+      → fits s (behind_due (hosted s) f) (items ++ item ∷ []))
+      (s : S) (id : ℕ) (senders : List (ℕ × FeedSender R)) (item : Item R) (d : Serves s senders)
+      (is : item_due (hosted s) id ≡ Some item) where
     pub may_give : MaySend Allows senders id item
     may_give =
         let at = due_feed (hosted s) (entry_in id (hosted s).feeds) item is in
         let f = at.0 in
         let x = sender_of (fits s) (entry_in id (hosted s).feeds) (entry_in id senders) f at.1 (d.each id) in
-        let keeps = step_keeps f (due (hosted s).current f) (hosted s).length in
-        (x.0, x.1, allowed s f (behind_due (hosted s) f) x.0 (x.0.sent ++ item ∷ []) keeps.0 keeps.1 x.2 (handed_fits s f x.0.sent item at.2 x.2.list))
+        let keeps = step_keeps f (due (hosted s).current f) (hosted s).length in (
+          x.0,
+          x.1,
+          allowed s f (behind_due (hosted s) f) x.0 (x.0.sent ++ item ∷ []) keeps.0 keeps.1 x.2
+              (handed_fits s f x.0.sent item at.2 x.2.list),
+        )
 
     pub gives : Serves (with_hosted s (handed (hosted s) id)) (sends id item senders)
     gives =
@@ -105,21 +136,34 @@ module _ {S R : Type 0} (hosted : S → Hosted R) (with_hosted : S → Hosted R 
         let mine : IsSenderOf (fits new) (change f) (behind_push x.0 item) = record {
           asks = x.2.asks ∙ sym same.0;
           begins = x.2.begins ∙ sym same.1;
-          list = stays s (with_feeds h feeds h.next_feed) (change f) (x.0.sent ++ item ∷ []) (handed_fits s f x.0.sent item at.2 x.2.list);
+          list =
+              stays s (with_feeds h feeds h.next_feed) (change f) (x.0.sent ++ item ∷ [])
+              (handed_fits s f x.0.sent item at.2 x.2.list);
         } in
-        let both = both_change (fits new) change item (entry_in id h.feeds) (entry_in id senders) f x.0 at.1 x.1 mine in
-        seen s feeds h.next_feed (sends id item senders) (sender_sends (fits s) (fits new) (stays s (with_feeds h feeds h.next_feed)) id h (with_feeds h feeds h.next_feed) (λ q n. other_changed id change q n h.feeds) senders item refl d
-        (subst (λ o. IsServed (fits new) o (option_map (λ z. behind_push z item) (entry_in id senders))) (sym (own_changed id change h.feeds)) both))
+        let both =
+        both_change (fits new) change item (entry_in id h.feeds) (entry_in id senders) f x.0 at.1 x.1 mine in
+        seen s feeds h.next_feed (sends id item senders)
+        (sender_sends (fits s) (fits new) (stays s (with_feeds h feeds h.next_feed)) id h
+        (with_feeds h feeds h.next_feed) (λ q n. other_changed id change q n h.feeds) senders item refl d
+        (subst (λ o. IsServed (fits new) o (option_map (λ z. behind_push z item) (entry_in id senders)))
+        (sym (own_changed id change h.feeds)) both))
 
   -- so may a heartbeat
-  module _ (beat_fits : (s : S) (f : Feed) (items : List (Item R)) → beat_due f ≡ true → fits s f items → fits s f (items ++ Beat ∷ []))
-      (s : S) (id : ℕ) (senders : List (ℕ × FeedSender R)) (d : Serves s senders) (is : is_beat_due (entry_in id (hosted s).feeds) ≡ true) where
+  module _
+      (beat_fits : (s : S) (f : Feed) (items : List (Item R)) → beat_due f ≡ true → fits s f items
+      → fits s f (items ++ Beat ∷ []))
+      (s : S) (id : ℕ) (senders : List (ℕ × FeedSender R)) (d : Serves s senders)
+      (is : is_beat_due (entry_in id (hosted s).feeds) ≡ true) where
     pub may_beat : MaySend Allows senders id Beat
     may_beat =
         let at = beat_feed (entry_in id (hosted s).feeds) is in
         let f = at.0 in
-        let x = sender_of (fits s) (entry_in id (hosted s).feeds) (entry_in id senders) f at.1 (d.each id) in
-        (x.0, x.1, allowed s f f x.0 (x.0.sent ++ Beat ∷ []) refl refl x.2 (beat_fits s f x.0.sent at.2 x.2.list))
+        let x =
+        sender_of (fits s) (entry_in id (hosted s).feeds) (entry_in id senders) f at.1 (d.each id) in (
+          x.0,
+          x.1,
+          allowed s f f x.0 (x.0.sent ++ Beat ∷ []) refl refl x.2 (beat_fits s f x.0.sent at.2 x.2.list),
+        )
 
     pub beats : Serves s (sends id Beat senders)
     beats =
@@ -133,12 +177,16 @@ module _ {S R : Type 0} (hosted : S → Hosted R) (with_hosted : S → Hosted R 
           list = beat_fits s f x.0.sent at.2 x.2.list;
         } in
         sender_sends (fits s) (fits s) (λ g items fit. fit) id h h (λ q n. refl) senders Beat refl d
-        (subst (λ (z : Option Feed × Option (FeedSender R)). IsServed (fits s) z.0 (option_map (λ y. behind_push y Beat) z.1)) (λ k. (sym at.1 k, sym x.1 k)) mine)
+        (subst (λ (z : Option Feed × Option (FeedSender R)).
+        IsServed (fits s) z.0 (option_map (λ y. behind_push y Beat) z.1))
+        (λ k. (sym at.1 k, sym x.1 k)) mine)
 
   -- a feed changes alone, and what it handed fits it still
   module _ (s : S) (id : ℕ) (senders : List (ℕ × FeedSender R)) (d : Serves s senders) where
-    changes : (change : Feed → Feed) → ((f : Feed) → ((change f).params ≡ f.params) × ((change f).since ≡ f.since))
-        → ((f : Feed) (items : List (Item R)) → entry_in id (hosted s).feeds ≡ Some f → fits s f items → fits s (change f) items)
+    changes : (change : Feed → Feed)
+        → ((f : Feed) → ((change f).params ≡ f.params) × ((change f).since ≡ f.since))
+        → ((f : Feed) (items : List (Item R)) → entry_in id (hosted s).feeds ≡ Some f → fits s f items
+        → fits s (change f) items)
         → Serves (moved s (changed id change (hosted s).feeds) (hosted s).next_feed) senders
     changes change keeps fit =
         let h = hosted s in
@@ -150,38 +198,58 @@ module _ {S R : Type 0} (hosted : S → Hosted R) (with_hosted : S → Hosted R 
           begins = mine.begins ∙ sym (keeps f).1;
           list = stays s (with_feeds h feeds h.next_feed) (change f) x.sent (fit f x.sent is mine.list);
         })
-        (stays_served (fits s) (fits new) (stays s (with_feeds h feeds h.next_feed)) (entry_in id h.feeds) (entry_in id senders) (d.each id)) in
-        seen s feeds h.next_feed senders (moves (fits s) (fits new) (stays s (with_feeds h feeds h.next_feed)) id h (with_feeds h feeds h.next_feed) (λ q n. other_changed id change q n h.feeds) senders refl d
+        (stays_served (fits s) (fits new) (stays s (with_feeds h feeds h.next_feed)) (entry_in id h.feeds)
+        (entry_in id senders) (d.each id)) in
+        seen s feeds h.next_feed senders
+        (moves (fits s) (fits new) (stays s (with_feeds h feeds h.next_feed)) id h
+        (with_feeds h feeds h.next_feed) (λ q n. other_changed id change q n h.feeds) senders refl d
         (subst (λ o. IsServed (fits new) o (entry_in id senders)) (sym (own_changed id change h.feeds)) one))
       where
-        mine_of : (f : Feed) (x : FeedSender R) → entry_in id (hosted s).feeds ≡ Some f → entry_in id senders ≡ Some x → IsSenderOf (fits s) f x
-        mine_of f x is holds = subst (λ (z : Option Feed × Option (FeedSender R)). IsServed (fits s) z.0 z.1) (λ k. (is k, holds k)) (d.each id)
+        mine_of : (f : Feed) (x : FeedSender R) → entry_in id (hosted s).feeds ≡ Some f
+            → entry_in id senders ≡ Some x → IsSenderOf (fits s) f x
+        mine_of f x is holds =
+            subst (λ (z : Option Feed × Option (FeedSender R)). IsServed (fits s) z.0 z.1)
+            (λ k. (is k, holds k)) (d.each id)
 
     -- its time is over
-    pub expires : ((s : S) (f : Feed) (items : List (Item R)) → fits s f items → fits s (expire f) items) → Serves (with_hosted s (expired (hosted s) id)) senders
+    pub expires : ((s : S) (f : Feed) (items : List (Item R)) → fits s f items → fits s (expire f) items)
+        → Serves (with_hosted s (expired (hosted s) id)) senders
     expires expired_fits = changes expire expire_keeps (λ f items is fit. expired_fits s f items fit)
 
     -- it was found to have nothing to hand
-    pub rests : ((s : S) (f : Feed) (items : List (Item R)) → due (hosted s).current f ≡ DueNothing → fits s f items → fits s (after_nothing f (hosted s).length) items)
-        → Nothing ≡ answered (hosted s) id → Serves (with_hosted s (behind_answer (hosted s) id Nothing)) senders
+    pub rests : ((s : S) (f : Feed) (items : List (Item R)) → due (hosted s).current f ≡ DueNothing
+        → fits s f items → fits s (after_nothing f (hosted s).length) items)
+        → Nothing ≡ answered (hosted s) id
+        → Serves (with_hosted s (behind_answer (hosted s) id Nothing)) senders
     rests waiting_fits nothing =
         changes (λ f. after_nothing f (hosted s).length) (λ f. (refl, refl))
-        (λ f items is fit. waiting_fits s f items (nothing_due _ (hosted s).current (due (hosted s).current f) (nothing ∙ ap (answer_of (hosted s)) is)) fit)
+        (λ f items is fit. waiting_fits s f items
+        (nothing_due _ (hosted s).current (due (hosted s).current f) (nothing ∙ ap (answer_of (hosted s)) is))
+        fit)
 
     -- it is finished, and its sender is gone
     pub finishes : Serves (with_hosted s (finished (hosted s) id)) (without id senders)
     finishes =
         let h = hosted s in
         let feeds = without id h.feeds in
-        seen s feeds h.next_feed (without id senders) (sender_goes (fits s) (fits (moved s feeds h.next_feed)) (stays s (with_feeds h feeds h.next_feed)) id h (with_feeds h feeds h.next_feed) (λ q n. other_without id q n h.feeds) senders refl d (own_without id h.feeds))
+        seen s feeds h.next_feed (without id senders)
+        (sender_goes (fits s) (fits (moved s feeds h.next_feed))
+        (stays s (with_feeds h feeds h.next_feed)) id h (with_feeds h feeds h.next_feed)
+        (λ q n. other_without id q n h.feeds) senders refl d (own_without id h.feeds))
 
   -- the label of a feed that begins now allows that nothing was sent
-  pub nothing_allowed : (s : S) (params : FeedParams) → ((p : Params) → fits s (begin p (hosted s).length (hosted s).life) []) → Allows (label_of (params_asked params) (hosted s)) []
-  nothing_allowed s params begins = rightly s (begin (params_of params) (hosted s).length (hosted s).life) [] (begins (params_of params))
+  pub nothing_allowed : (s : S) (params : FeedParams)
+      → ((p : Params) → fits s (begin p (hosted s).length (hosted s).life) [])
+      → Allows (label_of (params_asked params) (hosted s)) []
+  nothing_allowed s params begins =
+      rightly s (begin (params_of params) (hosted s).length (hosted s).life) [] (begins (params_of params))
 
   -- it comes, with its sender at the end
-  pub comes : (s : S) (params : FeedParams) (id : LaneId) (lane : ℕ) (senders : List (ℕ × FeedSender R)) → ((p : Params) → fits s (begin p (hosted s).length (hosted s).life) []) → entry_in (hosted s).next_feed (hosted s).feeds ≡ None → Serves s senders
-      → Serves (with_hosted s (opened (hosted s) (params_of params))) (senders ++ ((hosted s).next_feed, new_sender id (label_of (params_asked params) (hosted s)) lane) ∷ [])
+  pub comes : (s : S) (params : FeedParams) (id : LaneId) (lane : ℕ) (senders : List (ℕ × FeedSender R))
+      → ((p : Params) → fits s (begin p (hosted s).length (hosted s).life) [])
+      → entry_in (hosted s).next_feed (hosted s).feeds ≡ None → Serves s senders
+      → Serves (with_hosted s (opened (hosted s) (params_of params)))
+      (senders ++ ((hosted s).next_feed, new_sender id (label_of (params_asked params) (hosted s)) lane) ∷ [])
   comes s params id lane senders begins fresh d =
       let h = hosted s in
       let f = begin (params_of params) h.length h.life in
@@ -193,5 +261,7 @@ module _ {S R : Type 0} (hosted : S → Hosted R) (with_hosted : S → Hosted R 
         begins = refl;
         list = stays s (with_feeds h feeds (h.next_feed + 1)) f [] (begins (params_of params));
       } in
-      seen s feeds (h.next_feed + 1) (senders ++ (h.next_feed, x) ∷ []) (sender_comes (fits s) (fits new) (stays s (with_feeds h feeds (h.next_feed + 1))) h.next_feed h (with_feeds h feeds (h.next_feed + 1)) (λ q n. other_added h.next_feed f q n h.feeds) senders x refl refl d
-      (subst (λ o. IsServed (fits new) o (Some x)) (sym (own_added h.next_feed f h.feeds fresh)) mine))
+      seen s feeds (h.next_feed + 1) (senders ++ (h.next_feed, x) ∷ [])
+      (sender_comes (fits s) (fits new) (stays s (with_feeds h feeds (h.next_feed + 1))) h.next_feed h
+      (with_feeds h feeds (h.next_feed + 1)) (λ q n. other_added h.next_feed f q n h.feeds) senders x refl
+      refl d (subst (λ o. IsServed (fits new) o (Some x)) (sym (own_added h.next_feed f h.feeds fresh)) mine))

@@ -66,7 +66,8 @@ module _ (numbers : List ℕ → Option ℕ) (pairs : List Pair) (entries : List
       let x = get_or entries i 0 in
       let here : slice_get entries i ≡ Some x = slice_get-get_or entries i 0 low in
       let w = kept.within i x here in
-      let edit : slice_get (edits_of_log (notes_of (ids_of pairs) entries)) i ≡ Some (edit_of (note_of w.0.0)) =
+      let edit : slice_get (edits_of_log (notes_of (ids_of pairs) entries)) i
+      ≡ Some (edit_of (note_of w.0.0)) =
       slice_get-map edit_of (notes_of (ids_of pairs) entries) i
       ∙ (ap (option_map edit_of)
       (slice_get-map (note_at (ids_of pairs)) entries i ∙ ap (option_map (note_at (ids_of pairs))) here)
@@ -75,7 +76,8 @@ module _ (numbers : List ℕ → Option ℕ) (pairs : List Pair) (entries : List
       at_place (edits_of_log (notes_of (ids_of pairs) entries)) i e.0 e.1.1 (sym e.1.2) in
       let id_is : w.0.0 ≡ id =
       sym (kept.read x w.0 w.1)
-      ∙ (ap (λ (f : Edit). f.id) (same_Some (edit_of (note_of w.0.0)) e.0 (sym edit ∙ found)) ∙ (e.2 ∙ same)) in
+      ∙ (ap (λ (f : Edit). f.id) (same_Some (edit_of (note_of w.0.0)) e.0 (sym edit ∙ found))
+      ∙ (e.2 ∙ same)) in
       none-some x (sym none ∙ (ap numbers (sym id_is) ∙ kept.own x w.0 w.1))
 
   -- the next row, which is of a pair that is there

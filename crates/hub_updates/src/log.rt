@@ -1,6 +1,7 @@
 //! What was noted, and the row of each pair of a kind and a name.
 
-ghost use Rattle.std.specs.Prelude.{ℕ, List, ◌≡◌, ◌+◌, ◌-◌, ◌^◌, ◌<◌, ◌++◌, ◌∷◌, [], Some, None, length, option_map, slice_get, string_bytes, IfOk, OnOk, OnErr};
+ghost use Rattle.std.specs.Prelude.{ℕ, List, ◌≡◌, ◌+◌, ◌-◌, ◌^◌, ◌<◌, ◌++◌, ◌∷◌, [], Some, None};
+ghost use Rattle.std.specs.Prelude.{length, option_map, slice_get, string_bytes, IfOk, OnOk, OnErr};
 ghost use Rattle.std.specs.BTreeMap.{get_by_text};
 ghost use Rattle.std.specs.List.{All};
 ghost use Rattle.std.specs.Map.{update};
@@ -89,7 +90,8 @@ fn raise(
     seq: u64,
 ) -> Result<(), AllocError>
     requires there { number < length pairs.old.items }
-    requires own { seq_of number index.old ≡ option_map (λ p. p.1) (slice_get (ids_of pairs.old.items) number) }
+    requires own { seq_of number index.old
+        ≡ option_map (λ p. p.1) (slice_get (ids_of pairs.old.items) number) }
     requires positive { 0 < seq }
     requires above { All (λ r. r.0 < seq) index.old }
     ensures pairs { OnOk result (ids_of pairs.new.items ≡ raised number seq (ids_of pairs.old.items)) }
@@ -147,7 +149,8 @@ fn add(
     requires positive { 0 < seq }
     requires above { All (λ r. r.0 < seq) index.old }
     ensures number { IfOk result (λ number. number ≡ length pairs.old.items) }
-    ensures pairs { OnOk result (ids_of pairs.new.items ≡ ids_of pairs.old.items ++ (string_bytes id, seq) ∷ []) }
+    ensures pairs { OnOk result
+        (ids_of pairs.new.items ≡ ids_of pairs.old.items ++ (string_bytes id, seq) ∷ []) }
     ensures numbers { IfOk result (λ number. (q : List ℕ) → get_by_text numbers.new q
         ≡ update bytes_eq (get_by_text numbers.old) (string_bytes id) (Some number) q) }
     ensures index { IfOk result (λ number. index.new ≡ moved index.old number seq) }

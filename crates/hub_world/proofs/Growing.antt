@@ -33,47 +33,61 @@ row_made limit lane DueNothing h = absurd h
 row_made limit lane DueGone h = absurd h
 
 -- and any item where the lane has room
-item_made : (limit : ℕ) (lane : List ChangeItem) (show : Current → ChangeRow) (rows : List Current) (item : ChangeItem) (d : Due) → item_of show rows d ≡ Some item → length lane < limit → IsMade limit lane d
+item_made : (limit : ℕ) (lane : List ChangeItem) (show : Current → ChangeRow) (rows : List Current)
+    (item : ChangeItem) (d : Due)
+    → item_of show rows d ≡ Some item → length lane < limit → IsMade limit lane d
 item_made limit lane show rows item (DueRow c) is room = tt
 item_made limit lane show rows item (DueEnd last_seq) is room = room
 item_made limit lane show rows item DueNothing is room = absurd (none-some item is)
 item_made limit lane show rows item DueGone is room = absurd (none-some item is)
 
 -- a row is due
-pub row_grows : (c : Core) (f : ℕ) → IsRowDue (feeds.due_to (hosted_of c.db) f) → (w : World) → Shows c w → NeedsMemory w (Hand f)
+pub row_grows : (c : Core) (f : ℕ) → IsRowDue (feeds.due_to (hosted_of c.db) f) → (w : World) → Shows c w
+    → NeedsMemory w (Hand f)
 row_grows c f due w h = from (entry_in f c.db.feeds) refl due
   where
-    from : (o : Option Feed) → entry_in f c.db.feeds ≡ o → IsRowDue (feeds.due_of (current c.db.journal) o) → NeedsMemory w (Hand f)
+    from : (o : Option Feed) → entry_in f c.db.feeds ≡ o → IsRowDue (feeds.due_of (current c.db.journal) o)
+        → NeedsMemory w (Hand f)
     from None is due = absurd due
     from (Some feed) is due =
         let s = feed_found c w f feed h is in
-        let same : due_in w.journal s.0.feed ≡ due_in c.db.journal feed = ap (λ (J : List Edit). due_in J s.0.feed) h.journal ∙ ap (due_in c.db.journal) s.2 in
+        let same : due_in w.journal s.0.feed ≡ due_in c.db.journal feed =
+        ap (λ (J : List Edit). due_in J s.0.feed) h.journal ∙ ap (due_in c.db.journal) s.2 in
         rw s.1 (row_made w.limits.lane s.0.lane (due_in w.journal s.0.feed) (subst IsRowDue (sym same) due))
 
 -- an item is due, and its lane has room
-pub item_grows : (c : Core) (f : ℕ) (item : ChangeItem) → feeds.item_due (hosted_of c.db) f ≡ Some item → has_room c.db.limits.lane f c.lanes ≡ true → (w : World) → Shows c w → NeedsMemory w (Hand f)
+pub item_grows : (c : Core) (f : ℕ) (item : ChangeItem) → feeds.item_due (hosted_of c.db) f ≡ Some item
+    → has_room c.db.limits.lane f c.lanes ≡ true → (w : World) → Shows c w → NeedsMemory w (Hand f)
 item_grows c f item due room w h = from (hand_pushed c f item due room w h).1
   where
     from : {new : World} → Step w (Hand f) (Pushed item) new → NeedsMemory w (Hand f)
-    from m = rw m.1 (item_made w.limits.lane m.0.lane (row_of w.journal m.0.feed.params.style m.0.feed.params.include_docs) (current w.journal) item (due_in w.journal m.0.feed) m.2 m.3.0)
+    from m =
+        rw m.1
+        (item_made w.limits.lane m.0.lane
+        (row_of w.journal m.0.feed.params.style m.0.feed.params.include_docs) (current w.journal) item
+        (due_in w.journal m.0.feed) m.2 m.3.0)
 
 -- a heartbeat is due, and its lane has room
-pub beat_grows : (c : Core) (f : ℕ) → feeds.is_beat_due (entry_in f c.db.feeds) ≡ true → has_room c.db.limits.lane f c.lanes ≡ true → (w : World) → Shows c w → NeedsMemory w (Heartbeat f)
+pub beat_grows : (c : Core) (f : ℕ) → feeds.is_beat_due (entry_in f c.db.feeds) ≡ true
+    → has_room c.db.limits.lane f c.lanes ≡ true → (w : World) → Shows c w → NeedsMemory w (Heartbeat f)
 beat_grows c f due room w h = from (beat_pushed c f due room w h).1
   where
     from : {new : World} → Step w (Heartbeat f) (Pushed Beat) new → NeedsMemory w (Heartbeat f)
     from m = rw m.1 (m.2, m.4.0)
 
 -- a feed is opened
-pub begin_grows : (c : Core) (params : Params) → feeds.refuses (hosted_of c.db) ≡ None → (w : World) → Shows c w → NeedsMemory w (Begin params)
+pub begin_grows : (c : Core) (params : Params) → feeds.refuses (hosted_of c.db) ≡ None → (w : World)
+    → Shows c w → NeedsMemory w (Begin params)
 begin_grows c params free w h = let m = (begin_leads c params free w h).1 in (m.0, m.1)
 
 -- as where the database is neither deleted nor full
-pub unrefused : (db : Database) → db.deleted ≡ false → feeds.is_full (hosted_of db) ≡ false → feeds.refuses (hosted_of db) ≡ None
+pub unrefused : (db : Database) → db.deleted ≡ false → feeds.is_full (hosted_of db) ≡ false
+    → feeds.refuses (hosted_of db) ≡ None
 unrefused db stands room = rw (stands, room) refl
 
 -- why no feed is opened, where as many are there as may be
-pub refused_full : (db : Database) → db.deleted ≡ false → feeds.is_full (hosted_of db) ≡ true → feeds.refuses (hosted_of db) ≡ Some TooManyFeeds
+pub refused_full : (db : Database) → db.deleted ≡ false → feeds.is_full (hosted_of db) ≡ true
+    → feeds.refuses (hosted_of db) ≡ Some TooManyFeeds
 refused_full db stands full = rw (stands, full) refl
 
 -- the same of the core of a program's world, as it is seen

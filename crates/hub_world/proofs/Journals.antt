@@ -6,8 +6,11 @@ use Rattle.hub_model.specs.Draft.{makes}
 use Rattle.hub_model.specs.Journal.{Edit, IsLegal}
 use Rattle.hub_model.specs.Outcome.{merges}
 use Rattle.hub_world.specs.Laws.{StaysLegal}
-use Rattle.hub_world.specs.World.{World, Subscription, empty, subscription, merged, drafted, expired, took, finished}
-use Rattle.hub_world.specs.Event.{Event, Write, Interactive, Begin, Hand, Heartbeat, Expire, Take, Finish, Delete, Reply, Outcomes, Opened, TooManyFeeds, DatabaseDeleted, Pushed, Full, Nothing, Gone, Took, Left}
+use Rattle.hub_world.specs.World.{World, Subscription, empty, subscription}
+use Rattle.hub_world.specs.World.{merged, drafted, expired, took, finished}
+use Rattle.hub_world.specs.Event.{Event, Write, Interactive, Begin, Hand, Heartbeat, Expire}
+use Rattle.hub_world.specs.Event.{Take, Finish, Delete, Reply, Outcomes, Opened, TooManyFeeds}
+use Rattle.hub_world.specs.Event.{DatabaseDeleted, Pushed, Full, Nothing, Gone, Took, Left}
 use Rattle.hub_world.specs.Step.{Step, Run}
 use Rattle.hub_model.proofs.Adds.{Adds, adds_both, merge_adds, make_adds, all_add}
 use Rattle.hub_model.proofs.Writes.{all_legal, merges_legal, makes_legal}
@@ -33,7 +36,8 @@ journal_finished (Some s) f w = refl
 j : {a b : World} → a ≡ b → a.journal ≡ b.journal
 j e = ap (λ (w : World). w.journal) e
 
-step_journal : (old : World) (event : Event) (reply : Reply) (new : World) → Step old event reply new → new.journal ≡ journal_after old event
+step_journal : (old : World) (event : Event) (reply : Reply) (new : World) → Step old event reply new
+    → new.journal ≡ journal_after old event
 step_journal old (Write edits) (Outcomes outcomes) new m = j m.1
 step_journal old (Write edits) _ new m = absurd m
 step_journal old (Interactive drafts) (Outcomes outcomes) new m = j m.1
@@ -62,16 +66,22 @@ step_journal old Delete DatabaseDeleted new m = j m.1
 step_journal old Delete _ new m = absurd m
 
 -- a fact about journals that each event keeps, each step keeps, and each run
-module _ (P : List Edit → Type 0) (keeps : (w : World) (event : Event) → P w.journal → P (journal_after w event)) where
-  pub run_journal : (old : World) (events : List Event) (replies : List Reply) (new : World) → Run old events replies new → P old.journal → P new.journal
+module _ (P : List Edit → Type 0)
+    (keeps : (w : World) (event : Event) → P w.journal → P (journal_after w event)) where
+  pub run_journal : (old : World) (events : List Event) (replies : List Reply) (new : World)
+      → Run old events replies new → P old.journal → P new.journal
   run_journal old [] [] new r h = subst P (sym (j r)) h
   run_journal old [] (reply ∷ replies) new r h = absurd r
   run_journal old (event ∷ events) [] new r h = absurd r
-  run_journal old (event ∷ events) (reply ∷ replies) new r h = run_journal r.0 events replies new r.2 (subst P (sym (step_journal old event reply r.0 r.1)) (keeps old event h))
+  run_journal old (event ∷ events) (reply ∷ replies) new r h =
+      run_journal r.0 events replies new r.2
+      (subst P (sym (step_journal old event reply r.0 r.1)) (keeps old event h))
 
 legal_after : (w : World) (event : Event) → IsLegal w.journal → IsLegal (journal_after w event)
-legal_after w (Write edits) h = all_legal (merges w.limits.journal) (merges_legal w.limits.journal) w.deleted w.journal edits h
-legal_after w (Interactive drafts) h = all_legal (makes w.limits.journal) (makes_legal w.limits.journal) w.deleted w.journal drafts h
+legal_after w (Write edits) h =
+    all_legal (merges w.limits.journal) (merges_legal w.limits.journal) w.deleted w.journal edits h
+legal_after w (Interactive drafts) h =
+    all_legal (makes w.limits.journal) (makes_legal w.limits.journal) w.deleted w.journal drafts h
 legal_after w _ h = h
 
 pub stays_legal : StaysLegal
@@ -79,9 +89,16 @@ stays_legal limits events replies w r = run_journal IsLegal legal_after (empty l
 
 -- one more event adds to what was added
 adds_after : (J : List Edit) (w : World) (event : Event) → Adds J w.journal → Adds J (journal_after w event)
-adds_after J w (Write edits) a = adds_both J w.journal _ a (all_add (merges w.limits.journal) (merge_adds w.limits.journal) w.deleted w.journal edits)
-adds_after J w (Interactive drafts) a = adds_both J w.journal _ a (all_add (makes w.limits.journal) (make_adds w.limits.journal) w.deleted w.journal drafts)
+adds_after J w (Write edits) a =
+    adds_both J w.journal _ a
+    (all_add (merges w.limits.journal) (merge_adds w.limits.journal) w.deleted w.journal edits)
+adds_after J w (Interactive drafts) a =
+    adds_both J w.journal _ a
+    (all_add (makes w.limits.journal) (make_adds w.limits.journal) w.deleted w.journal drafts)
 adds_after J w _ a = a
 
-pub run_adds : (old : World) (events : List Event) (replies : List Reply) (new : World) → Run old events replies new → Adds old.journal new.journal
-run_adds old events replies new r = run_journal (Adds old.journal) (adds_after old.journal) old events replies new r ([], sym (append-nil old.journal))
+pub run_adds : (old : World) (events : List Event) (replies : List Reply) (new : World)
+    → Run old events replies new → Adds old.journal new.journal
+run_adds old events replies new r =
+    run_journal (Adds old.journal) (adds_after old.journal) old events replies new r
+    ([], sym (append-nil old.journal))

@@ -1,13 +1,17 @@
 -- A lane never holds more items than the limit says.
-use Rattle.std.proofs.Common.{◌≡◌, ℕ, ◌≤◌, ◌+◌, List, [], ◌∷◌, ◌++◌, length, map, drop, inl, inr, sym, ◌∙◌, ap, subst, refl, arith}
+use Rattle.std.proofs.Common.{◌≡◌, ℕ, ◌≤◌, ◌+◌, List, [], ◌∷◌, ◌++◌, length, map}
+use Rattle.std.proofs.Common.{drop, inl, inr, sym, ◌∙◌, ap, subst, refl, arith}
 use Rattle.std.specs.Prelude.{Option, Some, None, slice_get, slice_set, option_map}
 use Rattle.std.proofs.lemmas.Bool.{cases_eq}
 use Rattle.std.proofs.lemmas.Option.{same_Some, none-some, slice_get-map}
 use Rattle.std.proofs.lemmas.List.{length_push, length-drop}
 use Rattle.hub_model.specs.Feed.{Feed, begin, expire, finish}
 use Rattle.hub_model.specs.RightlyHanded.{ChangeItem}
-use Rattle.hub_world.specs.World.{World, Subscription, subscription, with_subscription, empty, pushed, expired, took, finished, ended}
-use Rattle.hub_world.specs.Event.{Event, Write, Interactive, Begin, Hand, Heartbeat, Expire, Take, Finish, Delete, Reply, Outcomes, Opened, TooManyFeeds, DatabaseDeleted, Pushed, Full, Nothing, Gone, Took, Left}
+use Rattle.hub_world.specs.World.{World, Subscription, subscription, with_subscription}
+use Rattle.hub_world.specs.World.{empty, pushed, expired, took, finished, ended}
+use Rattle.hub_world.specs.Event.{Event, Write, Interactive, Begin, Hand, Heartbeat, Expire}
+use Rattle.hub_world.specs.Event.{Take, Finish, Delete, Reply, Outcomes, Opened, TooManyFeeds}
+use Rattle.hub_world.specs.Event.{DatabaseDeleted, Pushed, Full, Nothing, Gone, Took, Left}
 use Rattle.hub_world.specs.Step.{Step, Run}
 use Rattle.hub_world.specs.Laws.{LanesAreLimited}
 use Rattle.hub_world.proofs.Kept.{get_set_same, get_set_other, get_push}
@@ -22,63 +26,103 @@ record HasLimit (n : ℕ) (w : World) : Type 0 where
   lanes : AreLimited n w.feeds
 
 -- one of them is changed
-changed_limited : (n : ℕ) (feeds : List Subscription) (f : ℕ) (s t : Subscription) → slice_get feeds f ≡ Some s → length t.lane ≤ n → AreLimited n feeds → AreLimited n (slice_set feeds f t)
+changed_limited : (n : ℕ) (feeds : List Subscription) (f : ℕ) (s t : Subscription)
+    → slice_get feeds f ≡ Some s → length t.lane ≤ n → AreLimited n feeds → AreLimited n (slice_set feeds f t)
 changed_limited n feeds f s t here fits all g u there =
     elim (cases_eq f g) [
-      | inl same ↦ let is : Some t ≡ Some u = sym (get_set_same feeds f s t here) ∙ (ap (slice_get (slice_set feeds f t)) same ∙ there) in subst (λ (x : Subscription). length x.lane ≤ n) (same_Some _ _ is) fits
+      | inl same ↦
+          let is : Some t ≡ Some u =
+          sym (get_set_same feeds f s t here) ∙ (ap (slice_get (slice_set feeds f t)) same ∙ there) in
+          subst (λ (x : Subscription). length x.lane ≤ n) (same_Some _ _ is) fits
       | inr other ↦ all g u (sym (get_set_other feeds f g t other) ∙ there)
     ]
 
 -- one is opened, with an empty lane
-opened_limited : (n : ℕ) (feeds : List Subscription) (feed : Feed) → AreLimited n feeds → AreLimited n (feeds ++ record { feed = feed; lane = [] } ∷ [])
+opened_limited : (n : ℕ) (feeds : List Subscription) (feed : Feed) → AreLimited n feeds
+    → AreLimited n (feeds ++ record { feed = feed; lane = [] } ∷ [])
 opened_limited n feeds feed all g u there =
     elim (get_push feeds (record { feed = feed; lane = [] }) g) [
       | inl old ↦ all g u (sym old ∙ there)
-      | inr new ↦ subst (λ (x : Subscription). length x.lane ≤ n) (same_Some _ _ (sym new.1 ∙ there)) (omega arith)
+      | inr new ↦
+          subst (λ (x : Subscription). length x.lane ≤ n) (same_Some _ _ (sym new.1 ∙ there)) (omega arith)
     ]
 
 -- every open feed is closed
 ended_limited : (n : ℕ) (feeds : List Subscription) → AreLimited n feeds → AreLimited n (map ended feeds)
-ended_limited n feeds all g u there = from (slice_get feeds g) refl (sym (slice_get-map ended feeds g) ∙ there)
+ended_limited n feeds all g u there =
+    from (slice_get feeds g) refl (sym (slice_get-map ended feeds g) ∙ there)
   where
     from : (o : Option Subscription) → slice_get feeds g ≡ o → option_map ended o ≡ Some u → length u.lane ≤ n
     from None is e = absurd (none-some _ e)
     from (Some s) is e = subst (λ (x : Subscription). length x.lane ≤ n) (same_Some _ _ e) (all g s is)
 
-expired_limited : (n f : ℕ) (w : World) (o : Option Subscription) → subscription w f ≡ o → HasLimit n w → HasLimit n (expired o f w)
+expired_limited : (n f : ℕ) (w : World) (o : Option Subscription) → subscription w f ≡ o → HasLimit n w
+    → HasLimit n (expired o f w)
 expired_limited n f w None is h = h
-expired_limited n f w (Some s) is h = record { limit = h.limit; lanes = changed_limited n w.feeds f s (record s { feed = expire s.feed }) is (h.lanes f s is) h.lanes }
+expired_limited n f w (Some s) is h = record {
+  limit = h.limit;
+  lanes = changed_limited n w.feeds f s (record s { feed = expire s.feed }) is (h.lanes f s is) h.lanes;
+}
 
-finished_limited : (n f : ℕ) (w : World) (o : Option Subscription) → subscription w f ≡ o → HasLimit n w → HasLimit n (finished o f w)
+finished_limited : (n f : ℕ) (w : World) (o : Option Subscription) → subscription w f ≡ o → HasLimit n w
+    → HasLimit n (finished o f w)
 finished_limited n f w None is h = h
-finished_limited n f w (Some s) is h = record { limit = h.limit; lanes = changed_limited n w.feeds f s (record { feed = finish s.feed; lane = [] }) is (omega arith) h.lanes }
+finished_limited n f w (Some s) is h = record {
+  limit = h.limit;
+  lanes = changed_limited n w.feeds f s (record { feed = finish s.feed; lane = [] }) is (omega arith) h.lanes;
+}
 
-taken_limited : (n f : ℕ) (w : World) (o : Option Subscription) → subscription w f ≡ o → HasLimit n w → HasLimit n (took o f w)
+taken_limited : (n f : ℕ) (w : World) (o : Option Subscription) → subscription w f ≡ o → HasLimit n w
+    → HasLimit n (took o f w)
 taken_limited n f w None is h = h
 taken_limited n f w (Some s) is h =
     let below : length s.lane ≤ n = h.lanes f s is in
-    record { limit = h.limit; lanes = changed_limited n w.feeds f s (record s { lane = drop 1 s.lane }) is (omega (arith, below, length-drop 1 s.lane)) h.lanes }
+    record {
+      limit = h.limit;
+      lanes =
+          changed_limited n w.feeds f s (record s { lane = drop 1 s.lane }) is
+          (omega (arith, below, length-drop 1 s.lane)) h.lanes;
+    }
 
 -- an item goes into a lane that has room
-pushed_limited : (n f : ℕ) (w : World) (s : Subscription) (feed : Feed) (item : ChangeItem) → subscription w f ≡ Some s → length s.lane + 1 ≤ w.limits.lane → HasLimit n w → HasLimit n (with_subscription w f (pushed s feed item))
+pushed_limited : (n f : ℕ) (w : World) (s : Subscription) (feed : Feed) (item : ChangeItem)
+    → subscription w f ≡ Some s → length s.lane + 1 ≤ w.limits.lane → HasLimit n w
+    → HasLimit n (with_subscription w f (pushed s feed item))
 pushed_limited n f w s feed item is room h =
-    record { limit = h.limit; lanes = changed_limited n w.feeds f s (pushed s feed item) is (omega (arith, room, h.limit, length_push s.lane item)) h.lanes }
+    record {
+      limit = h.limit;
+      lanes =
+          changed_limited n w.feeds f s (pushed s feed item) is
+          (omega (arith, room, h.limit, length_push s.lane item)) h.lanes;
+    }
 
-step_limited : (n : ℕ) (old : World) (event : Event) (reply : Reply) (new : World) → Step old event reply new → HasLimit n old → HasLimit n new
-step_limited n old (Write edits) (Outcomes outcomes) new m h = rw m.1 (record { limit = h.limit; lanes = h.lanes })
+step_limited : (n : ℕ) (old : World) (event : Event) (reply : Reply) (new : World) → Step old event reply new
+    → HasLimit n old → HasLimit n new
+step_limited n old (Write edits) (Outcomes outcomes) new m h =
+    rw m.1 (record { limit = h.limit; lanes = h.lanes })
 step_limited n old (Write edits) _ new m h = absurd m
-step_limited n old (Interactive drafts) (Outcomes outcomes) new m h = rw m.1 (record { limit = h.limit; lanes = h.lanes })
+step_limited n old (Interactive drafts) (Outcomes outcomes) new m h =
+    rw m.1 (record { limit = h.limit; lanes = h.lanes })
 step_limited n old (Interactive drafts) _ new m h = absurd m
-step_limited n old (Begin params) (Opened f) new m h = rw m.3 (record { limit = h.limit; lanes = opened_limited n old.feeds (begin params (length old.journal) old.life) h.lanes })
+step_limited n old (Begin params) (Opened f) new m h =
+    rw m.3
+    (record {
+      limit = h.limit;
+      lanes = opened_limited n old.feeds (begin params (length old.journal) old.life) h.lanes;
+    })
 step_limited n old (Begin params) DatabaseDeleted new m h = rw m.1 h
 step_limited n old (Begin params) TooManyFeeds new m h = rw m.2 h
 step_limited n old (Begin params) _ new m h = absurd m
-step_limited n old (Hand f) (Pushed item) new m h = rw m.3.1 (pushed_limited n f old m.0 _ item m.1 (omega (arith, m.3.0)) h)
+step_limited n old (Hand f) (Pushed item) new m h =
+    rw m.3.1 (pushed_limited n f old m.0 _ item m.1 (omega (arith, m.3.0)) h)
 step_limited n old (Hand f) Full new m h = rw m.4 h
-step_limited n old (Hand f) Nothing new m h = rw m.3 (record { limit = h.limit; lanes = changed_limited n old.feeds f m.0 _ m.1 (h.lanes f m.0 m.1) h.lanes })
+step_limited n old (Hand f) Nothing new m h =
+    rw m.3
+    (record { limit = h.limit; lanes = changed_limited n old.feeds f m.0 _ m.1 (h.lanes f m.0 m.1) h.lanes })
 step_limited n old (Hand f) Gone new m h = rw m.1 h
 step_limited n old (Hand f) _ new m h = absurd m
-step_limited n old (Heartbeat f) (Pushed item) new m h = rw m.4.1 (pushed_limited n f old m.0 _ item m.1 (omega (arith, m.4.0)) h)
+step_limited n old (Heartbeat f) (Pushed item) new m h =
+    rw m.4.1 (pushed_limited n f old m.0 _ item m.1 (omega (arith, m.4.0)) h)
 step_limited n old (Heartbeat f) Full new m h = rw m.4 h
 step_limited n old (Heartbeat f) Nothing new m h = rw m.1 h
 step_limited n old (Heartbeat f) _ new m h = absurd m
@@ -86,22 +130,28 @@ step_limited n old (Expire f) Nothing new m h = rw m (expired_limited n f old (s
 step_limited n old (Expire f) _ new m h = absurd m
 step_limited n old (Take f) (Took item) new m h = rw m.1 (taken_limited n f old (subscription old f) refl h)
 step_limited n old (Take f) _ new m h = absurd m
-step_limited n old (Finish f) (Left items) new m h = rw m.1 (finished_limited n f old (subscription old f) refl h)
+step_limited n old (Finish f) (Left items) new m h =
+    rw m.1 (finished_limited n f old (subscription old f) refl h)
 step_limited n old (Finish f) _ new m h = absurd m
-step_limited n old Delete Nothing new m h = rw m.1 (record { limit = h.limit; lanes = ended_limited n old.feeds h.lanes })
+step_limited n old Delete Nothing new m h =
+    rw m.1 (record { limit = h.limit; lanes = ended_limited n old.feeds h.lanes })
 step_limited n old Delete DatabaseDeleted new m h = rw m.1 h
 step_limited n old Delete _ new m h = absurd m
 
-run_limited : (n : ℕ) (old : World) (events : List Event) (replies : List Reply) (new : World) → Run old events replies new → HasLimit n old → HasLimit n new
+run_limited : (n : ℕ) (old : World) (events : List Event) (replies : List Reply) (new : World)
+    → Run old events replies new → HasLimit n old → HasLimit n new
 run_limited n old [] [] new r h = rw r h
 run_limited n old [] (reply ∷ replies) new r h = absurd r
 run_limited n old (event ∷ events) [] new r h = absurd r
-run_limited n old (event ∷ events) (reply ∷ replies) new r h = run_limited n r.0 events replies new r.2 (step_limited n old event reply r.0 r.1 h)
+run_limited n old (event ∷ events) (reply ∷ replies) new r h =
+    run_limited n r.0 events replies new r.2 (step_limited n old event reply r.0 r.1 h)
 
 no_lanes : (n : ℕ) → AreLimited n []
 no_lanes n g u there = absurd (none-some _ there)
 
 pub lanes_are_limited : LanesAreLimited
 lanes_are_limited limits events replies w f s r is =
-    let h = run_limited limits.lane (empty limits) events replies w r (record { limit = refl; lanes = no_lanes limits.lane }) in
+    let h =
+    run_limited limits.lane (empty limits) events replies w r
+    (record { limit = refl; lanes = no_lanes limits.lane }) in
     h.lanes f s is

@@ -1,5 +1,6 @@
 -- A list goes on fitting its feed, and what is taken is what was handed, in order.
-use Rattle.std.proofs.Common.{◌≡◌, ℕ, List, [], ◌∷◌, ◌++◌, false, sym, ◌∙◌, ap, subst, refl, append_assoc, inl, inr, ◌&&◌}
+use Rattle.std.proofs.Common.{◌≡◌, ℕ, List, [], ◌∷◌, ◌++◌, false, sym, ◌∙◌}
+use Rattle.std.proofs.Common.{ap, subst, refl, append_assoc, inl, inr, ◌&&◌}
 use Rattle.std.specs.Prelude.{Option, Some, None}
 use Rattle.std.proofs.lemmas.List.{append-nil}
 use Rattle.std.proofs.lemmas.Option.{none-some}
@@ -15,7 +16,8 @@ use Rattle.hub_world.specs.World.{Limits, World, Subscription, subscription, emp
 use Rattle.hub_world.specs.Event.{Event, Reply}
 use Rattle.hub_world.specs.Step.{Run}
 use Rattle.hub_world.specs.Handed.{handed, taken, IsPrefixOf}
-use Rattle.hub_model.proofs.Fitting.{fits_grows, fits_begin, fits_handed, fits_beat, fits_nothing, fits_expire, fits_close, fits_finish}
+use Rattle.hub_model.proofs.Fitting.{fits_grows, fits_begin, fits_handed, fits_beat}
+use Rattle.hub_model.proofs.Fitting.{fits_nothing, fits_expire, fits_close, fits_finish}
 use Rattle.hub_world.proofs.StandingLists.{open_stands}
 use Rattle.hub_world.proofs.Kept.{IsKept, In, step_keeps, run_keeps}
 
@@ -37,19 +39,23 @@ fitting_kept = record {
   takes = λ J s h t item items e q. q;
 }
 
-to_fits : (J : List Edit) (o : Option Subscription) (h t : List ChangeItem) → In FitsAlone J o h t → FitsIn J o h
+to_fits : (J : List Edit) (o : Option Subscription) (h t : List ChangeItem) → In FitsAlone J o h t
+    → FitsIn J o h
 unfolding FitsAlone
 to_fits J None h t i = i.0
 to_fits J (Some s) h t i = i
 
-from_fits : (J : List Edit) (o : Option Subscription) (h : List ChangeItem) → FitsIn J o h → In FitsAlone J o h []
+from_fits : (J : List Edit) (o : Option Subscription) (h : List ChangeItem) → FitsIn J o h
+    → In FitsAlone J o h []
 unfolding FitsAlone
 from_fits J None h i = (i, refl)
 from_fits J (Some s) h i = i
 
 pub keeps_fitting : KeepsFitting
 keeps_fitting old new event reply f items m i =
-    to_fits new.journal (subscription new f) _ _ (step_keeps FitsAlone fitting_kept old event reply new f items [] m (from_fits old.journal (subscription old f) items i))
+    to_fits new.journal (subscription new f) _ _
+    (step_keeps FitsAlone fitting_kept old event reply new f items [] m
+    (from_fits old.journal (subscription old f) items i))
 
 -- what was taken, then what the lane has, is what was handed, but for what a finished feed's lane had
 record Told (J : List Edit) (s : Subscription) (h t : List ChangeItem) : Type 0 where
@@ -59,7 +65,8 @@ record Told (J : List Edit) (s : Subscription) (h t : List ChangeItem) : Type 0 
   pub none : is_finished s.feed.status ≡ false → dropped ≡ []
 
 -- a feed that has something due isn't finished
-due_unfinished : (J : List Edit) (s : Subscription) (item : ChangeItem) → change_due J s.feed ≡ Some item → is_finished s.feed.status ≡ false
+due_unfinished : (J : List Edit) (s : Subscription) (item : ChangeItem) → change_due J s.feed ≡ Some item
+    → is_finished s.feed.status ≡ false
 due_unfinished J s item i = from s.feed.status refl
   where
     from : (st : Status) → s.feed.status ≡ st → is_finished s.feed.status ≡ false
@@ -83,15 +90,26 @@ end_unfinished f h =
     ]
 
 -- an item goes into the lane
-goes_in : (t lane dropped h : List ChangeItem) (item : ChangeItem) → dropped ≡ [] → t ++ (lane ++ dropped) ≡ h → t ++ ((lane ++ item ∷ []) ++ []) ≡ h ++ item ∷ []
+goes_in : (t lane dropped h : List ChangeItem) (item : ChangeItem) → dropped ≡ [] → t ++ (lane ++ dropped) ≡ h
+    → t ++ ((lane ++ item ∷ []) ++ []) ≡ h ++ item ∷ []
 goes_in t lane dropped h item d e =
-    let e' : t ++ lane ≡ h = ap (λ (x : List ChangeItem). t ++ x) (sym (append-nil lane) ∙ ap (λ (x : List ChangeItem). lane ++ x) (sym d)) ∙ e in
-    ap (λ (x : List ChangeItem). t ++ x) (append-nil (lane ++ item ∷ [])) ∙ (sym (append_assoc t lane (item ∷ [])) ∙ ap (λ (x : List ChangeItem). x ++ item ∷ []) e')
+    let e' : t ++ lane ≡ h =
+    ap (λ (x : List ChangeItem). t ++ x)
+    (sym (append-nil lane) ∙ ap (λ (x : List ChangeItem). lane ++ x) (sym d))
+    ∙ e in
+    ap (λ (x : List ChangeItem). t ++ x) (append-nil (lane ++ item ∷ []))
+    ∙ (sym (append_assoc t lane (item ∷ [])) ∙ ap (λ (x : List ChangeItem). x ++ item ∷ []) e')
 
 told_kept : IsKept Told
 told_kept = record {
-  grows = λ J es s h t q. record { fits = fits_grows change_rows J es s.feed h q.fits; dropped = q.dropped; in_order = q.in_order; none = q.none };
-  begins = λ J params life. record { fits = fits_begin change_rows J params life; dropped = []; in_order = refl; none = λ e. refl };
+  grows = λ J es s h t q. record {
+    fits = fits_grows change_rows J es s.feed h q.fits;
+    dropped = q.dropped;
+    in_order = q.in_order;
+    none = q.none;
+  };
+  begins = λ J params life.
+      record { fits = fits_begin change_rows J params life; dropped = []; in_order = refl; none = λ e. refl };
   hands = λ J s h t item d q. record {
     fits = fits_handed change_rows J s.feed h item d q.fits;
     dropped = [];
@@ -101,39 +119,71 @@ told_kept = record {
   beats = λ J s h t d q. record {
     fits = fits_beat change_rows J s.feed h d q.fits;
     dropped = [];
-    in_order = goes_in t s.lane q.dropped h Beat (q.none (open_stands s.feed.status (and_parts _ _ d).0)) q.in_order;
+    in_order =
+        goes_in t s.lane q.dropped h Beat (q.none (open_stands s.feed.status (and_parts _ _ d).0)) q.in_order;
     none = λ e. refl;
   };
-  waits = λ J s h t d q. record { fits = fits_nothing change_rows J s.feed h d q.fits; dropped = q.dropped; in_order = q.in_order; none = q.none };
-  expires = λ J s h t q. record { fits = fits_expire change_rows J s.feed h q.fits; dropped = q.dropped; in_order = q.in_order; none = λ e. q.none (expire_unfinished s.feed e) };
-  ends = λ J s h t q. record { fits = fits_close change_rows J s.feed h q.fits; dropped = q.dropped; in_order = q.in_order; none = λ e. q.none (end_unfinished s.feed e) };
-  finishes = λ J s h t q. record { fits = fits_finish change_rows J s.feed h q.fits; dropped = s.lane ++ q.dropped; in_order = q.in_order; none = λ e. absurd (cc) };
+  waits = λ J s h t d q. record {
+    fits = fits_nothing change_rows J s.feed h d q.fits;
+    dropped = q.dropped;
+    in_order = q.in_order;
+    none = q.none;
+  };
+  expires = λ J s h t q. record {
+    fits = fits_expire change_rows J s.feed h q.fits;
+    dropped = q.dropped;
+    in_order = q.in_order;
+    none = λ e. q.none (expire_unfinished s.feed e);
+  };
+  ends = λ J s h t q. record {
+    fits = fits_close change_rows J s.feed h q.fits;
+    dropped = q.dropped;
+    in_order = q.in_order;
+    none = λ e. q.none (end_unfinished s.feed e);
+  };
+  finishes = λ J s h t q. record {
+    fits = fits_finish change_rows J s.feed h q.fits;
+    dropped = s.lane ++ q.dropped;
+    in_order = q.in_order;
+    none = λ e. absurd (cc);
+  };
   takes = λ J s h t item items e q. record {
     fits = q.fits;
     dropped = q.dropped;
-    in_order = append_assoc t (item ∷ []) (items ++ q.dropped) ∙ subst (λ (x : List ChangeItem). t ++ (x ++ q.dropped) ≡ h) e q.in_order;
+    in_order =
+        append_assoc t (item ∷ []) (items ++ q.dropped)
+        ∙ subst (λ (x : List ChangeItem). t ++ (x ++ q.dropped) ≡ h) e q.in_order;
     none = q.none;
   };
 }
 
-told : (limits : Limits) (events : List Event) (replies : List Reply) (w : World) (f : ℕ) → Run (empty limits) events replies w → In Told w.journal (subscription w f) (handed f events replies) (taken f events replies)
-told limits events replies w f r = run_keeps Told told_kept (empty limits) events replies w f [] [] r (refl, refl)
+told : (limits : Limits) (events : List Event) (replies : List Reply) (w : World) (f : ℕ)
+    → Run (empty limits) events replies w
+    → In Told w.journal (subscription w f) (handed f events replies) (taken f events replies)
+told limits events replies w f r =
+    run_keeps Told told_kept (empty limits) events replies w f [] [] r (refl, refl)
 
 pub takes_in_order : TakesInOrder
 takes_in_order limits events replies w f r = from (subscription w f) (told limits events replies w f r)
   where
-    from : (o : Option Subscription) → In Told w.journal o (handed f events replies) (taken f events replies) → IsPrefixOf (taken f events replies) (handed f events replies)
+    from : (o : Option Subscription) → In Told w.journal o (handed f events replies) (taken f events replies)
+        → IsPrefixOf (taken f events replies) (handed f events replies)
     from None i = ([], append-nil _ ∙ (i.1 ∙ sym i.0))
     from (Some s) i = (s.lane ++ i.dropped, i.in_order)
 
 pub hands_rightly : HandsRightly
 hands_rightly limits events replies w f r = from (subscription w f) (told limits events replies w f r)
   where
-    from : (o : Option Subscription) → In Told w.journal o (handed f events replies) (taken f events replies) → IsRight w.journal o (handed f events replies)
+    from : (o : Option Subscription) → In Told w.journal o (handed f events replies) (taken f events replies)
+        → IsRight w.journal o (handed f events replies)
     from None i = i.0
     from (Some s) i = i.fits.right
 
 pub holds_the_rest : HoldsTheRest
 holds_the_rest limits events replies w f s r e n =
-    let i = subst (λ o. In Told w.journal o (handed f events replies) (taken f events replies)) e (told limits events replies w f r) in
-    ap (λ (x : List ChangeItem). taken f events replies ++ x) (sym (append-nil s.lane) ∙ ap (λ (x : List ChangeItem). s.lane ++ x) (sym (i.none n))) ∙ i.in_order
+    let i =
+    subst (λ o. In Told w.journal o (handed f events replies) (taken f events replies)) e
+    (told limits events replies w f r) in
+    ap (λ (x : List ChangeItem). taken f events replies ++ x)
+    (sym (append-nil s.lane) ∙ ap (λ (x : List ChangeItem). s.lane ++ x) (sym (i.none n)))
+    ∙ i.in_order

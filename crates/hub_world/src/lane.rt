@@ -61,7 +61,8 @@ pub(crate) fn push(
         × (has_room limit feed lanes.old.items ≡ true))) }
     ensures full { IfOk result (λ pushed. IfNone pushed (has_room limit feed lanes.old.items ≡ false)) }
     ensures lanes { IfOk result (λ _. lanes.new.items ≡ pushed_into limit feed item lanes.old.items) }
-    ensures err { OnErr result ((lanes.new.items ≡ lanes.old.items) × (has_room limit feed lanes.old.items ≡ true)) }
+    ensures err { OnErr result
+        ((lanes.new.items ≡ lanes.old.items) × (has_room limit feed lanes.old.items ≡ true)) }
 {
     let Some(at) = place_of(lanes.as_slice(), feed) else {
         return Ok(None);

@@ -1,9 +1,12 @@
 //! What holds of every run, by the definitions alone. Each law is the contract of a function that does
 //! nothing.
 
-ghost use Rattle.hub_world.specs.Laws.{IsAnswered, IsOnlyAnswer, RunsOnce, StaysLegal, KeepsFitting, HandsRightly, TakesInOrder, HoldsTheRest, LanesAreLimited};
+ghost use Rattle.hub_world.specs.Laws.{IsAnswered, IsOnlyAnswer, RunsOnce, StaysLegal, KeepsFitting};
+ghost use Rattle.hub_world.specs.Laws.{HandsRightly, TakesInOrder, HoldsTheRest, LanesAreLimited};
 ghost use Rattle.hub_world.specs.Headline.{Headline};
-ghost use Rattle.hub_world.specs.Worked.{AgainIsLater, StylesList, BoundHolds, LaneFills, TakesAFront, LongpollWaits, TimeEnds, WritesAnswer, BeatsAreAsked, DeletionEnds, LimitCountsRows, LivesCount, FeedsAreCounted};
+ghost use Rattle.hub_world.specs.Worked.{AgainIsLater, StylesList, BoundHolds, LaneFills, TakesAFront};
+ghost use Rattle.hub_world.specs.Worked.{LongpollWaits, TimeEnds, WritesAnswer, BeatsAreAsked};
+ghost use Rattle.hub_world.specs.Worked.{DeletionEnds, LimitCountsRows, LivesCount, FeedsAreCounted};
 
 /// Over every list of events, what a feed's connection has taken is a prefix of what the feed handed
 /// out: rows in strictly rising sequence, each its document's current row at its step, each passing

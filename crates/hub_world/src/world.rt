@@ -55,7 +55,8 @@ impl Model for World {
 
     ghost view = { λ a. record { db = a.db; lanes = a.lanes.items } };
 
-    ghost invariant = { λ a. (a.lane ≡ a.db.limits.lane) × ((w : Shown) × Shows (record { db = a.db; lanes = a.lanes.items }) w) };
+    ghost invariant = { λ a.
+        (a.lane ≡ a.db.limits.lane) × ((w : Shown) × Shows (record { db = a.db; lanes = a.lanes.items }) w) };
 }
 
 impl World {
@@ -73,7 +74,8 @@ impl World {
 
     // Documents come with their histories.
     fn write(&mut self, docs: Vec<Doc>) -> Result<Reply, AllocError>
-        ensures ok { IfOk result (λ reply. Applies self.old (Event.Write docs) reply self.new × Answers self.old (Event.Write docs) reply self.new) }
+        ensures ok { IfOk result (λ reply. Applies self.old (Event.Write docs) reply self.new
+            × Answers self.old (Event.Write docs) reply self.new) }
         ensures err { OnErr result ((self.new ≡ self.old) × MayFail self.old (Event.Write docs)) }
     {
         let Ok(batch) = self.db.write_edits(docs, false) else {
@@ -84,7 +86,8 @@ impl World {
 
     // Documents come whose revisions are made here.
     fn make(&mut self, docs: Vec<Doc>) -> Result<Reply, AllocError>
-        ensures ok { IfOk result (λ reply. Applies self.old (Event.Interactive docs) reply self.new × Answers self.old (Event.Interactive docs) reply self.new) }
+        ensures ok { IfOk result (λ reply. Applies self.old (Event.Interactive docs) reply self.new
+            × Answers self.old (Event.Interactive docs) reply self.new) }
         ensures err { OnErr result ((self.new ≡ self.old) × MayFail self.old (Event.Interactive docs)) }
     {
         let Ok(batch) = self.db.write_edits(docs, true) else {
@@ -211,7 +214,9 @@ impl World {
 
     // Makes one event take place as a whole, or tells that a growth was refused.
     fn apply_whole(&mut self, event: Event) -> Result<Reply, AllocError>
-        ensures { IfOk result (λ reply. (w : Shown) → Shows self.old w → (reply_of reply ≡ (answer w (event_of event)).reply) × Shows self.new (answer w (event_of event)).world) }
+        ensures { IfOk result (λ reply. (w : Shown) → Shows self.old w
+            → (reply_of reply ≡ (answer w (event_of event)).reply)
+            × Shows self.new (answer w (event_of event)).world) }
     {
         let reply = self.apply(event)?;
         if reply.is_stopped() {
@@ -231,10 +236,14 @@ impl World {
         limits: Limits,
         events: Vec<Event>,
     ) -> Result<(World, Vec<Reply>), AllocError>
-        ensures replies { IfOk result (λ r. map reply_of r.1.items ≡ replies_to (empty (limits_of limits)) (map event_of events.items)) }
-        ensures world { IfOk result (λ r. Shows r.0 (reached (limits_of limits) (map event_of events.items))) }
-        ensures headline { IfOk result (λ r. (f : ℕ) (s : Subscription) → subscription (reached (limits_of limits) (map event_of events.items)) f ≡ Some s →
-            IsFaithful (limits_of limits) (map event_of events.items) (map reply_of r.1.items) f s) }
+        ensures replies { IfOk result
+            (λ r.
+            map reply_of r.1.items ≡ replies_to (empty (limits_of limits)) (map event_of events.items)) }
+        ensures world { IfOk result
+            (λ r. Shows r.0 (reached (limits_of limits) (map event_of events.items))) }
+        ensures headline { IfOk result (λ r. (f : ℕ) (s : Subscription)
+            → subscription (reached (limits_of limits) (map event_of events.items)) f ≡ Some s
+            → IsFaithful (limits_of limits) (map event_of events.items) (map reply_of r.1.items) f s) }
         ensures memory { OnErr result (0 < length events.items) }
     {
         let mut world = World::new(alloc, limits);

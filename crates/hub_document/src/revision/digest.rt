@@ -1,6 +1,7 @@
 //! Revision ids whose hashes are digests.
 
-ghost use Rattle.std.specs.Prelude.{◌≡◌, ◌≤◌, ◌&&◌, ◌/◌, ◌%◌, List, ℕ, length, nat_eq, slice_index, IfSome, IfNone};
+ghost use Rattle.std.specs.Prelude.{◌≡◌, ◌≤◌, ◌&&◌, ◌/◌, ◌%◌, List, ℕ, length};
+ghost use Rattle.std.specs.Prelude.{nat_eq, slice_index, IfSome, IfNone};
 ghost use Rattle.std.specs.Str.{bytes_eq};
 ghost use Rattle.hex.specs.Hex.{IsBytes, encode_lower, lower_digits};
 
@@ -12,7 +13,8 @@ const DIGITS: &[u8; 16] = b"0123456789abcdef";
 
 // Whether these are the two digits of the byte.
 fn are_digits(high: u8, low: u8, byte: u8) -> bool
-    ensures { result ≡ (nat_eq high (slice_index lower_digits (byte / 16)) && nat_eq low (slice_index lower_digits (byte % 16))) }
+    ensures { result ≡ (nat_eq high (slice_index lower_digits (byte / 16))
+        && nat_eq low (slice_index lower_digits (byte % 16))) }
 {
     high == DIGITS[usize::from(byte / 16)] && low == DIGITS[usize::from(byte % 16)]
 }
@@ -37,7 +39,9 @@ impl RevId {
     /// text. Constant time.
     pub fn digest(&self) -> Option<[u8; 16]>
         ensures found { IfSome result (λ digest. self.now.hash ≡ encode_lower digest) }
-        ensures none { IfNone result ((digest : List ℕ) → length digest ≡ 16 → IsBytes digest → ¬ (self.now.hash ≡ encode_lower digest)) }
+        ensures none { IfNone result
+            ((digest : List ℕ) → length digest ≡ 16 → IsBytes digest
+            → ¬ (self.now.hash ≡ encode_lower digest)) }
     {
         let digest = <[u8; 16] as FromHex>::from_hex(self.hash()).ok()?;
         if self.has_digest(&digest) {

@@ -34,7 +34,11 @@ impl Model for DigestRev {
 // Appends the text of the revision of this generation and digest, as a JSON string.
 fn put_revision(out: &mut Vec<u8>, generation: u16, digest: &[u8; 16]) -> Result<(), AllocError>
     requires { 1 ≤ generation }
-    ensures ok { OnOk result (out.new.items ≡ out.old.items ++ quoted (text_of (record { generation = generation; hash = encode_lower digest.now }))) }
+    ensures ok { OnOk result
+        (out.new.items ≡ out.old.items ++ quoted (text_of (record {
+          generation = generation;
+          hash = encode_lower digest.now;
+        }))) }
     ensures front { take (length out.old.items) out.new.items ≡ out.old.items }
 {
     let mut number = Buffer::new();

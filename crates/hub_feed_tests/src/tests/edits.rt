@@ -31,7 +31,8 @@ impl<'a> Source for Edits<'a> {
 
     ghost current = { λ s. rows_of 1 s.ids.now };
 
-    ghost shown = { λ s style include_docs c. record { seq = c.seq; style = style; include_docs = include_docs } };
+    ghost shown = { λ s style include_docs c.
+        record { seq = c.seq; style = style; include_docs = include_docs } };
 
     ghost seq_of = { λ row. row.seq };
 

@@ -1,4 +1,5 @@
-use Rattle.hub_model.proofs.Fitting.{fits_begin, fits_grows, fits_handed, fits_nothing, fits_beat, fits_expire, fits_close, fits_finish, limited_ends}
+use Rattle.hub_model.proofs.Fitting.{fits_begin, fits_grows, fits_handed, fits_nothing, fits_beat}
+use Rattle.hub_model.proofs.Fitting.{fits_expire, fits_close, fits_finish, limited_ends}
 use Rattle.hub_model.specs.RowKind.{change_rows, update_rows}
 use Rattle.hub_model.proofs.feeds_fit.Goals as goal
 

@@ -16,8 +16,8 @@ enum Turn {
     Worst(bool),
 }
 
-/// A tree of so many leaves of the first generation, what is done to them by turns, and the winner afterwards,
-/// where it is told.
+/// A tree of so many leaves of the first generation, what is done to them by turns, and the winner
+/// afterwards, where it is told.
 struct Row {
     leaves: usize,
     /// Whether the hashes of the leaves are digests.
@@ -76,8 +76,8 @@ fn is_taken(
     Ok(matches!(make(alloc, tree, Some(leaf), deleted), Some(Ok(_))))
 }
 
-// The first step of the row that cannot be made, or after which the winner is not the first of the leaves; and the
-// winner after the last.
+// The first step of the row that cannot be made, or after which the winner is not the first of the
+// leaves; and the winner after the last.
 fn outcome(alloc: Global, row: &Row) -> Result<(Option<usize>, Option<RevId>), AllocError> {
     let mut tree = tree_of(alloc, row)?;
     let mut leaves = tree.leaves(alloc)?;
@@ -93,10 +93,10 @@ fn outcome(alloc: Global, row: &Row) -> Result<(Option<usize>, Option<RevId>), A
     Ok((None, tree.winner()))
 }
 
-// The numbers of the leaves are from 0 on. So the best of 601 has the number 600, and where 40 of them are gone from
-// above, from below or from both ends by turns, it is 560, 600 or 580. A leaf that is extended by an edit that is not
-// deleted is of the second generation, and so above those of the first. In the last row no leaf is left that is not
-// deleted.
+// The numbers of the leaves are from 0 on. So the best of 601 has the number 600, and where 40 of
+// them are gone from above, from below or from both ends by turns, it is 560, 600 or 580. A leaf
+// that is extended by an edit that is not deleted is of the second generation, and so above those
+// of the first. In the last row no leaf is left that is not deleted.
 const ROWS: &[Row] = &[
     Row {
         leaves: 601,

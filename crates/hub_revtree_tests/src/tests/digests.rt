@@ -39,7 +39,8 @@ const ALONE: &[Step] = &[
     ),
     Nodes(3),
     Leaves(
-        "1-0123456789abcdef0123456789abcdef0 1-0123456789abcdef0123456789abcdef 1-0123456789ABCDEF0123456789ABCDEF ",
+        "1-0123456789abcdef0123456789abcdef0 1-0123456789abcdef0123456789abcdef \
+        1-0123456789ABCDEF0123456789ABCDEF ",
     ),
     Missing(
         &[
@@ -59,14 +60,18 @@ fn one_digest_is_kept(rt: HostRuntime) -> Result<(), Fail> {
 // A history of three, and edits that stand on each of it.
 const TOGETHER: &[Step] = &[
     Merge(
-        r#"{"_id":"d","_revisions":{"start":3,"ids":["00000000000000000000000000000000","fedcba9876543210fedcba9876543210","0123456789abcdef0123456789abcdef"]}}"#,
+        concat!(
+            r#"{"_id":"d","_revisions":{"start":3,"ids":["00000000000000000000000000000000","#,
+            r#""fedcba9876543210fedcba9876543210","0123456789abcdef0123456789abcdef"]}}"#
+        ),
         ADDED,
     ),
     Nodes(3),
     Path(
         "3-00000000000000000000000000000000",
         Some(
-            "3-00000000000000000000000000000000 2-fedcba9876543210fedcba9876543210 1-0123456789abcdef0123456789abcdef ",
+            "3-00000000000000000000000000000000 2-fedcba9876543210fedcba9876543210 \
+            1-0123456789abcdef0123456789abcdef ",
         ),
     ),
     Path(
@@ -78,30 +83,51 @@ const TOGETHER: &[Step] = &[
         Some("1-0123456789abcdef0123456789abcdef "),
     ),
     Merge(
-        r#"{"_id":"d","_revisions":{"start":3,"ids":["ffffffffffffffffffffffffffffffff","fedcba9876543210fedcba9876543210","0123456789abcdef0123456789abcdef"]}}"#,
+        concat!(
+            r#"{"_id":"d","_revisions":{"start":3,"ids":["ffffffffffffffffffffffffffffffff","#,
+            r#""fedcba9876543210fedcba9876543210","0123456789abcdef0123456789abcdef"]}}"#
+        ),
         ADDED,
     ),
     Nodes(4),
     Merge(
-        r#"{"_id":"d","_revisions":{"start":4,"ids":["x","ffffffffffffffffffffffffffffffff","fedcba9876543210fedcba9876543210","0123456789abcdef0123456789abcdef"]}}"#,
+        concat!(
+            r#"{"_id":"d","_revisions":{"start":4,"ids":["x","#,
+            r#""ffffffffffffffffffffffffffffffff","fedcba9876543210fedcba9876543210","#,
+            r#""0123456789abcdef0123456789abcdef"]}}"#
+        ),
         ADDED,
     ),
     Nodes(5),
     Merge(
-        r#"{"_id":"d","_revisions":{"start":3,"ids":["0123456789abcdef0123456789abcdef","00000000000000000000000000000000","0123456789abcdef0123456789abcdef"]}}"#,
+        concat!(
+            r#"{"_id":"d","_revisions":{"start":3,"ids":["0123456789abcdef0123456789abcdef","#,
+            r#""00000000000000000000000000000000","0123456789abcdef0123456789abcdef"]}}"#
+        ),
         ADDED,
     ),
     Nodes(7),
     Merge(
-        r#"{"_id":"d","_revisions":{"start":3,"ids":["ffffffffffffffffffffffffffffffff","00000000000000000000000000000000","0123456789abcdef0123456789abcdef"]}}"#,
+        concat!(
+            r#"{"_id":"d","_revisions":{"start":3,"ids":["ffffffffffffffffffffffffffffffff","#,
+            r#""00000000000000000000000000000000","0123456789abcdef0123456789abcdef"]}}"#
+        ),
         KNOWN,
     ),
     Merge(
-        r#"{"_id":"d","_revisions":{"start":4,"ids":["y","ffffffffffffffffffffffffffffffff","00000000000000000000000000000000","0123456789abcdef0123456789abcdef"]}}"#,
+        concat!(
+            r#"{"_id":"d","_revisions":{"start":4,"ids":["y","#,
+            r#""ffffffffffffffffffffffffffffffff","00000000000000000000000000000000","#,
+            r#""0123456789abcdef0123456789abcdef"]}}"#
+        ),
         Err(MergeFault::Contradicts),
     ),
     Merge(
-        r#"{"_id":"d","_revisions":{"start":5,"ids":["0123456789abcdef0123456789abcdef","fedcba9876543210fedcba9876543210","00000000000000000000000000000000","fedcba9876543210fedcba9876543210","0123456789abcdef0123456789abcdef"]}}"#,
+        concat!(
+            r#"{"_id":"d","_revisions":{"start":5,"ids":["0123456789abcdef0123456789abcdef","#,
+            r#""fedcba9876543210fedcba9876543210","00000000000000000000000000000000","#,
+            r#""fedcba9876543210fedcba9876543210","0123456789abcdef0123456789abcdef"]}}"#
+        ),
         ADDED,
     ),
     Nodes(9),
@@ -109,19 +135,23 @@ const TOGETHER: &[Step] = &[
     Path(
         "5-0123456789abcdef0123456789abcdef",
         Some(
-            "5-0123456789abcdef0123456789abcdef 4-fedcba9876543210fedcba9876543210 3-00000000000000000000000000000000 2-fedcba9876543210fedcba9876543210 1-0123456789abcdef0123456789abcdef ",
+            "5-0123456789abcdef0123456789abcdef 4-fedcba9876543210fedcba9876543210 \
+            3-00000000000000000000000000000000 2-fedcba9876543210fedcba9876543210 \
+            1-0123456789abcdef0123456789abcdef ",
         ),
     ),
     Path(
         "4-x",
         Some(
-            "4-x 3-ffffffffffffffffffffffffffffffff 2-fedcba9876543210fedcba9876543210 1-0123456789abcdef0123456789abcdef ",
+            "4-x 3-ffffffffffffffffffffffffffffffff 2-fedcba9876543210fedcba9876543210 \
+            1-0123456789abcdef0123456789abcdef ",
         ),
     ),
     Path(
         "3-0123456789abcdef0123456789abcdef",
         Some(
-            "3-0123456789abcdef0123456789abcdef 2-00000000000000000000000000000000 1-0123456789abcdef0123456789abcdef ",
+            "3-0123456789abcdef0123456789abcdef 2-00000000000000000000000000000000 \
+            1-0123456789abcdef0123456789abcdef ",
         ),
     ),
     Knows("3-fedcba9876543210fedcba9876543210", false),
@@ -136,14 +166,18 @@ fn histories_of_digests_are_kept(rt: HostRuntime) -> Result<(), Fail> {
 // Digests and other hashes in one history.
 const MIXED: &[Step] = &[
     Merge(
-        r#"{"_id":"d","_revisions":{"start":4,"ids":["0123456789abcdef0123456789abcdef","b","0123456789ABCDEF0123456789ABCDEF","fedcba9876543210fedcba9876543210"]}}"#,
+        concat!(
+            r#"{"_id":"d","_revisions":{"start":4,"ids":["0123456789abcdef0123456789abcdef","#,
+            r#""b","0123456789ABCDEF0123456789ABCDEF","fedcba9876543210fedcba9876543210"]}}"#
+        ),
         ADDED,
     ),
     Nodes(4),
     Path(
         "4-0123456789abcdef0123456789abcdef",
         Some(
-            "4-0123456789abcdef0123456789abcdef 3-b 2-0123456789ABCDEF0123456789ABCDEF 1-fedcba9876543210fedcba9876543210 ",
+            "4-0123456789abcdef0123456789abcdef 3-b 2-0123456789ABCDEF0123456789ABCDEF \
+            1-fedcba9876543210fedcba9876543210 ",
         ),
     ),
     Path(
@@ -151,21 +185,29 @@ const MIXED: &[Step] = &[
         Some("2-0123456789ABCDEF0123456789ABCDEF 1-fedcba9876543210fedcba9876543210 "),
     ),
     Merge(
-        r#"{"_id":"d","_revisions":{"start":4,"ids":["00000000000000000000000000000000","b","0123456789ABCDEF0123456789ABCDEF","fedcba9876543210fedcba9876543210"]}}"#,
+        concat!(
+            r#"{"_id":"d","_revisions":{"start":4,"ids":["00000000000000000000000000000000","#,
+            r#""b","0123456789ABCDEF0123456789ABCDEF","fedcba9876543210fedcba9876543210"]}}"#
+        ),
         ADDED,
     ),
     Merge(
-        r#"{"_id":"d","_revisions":{"start":2,"ids":["0123456789abcdef0123456789abcdef","fedcba9876543210fedcba9876543210"]}}"#,
+        concat!(
+            r#"{"_id":"d","_revisions":{"start":2,"ids":["0123456789abcdef0123456789abcdef","#,
+            r#""fedcba9876543210fedcba9876543210"]}}"#
+        ),
         ADDED,
     ),
     Nodes(6),
     Leaves(
-        "4-0123456789abcdef0123456789abcdef 4-00000000000000000000000000000000 2-0123456789abcdef0123456789abcdef ",
+        "4-0123456789abcdef0123456789abcdef 4-00000000000000000000000000000000 \
+        2-0123456789abcdef0123456789abcdef ",
     ),
     Path(
         "4-00000000000000000000000000000000",
         Some(
-            "4-00000000000000000000000000000000 3-b 2-0123456789ABCDEF0123456789ABCDEF 1-fedcba9876543210fedcba9876543210 ",
+            "4-00000000000000000000000000000000 3-b 2-0123456789ABCDEF0123456789ABCDEF \
+            1-fedcba9876543210fedcba9876543210 ",
         ),
     ),
     Path(
@@ -173,11 +215,17 @@ const MIXED: &[Step] = &[
         Some("2-0123456789abcdef0123456789abcdef 1-fedcba9876543210fedcba9876543210 "),
     ),
     Merge(
-        r#"{"_id":"d","_revisions":{"start":3,"ids":["b","0123456789abcdef0123456789abcdef","fedcba9876543210fedcba9876543210"]}}"#,
+        concat!(
+            r#"{"_id":"d","_revisions":{"start":3,"ids":["b","#,
+            r#""0123456789abcdef0123456789abcdef","fedcba9876543210fedcba9876543210"]}}"#
+        ),
         KNOWN,
     ),
     Merge(
-        r#"{"_id":"d","_revisions":{"start":4,"ids":["q","b","0123456789abcdef0123456789abcdef","fedcba9876543210fedcba9876543210"]}}"#,
+        concat!(
+            r#"{"_id":"d","_revisions":{"start":4,"ids":["q","b","#,
+            r#""0123456789abcdef0123456789abcdef","fedcba9876543210fedcba9876543210"]}}"#
+        ),
         Err(MergeFault::Contradicts),
     ),
 ];

@@ -30,7 +30,8 @@ const LINE: &[Step] = &[
     Path(
         THIRD,
         Some(
-            "3-4c5ef0d207f3957b7fd603081c6ea42d 2-870d76c302165a079d4197c8440353e5 1-dfddbf319adb018d1e5ac3465b83542c ",
+            "3-4c5ef0d207f3957b7fd603081c6ea42d 2-870d76c302165a079d4197c8440353e5 \
+            1-dfddbf319adb018d1e5ac3465b83542c ",
         ),
     ),
 ];

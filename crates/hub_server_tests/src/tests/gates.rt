@@ -132,8 +132,8 @@ fn assert_pump_held<R: Abort + time::Clock>(
     Ok(())
 }
 
-/// A pump is held inside the lock of `x`, and a write to `x` waits for that lock: `y` is read meanwhile, and `z`
-/// is made, which needs the names alone.
+/// A pump is held inside the lock of `x`, and a write to `x` waits for that lock: `y` is read
+/// meanwhile, and `z` is made, which needs the names alone.
 #[test]
 fn a_database_that_is_held_holds_no_other(rt: HostRuntime) -> Result<(), Fail> {
     let alloc = rt.alloc();

@@ -6,5 +6,7 @@ use Rattle.changes_hub.proofs.answering.answer.Goals as goal
 
 pub returns : goal.returns
 returns g c = λ opened.
-    ends_with (to_come g.R.Input.left c.args.requests.now) c.in_ok-closing.closing (exit_status c.from.result) (g.W.Output.written c.args.writer.now) _ _
-    (c.in_ok-closing.ensures.session opened) c.in_ok-flush.ensures.bytes (c.from.ensures ∙ c.status_of.ensures)
+    ends_with (to_come g.R.Input.left c.args.requests.now) c.in_ok-closing.closing (exit_status c.from.result)
+    (g.W.Output.written c.args.writer.now) _ _
+    (c.in_ok-closing.ensures.session opened) c.in_ok-flush.ensures.bytes
+    (c.from.ensures ∙ c.status_of.ensures)

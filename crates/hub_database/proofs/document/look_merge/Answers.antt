@@ -12,9 +12,11 @@ returns-in-Ok-Some-clause-looked c =
     let known = rw c.in-Ok-Some.field-0-is at c.in-Ok-Some.ensures.known in
     let same = rw c.in-Ok-Some.field-0-is at c.in-Ok-Some.ensures.ready in
     let good = rw c.in-Ok-Some.field-0-is at c.in-Ok-Some.ensures.acceptable in
-    looks_ready [] c.args.tree.now.edits c.args.path c.args.deleted c.args.body c.in-Ok-Some.ready (λ h. let no = known.1 h in absurd (cc)) same good
+    looks_ready [] c.args.tree.now.edits c.args.path c.args.deleted c.args.body c.in-Ok-Some.ready
+    (λ h. let no = known.1 h in absurd (cc)) same good
 
 pub returns-in-Err-Contradicts-clause-looked : goal.returns-in-Err-Contradicts-clause-looked
 returns-in-Err-Contradicts-clause-looked c =
     let no = (rw c.in-Err-Contradicts.field-0-is at c.in-Err-Contradicts.ensures.contradicts) refl in
-    looks_bad [] c.args.tree.now.edits c.args.path c.args.deleted c.args.body (rw c.in-Err-Contradicts.ensures.edits at c.in-Err-Contradicts.ensures.tree) no.0 no.1
+    looks_bad [] c.args.tree.now.edits c.args.path c.args.deleted c.args.body
+    (rw c.in-Err-Contradicts.ensures.edits at c.in-Err-Contradicts.ensures.tree) no.0 no.1

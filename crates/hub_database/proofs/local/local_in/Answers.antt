@@ -3,4 +3,7 @@ use Rattle.hub_database.proofs.LocalLemmas.{kept_as, kept_behind, found_in}
 use Rattle.hub_database.proofs.local.local_in.Goals as goal
 
 pub returns : goal.returns
-returns c = kept_behind c.args.id.now c.get.result ∙ (ap (option_map (kept_as c.args.id.now)) c.get.ensures.value ∙ found_in c.args.id.now c.args.locals.now.entries)
+returns c =
+    kept_behind c.args.id.now c.get.result
+    ∙ (ap (option_map (kept_as c.args.id.now)) c.get.ensures.value
+    ∙ found_in c.args.id.now c.args.locals.now.entries)

@@ -7,4 +7,5 @@ use Rattle.hub_database.proofs.local.put.Goals as goal
 pub returns-clause-ok : goal.returns-clause-ok
 returns-clause-ok c =
     ap (map entry_as) c.in_ok-insert.ensures.entries
-    ∙ (put_in c.args.locals.now.entries c.into_string.result c.args.local ∙ ap (λ i. put_local (kept_as i c.args.local) (kept c.args.locals.now)) c.into_string.ensures)
+    ∙ (put_in c.args.locals.now.entries c.into_string.result c.args.local
+    ∙ ap (λ i. put_local (kept_as i c.args.local) (kept c.args.locals.now)) c.into_string.ensures)

@@ -8,4 +8,8 @@ use Rattle.hub_database_tests.proofs.feed_tests.take.Goals as goal
 pub accept_item-requires : goal.accept_item-requires
 accept_item-requires c =
     let told = rw c.in-Give.is at c.in_ok-item.ensures.ok in
-    record { due = ap (λ (db : Database). item_due (hosted_of db) c.args.feed.number) told.1 ∙ gives_due c.args.state.now c.args.feed.number c.in-Give.item told.0 }
+    record {
+      due =
+          ap (λ (db : Database). item_due (hosted_of db) c.args.feed.number) told.1
+          ∙ gives_due c.args.state.now c.args.feed.number c.in-Give.item told.0;
+    }

@@ -1,4 +1,5 @@
-use Rattle.std.proofs.Common.{◌≡◌, ℕ, List, [], ◌∷◌, ◌++◌, Option, Some, None, option_map, string_bytes, refl, sym, ap, ◌∙◌, append_assoc}
+use Rattle.std.proofs.Common.{◌≡◌, ℕ, List, [], ◌∷◌, ◌++◌, Option, Some, None, option_map}
+use Rattle.std.proofs.Common.{string_bytes, refl, sym, ap, ◌∙◌, append_assoc}
 use Rattle.hub_model.specs.Missing.{Asked}
 use Rattle.hub_model.specs.Revision.{Revision}
 use Rattle.serde_json.specs.Data.{Data, Members, member}
@@ -7,13 +8,17 @@ use Rattle.hub_document.specs.Asking.{in_front, revs_in, asked_of}
 use Rattle.hub_document.proofs.asked.asked_of.Goals as goal
 
 -- one that is put in front of the rest stands behind those before
-regrouped : (done : List Asked) (a : Asked) (rest : Option (List Asked)) → option_map (λ others. done ++ others) (in_front a rest) ≡ option_map (λ others. (done ++ a ∷ []) ++ others) rest
+regrouped : (done : List Asked) (a : Asked) (rest : Option (List Asked))
+    → option_map (λ others. done ++ others) (in_front a rest)
+    ≡ option_map (λ others. (done ++ a ∷ []) ++ others) rest
 regrouped done a None = refl
 regrouped done a (Some others) = ap Some (sym (append_assoc done (a ∷ []) others))
 
 -- one more member
-one_more : (done : List Asked) (id : List ℕ) (d : Data) (ms : Members) (revs : List Revision) → revs_in d ≡ Some revs
-    → option_map (λ others. done ++ others) (asked_of (member id d ms)) ≡ option_map (λ others. (done ++ record { id = id; revs = revs } ∷ []) ++ others) (asked_of ms)
+one_more : (done : List Asked) (id : List ℕ) (d : Data) (ms : Members) (revs : List Revision)
+    → revs_in d ≡ Some revs
+    → option_map (λ others. done ++ others) (asked_of (member id d ms))
+    ≡ option_map (λ others. (done ++ record { id = id; revs = revs } ∷ []) ++ others) (asked_of ms)
 one_more done id d ms revs found = rw found (regrouped done (record { id = id; revs = revs }) (asked_of ms))
 
 pub loop-key-preserved : goal.loop-key-preserved
@@ -22,9 +27,12 @@ loop-key-preserved c =
     let revs = c.in-Some-2.revs in
     let found : revs_in (view c.in-Some.member.now) ≡ Some revs = sym c.in_ok-revs.ensures ∙ c.in-Some-2.is in
     let one : List ℕ → Asked = λ id. record { id = id; revs = revs } in
-    let pushed : c.push.new.self.items ≡ done ++ one (string_bytes c.in-Some.key.now) ∷ [] = c.in_ok-push.ensures.items ∙ ap (λ a. done ++ a ∷ []) (c.in_ok-of_id.ensures ∙ ap one c.as_str.ensures.value) in
+    let pushed : c.push.new.self.items ≡ done ++ one (string_bytes c.in-Some.key.now) ∷ [] =
+    c.in_ok-push.ensures.items
+    ∙ ap (λ a. done ++ a ∷ []) (c.in_ok-of_id.ensures ∙ ap one c.as_str.ensures.value) in
     rw pushed (
     c.loop-key.invariant
     ∙ ap (λ es. option_map (λ others. done ++ others) (asked_of (members_view es))) c.in-Some.ensures.steps
-    ∙ one_more done (string_bytes c.in-Some.key.now) (view c.in-Some.member.now) (members_view c.next.new.self) revs found
+    ∙ one_more done (string_bytes c.in-Some.key.now) (view c.in-Some.member.now)
+    (members_view c.next.new.self) revs found
     )

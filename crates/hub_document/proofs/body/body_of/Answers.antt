@@ -13,4 +13,8 @@ returns c =
     let whole = object (plain (members_view c.args.members.now.entries)) in
     let tokens : c.end_object.new.self.tokens ≡ json_tokens (outline whole) = search rules in
     let before : c.end_object.new.self.before ≡ [] = search rules in
-    c.shrink_to_fit.ensures.items ∙ c.into_inner-text.ensures.items ∙ ap (λ bs. bs ++ print c.end_object.new.self.tokens) before ∙ ap print tokens ∙ print-outline whole
+    c.shrink_to_fit.ensures.items
+    ∙ c.into_inner-text.ensures.items
+    ∙ ap (λ bs. bs ++ print c.end_object.new.self.tokens) before
+    ∙ ap print tokens
+    ∙ print-outline whole

@@ -8,7 +8,8 @@ use Rattle.hub_document.proofs.body.body_of.Given as goal
 
 abbrev pub invariant-loop-key : goal.invariant-loop-key
 invariant-loop-key l = record {
-  text : begin_object ∷ members_tokens (members_outline (plain (members_view l.members.entries))) ≡ l.out.tokens ++ members_tokens (members_outline (plain (members_view l.key-iterator)));
+  text : begin_object ∷ members_tokens (members_outline (plain (members_view l.members.entries)))
+      ≡ l.out.tokens ++ members_tokens (members_outline (plain (members_view l.key-iterator)));
   whole : members_have_float (members_view l.key-iterator) ≡ false;
   before : l.out.before ≡ [];
 }

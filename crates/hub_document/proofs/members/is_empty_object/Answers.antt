@@ -10,4 +10,5 @@ none_there [] = refl
 none_there (e ∷ es) = grind arith
 
 pub returns-in-Object : goal.returns-in-Object
-returns-in-Object c = rw (c.in-Object.is, view-Object, c.len.ensures.len) (none_there c.in-Object.members.entries)
+returns-in-Object c =
+    rw (c.in-Object.is, view-Object, c.len.ensures.len) (none_there c.in-Object.members.entries)

@@ -6,11 +6,19 @@ use Rattle.hub_document.specs.Read.{json_of}
 use Rattle.hub_document.proofs.read.read_value.Goals as goal
 
 pub returns-in-Ok-clause-ok : goal.returns-in-Ok-clause-ok
-returns-in-Ok-clause-ok c = rw (is_utf8-from_IsUtf8 c.args.bytes.now c.in-Ok.ensures.ok.0) c.in-Ok.ensures.ok.1
+returns-in-Ok-clause-ok c =
+    rw (is_utf8-from_IsUtf8 c.args.bytes.now c.in-Ok.ensures.ok.0) c.in-Ok.ensures.ok.1
 
-refused : (text : List ℕ) (b : Bool) → is_utf8 text ≡ b → (IsUtf8 text → read text ≡ None) → json_of text ≡ None
+refused : (text : List ℕ) (b : Bool) → is_utf8 text ≡ b → (IsUtf8 text → read text ≡ None)
+    → json_of text ≡ None
 refused text true e none = rw e (none (IsUtf8-from_is_utf8 text e))
 refused text false e none = rw e refl
 
 pub returns-else-is_memory-clause-err : goal.returns-else-is_memory-clause-err
-returns-else-is_memory-clause-err c = inr (refl, refused c.args.bytes.now _ refl (c.in-Err.ensures.err (λ e. let yes : c.is_memory.result ≡ true = c.is_memory.ensures.1 e in true≢false (sym yes ∙ c.if-is_memory.false))))
+returns-else-is_memory-clause-err c = inr (
+  refl,
+  refused c.args.bytes.now _ refl
+      (c.in-Err.ensures.err (λ e.
+      let yes : c.is_memory.result ≡ true = c.is_memory.ensures.1 e in
+      true≢false (sym yes ∙ c.if-is_memory.false))),
+)

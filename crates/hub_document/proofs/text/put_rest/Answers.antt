@@ -5,10 +5,13 @@ use Rattle.hub_document.proofs.text.put_rest.Goals as goal
 
 pub returns-then-is_empty-clause-ok : goal.returns-then-is_empty-clause-ok
 returns-then-is_empty-clause-ok c =
-    nothing_inside c.extend_from_slice.result c.args.out.now.items _ c.args.body.now c.inside_of-inside.result.now (c.inside_of-inside.ensures ∙ ap inside c.as_bytes.ensures)
+    nothing_inside c.extend_from_slice.result c.args.out.now.items _ c.args.body.now
+    c.inside_of-inside.result.now (c.inside_of-inside.ensures ∙ ap inside c.as_bytes.ensures)
     (sym c.is_empty.ensures ∙ c.if-is_empty.true) c.extend_from_slice.ensures.items
 
 pub returns-clause-ok : goal.returns-clause-ok
 returns-clause-ok c =
-    rest_written c.args.out.now.items _ c.args.body.now c.inside_of-inside.result.now (c.inside_of-inside.ensures ∙ ap inside c.as_bytes.ensures) (sym c.is_empty.ensures ∙ c.if-is_empty.false)
-    (rw (c.in_ok-extend_from_slice-3.ensures.items, c.in_ok-extend_from_slice-2.ensures.items) (ap (λ l. (l ++ c.inside_of-inside.result.now) ++ codes "}") c.in_ok-extend_from_slice.ensures.items))
+    rest_written c.args.out.now.items _ c.args.body.now c.inside_of-inside.result.now
+    (c.inside_of-inside.ensures ∙ ap inside c.as_bytes.ensures) (sym c.is_empty.ensures ∙ c.if-is_empty.false)
+    (rw (c.in_ok-extend_from_slice-3.ensures.items, c.in_ok-extend_from_slice-2.ensures.items)
+    (ap (λ l. (l ++ c.inside_of-inside.result.now) ++ codes "}") c.in_ok-extend_from_slice.ensures.items))

@@ -4,4 +4,5 @@ use Rattle.hub_document.proofs.text.put_rev.Goals as goal
 
 pub returns-clause-ok : goal.returns-clause-ok
 returns-clause-ok c =
-    rw (c.in-Some.is, rev_is, c.in_ok-print_quoted.ensures.ok, c.in_ok-extend_from_slice.ensures.items) (append_assoc c.args.out.now.items _ _)
+    rw (c.in-Some.is, rev_is, c.in_ok-print_quoted.ensures.ok, c.in_ok-extend_from_slice.ensures.items)
+    (append_assoc c.args.out.now.items _ _)

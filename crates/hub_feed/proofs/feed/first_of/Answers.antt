@@ -10,5 +10,12 @@ loop-id-init g c = listed_none c.args.place c.args.bound (g.S.Source.current c.a
 pub loop-id-preserved : goal.loop-id-preserved
 loop-id-preserved g c =
     let rows = g.S.Source.current c.args.source.now in
-    let here = c.next_of.ensures ∙ ap (λ (id : List ℕ). option_map (λ (r : Current). r.seq) (first_listed c.args.place c.args.bound (id ∷ []) rows)) (c.as_str.ensures.value ∙ ap string_bytes c.id-item.is) in
-    c.lesser-first.ensures ∙ listed_step c.args.place c.args.bound rows (g.met.S.Source.rise c.args.source.now) c.args.ids.now c.loop-id.id-index c.id-item.result c.loop-id-test.true c.loop-id.first c.next_of.result c.loop-id.invariant here
+    let here =
+    c.next_of.ensures
+    ∙ ap (λ (id : List ℕ).
+    option_map (λ (r : Current). r.seq) (first_listed c.args.place c.args.bound (id ∷ []) rows))
+    (c.as_str.ensures.value ∙ ap string_bytes c.id-item.is) in
+    c.lesser-first.ensures
+    ∙ listed_step c.args.place c.args.bound rows
+    (g.met.S.Source.rise c.args.source.now) c.args.ids.now c.loop-id.id-index c.id-item.result
+    c.loop-id-test.true c.loop-id.first c.next_of.result c.loop-id.invariant here

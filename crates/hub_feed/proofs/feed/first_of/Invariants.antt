@@ -5,4 +5,6 @@ use Rattle.hub_feed.specs.Reach.{first_listed}
 use Rattle.hub_feed.proofs.feed.first_of.Given as goal
 
 abbrev pub invariant-loop-id : goal.invariant-loop-id
-invariant-loop-id g l = l.first ≡ option_map (λ (c : Current). c.seq) (first_listed l.place l.bound (map string_bytes (take l.id-index l.ids)) (g.S.Source.current l.source))
+invariant-loop-id g l =
+    l.first ≡ option_map (λ (c : Current). c.seq)
+    (first_listed l.place l.bound (map string_bytes (take l.id-index l.ids)) (g.S.Source.current l.source))

@@ -9,8 +9,13 @@ loop-feed-preserved c =
     let items = c.loop-feed.feed-items in
     let at = c.loop-feed.feed-index in
     let x = c.feed-item.result in
-    let low : at < length c.args.feeds.now.items = omega (arith, c.loop-feed-test.true, ap length c.deref_mut-feed-items.ensures.value) in
+    let low : at < length c.args.feeds.now.items =
+    omega (arith, c.loop-feed-test.true, ap length c.deref_mut-feed-items.ensures.value) in
     let now : c.end.new.self ≡ end x.1 = rw (sym c.feed-item.is) at c.end.ensures in
     record {
-      now = rw (sym c.feed-item.is) (ap (λ (f : Feed). slice_set items at (x.0, f)) now ∙ map_over_more ended c.args.feeds.now.items items at x low c.loop-feed.invariant.now c.feed-item.is);
+      now =
+          rw (sym c.feed-item.is)
+          (ap (λ (f : Feed). slice_set items at (x.0, f)) now
+          ∙ map_over_more ended c.args.feeds.now.items items
+          at x low c.loop-feed.invariant.now c.feed-item.is);
     }

@@ -16,12 +16,19 @@ unfolding show
 accept_item-requires c =
     let edits = c.args.edits.now.ids.now in
     let next = c.in_ok-next.ensures in
-    record { due = given_accepted show (rows_of 1 edits) c.in-Give.item c.args.feed.now c.next_item.new.self (length edits) (sym c.in-Give.is ∙ next.ok) next.new }
+    record {
+      due =
+          given_accepted show (rows_of 1 edits) c.in-Give.item c.args.feed.now c.next_item.new.self
+          (length edits) (sym c.in-Give.is ∙ next.ok) next.new;
+    }
 
 pub returns-in-Give : goal.returns-in-Give
 returns-in-Give c =
     let edits = c.args.edits.now.ids.now in
     let rows = rows_of 1 edits in
     let next = c.in_ok-next.ensures in
-    let looked = subst (λ (f : Feed). IsWithin f (length edits)) (sym next.new) (within_next c.args.feed.now (due rows c.args.feed.now) (length edits) c.requires) in
-    subst (λ (f : Feed). IsWithin f (length edits)) (sym c.accept_item.ensures) (within_due rows c.next_item.new.self (length edits) (rows_within edits) looked)
+    let looked =
+    subst (λ (f : Feed). IsWithin f (length edits)) (sym next.new)
+    (within_next c.args.feed.now (due rows c.args.feed.now) (length edits) c.requires) in
+    subst (λ (f : Feed). IsWithin f (length edits)) (sym c.accept_item.ensures)
+    (within_due rows c.next_item.new.self (length edits) (rows_within edits) looked)

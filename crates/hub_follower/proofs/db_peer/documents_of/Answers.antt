@@ -9,8 +9,11 @@ pub returns-in-Ok-OpenRevs-clause-ok : goal.returns-in-Ok-OpenRevs-clause-ok
 returns-in-Ok-OpenRevs-clause-ok g c =
     let r = rw c.in-Ok-OpenRevs.field-0-is at c.in-Ok-OpenRevs.ensures.ok in
     let asked = c.args.asked.now in
-    let found = opened_answer r.db asked c.in-Ok.question _ c.in-Ok.ensures r.answered in
-    (r.db.journal, r.found.legal, ap (λ z. map found_edit z) found ∙ opened_shown r.db.journal asked.id asked.revs)
+    let found = opened_answer r.db asked c.in-Ok.question _ c.in-Ok.ensures r.answered in (
+      r.db.journal,
+      r.found.legal,
+      ap (λ z. map found_edit z) found ∙ opened_shown r.db.journal asked.id asked.revs,
+    )
 
 pub returns-in-Ok-OpenRevs-clause-many : goal.returns-in-Ok-OpenRevs-clause-many
 returns-in-Ok-OpenRevs-clause-many g c =

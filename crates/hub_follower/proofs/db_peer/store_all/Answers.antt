@@ -13,5 +13,8 @@ returns-in-Ok-write-clause-ok g c =
       w.db.limits.journal,
       w.found.legal,
       all_stored w.db.deleted w.db.limits.journal w.db.journal c.args.docs.now rs
-          (w.replies ∙ ap (λ z. (writes false w.db.deleted w.db.limits.journal w.db.journal (take (length rs) z)).outcomes) same) (w.whole stands ∙ ap length same),
+          (w.replies
+          ∙ ap (λ z.
+          (writes false w.db.deleted w.db.limits.journal w.db.journal (take (length rs) z)).outcomes) same)
+          (w.whole stands ∙ ap length same),
     )

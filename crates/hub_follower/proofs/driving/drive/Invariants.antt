@@ -9,5 +9,6 @@ invariant-loop g l = record {
   left : calls_left l.core + l.counter ≤ l.end;
   source : g.S.Peer.fault_count l.fn.source ≤ g.S.Peer.fault_count l.source;
   target : g.T.Peer.fault_count l.fn.target ≤ g.T.Peer.fault_count l.target;
-  reach : Reaches g.S.Peer.gives g.T.Peer.gives (standing_of l.fn.core l.fn.source l.fn.target) (standing_of l.core l.source l.target);
+  reach : Reaches g.S.Peer.gives g.T.Peer.gives (standing_of l.fn.core l.fn.source l.fn.target)
+      (standing_of l.core l.source l.target);
 }

@@ -15,5 +15,7 @@ returns-clause-err g c =
     let t = c.args.target.now in
     let new = standing_of c.drive.new.core c.drive.new.source c.drive.new.target in
     let begun = c.start.ensures ∙ ap follow.SourceStart c.in-Ok.ensures.ok in
-    broken_begins_not gs gt ls lt (standing_of (follow.SourceStart c.args.session_id.now) s t) new c.drive.result
-    (subst (λ (z : follow.Follower). IfErr c.drive.result (λ e. Breaks gs gt ls lt e (standing_of z s t) new)) begun c.drive.ensures.err)
+    broken_begins_not gs gt ls lt
+    (standing_of (follow.SourceStart c.args.session_id.now) s t) new c.drive.result
+    (subst (λ (z : follow.Follower). IfErr c.drive.result (λ e. Breaks gs gt ls lt e (standing_of z s t) new))
+    begun c.drive.ensures.err)

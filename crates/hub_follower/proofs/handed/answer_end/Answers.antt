@@ -11,24 +11,28 @@ pub returns-in-None-clause-wrong : goal.returns-in-None-clause-wrong
 returns-in-None-clause-wrong c =
     let since = c.args.since in
     let items = c.args.items.now in
-    λ _ rows last. not_numbered c.args.db.now.journal since items (c.in-None.ensures ∙ ap (λ n. numbered_end n since items) c.update_seq.ensures.value) rows last
+    λ _ rows last. not_numbered c.args.db.now.journal since items
+    (c.in-None.ensures ∙ ap (λ n. numbered_end n since items) c.update_seq.ensures.value) rows last
 
 pub returns-in_err-are_shown-clause-memory : goal.returns-in_err-are_shown-clause-memory
 returns-in_err-are_shown-clause-memory c =
     let since = c.args.since in
     let items = c.args.items.now in
-    licensed c.args.db.now.journal since items c.from_residual.result c.in-Some.last c.in_err-are_shown.ensures.memory
+    licensed c.args.db.now.journal since items c.from_residual.result c.in-Some.last
+    c.in_err-are_shown.ensures.memory
     (sym (c.in-Some.ensures ∙ ap (λ n. numbered_end n since items) c.update_seq.ensures.value))
 
 pub returns-then-not-branch-clause-wrong : goal.returns-then-not-branch-clause-wrong
 returns-then-not-branch-clause-wrong c =
-    λ _ rows last. not_shown c.args.db.now.journal c.args.since c.args.items.now (sym c.in_ok-are_shown.ensures.ok ∙ c.if-not-branch.true) rows last
+    λ _ rows last. not_shown c.args.db.now.journal c.args.since c.args.items.now
+    (sym c.in_ok-are_shown.ensures.ok ∙ c.if-not-branch.true) rows last
 
 pub returns-in_err-rebuild-clause-memory : goal.returns-in_err-rebuild-clause-memory
 returns-in_err-rebuild-clause-memory c =
     let since = c.args.since in
     let items = c.args.items.now in
-    licensed c.args.db.now.journal since items c.from_residual-in_err-rebuild.result c.in-Some.last c.in_err-rebuild.ensures.memory
+    licensed c.args.db.now.journal since items c.from_residual-in_err-rebuild.result c.in-Some.last
+    c.in_err-rebuild.ensures.memory
     (sym (c.in-Some.ensures ∙ ap (λ n. numbered_end n since items) c.update_seq.ensures.value))
 
 pub returns-in_err-rows-clause-memory : goal.returns-in_err-rows-clause-memory
@@ -36,8 +40,10 @@ returns-in_err-rows-clause-memory c =
     let J = c.args.db.now.journal in
     let since = c.args.since in
     let items = c.args.items.now in
-    let whole = c.in_ok-rebuild.ensures.ok.1 ∙ whole_rebuilt J c.update_seq-2.result c.update_seq-2.ensures.value in
-    licensed J since items c.from_residual-in_err-rows.result c.in-Some.last (subst (λ (z : List Edit). 0 < length z) whole c.in_err-rows.ensures.memory)
+    let whole =
+    c.in_ok-rebuild.ensures.ok.1 ∙ whole_rebuilt J c.update_seq-2.result c.update_seq-2.ensures.value in
+    licensed J since items c.from_residual-in_err-rows.result c.in-Some.last
+    (subst (λ (z : List Edit). 0 < length z) whole c.in_err-rows.ensures.memory)
     (sym (c.in-Some.ensures ∙ ap (λ n. numbered_end n since items) c.update_seq.ensures.value))
 
 pub returns-then-are_listed-clause-right : goal.returns-then-are_listed-clause-right
@@ -46,9 +52,12 @@ returns-then-are_listed-clause-right c =
     let since = c.args.since in
     let items = c.args.items.now in
     let last = c.in-Some.last in
-    let whole = c.in_ok-rebuild.ensures.ok.1 ∙ whole_rebuilt J c.update_seq-2.result c.update_seq-2.ensures.value in
-    let same = c.as_slice.ensures.value ∙ (c.in_ok-rows.ensures.ok ∙ ap (λ (z : List Edit). all_above z since) whole) in
-    decided J since items last (sym (c.in-Some.ensures ∙ ap (λ n. numbered_end n since items) c.update_seq.ensures.value))
+    let whole =
+    c.in_ok-rebuild.ensures.ok.1 ∙ whole_rebuilt J c.update_seq-2.result c.update_seq-2.ensures.value in
+    let same =
+    c.as_slice.ensures.value ∙ (c.in_ok-rows.ensures.ok ∙ ap (λ (z : List Edit). all_above z since) whole) in
+    decided J since items last
+    (sym (c.in-Some.ensures ∙ ap (λ n. numbered_end n since items) c.update_seq.ensures.value))
     (sym c.in_ok-are_shown.ensures.ok ∙ c.if-not-branch.false)
     (ap (are_listed last (rows_of items)) (sym same) ∙ (sym c.are_listed.ensures ∙ c.if-are_listed.true))
 
@@ -58,7 +67,11 @@ returns-clause-wrong c =
     let since = c.args.since in
     let items = c.args.items.now in
     let last = c.in-Some.last in
-    let whole = c.in_ok-rebuild.ensures.ok.1 ∙ whole_rebuilt J c.update_seq-2.result c.update_seq-2.ensures.value in
-    let same = c.as_slice.ensures.value ∙ (c.in_ok-rows.ensures.ok ∙ ap (λ (z : List Edit). all_above z since) whole) in
-    λ _ rows other. not_listed J since items last (sym (c.in-Some.ensures ∙ ap (λ n. numbered_end n since items) c.update_seq.ensures.value))
-    (ap (are_listed last (rows_of items)) (sym same) ∙ (sym c.are_listed.ensures ∙ c.if-are_listed.false)) rows other
+    let whole =
+    c.in_ok-rebuild.ensures.ok.1 ∙ whole_rebuilt J c.update_seq-2.result c.update_seq-2.ensures.value in
+    let same =
+    c.as_slice.ensures.value ∙ (c.in_ok-rows.ensures.ok ∙ ap (λ (z : List Edit). all_above z since) whole) in
+    λ _ rows other. not_listed J since items last
+    (sym (c.in-Some.ensures ∙ ap (λ n. numbered_end n since items) c.update_seq.ensures.value))
+    (ap (are_listed last (rows_of items)) (sym same) ∙ (sym c.are_listed.ensures ∙ c.if-are_listed.false))
+    rows other

@@ -5,4 +5,6 @@ use Rattle.hub_follower.proofs.handed.are_rising.Given as goal
 
 -- what is left decides, behind the last row
 abbrev pub invariant-loop-item : goal.invariant-loop-item
-invariant-loop-item l = are_rising l.last l.seq l.seen (rows_of (drop l.item-index l.items)) ≡ are_rising l.last l.since 0 (rows_of l.items)
+invariant-loop-item l =
+    are_rising l.last l.seq l.seen (rows_of (drop l.item-index l.items))
+    ≡ are_rising l.last l.since 0 (rows_of l.items)

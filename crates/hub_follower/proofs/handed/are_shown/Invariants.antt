@@ -8,6 +8,7 @@ use Rattle.hub_follower.proofs.handed.are_shown.Given as goal
 -- the rows so far were current, and the copy is one
 abbrev pub invariant-loop-item : goal.invariant-loop-item
 invariant-loop-item l = record {
-  left : list_all (is_shown l.db.journal) (rows_of (drop l.item-index l.items)) ≡ list_all (is_shown l.db.journal) (rows_of l.items);
+  left : list_all (is_shown l.db.journal) (rows_of (drop l.item-index l.items))
+      ≡ list_all (is_shown l.db.journal) (rows_of l.items);
   copy : IsRebuilt l.db.journal l.copy;
 }

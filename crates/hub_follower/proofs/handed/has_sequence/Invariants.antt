@@ -5,4 +5,5 @@ use Rattle.hub_follower.proofs.handed.has_sequence.Given as goal
 
 -- the rows so far have others
 abbrev pub invariant-loop-item : goal.invariant-loop-item
-invariant-loop-item l = has_sequence (rows_of (drop l.item-index l.items)) l.seq ≡ has_sequence (rows_of l.items) l.seq
+invariant-loop-item l =
+    has_sequence (rows_of (drop l.item-index l.items)) l.seq ≡ has_sequence (rows_of l.items) l.seq

@@ -10,5 +10,6 @@ returns-clause-ok c =
     let J = c.args.db.now.journal in
     let since = c.args.since in
     let items = c.args.items.now in
-    subst (λ b. IsTrue b ↔ ((rows : List ChangeRow) × (last : ℕ) × IsChangesAnswer J since items rows last)) (sym c.is_some.ensures)
+    subst (λ b. IsTrue b ↔ ((rows : List ChangeRow) × (last : ℕ) × IsChangesAnswer J since items rows last))
+    (sym c.is_some.ensures)
     (end_decides J since items c.in_ok-end.end c.in_ok-end.ensures.right c.in_ok-end.ensures.wrong)

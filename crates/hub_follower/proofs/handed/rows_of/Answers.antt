@@ -13,7 +13,11 @@ loop-item-preserved-in-Continue-1 c =
     let step = c.in-Some.ensures.steps in
     let rest = c.next.new.self.rest.items in
     record {
-      made = c.in_ok-push-in-Row.ensures.items ∙ (ap (λ (z : List ChangeRow). z ++ row ∷ []) i.made ∙ (sym (rows_of-row so_far row) ∙ ap (λ (z : ChangeItem). rows_of (so_far ++ z ∷ [])) (sym c.in-Row.is)));
+      made =
+          c.in_ok-push-in-Row.ensures.items
+          ∙ (ap (λ (z : List ChangeRow). z ++ row ∷ []) i.made
+          ∙ (sym (rows_of-row so_far row)
+          ∙ ap (λ (z : ChangeItem). rows_of (so_far ++ z ∷ [])) (sym c.in-Row.is)));
       items = append_assoc so_far (item ∷ []) rest ∙ (ap (λ z. so_far ++ z) (sym step.0) ∙ i.items);
     }
 
@@ -25,7 +29,10 @@ loop-item-preserved-in-Beat c =
     let step = c.in-Some.ensures.steps in
     let rest = c.next.new.self.rest.items in
     record {
-      made = i.made ∙ (sym (rows_of-beat so_far) ∙ ap (λ (z : ChangeItem). rows_of (so_far ++ z ∷ [])) (sym c.in-Beat.is));
+      made =
+          i.made
+          ∙ (sym (rows_of-beat so_far)
+          ∙ ap (λ (z : ChangeItem). rows_of (so_far ++ z ∷ [])) (sym c.in-Beat.is));
       items = append_assoc so_far (item ∷ []) rest ∙ (ap (λ z. so_far ++ z) (sym step.0) ∙ i.items);
     }
 
@@ -37,6 +44,9 @@ loop-item-preserved c =
     let step = c.in-Some.ensures.steps in
     let rest = c.next.new.self.rest.items in
     record {
-      made = i.made ∙ (sym (rows_of-end so_far c.in-End.last_seq c.in-End.pending) ∙ ap (λ (z : ChangeItem). rows_of (so_far ++ z ∷ [])) (sym c.in-End.is));
+      made =
+          i.made
+          ∙ (sym (rows_of-end so_far c.in-End.last_seq c.in-End.pending)
+          ∙ ap (λ (z : ChangeItem). rows_of (so_far ++ z ∷ [])) (sym c.in-End.is));
       items = append_assoc so_far (item ∷ []) rest ∙ (ap (λ z. so_far ++ z) (sym step.0) ∙ i.items);
     }

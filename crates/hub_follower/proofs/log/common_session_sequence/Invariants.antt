@@ -4,4 +4,6 @@ use Rattle.hub_follower.proofs.log.common_session_sequence.Given as goal
 
 -- the entries so far don't count
 abbrev pub invariant-loop-entry : goal.invariant-loop-entry
-invariant-loop-entry l = model.common_session_sequence l.source (drop l.entry-index l.target) ≡ model.common_session_sequence l.source l.target
+invariant-loop-entry l =
+    model.common_session_sequence l.source (drop l.entry-index l.target)
+    ≡ model.common_session_sequence l.source l.target

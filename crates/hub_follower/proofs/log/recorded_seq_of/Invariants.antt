@@ -4,4 +4,5 @@ use Rattle.hub_follower.proofs.log.recorded_seq_of.Given as goal
 
 -- the entries so far don't count
 abbrev pub invariant-loop-entry : goal.invariant-loop-entry
-invariant-loop-entry l = model.recorded_seq_of l.session (drop l.entry-index l.history) ≡ model.recorded_seq_of l.session l.history
+invariant-loop-entry l =
+    model.recorded_seq_of l.session (drop l.entry-index l.history) ≡ model.recorded_seq_of l.session l.history

@@ -13,7 +13,10 @@ loop-entry-preserved c =
     let o = c.loop-entry.out.items in
     let comma : List ℕ = codes "," in
     let written : c.put_entry.new.out.items ++ rest ≡ o ++ (comma ++ (entry_text entry ++ rest)) =
-    ap (λ z. z ++ rest) (c.in_ok-put_entry.ensures ∙ ap (λ z. z ++ entry_text entry) c.in_ok-extend_from_slice.ensures.items)
+    ap (λ z. z ++ rest)
+    (c.in_ok-put_entry.ensures ∙ ap (λ z. z ++ entry_text entry) c.in_ok-extend_from_slice.ensures.items)
     ∙ (append_assoc (o ++ comma) (entry_text entry) rest ∙ append_assoc o comma (entry_text entry ++ rest)) in
-    let here : drop at entries ≡ entry ∷ drop (at + 1) entries = drop_more entries at entry c.loop-entry-test.true ∙ ap (λ (z : HistoryEntry). z ∷ drop (at + 1) entries) (sym c.entry-item.is) in
+    let here : drop at entries ≡ entry ∷ drop (at + 1) entries =
+    drop_more entries at entry c.loop-entry-test.true
+    ∙ ap (λ (z : HistoryEntry). z ∷ drop (at + 1) entries) (sym c.entry-item.is) in
     written ∙ (ap (λ z. o ++ later_entries_text z) (sym here) ∙ c.loop-entry.invariant)

@@ -4,4 +4,6 @@ use Rattle.hub_follower.proofs.log_text.put_later_entries.Given as goal
 
 -- what was written so far, with the texts of the entries that are left, is all
 abbrev pub invariant-loop-entry : goal.invariant-loop-entry
-invariant-loop-entry l = l.out.items ++ later_entries_text (drop l.entry-index l.entries) ≡ l.initial.out.items ++ later_entries_text l.entries
+invariant-loop-entry l =
+    l.out.items ++ later_entries_text (drop l.entry-index l.entries)
+    ≡ l.initial.out.items ++ later_entries_text l.entries

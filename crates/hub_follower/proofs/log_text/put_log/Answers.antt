@@ -31,5 +31,6 @@ returns c =
     let s3 = more o7 o4 o3 b3 (b4 ++ (b5 ++ r6)) s4 c.in_ok-extend_from_slice-2.ensures.items in
     let s2 = more o7 o3 o2 b2 (b3 ++ (b4 ++ (b5 ++ r6))) s3 c.in_ok-put_member.ensures in
     let s1 = more o7 o2 o1 b1 (b2 ++ (b3 ++ (b4 ++ (b5 ++ r6)))) s2 listed in
-    let s0 = more o7 o1 o0 b0 (b1 ++ (b2 ++ (b3 ++ (b4 ++ (b5 ++ r6))))) s1 c.in_ok-extend_from_slice.ensures.items in
+    let s0 =
+    more o7 o1 o0 b0 (b1 ++ (b2 ++ (b3 ++ (b4 ++ (b5 ++ r6))))) s1 c.in_ok-extend_from_slice.ensures.items in
     s0 ∙ ap (λ (z : ReplicationLog). o0 ++ log_text z) c.log.view_is

@@ -1,4 +1,5 @@
-use Rattle.std.proofs.Common.{◌≡◌, ◌∙◌, ◌<◌, ◌++◌, ◌∷◌, [], ap, sym, subst, arith, append_assoc, length, length-append, ◌+◌, drop, Err, get_or}
+use Rattle.std.proofs.Common.{◌≡◌, ◌∙◌, ◌<◌, ◌++◌, ◌∷◌, [], ap, sym, subst, arith}
+use Rattle.std.proofs.Common.{append_assoc, length, length-append, ◌+◌, drop, Err, get_or}
 use Rattle.std.specs.Prelude.{All, string_bytes}
 use Rattle.std.proofs.lemmas.List.{drop_more}
 use Rattle.std.proofs.lemmas.List.Elements.{All-tail, All-head, All-push}
@@ -21,17 +22,29 @@ loop-opened-preserved c =
     let got = c.loop-opened.got.items in
     let n = ap length i.found in
     let m = ap length step.0 in
-    let below : at < length revs = omega (arith, n, m, i.at, c.requires.many, length-append c.loop-opened.yielded c.loop-opened.opened-iterator.rest.items) in
+    let below : at < length revs = omega (
+      arith,
+      n,
+      m,
+      i.at,
+      c.requires.many,
+      length-append c.loop-opened.yielded c.loop-opened.opened-iterator.rest.items,
+    ) in
     let first : Revision = record { generation = 0; hash = [] } in
-    let here : c.loop-opened.opened-iterator.rest.items ≡ Found doc ∷ rest = step.0 ∙ ap (λ z. z ∷ rest) c.in-Found.is in
+    let here : c.loop-opened.opened-iterator.rest.items ≡ Found doc ∷ rest =
+    step.0 ∙ ap (λ z. z ∷ rest) c.in-Found.is in
     let bring = subst (λ z. All FoundHasPath z) here i.bring in
     record {
       at = omega (arith, i.at, length-append c.loop-opened.yielded (c.in-Some.opened ∷ []));
-      found = append_assoc c.loop-opened.yielded (c.in-Some.opened ∷ []) rest ∙ (ap (λ z. c.loop-opened.yielded ++ z) (sym step.0) ∙ i.found);
+      found =
+          append_assoc c.loop-opened.yielded (c.in-Some.opened ∷ []) rest
+          ∙ (ap (λ z. c.loop-opened.yielded ++ z) (sym step.0) ∙ i.found);
       left = ap (λ z. opens c.args.asked.id (drop (at + 1) revs) rest z) c.in-Ok.ensures.items
           ∙ (ap (λ z. opens c.args.asked.id z (Found doc ∷ rest) got) (sym (drop_more revs at first below))
           ∙ (ap (λ z. opens c.args.asked.id (drop at revs) z got) (sym here) ∙ i.left));
-      paths = subst (λ z. All HasPath z) (sym c.in-Ok.ensures.items) (All-push HasPath got doc i.paths (All-head FoundHasPath (Found doc) rest bring));
+      paths =
+          subst (λ z. All HasPath z) (sym c.in-Ok.ensures.items)
+          (All-push HasPath got doc i.paths (All-head FoundHasPath (Found doc) rest bring));
       bring = All-tail FoundHasPath (Found doc) rest bring;
     }
 
@@ -45,18 +58,39 @@ returns-in-Missing-clause-err c =
     let got = c.loop-opened.got.items in
     let n = ap length i.found in
     let m = ap length step.0 in
-    let below : at < length revs = omega (arith, n, m, i.at, c.requires.many, length-append c.loop-opened.yielded c.loop-opened.opened-iterator.rest.items) in
-    let here : c.loop-opened.opened-iterator.rest.items ≡ Missing c.in-Missing.field-0 ∷ rest = step.0 ∙ ap (λ z. z ∷ rest) c.in-Missing.is in
+    let below : at < length revs = omega (
+      arith,
+      n,
+      m,
+      i.at,
+      c.requires.many,
+      length-append c.loop-opened.yielded c.loop-opened.opened-iterator.rest.items,
+    ) in
+    let here : c.loop-opened.opened-iterator.rest.items ≡ Missing c.in-Missing.field-0 ∷ rest =
+    step.0 ∙ ap (λ z. z ∷ rest) c.in-Missing.is in
     let first = c.index-as_slice-at.result in
-    let listed : c.as_slice.result.now ≡ revs = c.as_slice.ensures ∙ ap (λ (z : Asked). z.revs) c.asked.view_is in
+    let listed : c.as_slice.result.now ≡ revs =
+    c.as_slice.ensures ∙ ap (λ (z : Asked). z.revs) c.asked.view_is in
     let named : string_bytes c.asked.inside.id ≡ c.args.asked.id = ap (λ (z : Asked). z.id) c.asked.view_is in
-    let is : get_or revs at first ≡ first = ap (λ z. get_or z at first) (sym listed) ∙ sym c.index-as_slice-at.is in
-    let whole : opens c.args.asked.id revs c.args.found.items c.args.got.items ≡ Err (follow.MissingRevision c.args.asked.id (get_or revs at first)) =
-    sym i.left ∙ (ap (λ z. opens c.args.asked.id (drop at revs) z got) here ∙ ap (λ z. opens c.args.asked.id z (Missing c.in-Missing.field-0 ∷ rest) got) (drop_more revs at first below)) in
-    opens_err c.args.asked.id revs c.args.found.items c.args.got.items _ c.requires.many whole ∙ (ap (λ z. Err (follow.MissingRevision z (get_or revs at first))) (sym named) ∙ ap (λ z. Err (follow.MissingRevision (string_bytes c.asked.inside.id) z)) is)
+    let is : get_or revs at first ≡ first =
+    ap (λ z. get_or z at first) (sym listed) ∙ sym c.index-as_slice-at.is in
+    let whole : opens c.args.asked.id revs c.args.found.items c.args.got.items
+    ≡ Err (follow.MissingRevision c.args.asked.id (get_or revs at first)) =
+    sym i.left
+    ∙ (ap (λ z. opens c.args.asked.id (drop at revs) z got) here
+    ∙ ap (λ z. opens c.args.asked.id z (Missing c.in-Missing.field-0 ∷ rest) got)
+    (drop_more revs at first below)) in
+    opens_err c.args.asked.id revs c.args.found.items c.args.got.items _ c.requires.many whole
+    ∙ (ap (λ z. Err (follow.MissingRevision z (get_or revs at first))) (sym named)
+    ∙ ap (λ z. Err (follow.MissingRevision (string_bytes c.asked.inside.id) z)) is)
 
 pub returns-clause-ok : goal.returns-clause-ok
 returns-clause-ok c =
     let i = c.loop-opened.invariant in
-    opens_ok c.args.asked.id c.args.asked.revs c.args.found.items c.args.got.items c.loop-opened.got.items c.requires.many
-    (sym i.left ∙ opens_end c.args.asked.id (drop c.loop-opened.at c.args.asked.revs) c.loop-opened.opened-iterator.rest.items c.loop-opened.got.items (none_left c.loop-opened.opened-iterator.rest.items (sym c.loop-opened.opened-iterator.rest.ok.0 ∙ c.in-None.ensures.steps.0)))
+    opens_ok c.args.asked.id c.args.asked.revs c.args.found.items c.args.got.items
+    c.loop-opened.got.items c.requires.many
+    (sym i.left
+    ∙ opens_end c.args.asked.id
+    (drop c.loop-opened.at c.args.asked.revs) c.loop-opened.opened-iterator.rest.items c.loop-opened.got.items
+    (none_left c.loop-opened.opened-iterator.rest.items
+    (sym c.loop-opened.opened-iterator.rest.ok.0 ∙ c.in-None.ensures.steps.0)))

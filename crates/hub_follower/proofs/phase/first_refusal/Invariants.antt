@@ -9,6 +9,7 @@ abbrev pub invariant-loop-doc : goal.invariant-loop-doc
 invariant-loop-doc l = record {
   at : l.at ≡ length l.yielded;
   docs : l.yielded ++ l.doc-iterator.rest.items ≡ l.fn.docs.items;
-  left : follow.first_refusal (map edit_of l.doc-iterator.rest.items) (drop l.at l.outcomes) ≡ follow.first_refusal (map edit_of l.fn.docs.items) l.outcomes;
+  left : follow.first_refusal (map edit_of l.doc-iterator.rest.items) (drop l.at l.outcomes)
+      ≡ follow.first_refusal (map edit_of l.fn.docs.items) l.outcomes;
   paths : All HasPath l.doc-iterator.rest.items;
 }

@@ -7,4 +7,6 @@ pub returns-in-Ok-clause-ok : goal.returns-in-Ok-clause-ok
 returns-in-Ok-clause-ok c =
     let J = c.args.db.now.journal in
     c.reverse.ensures.items
-    ∙ (ap (λ (z : Descending). reverse z.rows) (c.answer.view_is ∙ (c.in-Ok.ensures.ok.1 ∙ ap (descending J c.args.db.now.life) c.listing_after.ensures)) ∙ turned J c.args.since c.requires.within c.args.db.now.life)
+    ∙ (ap (λ (z : Descending). reverse z.rows)
+    (c.answer.view_is ∙ (c.in-Ok.ensures.ok.1 ∙ ap (descending J c.args.db.now.life) c.listing_after.ensures))
+    ∙ turned J c.args.since c.requires.within c.args.db.now.life)

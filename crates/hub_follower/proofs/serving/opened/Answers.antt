@@ -17,4 +17,5 @@ returns-in-Ok-open_revs-clause-ok c =
 
 pub returns-in-Ok-open_revs-clause-paths : goal.returns-in-Ok-open_revs-clause-paths
 returns-in-Ok-open_revs-clause-paths c =
-    subst (λ z. All FoundHasPath z) (sym c.in-Ok-open_revs.ensures.ok.1) (opened_paths c.args.db.now.journal c.as_str.result.now c.in-Ok.revs)
+    subst (λ z. All FoundHasPath z) (sym c.in-Ok-open_revs.ensures.ok.1)
+    (opened_paths c.args.db.now.journal c.as_str.result.now c.in-Ok.revs)

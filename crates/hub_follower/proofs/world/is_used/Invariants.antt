@@ -6,4 +6,6 @@ use Rattle.hub_follower.proofs.world.is_used.Given as goal
 
 -- the sessions so far are others
 abbrev pub invariant-loop-used : goal.invariant-loop-used
-invariant-loop-used l = list_any (bytes_eq l.session_id) (map string_bytes (drop l.used-index l.sessions)) ≡ list_any (bytes_eq l.session_id) (map string_bytes l.sessions)
+invariant-loop-used l =
+    list_any (bytes_eq l.session_id) (map string_bytes (drop l.used-index l.sessions))
+    ≡ list_any (bytes_eq l.session_id) (map string_bytes l.sessions)

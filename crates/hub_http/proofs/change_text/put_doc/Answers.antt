@@ -9,5 +9,11 @@ returns-in_default-clause-ok c = rw (← c.row.view_is, c.in_default.is) (sym (a
 pub returns-clause-ok : goal.returns-clause-ok
 unfolding doc_member
 returns-clause-ok c =
-    rw (c.in_ok-write_doc.ensures.ok, c.in_ok-extend_from_slice.ensures.items, ← c.row.view_is, c.in-Some.is, ← c.row.view_is)
+    rw (
+      c.in_ok-write_doc.ensures.ok,
+      c.in_ok-extend_from_slice.ensures.items,
+      ← c.row.view_is,
+      c.in-Some.is,
+      ← c.row.view_is,
+    )
     (append_assoc c.args.out.now.items _ _)

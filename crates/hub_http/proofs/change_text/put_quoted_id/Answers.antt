@@ -5,5 +5,9 @@ use Rattle.hub_http.proofs.change_text.put_quoted_id.Goals as goal
 pub returns-clause-ok : goal.returns-clause-ok
 unfolding id_member
 returns-clause-ok c =
-    rw (c.in_ok-extend_from_slice-2.ensures.items, c.in_ok-put_quoted.ensures.ok, c.in_ok-extend_from_slice.ensures.items)
+    rw (
+      c.in_ok-extend_from_slice-2.ensures.items,
+      c.in_ok-put_quoted.ensures.ok,
+      c.in_ok-extend_from_slice.ensures.items,
+    )
     (three_parts c.args.out.now.items _ _ _)

@@ -11,7 +11,11 @@ loop-left-init c = record {
 }
 
 pub loop-left-preserved : goal.loop-left-preserved
-loop-left-preserved c = rw c.digit.ensures (one_digit c.loop-left.at c.loop-left.left _ _ c.loop-left-test.true c.loop-left.invariant)
+loop-left-preserved c =
+    rw c.digit.ensures
+    (one_digit c.loop-left.at c.loop-left.left _ _ c.loop-left-test.true c.loop-left.invariant)
 
 pub returns-clause-written : goal.returns-clause-written
-returns-clause-written c = rw c.digit-2.ensures (last_digit c.loop-left.at c.loop-left.left _ _ c.loop-left-test.false c.loop-left.invariant)
+returns-clause-written c =
+    rw c.digit-2.ensures
+    (last_digit c.loop-left.at c.loop-left.left _ _ c.loop-left-test.false c.loop-left.invariant)

@@ -7,4 +7,5 @@ use Rattle.hub_http.proofs.head.has_coding.Given as goal
 abbrev pub invariant-loop-header : goal.invariant-loop-header
 invariant-loop-header l =
     list_any (is_named (codes "transfer-encoding")) (map (header_bytes l.buf) l.headers)
-    ≡ list_any (is_named (codes "transfer-encoding")) (map (header_bytes l.buf) (drop l.header-index l.headers))
+    ≡ list_any (is_named (codes "transfer-encoding"))
+    (map (header_bytes l.buf) (drop l.header-index l.headers))

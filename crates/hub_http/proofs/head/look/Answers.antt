@@ -14,4 +14,5 @@ returns-in-Err-asked c =
     let asks_path = rw c.of-target.ensures at asks in
     let short : c.in-Ok-Complete.spans.len ≤ 16384 = omega arith in
     look_faults c.args.buf.now c.in-Err-asked.e (asked_faults _ _ _ _ asks)
-    (begins_faulty c.args.buf.now c.parse_request.new.headers c.in-Ok-Complete.spans c.in-Err-asked.e x c.parse_request.auto.headers short asks_path)
+    (begins_faulty c.args.buf.now c.parse_request.new.headers c.in-Ok-Complete.spans c.in-Err-asked.e
+    x c.parse_request.auto.headers short asks_path)

@@ -5,17 +5,23 @@ use Rattle.hub_http.proofs.length.one_value.Goals as goal
 pub loop-header-preserved-then-not-same_word : goal.loop-header-preserved-then-not-same_word
 loop-header-preserved-then-not-same_word c =
     let named = rw c.of.ensures at c.same_word.ensures in
-    let step = values_skip (codes "content-length") c.args.buf.now c.args.headers.now c.loop-header.header-index _ c.loop-header-test.true (sym named ∙ c.if-not-same_word.true) in
+    let step =
+    values_skip (codes "content-length") c.args.buf.now c.args.headers.now c.loop-header.header-index
+    _ c.loop-header-test.true (sym named ∙ c.if-not-same_word.true) in
     rw step at c.loop-header.invariant
 
 pub returns-in-Err : goal.returns-in-Err
 returns-in-Err c =
     let named = rw c.of.ensures at c.same_word.ensures in
-    let step = values_take (codes "content-length") c.args.buf.now c.args.headers.now c.loop-header.header-index _ c.loop-header-test.true (sym named ∙ c.if-not-same_word.false) in
+    let step =
+    values_take (codes "content-length") c.args.buf.now c.args.headers.now c.loop-header.header-index
+    _ c.loop-header-test.true (sym named ∙ c.if-not-same_word.false) in
     c.in-Err.ensures _ _ (rw (← c.of-in-loop-header.ensures) at (rw step at c.loop-header.invariant))
 
 pub loop-header-preserved : goal.loop-header-preserved
 loop-header-preserved c =
     let named = rw c.of.ensures at c.same_word.ensures in
-    let step = values_take (codes "content-length") c.args.buf.now c.args.headers.now c.loop-header.header-index _ c.loop-header-test.true (sym named ∙ c.if-not-same_word.false) in
+    let step =
+    values_take (codes "content-length") c.args.buf.now c.args.headers.now c.loop-header.header-index
+    _ c.loop-header-test.true (sym named ∙ c.if-not-same_word.false) in
     c.in-Ok.ensures _ _ (rw (← c.of-in-loop-header.ensures) at (rw step at c.loop-header.invariant))

@@ -8,7 +8,8 @@ invariant-loop-head g l =
     let left = g.R.Input.left in
     let faults = g.R.Input.fault_count in
     let failures = g.R.Input.failure_count in
-    Keeps (prepend_known l.fn.held.items (to_read l.fn.block (left l.fn.reader))) (prepend_known l.held.items (to_read l.block (left l.reader)))
+    Keeps (prepend_known l.fn.held.items (to_read l.fn.block (left l.fn.reader)))
+    (prepend_known l.held.items (to_read l.block (left l.reader)))
     × (faults l.fn.reader ≤ faults l.reader)
     × (failures l.fn.reader ≤ failures l.reader)
 

@@ -1,4 +1,5 @@
-use Rattle.hub_http.proofs.ExclusionLemmas.{spelled_no_fault, nothing_spells, nothing_faults, one_head_fault, head_fault, one_fault, open_faults}
+use Rattle.hub_http.proofs.ExclusionLemmas.{spelled_no_fault, nothing_spells, nothing_faults}
+use Rattle.hub_http.proofs.ExclusionLemmas.{one_head_fault, head_fault, one_fault, open_faults}
 use Rattle.hub_http.proofs.requests.one_verdict.Goals as goal
 
 pub returns-clause-spelled : goal.returns-clause-spelled

@@ -11,15 +11,23 @@ pub returns-clause-before : goal.returns-clause-before
 returns-clause-before g c =
     let ids = g.N.Named.ids c.args.names.now in
     let id = c.args.id.now in
-    let point = IsPartitionPoint-from_clause (lies_below ids id) c.args.numbers.now c.partition_point.result c.partition_point.ensures.partitioned (below_parted ids id c.args.numbers.now c.requires.order.rising) (λ a r f called. search rules) in
-    (parted (lies_below ids id) c.args.numbers.now c.partition_point.result c.partition_point.ensures.bound point.0 point.1).0
+    let point =
+    IsPartitionPoint-from_clause
+    (lies_below ids id) c.args.numbers.now c.partition_point.result c.partition_point.ensures.partitioned
+    (below_parted ids id c.args.numbers.now c.requires.order.rising) (λ a r f called. search rules) in
+    (parted (lies_below ids id) c.args.numbers.now c.partition_point.result
+    c.partition_point.ensures.bound point.0 point.1).0
 
 pub returns-clause-behind : goal.returns-clause-behind
 returns-clause-behind g c =
     let ids = g.N.Named.ids c.args.names.now in
     let id = c.args.id.now in
-    let point = IsPartitionPoint-from_clause (lies_below ids id) c.args.numbers.now c.partition_point.result c.partition_point.ensures.partitioned (below_parted ids id c.args.numbers.now c.requires.order.rising) (λ a r f called. search rules) in
-    (parted (lies_below ids id) c.args.numbers.now c.partition_point.result c.partition_point.ensures.bound point.0 point.1).1
+    let point =
+    IsPartitionPoint-from_clause
+    (lies_below ids id) c.args.numbers.now c.partition_point.result c.partition_point.ensures.partitioned
+    (below_parted ids id c.args.numbers.now c.requires.order.rising) (λ a r f called. search rules) in
+    (parted (lies_below ids id) c.args.numbers.now c.partition_point.result
+    c.partition_point.ensures.bound point.0 point.1).1
 
 pub returns-then-is_lt-clause-before : goal.returns-then-is_lt-clause-before
 returns-then-is_lt-clause-before g c =
@@ -28,8 +36,13 @@ returns-then-is_lt-clause-before g c =
     let numbers = c.args.numbers.now in
     let at = length numbers - 1 in
     let last : ℕ = get_or numbers at 0 in
-    let passes : lies_below ids id last ≡ true = ap (λ t. is_lt (slice_cmp nat_cmp t id)) (sym c.id.ensures) ∙ (ap is_lt (sym c.cmp.ensures) ∙ (sym c.is_lt.ensures ∙ c.if-is_lt.true)) in
-    let point = whole_parted (lies_below ids id) numbers at last (below_parted ids id numbers c.requires.order.rising) (omega (arith, c.if-count-gt0.true)) (get_or_default numbers at 0 last (omega (arith, c.if-count-gt0.true))) passes in
+    let passes : lies_below ids id last ≡ true =
+    ap (λ t. is_lt (slice_cmp nat_cmp t id)) (sym c.id.ensures)
+    ∙ (ap is_lt (sym c.cmp.ensures) ∙ (sym c.is_lt.ensures ∙ c.if-is_lt.true)) in
+    let point =
+    whole_parted (lies_below ids id) numbers
+    at last (below_parted ids id numbers c.requires.order.rising) (omega (arith, c.if-count-gt0.true))
+    (get_or_default numbers at 0 last (omega (arith, c.if-count-gt0.true))) passes in
     (parted (lies_below ids id) numbers (length numbers) (omega arith) point.0 point.1).0
 
 pub returns-then-is_lt-clause-behind : goal.returns-then-is_lt-clause-behind
@@ -39,6 +52,11 @@ returns-then-is_lt-clause-behind g c =
     let numbers = c.args.numbers.now in
     let at = length numbers - 1 in
     let last : ℕ = get_or numbers at 0 in
-    let passes : lies_below ids id last ≡ true = ap (λ t. is_lt (slice_cmp nat_cmp t id)) (sym c.id.ensures) ∙ (ap is_lt (sym c.cmp.ensures) ∙ (sym c.is_lt.ensures ∙ c.if-is_lt.true)) in
-    let point = whole_parted (lies_below ids id) numbers at last (below_parted ids id numbers c.requires.order.rising) (omega (arith, c.if-count-gt0.true)) (get_or_default numbers at 0 last (omega (arith, c.if-count-gt0.true))) passes in
+    let passes : lies_below ids id last ≡ true =
+    ap (λ t. is_lt (slice_cmp nat_cmp t id)) (sym c.id.ensures)
+    ∙ (ap is_lt (sym c.cmp.ensures) ∙ (sym c.is_lt.ensures ∙ c.if-is_lt.true)) in
+    let point =
+    whole_parted (lies_below ids id) numbers
+    at last (below_parted ids id numbers c.requires.order.rising) (omega (arith, c.if-count-gt0.true))
+    (get_or_default numbers at 0 last (omega (arith, c.if-count-gt0.true))) passes in
     (parted (lies_below ids id) numbers (length numbers) (omega arith) point.0 point.1).1

@@ -11,6 +11,10 @@ returns-else-at-le-HALF-clause-ok c =
     let split = c.in_ok-split.ensures in
     on_ok_weaker c.put_within-else-at-le-HALF.result
     (λ e. e
-    ∙ (ap (λ (l : List ℕ). insert l (place_of c.split.new.pages.items (c.args.page + 1) (c.args.at - 128)) c.args.number) split.numbers
-    ∙ ap (λ m. insert (numbers_of c.args.pages.now.items) m c.args.number) (place_behind f c.args.pages.now.items c.split.new.pages.items c.args.page c.args.at split.before split.lower (omega arith))))
+    ∙ (ap (λ (l : List ℕ).
+    insert l (place_of c.split.new.pages.items (c.args.page + 1) (c.args.at - 128)) c.args.number)
+    split.numbers
+    ∙ ap (λ m. insert (numbers_of c.args.pages.now.items) m c.args.number)
+    (place_behind f c.args.pages.now.items c.split.new.pages.items c.args.page c.args.at split.before
+    split.lower (omega arith))))
     c.put_within-else-at-le-HALF.ensures.ok

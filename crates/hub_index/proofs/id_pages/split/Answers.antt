@@ -11,42 +11,62 @@ upper c =
     ∙ (take_rest c.deref.result.now 128 ∙ ap (λ (l : List ℕ). drop 128 l) c.deref.ensures.value)
 
 -- the pages after the upper one was put behind
-there : (c : goal.After-pages-1) → c.index_mut.result.now ≡ get_or (insert c.args.pages.now.items (c.args.page + 1) c.in_ok-upper.upper) c.args.page c.index_mut.result.now
+there : (c : goal.After-pages-1)
+    → c.index_mut.result.now
+    ≡ get_or (insert c.args.pages.now.items (c.args.page + 1) c.in_ok-upper.upper)
+    c.args.page c.index_mut.result.now
 there c =
     c.index_mut.ensures.value
-    ∙ ap (λ (l : List (Vec ℕ Global)). get_or l c.args.page c.index_mut.result.now) c.in_ok-insert.ensures.items
+    ∙ ap (λ (l : List (Vec ℕ Global)). get_or l c.args.page c.index_mut.result.now)
+    c.in_ok-insert.ensures.items
 
 pub returns-clause-numbers : goal.returns-clause-numbers
 returns-clause-numbers c =
     let f : Vec ℕ Global → List ℕ = λ v. v.items in
-    let full = some_at (λ (v : Vec ℕ Global). length v.items ≡ 256) c.args.pages.now.items c.args.page c.requires.full in
+    let full =
+    some_at (λ (v : Vec ℕ Global). length v.items ≡ 256) c.args.pages.now.items c.args.page c.requires.full in
     rw c.in_ok-insert.ensures.items
-    (cut_numbers f c.args.pages.now.items c.args.page c.index.result.now c.index_mut.result.now c.cut.new.numbers c.in_ok-upper.upper full.0 c.index.ensures (full.1 c.index.result.now c.index.ensures) (upper c) (there c) c.cut.ensures)
+    (cut_numbers f c.args.pages.now.items c.args.page c.index.result.now c.index_mut.result.now
+    c.cut.new.numbers c.in_ok-upper.upper full.0 c.index.ensures (full.1 c.index.result.now c.index.ensures)
+    (upper c) (there c) c.cut.ensures)
 
 pub returns-clause-pages : goal.returns-clause-pages
 returns-clause-pages c =
     let f : Vec ℕ Global → List ℕ = λ v. v.items in
-    let full = some_at (λ (v : Vec ℕ Global). length v.items ≡ 256) c.args.pages.now.items c.args.page c.requires.full in
+    let full =
+    some_at (λ (v : Vec ℕ Global). length v.items ≡ 256) c.args.pages.now.items c.args.page c.requires.full in
     rw c.in_ok-insert.ensures.items
-    (cut_pages f c.args.pages.now.items c.args.page c.index.result.now c.index_mut.result.now c.cut.new.numbers c.in_ok-upper.upper full.0 c.index.ensures (full.1 c.index.result.now c.index.ensures) (upper c) (there c) c.cut.ensures IsNumberPage (λ z h. record { some = omega arith; few = omega arith }) c.requires.pages)
+    (cut_pages f c.args.pages.now.items c.args.page
+    c.index.result.now c.index_mut.result.now c.cut.new.numbers c.in_ok-upper.upper full.0 c.index.ensures
+    (full.1 c.index.result.now c.index.ensures) (upper c) (there c) c.cut.ensures IsNumberPage
+    (λ z h. record { some = omega arith; few = omega arith }) c.requires.pages)
 
 pub returns-clause-before : goal.returns-clause-before
 returns-clause-before c =
     let f : Vec ℕ Global → List ℕ = λ v. v.items in
-    let full = some_at (λ (v : Vec ℕ Global). length v.items ≡ 256) c.args.pages.now.items c.args.page c.requires.full in
+    let full =
+    some_at (λ (v : Vec ℕ Global). length v.items ≡ 256) c.args.pages.now.items c.args.page c.requires.full in
     rw c.in_ok-insert.ensures.items
-    (cut_before f c.args.pages.now.items c.args.page c.index.result.now c.index_mut.result.now c.cut.new.numbers c.in_ok-upper.upper full.0 c.index.ensures (full.1 c.index.result.now c.index.ensures) (upper c) (there c) c.cut.ensures)
+    (cut_before f c.args.pages.now.items c.args.page c.index.result.now c.index_mut.result.now
+    c.cut.new.numbers c.in_ok-upper.upper full.0 c.index.ensures (full.1 c.index.result.now c.index.ensures)
+    (upper c) (there c) c.cut.ensures)
 
 pub returns-clause-lower : goal.returns-clause-lower
 returns-clause-lower c =
     let f : Vec ℕ Global → List ℕ = λ v. v.items in
-    let full = some_at (λ (v : Vec ℕ Global). length v.items ≡ 256) c.args.pages.now.items c.args.page c.requires.full in
+    let full =
+    some_at (λ (v : Vec ℕ Global). length v.items ≡ 256) c.args.pages.now.items c.args.page c.requires.full in
     rw c.in_ok-insert.ensures.items
-    (cut_lower f c.args.pages.now.items c.args.page c.index.result.now c.index_mut.result.now c.cut.new.numbers c.in_ok-upper.upper full.0 c.index.ensures (full.1 c.index.result.now c.index.ensures) (upper c) (there c) c.cut.ensures)
+    (cut_lower f c.args.pages.now.items c.args.page c.index.result.now c.index_mut.result.now
+    c.cut.new.numbers c.in_ok-upper.upper full.0 c.index.ensures (full.1 c.index.result.now c.index.ensures)
+    (upper c) (there c) c.cut.ensures)
 
 pub returns-clause-upper : goal.returns-clause-upper
 returns-clause-upper c =
     let f : Vec ℕ Global → List ℕ = λ v. v.items in
-    let full = some_at (λ (v : Vec ℕ Global). length v.items ≡ 256) c.args.pages.now.items c.args.page c.requires.full in
+    let full =
+    some_at (λ (v : Vec ℕ Global). length v.items ≡ 256) c.args.pages.now.items c.args.page c.requires.full in
     rw c.in_ok-insert.ensures.items
-    (cut_upper f c.args.pages.now.items c.args.page c.index.result.now c.index_mut.result.now c.cut.new.numbers c.in_ok-upper.upper full.0 c.index.ensures (full.1 c.index.result.now c.index.ensures) (upper c) (there c) c.cut.ensures)
+    (cut_upper f c.args.pages.now.items c.args.page c.index.result.now c.index_mut.result.now
+    c.cut.new.numbers c.in_ok-upper.upper full.0 c.index.ensures (full.1 c.index.result.now c.index.ensures)
+    (upper c) (there c) c.cut.ensures)

@@ -5,9 +5,12 @@ use Rattle.hub_params.specs.Room.{HasBytes}
 use Rattle.hub_params.proofs.RoomLemmas.{at_any_error, kept_has_bytes}
 use Rattle.hub_params.proofs.doc_params.text.Goals as goal
 
-pub returns-in_err-push_str-in-Some-Borrowed-clause-memory : goal.returns-in_err-push_str-in-Some-Borrowed-clause-memory
+pub returns-in_err-push_str-in-Some-Borrowed-clause-memory :
+    goal.returns-in_err-push_str-in-Some-Borrowed-clause-memory
 returns-in_err-push_str-in-Some-Borrowed-clause-memory c =
     let text = c.in-Some-Borrowed.borrowed.now in
     let told : Some text ≡ text_in c.args.value = search rules in
-    let grown : 0 < length text = omega (arith, c.new-own.ensures.len, c.in_err-push_str-in-Some-Borrowed.ensures.full) in
-    at_any_error _ (λ _. HasBytes (option_copied c.args.value)) (λ _. kept_has_bytes c.args.value text told grown)
+    let grown : 0 < length text =
+    omega (arith, c.new-own.ensures.len, c.in_err-push_str-in-Some-Borrowed.ensures.full) in
+    at_any_error _ (λ _. HasBytes (option_copied c.args.value))
+    (λ _. kept_has_bytes c.args.value text told grown)

@@ -4,4 +4,7 @@ use Rattle.hub_params.specs.ListedIds.{texts_of}
 use Rattle.hub_params.proofs.listed_ids.texts_of.Given as goal
 
 abbrev pub invariant-loop-value : goal.invariant-loop-value
-invariant-loop-value l = texts_of (items_view l.value-items) ≡ option_map (λ texts. map string_bytes l.texts.items ++ texts) (texts_of (items_view (drop l.value-index l.value-items)))
+invariant-loop-value l =
+    texts_of (items_view l.value-items)
+    ≡ option_map (λ texts. map string_bytes l.texts.items ++ texts)
+    (texts_of (items_view (drop l.value-index l.value-items)))

@@ -6,15 +6,22 @@ use Rattle.hub_replies.proofs.batch.batch_body.Goals as goal
 
 pub loop-element-preserved-in_default : goal.loop-element-preserved-in_default
 loop-element-preserved-in_default c =
-    let here = none_replied (items_view (drop c.loop-element.element-index c.args.elements.now)) c.loop-element.left.now c.in_default.len_below in
-    let next = none_replied (items_view (drop (c.loop-element.element-index + 1) c.args.elements.now)) c.loop-element.left.now c.in_default.len_below in
-    c.loop-element.invariant ∙ ap (λ texts. c.loop-element.text.items ++ listed c.loop-element.later texts) (here ∙ sym next)
+    let here =
+    none_replied (items_view (drop c.loop-element.element-index c.args.elements.now)) c.loop-element.left.now
+    c.in_default.len_below in
+    let next =
+    none_replied (items_view (drop (c.loop-element.element-index + 1) c.args.elements.now))
+    c.loop-element.left.now c.in_default.len_below in
+    c.loop-element.invariant
+    ∙ ap (λ texts. c.loop-element.text.items ++ listed c.loop-element.later texts) (here ∙ sym next)
 
 pub returns : goal.returns
 unfolding batch_body
 returns c =
     let texts = reply_texts (items_view c.args.elements.now) c.args.replies.now in
-    let over : length c.args.elements.now ≤ c.loop-element.element-index = omega (arith, c.loop-element-test.false) in
-    list_written (λ vs. reply_texts (items_view vs) c.loop-element.left.now) texts c.args.elements.now c.loop-element.element-index c.loop-element.later (codes "[") c.loop-element.text.items _ _ refl
+    let over : length c.args.elements.now ≤ c.loop-element.element-index =
+    omega (arith, c.loop-element-test.false) in
+    list_written (λ vs. reply_texts (items_view vs) c.loop-element.left.now) texts c.args.elements.now
+    c.loop-element.element-index c.loop-element.later (codes "[") c.loop-element.text.items _ _ refl
     c.loop-element.invariant over c.in_ok-extend_from_slice.ensures.items
     ∙ list_line texts

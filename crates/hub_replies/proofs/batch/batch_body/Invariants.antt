@@ -6,4 +6,5 @@ use Rattle.hub_replies.proofs.batch.batch_body.Given as goal
 
 abbrev pub invariant-loop-element : goal.invariant-loop-element
 invariant-loop-element l =
-    codes "[" ++ listed false (reply_texts (items_view l.elements) l.replies) ≡ l.text.items ++ listed l.later (reply_texts (items_view (drop l.element-index l.elements)) l.left)
+    codes "[" ++ listed false (reply_texts (items_view l.elements) l.replies)
+    ≡ l.text.items ++ listed l.later (reply_texts (items_view (drop l.element-index l.elements)) l.left)

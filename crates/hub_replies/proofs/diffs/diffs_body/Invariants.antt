@@ -5,4 +5,5 @@ use Rattle.hub_replies.proofs.diffs.diffs_body.Given as goal
 
 abbrev pub invariant-loop-diff : goal.invariant-loop-diff
 invariant-loop-diff l =
-    codes "{" ++ listed false (map diff_text l.diffs) ≡ l.text.items ++ listed l.later (map diff_text (drop l.diff-index l.diffs))
+    codes "{" ++ listed false (map diff_text l.diffs)
+    ≡ l.text.items ++ listed l.later (map diff_text (drop l.diff-index l.diffs))

@@ -11,6 +11,7 @@ unfolding list_text revisions_text
 returns c =
     let texts = map (λ r. quoted (text_of r)) c.args.revs.now in
     let over : length c.args.revs.now ≤ c.loop-rev.rev-index = omega (arith, c.loop-rev-test.false) in
-    list_written (map (λ r. quoted (text_of r))) texts c.args.revs.now c.loop-rev.rev-index c.loop-rev.later _ c.loop-rev.out.items _ _ refl c.loop-rev.invariant over c.in_ok-push-2.ensures.items
+    list_written (map (λ r. quoted (text_of r))) texts c.args.revs.now c.loop-rev.rev-index c.loop-rev.later
+    _ c.loop-rev.out.items _ _ refl c.loop-rev.invariant over c.in_ok-push-2.ensures.items
     ∙ ap (λ l. l ++ (join_with_byte 44 texts ++ codes "]")) c.in_ok-push.ensures.items
     ∙ append_assoc c.args.out.now.items (codes "[") (join_with_byte 44 texts ++ codes "]")

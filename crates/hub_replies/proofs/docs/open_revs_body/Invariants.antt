@@ -5,4 +5,5 @@ use Rattle.hub_replies.proofs.docs.open_revs_body.Given as goal
 
 abbrev pub invariant-loop-rev : goal.invariant-loop-rev
 invariant-loop-rev l =
-    codes "[" ++ listed false (map open_rev_text l.revs) ≡ l.text.items ++ listed l.later (map open_rev_text (drop l.rev-index l.revs))
+    codes "[" ++ listed false (map open_rev_text l.revs)
+    ≡ l.text.items ++ listed l.later (map open_rev_text (drop l.rev-index l.revs))

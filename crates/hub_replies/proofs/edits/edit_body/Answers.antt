@@ -10,5 +10,6 @@ pub returns : goal.returns
 unfolding edit_body
 returns c = λ id begins.
     c.in_ok-extend_from_slice.ensures.items
-    ∙ ap (λ l. l ++ codes "}\n") (c.in_ok-print_quoted.ensures.ok ∙ ap (λ l. l ++ quoted (text_of c.args.rev.now)) begins)
+    ∙ ap (λ l. l ++ codes "}\n")
+    (c.in_ok-print_quoted.ensures.ok ∙ ap (λ l. l ++ quoted (text_of c.args.rev.now)) begins)
     ∙ whole_edit id (text_of c.args.rev.now)

@@ -9,5 +9,6 @@ pub returns : goal.returns
 unfolding local_edit_body
 returns c = λ id begins.
     c.in_ok-extend_from_slice.ensures.items
-    ∙ ap (λ l. l ++ codes "}\n") (c.in_ok-put_count.ensures ∙ ap (λ l. l ++ quoted (codes "0-" ++ decimal c.args.count)) begins)
+    ∙ ap (λ l. l ++ codes "}\n")
+    (c.in_ok-put_count.ensures ∙ ap (λ l. l ++ quoted (codes "0-" ++ decimal c.args.count)) begins)
     ∙ whole_edit id (codes "0-" ++ decimal c.args.count)

@@ -5,8 +5,11 @@ use Rattle.hub_document.specs.SequenceText.{sequence_text}
 use Rattle.hub_replies.specs.Bodies.{info_body}
 use Rattle.hub_replies.proofs.info.info_body.Goals as goal
 
-eight_parts : (o a b c d e f g h : List ℕ) → (((((((o ++ a) ++ b) ++ c) ++ d) ++ e) ++ f) ++ g) ++ h ≡ o ++ (a ++ (b ++ (c ++ (d ++ (e ++ (f ++ (g ++ h)))))))
-eight_parts o a b c d e f g h = five_parts (((o ++ a) ++ b) ++ c) d e f g h ∙ four_parts o a b c (d ++ (e ++ (f ++ (g ++ h))))
+eight_parts : (o a b c d e f g h : List ℕ)
+    → (((((((o ++ a) ++ b) ++ c) ++ d) ++ e) ++ f) ++ g) ++ h
+    ≡ o ++ (a ++ (b ++ (c ++ (d ++ (e ++ (f ++ (g ++ h)))))))
+eight_parts o a b c d e f g h =
+    five_parts (((o ++ a) ++ b) ++ c) d e f g h ∙ four_parts o a b c (d ++ (e ++ (f ++ (g ++ h))))
 
 pub returns : goal.returns
 unfolding info_body
@@ -26,4 +29,7 @@ returns c =
       c.in_ok-put_quoted.ensures.ok,
       c.in_ok-text.ensures.items,
     )
-    (eight_parts (codes "{\"db_name\":") (quoted c.args.name.now) (codes ",\"doc_count\":") (decimal c.args.info.now.doc_count) (codes ",\"doc_del_count\":") (decimal c.args.info.now.doc_del_count) (codes ",\"update_seq\":") (sequence_text c.args.info.now.update_seq c.args.info.now.life) (codes ",\"instance_start_time\":\"0\"}\n"))
+    (eight_parts (codes "{\"db_name\":") (quoted c.args.name.now) (codes ",\"doc_count\":")
+    (decimal c.args.info.now.doc_count) (codes ",\"doc_del_count\":") (decimal c.args.info.now.doc_del_count)
+    (codes ",\"update_seq\":") (sequence_text c.args.info.now.update_seq c.args.info.now.life)
+    (codes ",\"instance_start_time\":\"0\"}\n"))

@@ -9,6 +9,7 @@ unfolding names_body
 returns c =
     let texts = map quoted (map string_bytes c.args.names.now) in
     let over : length c.args.names.now ≤ c.loop-name.name-index = omega (arith, c.loop-name-test.false) in
-    list_written (λ xs. map quoted (map string_bytes xs)) texts c.args.names.now c.loop-name.name-index c.loop-name.later (codes "[") c.loop-name.text.items _ _ refl
+    list_written (λ xs. map quoted (map string_bytes xs)) texts c.args.names.now c.loop-name.name-index
+    c.loop-name.later (codes "[") c.loop-name.text.items _ _ refl
     c.loop-name.invariant over c.in_ok-extend_from_slice.ensures.items
     ∙ list_line texts

@@ -9,4 +9,6 @@ add-requires-clause-stems c = are_taken (c.loop-count.count + 1) c.args.stems.no
 
 pub add-requires-clause-index : goal.add-requires-clause-index
 add-requires-clause-index c =
-    subst (IsIndex c.loop-count.index) (sym (one_shorter c.args.stems.now c.loop-count.count (omega (arith, c.loop-count-test.true)))) c.loop-count.invariant.index
+    subst (IsIndex c.loop-count.index)
+    (sym (one_shorter c.args.stems.now c.loop-count.count (omega (arith, c.loop-count-test.true))))
+    c.loop-count.invariant.index

@@ -12,7 +12,8 @@ returns-then-place-eq0-clause-plain c =
 pub returns-then-place-eq0-clause-noted : goal.returns-then-place-eq0-clause-noted
 returns-then-place-eq0-clause-noted c =
     let i = within_stem c.args.stems.now c.args.place c.requires.within in
-    noted_first c.args.stems.now c.note.new.stems c.args.place i.0 c.requires.stems i.1 c.if-place-eq0.true (c.note.ensures i.0 i.1)
+    noted_first c.args.stems.now c.note.new.stems c.args.place i.0 c.requires.stems i.1 c.if-place-eq0.true
+    (c.note.ensures i.0 i.1)
 
 pub returns-else-place-eq0-clause-noted : goal.returns-else-place-eq0-clause-noted
 returns-else-place-eq0-clause-noted c =

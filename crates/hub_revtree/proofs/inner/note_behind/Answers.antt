@@ -6,10 +6,13 @@ use Rattle.hub_revtree.proofs.MarkLemmas.{all_within_same, is_at_same, notes_as,
 use Rattle.hub_revtree.proofs.inner.note_behind.Goals as goal
 
 pub note_parent-requires-clause-stems : goal.note_parent-requires-clause-stems
-note_parent-requires-clause-stems c = stems_same c.args.stems.now c.note_joined.new.stems (sym c.note_joined.ensures.plain) c.requires.stems
+note_parent-requires-clause-stems c =
+    stems_same c.args.stems.now c.note_joined.new.stems (sym c.note_joined.ensures.plain) c.requires.stems
 
 pub note_parent-requires-clause-within : goal.note_parent-requires-clause-within
-note_parent-requires-clause-within c = all_within_same c.args.stems.now c.note_joined.new.stems (sym c.note_joined.ensures.plain) c.args.standing.now.parent c.requires.within
+note_parent-requires-clause-within c =
+    all_within_same c.args.stems.now c.note_joined.new.stems
+    (sym c.note_joined.ensures.plain) c.args.standing.now.parent c.requires.within
 
 pub returns-clause-plain : goal.returns-clause-plain
 returns-clause-plain c = c.note_parent.ensures.plain ∙ c.note_joined.ensures.plain
@@ -22,4 +25,5 @@ returns-clause-noted c =
     let rest : Revision → Bool = λ r. names (drop 1 c.args.run.now) r in
     notes_as xs c.note_parent.new.stems (λ r. is_at ys r parent || rest r) (λ r. is_at xs r parent || rest r)
     (λ r. ap (λ b. b || rest r) (is_at_same ys xs c.note_joined.ensures.plain r parent))
-    (notes_on xs ys c.note_parent.new.stems rest (λ r. is_at ys r parent) c.note_joined.ensures.plain c.note_joined.ensures.noted c.note_parent.ensures.noted)
+    (notes_on xs ys c.note_parent.new.stems rest (λ r. is_at ys r parent) c.note_joined.ensures.plain
+    c.note_joined.ensures.noted c.note_parent.ensures.noted)

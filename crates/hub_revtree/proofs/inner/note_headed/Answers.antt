@@ -8,14 +8,18 @@ use Rattle.hub_revtree.proofs.StemLemmas.{rev_within}
 use Rattle.hub_revtree.proofs.inner.note_headed.Goals as goal
 
 pub note_at-requires-clause-within : goal.note_at-requires-clause-within
-note_at-requires-clause-within c = rev_within c.args.stems.now c.in-Some.place c.args.rev.now c.in-Some.ensures.found
+note_at-requires-clause-within c =
+    rev_within c.args.stems.now c.in-Some.place c.args.rev.now c.in-Some.ensures.found
 
 pub returns-in-Some-clause-noted : goal.returns-in-Some-clause-noted
 returns-in-Some-clause-noted c =
     let xs = c.args.stems.now in
     let p = c.in-Some.place in
-    notes_as xs c.note_at.new.stems (λ r. is_at xs r (Some p)) (λ r. is_same r c.args.rev.now) (λ r. first_test (revisions_at xs p.stem) p.at c.args.rev.now r c.in-Some.ensures.found) c.note_at.ensures.noted
+    notes_as xs c.note_at.new.stems (λ r. is_at xs r (Some p)) (λ r. is_same r c.args.rev.now)
+    (λ r. first_test (revisions_at xs p.stem) p.at c.args.rev.now r c.in-Some.ensures.found)
+    c.note_at.ensures.noted
 
 pub returns-in_default-clause-noted : goal.returns-in_default-clause-noted
 returns-in_default-clause-noted c =
-    unknown_noted c.args.stems.now (λ r. is_same r c.args.rev.now) (λ r t. ap (has_revision c.args.stems.now) (same_is r c.args.rev.now t) ∙ c.in_default.ensures.none)
+    unknown_noted c.args.stems.now (λ r. is_same r c.args.rev.now)
+    (λ r t. ap (has_revision c.args.stems.now) (same_is r c.args.rev.now t) ∙ c.in_default.ensures.none)

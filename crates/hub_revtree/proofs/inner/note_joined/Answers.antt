@@ -8,4 +8,5 @@ use Rattle.hub_revtree.proofs.inner.note_joined.Goals as goal
 pub returns-else-joins-clause-noted : goal.returns-else-joins-clause-noted
 returns-else-joins-clause-noted c =
     unknown_noted c.args.stems.now (λ r. names (drop 1 c.args.run.now) r)
-    (λ r t. none_of (has_revision c.args.stems.now) c.args.run.now r (c.requires.fresh c.if-joins.false) (names_drop 1 c.args.run.now r t))
+    (λ r t. none_of (has_revision c.args.stems.now) c.args.run.now r (c.requires.fresh c.if-joins.false)
+    (names_drop 1 c.args.run.now r t))

@@ -11,16 +11,21 @@ loop-at-init c = record {
 }
 
 pub note_headed-requires-clause-stems : goal.note_headed-requires-clause-stems
-note_headed-requires-clause-stems c = stems_same c.args.stems.now c.loop-at.stems (sym c.loop-at.invariant.plain) c.requires.stems
+note_headed-requires-clause-stems c =
+    stems_same c.args.stems.now c.loop-at.stems (sym c.loop-at.invariant.plain) c.requires.stems
 
 pub note_headed-requires-clause-index : goal.note_headed-requires-clause-index
-note_headed-requires-clause-index c = indexed_same c.args.stems.now c.loop-at.stems _ (sym c.loop-at.invariant.plain) c.requires.index
+note_headed-requires-clause-index c =
+    indexed_same c.args.stems.now c.loop-at.stems _ (sym c.loop-at.invariant.plain) c.requires.index
 
 pub loop-at-preserved : goal.loop-at-preserved
 loop-at-preserved c = record {
   low = omega (arith, c.loop-at-test.true);
   plain = c.note_headed.ensures.plain ∙ c.loop-at.invariant.plain;
-  noted = one_noted c.args.stems.now c.loop-at.stems c.note_headed.new.stems c.args.run.now c.loop-at.at c.at.result (omega (arith, c.loop-at-test.true)) c.at.ensures c.loop-at.invariant.plain c.loop-at.invariant.noted c.note_headed.ensures.noted;
+  noted =
+      one_noted c.args.stems.now c.loop-at.stems c.note_headed.new.stems c.args.run.now c.loop-at.at
+      c.at.result (omega (arith, c.loop-at-test.true)) c.at.ensures c.loop-at.invariant.plain
+      c.loop-at.invariant.noted c.note_headed.ensures.noted;
 }
 
 pub returns-clause-noted : goal.returns-clause-noted

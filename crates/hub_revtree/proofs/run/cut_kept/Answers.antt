@@ -7,7 +7,9 @@ pub returns-in-Digests : goal.returns-in-Digests
 returns-in-Digests c =
     let newest = c.in-Digests.newest in
     let digests = c.in-Digests.digests.items in
-    rw c.in-Digests.is (ap (revisions_from newest) c.cut_list.ensures ∙ digests_cut (revisions_from newest digests) newest digests refl c.args.count)
+    rw c.in-Digests.is
+    (ap (revisions_from newest) c.cut_list.ensures
+    ∙ digests_cut (revisions_from newest digests) newest digests refl c.args.count)
 
 pub returns-in-Shared : goal.returns-in-Shared
 returns-in-Shared c =

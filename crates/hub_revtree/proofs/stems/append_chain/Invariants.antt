@@ -7,7 +7,8 @@ use Rattle.hub_revtree.proofs.stems.append_chain.Given as goal
 abbrev pub invariant-loop-next : goal.invariant-loop-next
 invariant-loop-next l = record {
   within : IfSome l.next (IsWithin l.stems);
-  whole : l.line.items ++ chain_from (chains_of l.stems) l.next ≡ l.initial.line.items ++ chain_from (chains_of l.stems) l.initial.next;
+  whole : l.line.items ++ chain_from (chains_of l.stems) l.next
+      ≡ l.initial.line.items ++ chain_from (chains_of l.stems) l.initial.next;
 }
 
 abbrev pub decreases-loop-next : goal.decreases-loop-next

@@ -8,7 +8,9 @@ use Rattle.hub_revtree.proofs.stems.append_chain_digests.Given as goal
 abbrev pub invariant-loop-next : goal.invariant-loop-next
 invariant-loop-next l = record {
   within : IfSome l.next (IsWithin l.stems);
-  whole : map encode_lower l.digests.items ++ map (λ r. r.hash) (chain_from (chains_of l.stems) l.next) ≡ map encode_lower l.initial.digests.items ++ map (λ r. r.hash) (chain_from (chains_of l.stems) l.initial.next);
+  whole : map encode_lower l.digests.items ++ map (λ r. r.hash) (chain_from (chains_of l.stems) l.next)
+      ≡ map encode_lower l.initial.digests.items
+      ++ map (λ r. r.hash) (chain_from (chains_of l.stems) l.initial.next);
 }
 
 abbrev pub decreases-loop-next : goal.decreases-loop-next

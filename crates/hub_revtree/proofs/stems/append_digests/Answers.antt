@@ -10,19 +10,28 @@ use Rattle.hub_revtree.proofs.JoinLemmas.{walk_less, walk_step}
 use Rattle.hub_revtree.proofs.stems.append_digests.Goals as goal
 
 pub loop-next-smaller : goal.loop-next-smaller
-loop-next-smaller c = walk_less c.args.stems.now c.requires.stems c.requires.legal c.loop-next.next c.beyond-next.result c.in-Some.place c.in-Some.is (rw c.in-Some.is at c.loop-next.invariant.within) c.beyond-next.ensures.behind
+loop-next-smaller c =
+    walk_less c.args.stems.now
+    c.requires.stems c.requires.legal c.loop-next.next c.beyond-next.result c.in-Some.place c.in-Some.is
+    (rw c.in-Some.is at c.loop-next.invariant.within) c.beyond-next.ensures.behind
 
 pub loop-next-preserved : goal.loop-next-preserved
 loop-next-preserved c =
     let xs = c.args.stems.now in
     let chain = chain_from (chains_of xs) (Some c.in-Some.place) in
     let rest = line_to (edits_in (branches_of xs)) (rev_at xs c.beyond-next.result) in
-    let on = walk_step xs c.requires.stems c.requires.legal c.loop-next.next c.beyond-next.result c.in-Some.place c.in-Some.is (rw c.in-Some.is at c.loop-next.invariant.within) c.beyond-next.ensures.behind in
+    let on =
+    walk_step xs c.requires.stems c.requires.legal c.loop-next.next c.beyond-next.result c.in-Some.place
+    c.in-Some.is (rw c.in-Some.is at c.loop-next.invariant.within) c.beyond-next.ensures.behind in
     record {
       within = c.beyond-next.ensures.within;
       whole =
-          ap (λ z. z ++ map (λ (r : Revision). r.hash) rest) (c.in_ok-append_chain_digests.ensures c.if-not-branch.false)
-          ∙ append_assoc (map encode_lower c.loop-next.digests.items) (map (λ (r : Revision). r.hash) chain) (map (λ (r : Revision). r.hash) rest)
-          ∙ ap (λ z. map encode_lower c.loop-next.digests.items ++ z) (sym (map-append (λ (r : Revision). r.hash) chain rest) ∙ ap (map (λ (r : Revision). r.hash)) (sym on))
+          ap (λ z. z ++ map (λ (r : Revision). r.hash) rest)
+          (c.in_ok-append_chain_digests.ensures c.if-not-branch.false)
+          ∙ append_assoc (map encode_lower c.loop-next.digests.items) (map (λ (r : Revision). r.hash) chain)
+          (map (λ (r : Revision). r.hash) rest)
+          ∙ ap (λ z. map encode_lower c.loop-next.digests.items ++ z)
+          (sym (map-append (λ (r : Revision). r.hash) chain rest)
+          ∙ ap (map (λ (r : Revision). r.hash)) (sym on))
           ∙ c.loop-next.invariant.whole;
     }

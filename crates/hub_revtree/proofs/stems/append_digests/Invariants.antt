@@ -9,7 +9,10 @@ use Rattle.hub_revtree.proofs.stems.append_digests.Given as goal
 abbrev pub invariant-loop-next : goal.invariant-loop-next
 invariant-loop-next l = record {
   within : IfSome l.next (IsWithin l.stems);
-  whole : map encode_lower l.digests.items ++ map (λ r. r.hash) (line_to (edits_in (branches_of l.stems)) (rev_at l.stems l.next)) ≡ map encode_lower l.initial.digests.items ++ map (λ r. r.hash) (line_to (edits_in (branches_of l.stems)) (rev_at l.stems l.initial.next));
+  whole : map encode_lower l.digests.items
+      ++ map (λ r. r.hash) (line_to (edits_in (branches_of l.stems)) (rev_at l.stems l.next))
+      ≡ map encode_lower l.initial.digests.items
+      ++ map (λ r. r.hash) (line_to (edits_in (branches_of l.stems)) (rev_at l.stems l.initial.next));
 }
 
 abbrev pub decreases-loop-next : goal.decreases-loop-next

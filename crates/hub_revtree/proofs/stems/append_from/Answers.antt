@@ -7,7 +7,10 @@ use Rattle.hub_revtree.proofs.JoinLemmas.{walk_less, walk_step}
 use Rattle.hub_revtree.proofs.stems.append_from.Goals as goal
 
 pub loop-next-smaller : goal.loop-next-smaller
-loop-next-smaller c = walk_less c.args.stems.now c.requires.stems c.requires.legal c.loop-next.next c.beyond-next.result c.in-Some.place c.in-Some.is (rw c.in-Some.is at c.loop-next.invariant.within) c.beyond-next.ensures.behind
+loop-next-smaller c =
+    walk_less c.args.stems.now
+    c.requires.stems c.requires.legal c.loop-next.next c.beyond-next.result c.in-Some.place c.in-Some.is
+    (rw c.in-Some.is at c.loop-next.invariant.within) c.beyond-next.ensures.behind
 
 pub loop-next-preserved : goal.loop-next-preserved
 loop-next-preserved c =
@@ -19,6 +22,9 @@ loop-next-preserved c =
       whole =
           ap (λ z. z ++ rest) c.in_ok-append_chain.ensures
           ∙ append_assoc c.loop-next.line.items chain rest
-          ∙ ap (λ z. c.loop-next.line.items ++ z) (sym (walk_step xs c.requires.stems c.requires.legal c.loop-next.next c.beyond-next.result c.in-Some.place c.in-Some.is (rw c.in-Some.is at c.loop-next.invariant.within) c.beyond-next.ensures.behind))
+          ∙ ap (λ z. c.loop-next.line.items ++ z)
+          (sym (walk_step xs c.requires.stems
+          c.requires.legal c.loop-next.next c.beyond-next.result c.in-Some.place c.in-Some.is
+          (rw c.in-Some.is at c.loop-next.invariant.within) c.beyond-next.ensures.behind))
           ∙ c.loop-next.invariant.whole;
     }

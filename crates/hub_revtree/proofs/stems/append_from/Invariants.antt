@@ -8,7 +8,8 @@ use Rattle.hub_revtree.proofs.stems.append_from.Given as goal
 abbrev pub invariant-loop-next : goal.invariant-loop-next
 invariant-loop-next l = record {
   within : IfSome l.next (IsWithin l.stems);
-  whole : l.line.items ++ line_to (edits_in (branches_of l.stems)) (rev_at l.stems l.next) ≡ l.initial.line.items ++ line_to (edits_in (branches_of l.stems)) (rev_at l.stems l.initial.next);
+  whole : l.line.items ++ line_to (edits_in (branches_of l.stems)) (rev_at l.stems l.next)
+      ≡ l.initial.line.items ++ line_to (edits_in (branches_of l.stems)) (rev_at l.stems l.initial.next);
 }
 
 abbrev pub decreases-loop-next : goal.decreases-loop-next

@@ -6,4 +6,6 @@ use Rattle.hub_revtree.specs.Stem.{Stem, own_path}
 use Rattle.hub_revtree.proofs.stems.behind_among.Given as goal
 
 abbrev pub invariant-loop-number : goal.invariant-loop-number
-invariant-loop-number l = (k : ℕ) (stem : Stem) (r : Revision) → k < l.number → slice_get l.stems k ≡ Some stem → ¬ IsNext (own_path l.stems stem) l.rev r
+invariant-loop-number l =
+    (k : ℕ) (stem : Stem) (r : Revision) → k < l.number → slice_get l.stems k ≡ Some stem
+    → ¬ IsNext (own_path l.stems stem) l.rev r

@@ -4,9 +4,12 @@ use Rattle.hub_revtree.proofs.StepLemmas.{none_map}
 use Rattle.hub_revtree.proofs.stems.behind_by.Goals as goal
 
 pub returns-in_default-clause-none : goal.returns-in_default-clause-none
-returns-in_default-clause-none c = nothing_behind c.args.stems.now c.requires.stems c.args.rev.now c.in_default.ensures.none
+returns-in_default-clause-none c =
+    nothing_behind c.args.stems.now c.requires.stems c.args.rev.now c.in_default.ensures.none
 
 pub returns-in-None-clause-none : goal.returns-in-None-clause-none
 returns-in-None-clause-none c =
     none_map c.linked.result _ _ c.linked.ensures.none
-    (λ none. nothing_linked c.args.stems.now c.requires.stems c.args.rev.now (link_in c.args.index.now) c.in-Some.place.stem c.requires.index.1 c.in-Some.ensures.found.1 (rw c.once.ensures at c.in-None.ensures.ends) none)
+    (λ none. nothing_linked c.args.stems.now c.requires.stems c.args.rev.now
+    (link_in c.args.index.now) c.in-Some.place.stem c.requires.index.1 c.in-Some.ensures.found.1
+    (rw c.once.ensures at c.in-None.ensures.ends) none)

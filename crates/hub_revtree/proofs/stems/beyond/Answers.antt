@@ -13,12 +13,17 @@ pub returns-then-generation-reach-clause-behind : goal.returns-then-generation-r
 returns-then-generation-reach-clause-behind c =
     let xs = c.args.stems.now in
     let i = within_stem xs c.args.place c.requires.within in
-    let there = read_stem xs c.args.place.stem c.index-stems-place.result (slice_get_within xs c.args.place.stem i.0 i.1) c.index-stems-place.is in
-    nothing_beyond xs c.requires.stems c.requires.legal c.args.place c.index-stems-place.result c.generation.result there c.requires.within c.generation.ensures (c.if-generation-reach.true ∙ c.reach.ensures)
+    let there =
+    read_stem xs c.args.place.stem c.index-stems-place.result
+    (slice_get_within xs c.args.place.stem i.0 i.1) c.index-stems-place.is in
+    nothing_beyond xs c.requires.stems c.requires.legal c.args.place
+    c.index-stems-place.result c.generation.result there c.requires.within c.generation.ensures
+    (c.if-generation-reach.true ∙ c.reach.ensures)
 
 pub returns-clause-behind : goal.returns-clause-behind
 returns-clause-behind c = λ x last.
     let xs = c.args.stems.now in
     let same = same_Some c.end_of-last.result x (sym c.end_of-last.ensures ∙ last) in
     subst (λ (z : Revision). rev_at xs c.place_behind.result ≡ behind_in z (edits_in (branches_of xs))) same
-    (found_behind xs c.requires.stems c.requires.legal c.end_of-last.result c.place_behind.result c.place_behind.ensures.found c.place_behind.ensures.none)
+    (found_behind xs c.requires.stems c.requires.legal c.end_of-last.result c.place_behind.result
+    c.place_behind.ensures.found c.place_behind.ensures.none)

@@ -9,7 +9,9 @@ abbrev pub invariant-loop-next : goal.invariant-loop-next
 invariant-loop-next l = record {
   within : IfSome l.next (IsWithin l.stems);
   short : l.at ≤ length l.revisions;
-  so_far : common_of l.revisions (chain_from (chains_of l.stems) l.initial.next) ≡ option_map (λ n. n + l.at) (common_of (drop l.at l.revisions) (chain_from (chains_of l.stems) l.next));
+  so_far : common_of l.revisions (chain_from (chains_of l.stems) l.initial.next)
+      ≡ option_map (λ n. n + l.at)
+      (common_of (drop l.at l.revisions) (chain_from (chains_of l.stems) l.next));
 }
 
 abbrev pub decreases-loop-next : goal.decreases-loop-next

@@ -17,13 +17,20 @@ loop-below-init c =
 
 pub loop-below-smaller : goal.loop-below-smaller
 loop-below-smaller c =
-    let there = read_stem c.args.stems.now c.loop-below.at c.index-stems-at.result c.loop-below.invariant.within c.index-stems-at.is in
-    (end_below c.args.stems.now c.requires.stems c.loop-below.at c.index-stems-at.result c.in-Some.below there (sym c.parent.ensures ∙ c.in-Some.is)).0
+    let there =
+    read_stem c.args.stems.now c.loop-below.at c.index-stems-at.result
+    c.loop-below.invariant.within c.index-stems-at.is in
+    (end_below c.args.stems.now c.requires.stems c.loop-below.at c.index-stems-at.result c.in-Some.below there
+    (sym c.parent.ensures ∙ c.in-Some.is)).0
 
 pub loop-below-preserved : goal.loop-below-preserved
 loop-below-preserved c =
-    let there = read_stem c.args.stems.now c.loop-below.at c.index-stems-at.result c.loop-below.invariant.within c.index-stems-at.is in
-    let below = end_below c.args.stems.now c.requires.stems c.loop-below.at c.index-stems-at.result c.in-Some.below there (sym c.parent.ensures ∙ c.in-Some.is) in
+    let there =
+    read_stem c.args.stems.now c.loop-below.at c.index-stems-at.result
+    c.loop-below.invariant.within c.index-stems-at.is in
+    let below =
+    end_below c.args.stems.now c.requires.stems c.loop-below.at c.index-stems-at.result c.in-Some.below there
+    (sym c.parent.ensures ∙ c.in-Some.is) in
     record {
       within = omega (arith, below.0, c.loop-below.invariant.within);
       same = c.loop-below.invariant.same ∙ below.1;
@@ -31,19 +38,29 @@ loop-below-preserved c =
 
 pub overflow_sub-len : goal.overflow_sub-len
 overflow_sub-len c =
-    let there = read_stem c.args.stems.now c.loop-below.at c.index-stems-at-2.result c.loop-below.invariant.within c.index-stems-at-2.is in
-    let some = some_path c.index-stems-at-2.result.revisions (c.requires.stems.falling c.loop-below.at c.index-stems-at-2.result there) in
+    let there =
+    read_stem c.args.stems.now c.loop-below.at c.index-stems-at-2.result c.loop-below.invariant.within
+    c.index-stems-at-2.is in
+    let some =
+    some_path c.index-stems-at-2.result.revisions
+    (c.requires.stems.falling c.loop-below.at c.index-stems-at-2.result there) in
     omega (arith, some, c.len.ensures)
 
 pub rev-requires-clause-path : goal.rev-requires-clause-path
 rev-requires-clause-path c =
-    let there = read_stem c.args.stems.now c.loop-below.at c.index-stems-at-2.result c.loop-below.invariant.within c.index-stems-at-2.is in
+    let there =
+    read_stem c.args.stems.now c.loop-below.at c.index-stems-at-2.result c.loop-below.invariant.within
+    c.index-stems-at-2.is in
     c.requires.stems.falling c.loop-below.at c.index-stems-at-2.result there
 
 pub rev-requires-clause-within : goal.rev-requires-clause-within
 rev-requires-clause-within c =
-    let there = read_stem c.args.stems.now c.loop-below.at c.index-stems-at-2.result c.loop-below.invariant.within c.index-stems-at-2.is in
-    let some = some_path c.index-stems-at-2.result.revisions (c.requires.stems.falling c.loop-below.at c.index-stems-at-2.result there) in
+    let there =
+    read_stem c.args.stems.now c.loop-below.at c.index-stems-at-2.result c.loop-below.invariant.within
+    c.index-stems-at-2.is in
+    let some =
+    some_path c.index-stems-at-2.result.revisions
+    (c.requires.stems.falling c.loop-below.at c.index-stems-at-2.result there) in
     omega (arith, some, c.len.ensures)
 
 pub returns : goal.returns

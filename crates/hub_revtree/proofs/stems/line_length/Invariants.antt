@@ -8,7 +8,8 @@ use Rattle.hub_revtree.proofs.stems.line_length.Given as goal
 abbrev pub invariant-loop-next : goal.invariant-loop-next
 invariant-loop-next l = record {
   within : IfSome l.next (IsWithin l.stems);
-  whole : l.count + length (line_to (edits_in (branches_of l.stems)) (rev_at l.stems l.next)) ≡ length (line_to (edits_in (branches_of l.stems)) (rev_at l.stems (Some l.fn.place)));
+  whole : l.count + length (line_to (edits_in (branches_of l.stems)) (rev_at l.stems l.next))
+      ≡ length (line_to (edits_in (branches_of l.stems)) (rev_at l.stems (Some l.fn.place)));
 }
 
 abbrev pub decreases-loop-next : goal.decreases-loop-next

@@ -11,33 +11,51 @@ use Rattle.hub_revtree.proofs.stems.new_in.Goals.{then-is_none, else-is_none}
 pub returns-then-not-joins : goal.returns-then-not-joins
 returns-then-not-joins c = λ stem e.
     let xs = c.args.stems.now in
-    let there = read_stem xs c.args.number c.index-stems-number.result c.requires.within c.index-stems-number.is in
-    let none = c.requires.stems.fresh c.args.number c.index-stems-number.result there (sym c.joins.ensures ∙ c.if-not-joins.true) in
+    let there =
+    read_stem xs c.args.number c.index-stems-number.result c.requires.within c.index-stems-number.is in
+    let none =
+    c.requires.stems.fresh c.args.number c.index-stems-number.result there
+    (sym c.joins.ensures ∙ c.if-not-joins.true) in
     c.len.ensures
     ∙ ap length (sym (all_new (take c.args.number xs) c.index-stems-number.result.revisions none))
-    ∙ ap (λ (s : Stem). length (new_of (take c.args.number xs) s.revisions)) (same_Some c.index-stems-number.result stem (sym there ∙ e))
+    ∙ ap (λ (s : Stem). length (new_of (take c.args.number xs) s.revisions))
+    (same_Some c.index-stems-number.result stem (sym there ∙ e))
 
 pub place_among-requires : goal.place_among-requires
 place_among-requires c = are_taken c.args.number c.args.stems.now c.requires.stems
 
 pub overflow_add-count : goal.overflow_add-count
 overflow_add-count c =
-    let few = new_few (take c.args.number c.args.stems.now) c.index-stems-number.result.revisions c.loop-at.at c.loop-at.count c.loop-at.invariant in
+    let few =
+    new_few (take c.args.number c.args.stems.now) c.index-stems-number.result.revisions c.loop-at.at
+    c.loop-at.count c.loop-at.invariant in
     omega (arith, few)
 
 pub loop-at-preserved : goal.loop-at-preserved
 loop-at-preserved c =
     let earlier = take c.args.number c.args.stems.now in
-    let placed = is_placed earlier c.rev.result c.place_among.result c.place_among.ensures.found c.place_among.ensures.none in
+    let placed =
+    is_placed earlier c.rev.result c.place_among.result c.place_among.ensures.found
+    c.place_among.ensures.none in
     elim c.if-is_none.branch [
-      | then-is_none w ↦ w.count-is ∙ new_more earlier c.index-stems-number.result.revisions c.loop-at.at c.loop-at.count c.rev.result c.rev.ensures (sym placed ∙ c.is_none.ensures ∙ ap not w.if-is_none.true) c.loop-at.invariant
-      | else-is_none w ↦ w.count-is ∙ new_same earlier c.index-stems-number.result.revisions c.loop-at.at c.loop-at.count c.rev.result c.rev.ensures (sym placed ∙ c.is_none.ensures ∙ ap not w.if-is_none.false) c.loop-at.invariant
+      | then-is_none w ↦
+          w.count-is
+          ∙ new_more earlier c.index-stems-number.result.revisions c.loop-at.at c.loop-at.count c.rev.result
+          c.rev.ensures (sym placed ∙ c.is_none.ensures ∙ ap not w.if-is_none.true) c.loop-at.invariant
+      | else-is_none w ↦
+          w.count-is
+          ∙ new_same earlier c.index-stems-number.result.revisions c.loop-at.at c.loop-at.count c.rev.result
+          c.rev.ensures (sym placed ∙ c.is_none.ensures ∙ ap not w.if-is_none.false) c.loop-at.invariant
     ]
 
 pub returns : goal.returns
 returns c = λ stem e.
     let xs = c.args.stems.now in
-    let there = read_stem xs c.args.number c.index-stems-number.result c.requires.within c.index-stems-number.is in
+    let there =
+    read_stem xs c.args.number c.index-stems-number.result c.requires.within c.index-stems-number.is in
     c.loop-at.invariant
-    ∙ ap (λ p. length (new_of (take c.args.number xs) p)) (take_all c.loop-at.at c.index-stems-number.result.revisions (omega (arith, c.loop-at-test.false, c.len-at-end.ensures)))
-    ∙ ap (λ (s : Stem). length (new_of (take c.args.number xs) s.revisions)) (same_Some c.index-stems-number.result stem (sym there ∙ e))
+    ∙ ap (λ p. length (new_of (take c.args.number xs) p))
+    (take_all c.loop-at.at c.index-stems-number.result.revisions
+    (omega (arith, c.loop-at-test.false, c.len-at-end.ensures)))
+    ∙ ap (λ (s : Stem). length (new_of (take c.args.number xs) s.revisions))
+    (same_Some c.index-stems-number.result stem (sym there ∙ e))

@@ -8,6 +8,9 @@ pub returns : goal.returns
 unfolding with_route
 returns c =
     elim c.match-insert.branch [
-      | in-Ok w ↦ rw w.result-is (inserts_scan (parse_route c.args.route.now) c.args.kind c.args.router.now c.insert.new.self _ w.in-Ok.ensures)
+      | in-Ok w ↦
+          rw w.result-is
+          (inserts_scan (parse_route c.args.route.now) c.args.kind c.args.router.now
+          c.insert.new.self _ w.in-Ok.ensures)
       | in-Err w ↦ rw w.result-is tt
     ]

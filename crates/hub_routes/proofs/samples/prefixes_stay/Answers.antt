@@ -3,7 +3,8 @@ use Rattle.percent_encoding.specs.Percent.{percent_decode}
 use Rattle.hub_routes.specs.Paths.{id_of}
 use Rattle.hub_routes.proofs.samples.prefixes_stay.Goals as goal
 
-behind_design : (name : List ℕ) → id_of (codes "/d/_design/" ++ name) ≡ codes "_design/" ++ percent_decode name
+behind_design : (name : List ℕ)
+    → id_of (codes "/d/_design/" ++ name) ≡ codes "_design/" ++ percent_decode name
 unfolding percent_decode
 behind_design [] = refl
 behind_design (a ∷ []) = refl

@@ -5,5 +5,7 @@ use Rattle.hub_service.proofs.bulk.read_elements.Given as goal
 
 abbrev pub invariant-loop-element : goal.invariant-loop-element
 invariant-loop-element l =
-    (read_docs (readings l.fn.new_edits (items_view l.elements)) ≡ l.docs.items ++ read_docs (readings l.fn.new_edits (items_view (drop l.element-index l.elements))))
-    × (faults_of (readings l.fn.new_edits (items_view l.elements)) ≡ l.faults.items ++ faults_of (readings l.fn.new_edits (items_view (drop l.element-index l.elements))))
+    (read_docs (readings l.fn.new_edits (items_view l.elements))
+    ≡ l.docs.items ++ read_docs (readings l.fn.new_edits (items_view (drop l.element-index l.elements))))
+    × (faults_of (readings l.fn.new_edits (items_view l.elements))
+    ≡ l.faults.items ++ faults_of (readings l.fn.new_edits (items_view (drop l.element-index l.elements))))

@@ -13,27 +13,34 @@ pub returns-in-Changes : goal.returns-in-Changes
 returns-in-Changes g c =
     let body = c.args.body.now in
     subst (λ call. AnswersCall call c.args.name.now body c.begin.result) (sym c.in-Changes.is)
-    (subst (λ (query : List ℕ). Begins BeginsChanges query body c.begin.result) c.as_slice.ensures.value c.begin.ensures)
+    (subst (λ (query : List ℕ). Begins BeginsChanges query body c.begin.result)
+    c.as_slice.ensures.value c.begin.ensures)
 
 pub returns-in-DeleteDocument : goal.returns-in-DeleteDocument
 returns-in-DeleteDocument g c =
-    subst (λ call. AnswersCall call c.args.name.now c.args.body.now c.delete.result) (sym c.in-DeleteDocument.is)
+    subst (λ call. AnswersCall call c.args.name.now c.args.body.now c.delete.result)
+    (sym c.in-DeleteDocument.is)
     (subst (λ (query : List ℕ). IsDeletion (string_bytes c.in-DeleteDocument.id) query c.delete.result)
     c.as_slice-in-DeleteDocument.ensures.value c.delete.ensures)
 
 pub returns-in-GetDocument : goal.returns-in-GetDocument
 returns-in-GetDocument g c =
     subst (λ call. AnswersCall call c.args.name.now c.args.body.now c.get.result) (sym c.in-GetDocument.is)
-    (subst (λ (query : List ℕ). IsRead (λ db. gets_doc db.journal (string_bytes c.in-GetDocument.id) (doc_asked query)) c.get.result)
+    (subst (λ (query : List ℕ).
+    IsRead (λ db. gets_doc db.journal (string_bytes c.in-GetDocument.id) (doc_asked query)) c.get.result)
     c.as_slice-in-GetDocument.ensures.value c.get.ensures)
 
 pub returns-in-PutDocument : goal.returns-in-PutDocument
 returns-in-PutDocument g c =
     let body = c.args.body.now in
     subst (λ call. AnswersCall call c.args.name.now body c.put.result) (sym c.in-PutDocument.is)
-    (subst (λ (query : List ℕ). IsWritten (λ db. puts_doc db (put_in (string_bytes c.in-PutDocument.id) (doc_asked query).rev (doc_asked query).new_edits body)) c.put.result)
+    (subst (λ (query : List ℕ). IsWritten (λ db. puts_doc db
+    (put_in (string_bytes c.in-PutDocument.id) (doc_asked query).rev (doc_asked query).new_edits body))
+    c.put.result)
     c.as_slice-in-PutDocument.ensures.value
-    (subst (λ (id : List ℕ). IsWritten (λ db. puts_doc db (put_in id (doc_asked c.as_slice-in-PutDocument.result.now).rev (doc_asked c.as_slice-in-PutDocument.result.now).new_edits body)) c.put.result)
+    (subst (λ (id : List ℕ). IsWritten (λ db. puts_doc db
+    (put_in id (doc_asked c.as_slice-in-PutDocument.result.now).rev
+    (doc_asked c.as_slice-in-PutDocument.result.now).new_edits body)) c.put.result)
     c.as_str.ensures.value c.put.ensures))
 
 pub returns-in-PutLocal : goal.returns-in-PutLocal

@@ -13,11 +13,15 @@ pub returns-in_err-info : goal.returns-in_err-info
 returns-in_err-info g c =
     let same : c.from_residual.result ≡ Err c.in_err-info.field-0.0 = search rules in
     subst (IsRead (λ db. says_info c.args.name.now db)) (sym same)
-    (unfound_read (λ db info. info ≡ info_of db.journal db.life) (λ db. says_info c.args.name.now db) c.in_err-info.field-0.0 c.in_err-info.ensures)
+    (unfound_read (λ db info. info ≡ info_of db.journal db.life)
+    (λ db. says_info c.args.name.now db) c.in_err-info.field-0.0 c.in_err-info.ensures)
 
 pub returns : goal.returns
 returns g c =
-    let said = said_text (λ (b : Vec ℕ Global). b.items) 200 (info_body c.args.name.now c.in_ok-info.info) c.info_body.result c.ok.result c.info_body.ensures c.ok.ensures.said c.ok.ensures.memory in
-    found_read (λ db info. info ≡ info_of db.journal db.life) (λ db. says_info c.args.name.now db) c.in_ok-info.info
+    let said =
+    said_text (λ (b : Vec ℕ Global). b.items) 200 (info_body c.args.name.now c.in_ok-info.info)
+    c.info_body.result c.ok.result c.info_body.ensures c.ok.ensures.said c.ok.ensures.memory in
+    found_read (λ db info. info ≡ info_of db.journal db.life)
+    (λ db. says_info c.args.name.now db) c.in_ok-info.info
     (Body 200 (info_body c.args.name.now c.in_ok-info.info)) c.ok.result c.in_ok-info.ensures said
     (λ db is. ap (λ info. Body 200 (info_body c.args.name.now info)) is)

@@ -18,11 +18,15 @@ pub returns-in_err-found : goal.returns-in_err-found
 returns-in_err-found g c =
     let same : c.from_residual.result ≡ Err c.in_err-found.field-0.0 = search rules in
     subst (IsRead (λ db. says_diffs db.journal (Ok c.args.asked.items))) (sym same)
-    (unfound_read (are_diffs c.args.asked) (λ db. says_diffs db.journal (Ok c.args.asked.items)) c.in_err-found.field-0.0 c.in_err-found.ensures)
+    (unfound_read (are_diffs c.args.asked)
+    (λ db. says_diffs db.journal (Ok c.args.asked.items)) c.in_err-found.field-0.0 c.in_err-found.ensures)
 
 pub returns : goal.returns
 returns g c =
-    let said = said_text (λ (b : Vec ℕ Global). b.items) 200 (diffs_body c.as_slice.result.now) c.diffs_body.result c.ok.result c.diffs_body.ensures c.ok.ensures.said c.ok.ensures.memory in
-    found_read (are_diffs c.args.asked) (λ db. says_diffs db.journal (Ok c.args.asked.items)) c.in_ok-found.found
+    let said =
+    said_text (λ (b : Vec ℕ Global). b.items) 200 (diffs_body c.as_slice.result.now) c.diffs_body.result
+    c.ok.result c.diffs_body.ensures c.ok.ensures.said c.ok.ensures.memory in
+    found_read (are_diffs c.args.asked)
+    (λ db. says_diffs db.journal (Ok c.args.asked.items)) c.in_ok-found.found
     (Body 200 (diffs_body c.as_slice.result.now)) c.ok.result c.in_ok-found.ensures said
     (λ db is. ap (λ ds. Body 200 (diffs_body ds)) (c.as_slice.ensures.value ∙ is))

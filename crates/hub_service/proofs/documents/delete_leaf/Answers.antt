@@ -1,4 +1,5 @@
-use Rattle.std.proofs.Common.{◌≡◌, ℕ, List, true, Option, Some, None, Result, Ok, Err, string_bytes, refl, inl, inr, sym, subst, ◌∙◌}
+use Rattle.std.proofs.Common.{◌≡◌, ℕ, List, true, Option, Some, None, Result, Ok}
+use Rattle.std.proofs.Common.{Err, string_bytes, refl, inl, inr, sym, subst, ◌∙◌}
 use Rattle.std.specs.Prelude.{T, IsSome}
 use Rattle.hub_document.specs.Ids.{short_id}
 use Rattle.hub_database.specs.Database.{Database}
@@ -26,7 +27,8 @@ leaf_missed id short known rev w is has none =
 
 -- and where it finds one, the edit is written
 leaf_written : (id : List ℕ) (short : Option (List ℕ)) (known : List ℕ) (rev : Revision) (w : Option Winner)
-    (won : Winner) (r : Result Response Refusal) → short ≡ Some known → IsFound (is_winner id) (Ok w) → w ≡ Some won
+    (won : Winner) (r : Result Response Refusal) → short ≡ Some known → IsFound (is_winner id) (Ok w)
+    → w ≡ Some won
     → IsWritten (λ db. edits 200 db (deletion known rev)) r → DeletesLeaf id short rev r
 leaf_written id short known rev w won r is has some written =
     subst (λ s. DeletesLeaf id s rev r) (sym is)
@@ -34,7 +36,10 @@ leaf_written id short known rev w won r is has some written =
       record {
         db = has.db;
         legal = has.legal;
-        held = (has.held.0, λ none. subst T (sym (subst IsSome (has.held.1 ∙ none) (some_is_some w won some))) tt);
+        held = (
+          has.held.0,
+          λ none. subst T (sym (subst IsSome (has.held.1 ∙ none) (some_is_some w won some))) tt,
+        );
       },
       written,
     )))
@@ -42,12 +47,21 @@ leaf_written id short known rev w won r is has some written =
 pub returns-in_default-2 : goal.returns-in_default-2
 returns-in_default-2 g c =
     let id = string_bytes c.args.id in
-    let short : short_id id ≡ Some c.in-Some.known = subst (λ (text : List ℕ). short_id text ≡ Some c.in-Some.known) c.as_str.ensures.value (sym c.in_ok-known.ensures.value ∙ c.in-Some.is) in
-    leaf_missed id (short_id id) c.in-Some.known c.args.rev c.in_ok-winner.field-0 short c.in_ok-winner.ensures c.in_default-2.is
+    let short : short_id id ≡ Some c.in-Some.known =
+    subst (λ (text : List ℕ). short_id text ≡ Some c.in-Some.known) c.as_str.ensures.value
+    (sym c.in_ok-known.ensures.value ∙ c.in-Some.is) in
+    leaf_missed id (short_id id) c.in-Some.known c.args.rev c.in_ok-winner.field-0
+    short c.in_ok-winner.ensures c.in_default-2.is
 
 pub returns : goal.returns
 returns g c =
     let id = string_bytes c.args.id in
-    let short : short_id id ≡ Some c.in-Some.known = subst (λ (text : List ℕ). short_id text ≡ Some c.in-Some.known) c.as_str.ensures.value (sym c.in_ok-known.ensures.value ∙ c.in-Some.is) in
-    leaf_written id (short_id id) c.in-Some.known c.args.rev c.in_ok-winner.field-0 c.in-Some-2.field-0 c.edit.result short c.in_ok-winner.ensures c.in-Some-2.is
-    (subst (λ (body : List ℕ). IsWritten (λ db. edits 200 db (record { id = c.in-Some.known; rev = Some c.args.rev; path = None; deleted = true; body = body })) c.edit.result) c.in_ok-body.ensures c.edit.ensures)
+    let short : short_id id ≡ Some c.in-Some.known =
+    subst (λ (text : List ℕ). short_id text ≡ Some c.in-Some.known) c.as_str.ensures.value
+    (sym c.in_ok-known.ensures.value ∙ c.in-Some.is) in
+    leaf_written id (short_id id) c.in-Some.known c.args.rev c.in_ok-winner.field-0 c.in-Some-2.field-0
+    c.edit.result short c.in_ok-winner.ensures c.in-Some-2.is
+    (subst (λ (body : List ℕ). IsWritten (λ db. edits 200 db
+    (record { id = c.in-Some.known; rev = Some c.args.rev; path = None; deleted = true; body = body }))
+    c.edit.result)
+    c.in_ok-body.ensures c.edit.ensures)

@@ -14,7 +14,8 @@ returns-in_err-winner g c =
     let same : c.from_residual.result ≡ Err c.in_err-winner.field-0.0 = search rules in
     let says = λ (db : Database). Refusing (refuses_unnamed (winner_in db (string_bytes c.args.id))) in
     subst (IsRead says) (sym same)
-    (unfound_read (λ (db : Database) (w : Option Winner). w ≡ winner_in db (string_bytes c.args.id)) says c.in_err-winner.field-0.0 c.in_err-winner.ensures)
+    (unfound_read (λ (db : Database) (w : Option Winner). w ≡ winner_in db (string_bytes c.args.id))
+    says c.in_err-winner.field-0.0 c.in_err-winner.ensures)
 
 pub returns : goal.returns
 returns g c =

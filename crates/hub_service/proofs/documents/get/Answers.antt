@@ -1,4 +1,5 @@
-use Rattle.std.proofs.Common.{◌≡◌, ℕ, List, Bool, true, false, Option, Some, None, Result, Err, option_map, string_bytes, refl, sym, subst, ap, ◌∙◌}
+use Rattle.std.proofs.Common.{◌≡◌, ℕ, List, Bool, true, false, Option, Some, None, Result}
+use Rattle.std.proofs.Common.{Err, option_map, string_bytes, refl, sym, subst, ap, ◌∙◌}
 use Rattle.std.specs.Prelude.{T, is_some}
 use Rattle.hub_database.specs.Reads.{lookup}
 use Rattle.hub_document.specs.Asking.{open_revs_in}
@@ -16,21 +17,25 @@ use Rattle.hub_service.proofs.documents.get.Goals as goal
 -- where revisions are asked for, they are what is read
 revs_asked : (id : List ℕ) (revs : Bool) (rev : Option (List ℕ)) (leaves : Option (List ℕ)) (text : List ℕ)
     (asked : Option OpenRevs) (r : Result Response Refusal) → leaves ≡ Some text → asked ≡ open_revs_in text
-    → IsRead (λ db. gets_revs db.journal id revs asked) r → IsRead (λ db. gets_by db.journal id revs rev leaves) r
+    → IsRead (λ db. gets_revs db.journal id revs asked) r
+    → IsRead (λ db. gets_by db.journal id revs rev leaves) r
 revs_asked id revs rev leaves text asked r some is read =
     subst (λ o. IsRead (λ db. gets_by db.journal id revs rev o) r) (sym some)
     (subst (λ a. IsRead (λ db. gets_revs db.journal id revs a) r) is read)
 
 -- and where a revision is asked for, that is refused
-rev_asked : {A : Type 0} (id : List ℕ) (revs : Bool) (f : A → List ℕ) (rev : Option A) (leaves : Option (List ℕ))
-    → leaves ≡ None → is_some rev ≡ true → IsRead (λ db. gets_by db.journal id revs (option_map f rev) leaves) (Err BadRev)
+rev_asked : {A : Type 0} (id : List ℕ) (revs : Bool) (f : A → List ℕ) (rev : Option A)
+    (leaves : Option (List ℕ))
+    → leaves ≡ None → is_some rev ≡ true
+    → IsRead (λ db. gets_by db.journal id revs (option_map f rev) leaves) (Err BadRev)
 rev_asked id revs f None leaves none some = absurd (subst T (sym some) tt)
 rev_asked id revs f (Some rev) leaves none some =
     read_anyway (λ db. gets_by db.journal id revs (Some (f rev)) leaves) (Refusing BadRev) (Err BadRev) refl
     (λ db. sym (ap (gets_by db.journal id revs (Some (f rev))) none))
 
 -- else the document is read
-none_asked : {A : Type 0} (id : List ℕ) (revs : Bool) (f : A → List ℕ) (rev : Option A) (leaves : Option (List ℕ))
+none_asked : {A : Type 0} (id : List ℕ) (revs : Bool) (f : A → List ℕ) (rev : Option A)
+    (leaves : Option (List ℕ))
     (r : Result Response Refusal) → leaves ≡ None → is_some rev ≡ false
     → IsRead (λ db. says_found (lookup db.journal id revs)) r
     → IsRead (λ db. gets_by db.journal id revs (option_map f rev) leaves) r
@@ -44,8 +49,10 @@ returns-in-Some g c =
     let asks : DocAsked → Type 0 = λ a. IsRead (λ db. gets_doc db.journal id a) c.get_revs.result in
     let p = c.rev.inside in
     subst asks (c.rev.view_is ∙ c.in_ok-rev.ensures.asked)
-    (revs_asked id p.revs (option_map string_bytes p.rev) (option_map string_bytes p.open_revs) (string_bytes c.in-Some.text) c.in_ok-asked.asked c.get_revs.result
-    (ap (option_map string_bytes) c.in-Some.is) (c.in_ok-asked.ensures.value ∙ ap open_revs_in c.as_str.ensures.value) c.get_revs.ensures)
+    (revs_asked id p.revs (option_map string_bytes p.rev)
+    (option_map string_bytes p.open_revs) (string_bytes c.in-Some.text) c.in_ok-asked.asked c.get_revs.result
+    (ap (option_map string_bytes) c.in-Some.is)
+    (c.in_ok-asked.ensures.value ∙ ap open_revs_in c.as_str.ensures.value) c.get_revs.ensures)
 
 pub returns-then-is_some : goal.returns-then-is_some
 returns-then-is_some g c =
@@ -63,4 +70,5 @@ returns g c =
     let p = c.rev.inside in
     subst asks (c.rev.view_is ∙ c.in_ok-rev.ensures.asked)
     (none_asked id p.revs string_bytes p.rev (option_map string_bytes p.open_revs) c.get_found.result
-    (ap (option_map string_bytes) c.in_default.is) (sym c.is_some.ensures ∙ c.if-is_some.false) c.get_found.ensures)
+    (ap (option_map string_bytes) c.in_default.is)
+    (sym c.is_some.ensures ∙ c.if-is_some.false) c.get_found.ensures)

@@ -12,10 +12,14 @@ returns-in_err-found g c =
     let same : c.from_residual.result ≡ Err c.in_err-found.field-0.0 = search rules in
     let says = λ (db : Database). says_found (lookup db.journal (string_bytes c.args.id) c.args.revs) in
     subst (IsRead says) (sym same)
-    (unfound_read (λ (db : Database) (found : Lookup). found ≡ lookup db.journal (string_bytes c.args.id) c.args.revs) says c.in_err-found.field-0.0 c.in_err-found.ensures)
+    (unfound_read (λ (db : Database) (found : Lookup).
+    found ≡ lookup db.journal (string_bytes c.args.id) c.args.revs)
+    says c.in_err-found.field-0.0 c.in_err-found.ensures)
 
 pub returns : goal.returns
 returns g c =
-    found_read (λ (db : Database) (found : Lookup). found ≡ lookup db.journal (string_bytes c.args.id) c.args.revs)
+    found_read (λ (db : Database) (found : Lookup).
+    found ≡ lookup db.journal (string_bytes c.args.id) c.args.revs)
     (λ db. says_found (lookup db.journal (string_bytes c.args.id) c.args.revs)) c.in_ok-found.found
-    (says_found c.in_ok-found.found) c.say_found.result c.in_ok-found.ensures c.say_found.ensures (λ db is. ap says_found is)
+    (says_found c.in_ok-found.found) c.say_found.result c.in_ok-found.ensures c.say_found.ensures
+    (λ db is. ap says_found is)

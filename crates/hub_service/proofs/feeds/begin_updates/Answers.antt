@@ -8,10 +8,14 @@ use Rattle.hub_service.proofs.feeds.begin_updates.Goals as goal
 
 pub returns-in-Ok : goal.returns-in-Ok
 returns-in-Ok g c =
-    read_feed BeginsUpdates (FeedNeedsRoom c.args.query.now c.args.body.now) (feed_asked c.args.query.now c.args.body.now)
-    (params_asked c.in-Ok.params) c.begin_asked_updates.result c.in-Ok.ensures.ok c.begin_asked_updates.ensures
+    read_feed BeginsUpdates (FeedNeedsRoom c.args.query.now c.args.body.now)
+    (feed_asked c.args.query.now c.args.body.now)
+    (params_asked c.in-Ok.params) c.begin_asked_updates.result c.in-Ok.ensures.ok
+    c.begin_asked_updates.ensures
 
 pub returns-in-Err : goal.returns-in-Err
 returns-in-Err g c =
-    unread_feed BeginsUpdates (FeedNeedsRoom c.args.query.now c.args.body.now) (feed_asked c.args.query.now c.args.body.now)
-    c.in-Err.fault c.unread.result (λ asked. inr refl) c.in-Err.ensures.err c.in-Err.ensures.memory c.unread.ensures
+    unread_feed BeginsUpdates (FeedNeedsRoom c.args.query.now c.args.body.now)
+    (feed_asked c.args.query.now c.args.body.now)
+    c.in-Err.fault c.unread.result
+    (λ asked. inr refl) c.in-Err.ensures.err c.in-Err.ensures.memory c.unread.ensures

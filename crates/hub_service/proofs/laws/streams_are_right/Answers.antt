@@ -1,4 +1,5 @@
-use Rattle.hub_service.proofs.StreamLemmas.{complete_changes, complete_list, complete_updates, streams_of_changes, streams_of_updates}
+use Rattle.hub_service.proofs.StreamLemmas.{complete_changes, complete_list, complete_updates}
+use Rattle.hub_service.proofs.StreamLemmas.{streams_of_changes, streams_of_updates}
 use Rattle.hub_service.proofs.laws.streams_are_right.Goals as goal
 
 pub returns-clause-changes : goal.returns-clause-changes

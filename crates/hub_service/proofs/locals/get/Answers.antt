@@ -1,4 +1,5 @@
-use Rattle.std.proofs.Common.{◌≡◌, ℕ, List, Option, Ok, Err, option_map, string_bytes, rules, sym, subst, ap, ◌∙◌}
+use Rattle.std.proofs.Common.{◌≡◌, ℕ, List, Option, Ok, Err, option_map}
+use Rattle.std.proofs.Common.{string_bytes, rules, sym, subst, ap, ◌∙◌}
 use Rattle.hub_database.specs.Database.{Database}
 use Rattle.hub_database.specs.Locals.{local_of}
 use Rattle.hub_database.specs.declared.local.Local as kept
@@ -17,13 +18,19 @@ pub returns-in_err-found : goal.returns-in_err-found
 returns-in_err-found g c =
     let same : c.from_residual-in_err-found.result ≡ Err c.in_err-found.field-0.0 = search rules in
     subst (IsRead (λ db. says_local (local_of db.locals (string_bytes c.args.id)))) (sym same)
-    (unfound_read (is_local (string_bytes c.in_ok-asked.asked)) (λ db. says_local (local_of db.locals (string_bytes c.args.id))) c.in_err-found.field-0.0 c.in_err-found.ensures)
+    (unfound_read (is_local (string_bytes c.in_ok-asked.asked))
+    (λ db. says_local (local_of db.locals (string_bytes c.args.id)))
+    c.in_err-found.field-0.0 c.in_err-found.ensures)
 
 pub returns : goal.returns
 returns g c =
-    let id : string_bytes c.in_ok-asked.asked ≡ string_bytes c.args.id = c.in_ok-asked.ensures.ok ∙ c.as_str.ensures.value in
-    found_read (is_local (string_bytes c.args.id)) (λ db. says_local (local_of db.locals (string_bytes c.args.id))) c.in_ok-found.found
+    let id : string_bytes c.in_ok-asked.asked ≡ string_bytes c.args.id =
+    c.in_ok-asked.ensures.ok ∙ c.as_str.ensures.value in
+    found_read (is_local (string_bytes c.args.id))
+    (λ db. says_local (local_of db.locals (string_bytes c.args.id))) c.in_ok-found.found
     (says_local (option_map (local_named (string_bytes c.args.id)) c.in_ok-found.found)) c.say_local.result
     (subst (λ (id : List ℕ). IsFound (is_local id) (Ok c.in_ok-found.found)) id c.in_ok-found.ensures)
-    (subst (λ (id : List ℕ). IsSaid (says_local (option_map (local_named id) c.in_ok-found.found)) c.say_local.result) c.as_str-2.ensures.value c.say_local.ensures)
+    (subst (λ (id : List ℕ).
+    IsSaid (says_local (option_map (local_named id) c.in_ok-found.found)) c.say_local.result)
+    c.as_str-2.ensures.value c.say_local.ensures)
     (λ db is. ap says_local is)

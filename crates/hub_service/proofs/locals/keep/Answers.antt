@@ -18,7 +18,15 @@ pub returns : goal.returns
 returns g c =
     let n = c.in_ok-count.count in
     let few : n < 2 ^ 64 = omega arith in
-    let front : c.in_ok-front.front.items ≡ edit_front c.args.doc.id = subst (λ (id : List ℕ). c.in_ok-front.front.items ≡ edit_front id) c.as_str.ensures c.in_ok-front.ensures in
-    let said = said_text (λ (b : Vec ℕ Global). b.items) 201 (local_edit_body c.args.doc.id n) c.local_edit_body.result c.created.result (told_of (λ (id : List ℕ). c.in_ok-front.front.items ≡ edit_front id) (λ (t : Vec ℕ Global) id. t.items ≡ local_edit_body id n) c.local_edit_body.result c.args.doc.id front c.local_edit_body.ensures) c.created.ensures.said c.created.ensures.memory in
+    let front : c.in_ok-front.front.items ≡ edit_front c.args.doc.id =
+    subst (λ (id : List ℕ). c.in_ok-front.front.items ≡ edit_front id) c.as_str.ensures
+    c.in_ok-front.ensures in
+    let said =
+    said_text (λ (b : Vec ℕ Global). b.items) 201
+    (local_edit_body c.args.doc.id n) c.local_edit_body.result c.created.result
+    (told_of (λ (id : List ℕ). c.in_ok-front.front.items ≡ edit_front id)
+    (λ (t : Vec ℕ Global) id. t.items ≡ local_edit_body id n) c.local_edit_body.result c.args.doc.id
+    front c.local_edit_body.ensures)
+    c.created.ensures.said c.created.ensures.memory in
     kept_read c.args.doc n c.created.result c.in_ok-count.ensures
     (λ db is. kept_said db c.args.doc n c.created.result few said is)

@@ -13,9 +13,12 @@ pub returns-in_err-write_all-clause-sent : goal.returns-in_err-write_all-clause-
 returns-in_err-write_all-clause-sent g c =
     broken_sends _ _ _ _ (search rules)
     (front_of_more _ _ (head_text 200 chunked_line c.args.close) (text_chunks (feed_head c.args.mode))
-    (subst (AppendsFront _ _) (c.as_bytes.ensures.value ∙ c.stream_head_text.ensures) c.write_all.ensures.front))
+    (subst (AppendsFront _ _)
+    (c.as_bytes.ensures.value ∙ c.stream_head_text.ensures) c.write_all.ensures.front))
 
 pub returns-clause-sent : goal.returns-clause-sent
 returns-clause-sent g c =
-    sends_after (is_err c.begin_items.result) _ _ _ (head_text 200 chunked_line c.args.close) (text_chunks (feed_head c.args.mode))
-    (subst (Appends _ _) (c.as_bytes.ensures.value ∙ c.stream_head_text.ensures) c.in_ok-write_all.ensures.ok) c.begin_items.ensures.sent
+    sends_after (is_err c.begin_items.result) _ _ _ (head_text 200 chunked_line c.args.close)
+    (text_chunks (feed_head c.args.mode))
+    (subst (Appends _ _) (c.as_bytes.ensures.value ∙ c.stream_head_text.ensures) c.in_ok-write_all.ensures.ok)
+    c.begin_items.ensures.sent

@@ -7,8 +7,10 @@ pub returns-in-Err-clause-bytes : goal.returns-in-Err-clause-bytes
 returns-in-Err-clause-bytes g c = front_written c.in-Err.e _ _ _ _ c.in-Err.ensures.bytes
 
 pub returns-in-Err-finish_item-clause-bytes : goal.returns-in-Err-finish_item-clause-bytes
-returns-in-Err-finish_item-clause-bytes g c = front_after _ _ _ _ _ c.in-Ok.ensures.bytes c.in-Err-finish_item.ensures.sent
+returns-in-Err-finish_item-clause-bytes g c =
+    front_after _ _ _ _ _ c.in-Ok.ensures.bytes c.in-Err-finish_item.ensures.sent
 
 pub returns-in-Err-finish_item-clause-tried : goal.returns-in-Err-finish_item-clause-tried
 returns-in-Err-finish_item-clause-tried g c = λ broken.
-    gave_up_since _ _ _ _ _ _ c.write.ensures.failures_monotone c.write.ensures.monotone c.in-Err-finish_item.ensures.tried
+    gave_up_since _ _ _ _ _ _ c.write.ensures.failures_monotone c.write.ensures.monotone
+    c.in-Err-finish_item.ensures.tried

@@ -12,4 +12,5 @@ returns-in-Err-clause-fed g c =
 
 pub returns-in-Ok-clause-tried : goal.returns-in-Ok-clause-tried
 returns-in-Ok-clause-tried g c = λ broken.
-    gave_up_since _ _ _ _ _ _ c.begin_items.ensures.failures_monotone c.begin_items.ensures.monotone (c.send_items.ensures.tried broken)
+    gave_up_since _ _ _ _ _ _ c.begin_items.ensures.failures_monotone c.begin_items.ensures.monotone
+    (c.send_items.ensures.tried broken)

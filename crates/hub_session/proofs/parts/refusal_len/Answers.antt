@@ -6,4 +6,5 @@ use Rattle.hub_session.proofs.parts.refusal_len.Goals as goal
 pub returns : goal.returns
 returns c =
     ap (λ l. 25 + length l + length c.reason.result.now) c.error.ensures
-    ∙ (ap (λ l. 25 + length (error_of c.args.refusal) + length l) c.reason.ensures ∙ refusal_length c.args.refusal)
+    ∙ (ap (λ l. 25 + length (error_of c.args.refusal) + length l) c.reason.ensures
+    ∙ refusal_length c.args.refusal)

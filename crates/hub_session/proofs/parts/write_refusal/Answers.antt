@@ -5,5 +5,7 @@ use Rattle.hub_session.proofs.parts.write_refusal.Goals as goal
 
 pub returns-clause-sent : goal.returns-clause-sent
 returns-clause-sent g c =
-    subst (Sends _ _ _) (refusal_parts _ _ c.args.refusal (c.as_bytes.ensures.value ∙ c.error.ensures) (c.as_bytes-2.ensures.value ∙ c.reason.ensures))
+    subst (Sends _ _ _)
+    (refusal_parts _ _ c.args.refusal (c.as_bytes.ensures.value ∙ c.error.ensures)
+    (c.as_bytes-2.ensures.value ∙ c.reason.ensures))
     c.write_parts.ensures.sent

@@ -18,11 +18,13 @@ returns-in-Some-clause-ended g c = λ ended.
 
 pub returns-in-Some-clause-tried : goal.returns-in-Some-clause-tried
 returns-in-Some-clause-tried g c = λ broken.
-    gave_up_since _ _ _ _ _ _ c.loop.invariant.failed_writes c.loop.invariant.writes (c.in-Some.ensures.tried (cc))
+    gave_up_since _ _ _ _ _ _ c.loop.invariant.failed_writes c.loop.invariant.writes
+    (c.in-Some.ensures.tried (cc))
 
 pub returns-in-Some-clause-tried_reads : goal.returns-in-Some-clause-tried_reads
 returns-in-Some-clause-tried_reads g c = λ failed.
-    gave_up_since _ _ _ _ _ _ c.loop.invariant.failed_reads c.loop.invariant.reads (c.in-Some.ensures.tried_reads (cc))
+    gave_up_since _ _ _ _ _ _ c.loop.invariant.failed_reads c.loop.invariant.reads
+    (c.in-Some.ensures.tried_reads (cc))
 
 pub returns-clause-session : goal.returns-clause-session
 returns-clause-session g c = λ is_open.

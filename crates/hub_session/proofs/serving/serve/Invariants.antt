@@ -10,9 +10,12 @@ invariant-loop g l =
     let left = g.R.Input.left in
     record {
       served : IsOpen l.fn.requests → IfSome (to_come left l.fn.requests) (λ bytes.
-          Served g.S.Service.rules bytes (moment l.fn.service (written l.fn.writer)) l.counter (to_come left l.requests) (moment l.service (written l.writer)));
+          Served g.S.Service.rules bytes (moment l.fn.service (written l.fn.writer)) l.counter
+          (to_come left l.requests) (moment l.service (written l.writer)));
       is_open : IsOpen l.fn.requests → IsOpen l.requests;
-      ended : HasEnded l.fn.requests → (l.requests ≡ l.fn.requests) × (l.service ≡ l.fn.service) × (l.writer ≡ l.fn.writer) × (l.counter ≡ 0);
+      ended : HasEnded l.fn.requests
+          → (l.requests ≡ l.fn.requests) × (l.service ≡ l.fn.service)
+          × (l.writer ≡ l.fn.writer) × (l.counter ≡ 0);
       writes : g.W.Output.fault_count l.fn.writer ≤ g.W.Output.fault_count l.writer;
       failed_writes : g.W.Output.failure_count l.fn.writer ≤ g.W.Output.failure_count l.writer;
       reads : g.R.Input.fault_count l.fn.requests.reader ≤ g.R.Input.fault_count l.requests.reader;

@@ -15,4 +15,5 @@ returns-in-Ok-None-clause-told g c = λ is_open.
 
 pub returns-in-Err-clause-told : goal.returns-in-Err-clause-told
 returns-in-Err-clause-told g c = λ is_open.
-    one_faulted g.S.Service.rules _ _ _ _ c.in-Err.fault _ (c.in-Err.ensures.told is_open) c.answer_fault.ensures.closes c.answer_fault.ensures.sent
+    one_faulted g.S.Service.rules _ _ _ _ c.in-Err.fault _
+    (c.in-Err.ensures.told is_open) c.answer_fault.ensures.closes c.answer_fault.ensures.sent

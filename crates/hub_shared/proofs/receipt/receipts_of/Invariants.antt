@@ -6,7 +6,8 @@ use Rattle.hub_shared.proofs.receipt.receipts_of.Given as goal
 -- all receipts are those so far and those of what is left
 abbrev pub invariant-loop-id : goal.invariant-loop-id
 invariant-loop-id l = record {
-  all : receipts_from l.before l.fn.ids.items l.replies ≡ l.receipts.items ++ receipts_from l.next l.id-iterator.rest.items (drop l.at l.replies);
+  all : receipts_from l.before l.fn.ids.items l.replies
+      ≡ l.receipts.items ++ receipts_from l.next l.id-iterator.rest.items (drop l.at l.replies);
   room : length l.receipts.items + length l.id-iterator.rest.items ≤ vec_capacity l.receipts;
   fits : l.next ≤ l.before + l.at;
   within : l.at ≤ length l.replies;

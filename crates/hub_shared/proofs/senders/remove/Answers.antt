@@ -7,23 +7,30 @@ use Rattle.hub_shared.proofs.senders.remove.Goals as goal
 pub returns-in_err-at-clause-sender : goal.returns-in_err-at-clause-sender
 returns-in_err-at-clause-sender g c =
     let senders = c.args.senders.now.items in
-    let none : position (is_of c.args.feed) senders ≡ None = rw c.as_slice.ensures.value at (sym c.place_of.ensures ∙ c.in_err-at.was) in
+    let none : position (is_of c.args.feed) senders ≡ None =
+    rw c.as_slice.ensures.value at (sym c.place_of.ensures ∙ c.in_err-at.was) in
     c.from_residual.ensures ∙ sym (no_entry c.args.feed senders none)
 
 pub returns-in_err-at-clause-senders : goal.returns-in_err-at-clause-senders
 returns-in_err-at-clause-senders g c =
     let senders = c.args.senders.now.items in
-    let none : position (is_of c.args.feed) senders ≡ None = rw c.as_slice.ensures.value at (sym c.place_of.ensures ∙ c.in_err-at.was) in
+    let none : position (is_of c.args.feed) senders ≡ None =
+    rw c.as_slice.ensures.value at (sym c.place_of.ensures ∙ c.in_err-at.was) in
     sym (without_absent c.args.feed senders (no_entry c.args.feed senders none))
 
 pub returns-clause-sender : goal.returns-clause-sender
 returns-clause-sender g c =
     let senders = c.args.senders.now.items in
-    let placed : Some c.in_ok-at.at ≡ position (is_of c.args.feed) senders = rw c.as_slice.ensures.value at c.in_ok-at.ensures in
-    sym (entry_here c.args.feed senders c.in_ok-at.at placed c.remove-sender.result c.remove-sender.ensures.value)
+    let placed : Some c.in_ok-at.at ≡ position (is_of c.args.feed) senders =
+    rw c.as_slice.ensures.value at c.in_ok-at.ensures in
+    sym (entry_here c.args.feed senders c.in_ok-at.at placed c.remove-sender.result
+    c.remove-sender.ensures.value)
 
 pub returns-clause-senders : goal.returns-clause-senders
 returns-clause-senders g c =
     let senders = c.args.senders.now.items in
-    let placed : Some c.in_ok-at.at ≡ position (is_of c.args.feed) senders = rw c.as_slice.ensures.value at c.in_ok-at.ensures in
-    c.remove-sender.ensures.items ∙ without_here c.args.feed senders c.in_ok-at.at placed c.remove-sender.result c.remove-sender.ensures.value c.requires.rising
+    let placed : Some c.in_ok-at.at ≡ position (is_of c.args.feed) senders =
+    rw c.as_slice.ensures.value at c.in_ok-at.ensures in
+    c.remove-sender.ensures.items
+    ∙ without_here c.args.feed senders c.in_ok-at.at placed c.remove-sender.result
+    c.remove-sender.ensures.value c.requires.rising

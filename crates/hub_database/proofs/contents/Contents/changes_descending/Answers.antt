@@ -8,16 +8,35 @@ use Rattle.hub_revtree.proofs.BranchLemmas.{on_err}
 use Rattle.hub_database.proofs.contents.Contents.changes_descending.Goals as goal
 
 pub count_between-pending-requires : goal.count_between-pending-requires
-count_between-pending-requires c = last_high c.rows-rows.result.edits (params_of c.args.params.now) c.within-since.result c.in_ok-falling.falling.items c.lowest_row-last_seq.result c.in_ok-falling.ensures.ok (c.lowest_row-last_seq.ensures ∙ ap (lowest_row c.within-since.result) c.as_slice.ensures.value)
+count_between-pending-requires c =
+    last_high c.rows-rows.result.edits (params_of c.args.params.now) c.within-since.result
+    c.in_ok-falling.falling.items c.lowest_row-last_seq.result c.in_ok-falling.ensures.ok
+    (c.lowest_row-last_seq.ensures ∙ ap (lowest_row c.within-since.result) c.as_slice.ensures.value)
 
 pub returns-clause-ok : goal.returns-clause-ok
 returns-clause-ok c =
-    rw (sym (ap (λ (f : Followed). f.edits) c.rows-rows.ensures), sym (ap (λ (f : Followed). f.life) c.rows-rows.ensures), sym c.life-life.ensures)
-    (answer_is c.rows-rows.result.edits (params_of c.args.params.now) c.within-since.result c.in_ok-falling.falling.items c.lowest_row-last_seq.result c.in_ok-falling.ensures.ok (c.lowest_row-last_seq.ensures ∙ ap (lowest_row c.within-since.result) c.as_slice.ensures.value)
-    c.life-life.result c.count_between-pending.result c.count_between-pending.ensures (c.within-since.ensures ∙ ap (λ n. since_of c.args.params.now.since n c.life-life.result) c.length.ensures))
+    rw (
+      sym (ap (λ (f : Followed). f.edits) c.rows-rows.ensures),
+      sym (ap (λ (f : Followed). f.life) c.rows-rows.ensures),
+      sym c.life-life.ensures,
+    )
+    (answer_is c.rows-rows.result.edits (params_of c.args.params.now) c.within-since.result
+    c.in_ok-falling.falling.items c.lowest_row-last_seq.result c.in_ok-falling.ensures.ok
+    (c.lowest_row-last_seq.ensures ∙ ap (lowest_row c.within-since.result) c.as_slice.ensures.value)
+    c.life-life.result c.count_between-pending.result c.count_between-pending.ensures
+    (c.within-since.ensures
+    ∙ ap (λ n. since_of c.args.params.now.since n c.life-life.result) c.length.ensures))
 
 pub returns-in_err-falling-clause-memory : goal.returns-in_err-falling-clause-memory
 returns-in_err-falling-clause-memory c =
-    rw (sym (ap (λ (f : Followed). f.edits) c.rows-rows.ensures), sym (ap (λ (f : Followed). f.life) c.rows-rows.ensures), sym c.life-life.ensures)
+    rw (
+      sym (ap (λ (f : Followed). f.edits) c.rows-rows.ensures),
+      sym (ap (λ (f : Followed). f.life) c.rows-rows.ensures),
+      sym c.life-life.ensures,
+    )
     (on_err c.from_residual.result _
-    (answer_some c.rows-rows.result.edits (params_of c.args.params.now) c.within-since.result c.life-life.result (c.within-since.ensures ∙ ap (λ n. since_of c.args.params.now.since n c.life-life.result) c.length.ensures) c.in_err-falling.ensures.memory))
+    (answer_some c.rows-rows.result.edits
+    (params_of c.args.params.now) c.within-since.result c.life-life.result
+    (c.within-since.ensures
+    ∙ ap (λ n. since_of c.args.params.now.since n c.life-life.result) c.length.ensures)
+    c.in_err-falling.ensures.memory))

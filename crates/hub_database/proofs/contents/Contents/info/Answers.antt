@@ -8,6 +8,9 @@ pub returns : goal.returns
 returns c =
     let store = c.self.inside.store in
     let below = count_below store c.self.invariant.0 c.self.invariant.1 in
-    let sum : (c.len-doc_count.result - store.deleted) + store.deleted ≡ length store.documents.items = omega (arith, below, c.len-doc_count.ensures, store.documents.ok.0) in
-    info_by store c.self.invariant.0 c.self.invariant.1 (c.len-doc_count.result - store.deleted) c.update_seq.result c.self.inside.life sum
-    (c.update_seq.ensures.value ∙ sym (ap (λ (z : Contents). length z.journal) c.self.view_is)) ∙ ap (λ (z : Contents). info_of z.journal z.life) c.self.view_is
+    let sum : (c.len-doc_count.result - store.deleted) + store.deleted ≡ length store.documents.items =
+    omega (arith, below, c.len-doc_count.ensures, store.documents.ok.0) in
+    info_by store c.self.invariant.0 c.self.invariant.1
+    (c.len-doc_count.result - store.deleted) c.update_seq.result c.self.inside.life sum
+    (c.update_seq.ensures.value ∙ sym (ap (λ (z : Contents). length z.journal) c.self.view_is))
+    ∙ ap (λ (z : Contents). info_of z.journal z.life) c.self.view_is

@@ -12,33 +12,40 @@ pub returns-in_err-leaves-in-Some-All-clause-memory :
 returns-in_err-leaves-in-Some-All-clause-memory c =
     rw (sym c.self.view_is, c.in-Some-All.is-1)
     (on_err c.from_residual.result _
-    (edits_open (edits_of_store c.self.inside.store) c.args.id.now c.in-Some-All.document.now c.in-Some-All.ensures.found c.args.revs c.self.invariant.0.filed.legal c.in_err-leaves-in-Some-All.ensures.memory))
+    (edits_open (edits_of_store c.self.inside.store) c.args.id.now
+    c.in-Some-All.document.now c.in-Some-All.ensures.found c.args.revs c.self.invariant.0.filed.legal
+    c.in_err-leaves-in-Some-All.ensures.memory))
 
 pub returns-in_ok-leaves-in-Some-All-clause-ok : goal.returns-in_ok-leaves-in-Some-All-clause-ok
 returns-in_ok-leaves-in-Some-All-clause-ok c =
     rw (sym c.self.view_is, c.in-Some-All.is-1)
     (subst (λ os. IfOk c.open_revs.result (λ found. found.items ≡ os))
-    (all_found (edits_of_store c.self.inside.store) c.args.id.now c.in-Some-All.document.now c.in-Some-All.ensures.found c.args.revs c.as_slice.result.now (c.as_slice.ensures ∙ c.in_ok-leaves-in-Some-All.ensures.ok))
-    c.open_revs.ensures.ok)
+    (all_found (edits_of_store c.self.inside.store)
+    c.args.id.now c.in-Some-All.document.now c.in-Some-All.ensures.found c.args.revs c.as_slice.result.now
+    (c.as_slice.ensures ∙ c.in_ok-leaves-in-Some-All.ensures.ok)) c.open_revs.ensures.ok)
 
 pub returns-in_ok-leaves-in-Some-All-clause-memory :
     goal.returns-in_ok-leaves-in-Some-All-clause-memory
 returns-in_ok-leaves-in-Some-All-clause-memory c =
     rw (sym c.self.view_is, c.in-Some-All.is-1)
     (err_then c.open_revs.result
-    (leaves_open (edits_of_store c.self.inside.store) c.args.id.now c.in-Some-All.document.now c.in-Some-All.ensures.found c.args.revs c.as_slice.result.now (c.as_slice.ensures ∙ c.in_ok-leaves-in-Some-All.ensures.ok))
+    (leaves_open (edits_of_store c.self.inside.store) c.args.id.now
+    c.in-Some-All.document.now c.in-Some-All.ensures.found c.args.revs c.as_slice.result.now
+    (c.as_slice.ensures ∙ c.in_ok-leaves-in-Some-All.ensures.ok))
     c.open_revs.ensures.memory)
 
 pub returns-in-Some-Listed-clause-ok : goal.returns-in-Some-Listed-clause-ok
 returns-in-Some-Listed-clause-ok c =
     rw (sym c.self.view_is, c.in-Some-Listed.is-1, sym c.as_slice-in-Some-Listed.ensures)
     (subst (λ os. IfOk c.open_revs-in-Some-Listed.result (λ found. found.items ≡ os))
-    (listed_found (edits_of_store c.self.inside.store) c.args.id.now c.in-Some-Listed.document.now c.in-Some-Listed.ensures.found c.args.revs c.as_slice-in-Some-Listed.result.now)
+    (listed_found (edits_of_store c.self.inside.store) c.args.id.now c.in-Some-Listed.document.now
+    c.in-Some-Listed.ensures.found c.args.revs c.as_slice-in-Some-Listed.result.now)
     c.open_revs-in-Some-Listed.ensures.ok)
 
 pub returns-in-Some-Listed-clause-memory : goal.returns-in-Some-Listed-clause-memory
 returns-in-Some-Listed-clause-memory c =
     rw (sym c.self.view_is, c.in-Some-Listed.is-1, sym c.as_slice-in-Some-Listed.ensures)
     (err_then c.open_revs-in-Some-Listed.result
-    (listed_open (edits_of_store c.self.inside.store) c.args.id.now c.args.revs c.as_slice-in-Some-Listed.result.now)
+    (listed_open (edits_of_store c.self.inside.store) c.args.id.now c.args.revs
+    c.as_slice-in-Some-Listed.result.now)
     c.open_revs-in-Some-Listed.ensures.memory)

@@ -12,19 +12,28 @@ loop-asked-preserved c =
     let i = c.loop-asked.invariant in
     let step = c.in-Some.ensures.steps in
     record {
-      found = i.found ∙ sym (diffs_none c.args.self.now.journal c.loop-asked.yielded c.in-Some.asked (sym c.in_default.is ∙ c.in_ok-diff.ensures.ok));
-      asked = append_assoc c.loop-asked.yielded (c.in-Some.asked ∷ []) c.next.new.self.rest.items ∙ (ap (λ xs. c.loop-asked.yielded ++ xs) (sym step.0) ∙ i.asked);
+      found =
+          i.found
+          ∙ sym (diffs_none c.args.self.now.journal c.loop-asked.yielded c.in-Some.asked
+          (sym c.in_default.is ∙ c.in_ok-diff.ensures.ok));
+      asked =
+          append_assoc c.loop-asked.yielded (c.in-Some.asked ∷ []) c.next.new.self.rest.items
+          ∙ (ap (λ xs. c.loop-asked.yielded ++ xs) (sym step.0) ∙ i.asked);
     }
 
 pub returns-in_err-diff-clause-memory : goal.returns-in_err-diff-clause-memory
 returns-in_err-diff-clause-memory c =
     on_err c.from_residual.result _
-    (subst (λ asked. ¬ (diffs c.args.self.now.journal asked ≡ [])) (ap (λ xs. c.loop-asked.yielded ++ xs) (sym c.in-Some.ensures.steps.0) ∙ c.loop-asked.invariant.asked)
-    (diffs_some c.args.self.now.journal c.loop-asked.yielded c.next.new.self.rest.items c.in-Some.asked c.in_err-diff.ensures.memory))
+    (subst (λ asked. ¬ (diffs c.args.self.now.journal asked ≡ []))
+    (ap (λ xs. c.loop-asked.yielded ++ xs) (sym c.in-Some.ensures.steps.0) ∙ c.loop-asked.invariant.asked)
+    (diffs_some c.args.self.now.journal c.loop-asked.yielded c.next.new.self.rest.items c.in-Some.asked
+    c.in_err-diff.ensures.memory))
 
 pub returns-in_err-push-clause-memory : goal.returns-in_err-push-clause-memory
 returns-in_err-push-clause-memory c =
-    let some : ¬ (wanted_diff c.args.self.now.journal c.in-Some.asked ≡ None) = λ e. absurd (let never = sym c.in-Some-2.is ∙ (c.in_ok-diff.ensures.ok ∙ e) in cc) in
+    let some : ¬ (wanted_diff c.args.self.now.journal c.in-Some.asked ≡ None) =
+    λ e. absurd (let never = sym c.in-Some-2.is ∙ (c.in_ok-diff.ensures.ok ∙ e) in cc) in
     on_err c.from_residual-in_err-push.result _
-    (subst (λ asked. ¬ (diffs c.args.self.now.journal asked ≡ [])) (ap (λ xs. c.loop-asked.yielded ++ xs) (sym c.in-Some.ensures.steps.0) ∙ c.loop-asked.invariant.asked)
+    (subst (λ asked. ¬ (diffs c.args.self.now.journal asked ≡ []))
+    (ap (λ xs. c.loop-asked.yielded ++ xs) (sym c.in-Some.ensures.steps.0) ∙ c.loop-asked.invariant.asked)
     (diffs_some c.args.self.now.journal c.loop-asked.yielded c.next.new.self.rest.items c.in-Some.asked some))

@@ -11,9 +11,14 @@ loop-doc-preserved c =
     let i = c.loop-doc.invariant in
     let step = c.in-Some.ensures.steps in
     let ok = rw i.limits at c.in-Ok.ensures.ok in
-    let all = stores_more (stores_doc c.args.new_edits c.args.self.now.limits.journal) c.args.self.now.journal c.loop-doc.yielded c.in-Some.doc c.loop-doc.list.items (edits_of_store c.loop-doc.self-inside.store) c.in-Ok.outcome (edits_of_store c.write.new.self) i.all ok in
-    let longer : length c.push_reserved.new.self.items ≡ length c.loop-doc.list.items + 1 = ap length c.push_reserved.ensures.items ∙ length_push c.loop-doc.list.items c.in-Ok.outcome in
-    let left : length c.loop-doc.doc-iterator.rest.items ≡ suc (length c.next.new.self.rest.items) = ap length step.0 in
+    let all =
+    stores_more (stores_doc c.args.new_edits c.args.self.now.limits.journal) c.args.self.now.journal
+    c.loop-doc.yielded c.in-Some.doc c.loop-doc.list.items (edits_of_store c.loop-doc.self-inside.store)
+    c.in-Ok.outcome (edits_of_store c.write.new.self) i.all ok in
+    let longer : length c.push_reserved.new.self.items ≡ length c.loop-doc.list.items + 1 =
+    ap length c.push_reserved.ensures.items ∙ length_push c.loop-doc.list.items c.in-Ok.outcome in
+    let left : length c.loop-doc.doc-iterator.rest.items ≡ suc (length c.next.new.self.rest.items) =
+    ap length step.0 in
     record {
       state = c.in-Ok.ensures.state;
       counted = c.in-Ok.ensures.counted;
@@ -21,15 +26,27 @@ loop-doc-preserved c =
       limits = c.in-Ok.ensures.limits ∙ i.limits;
       locals = i.locals;
       life = i.life;
-      grown = omega (arith, i.grown, write_grows c.args.new_edits c.args.self.now.limits.journal (edits_of_store c.loop-doc.self-inside.store) c.in-Some.doc c.in-Ok.outcome (edits_of_store c.write.new.self) ok);
+      grown = omega (
+        arith,
+        i.grown,
+        write_grows c.args.new_edits c.args.self.now.limits.journal
+            (edits_of_store c.loop-doc.self-inside.store) c.in-Some.doc c.in-Ok.outcome
+            (edits_of_store c.write.new.self) ok,
+      );
       all = rw (c.push_reserved.ensures.items) all;
-      docs = append_assoc c.loop-doc.yielded (c.in-Some.doc ∷ []) c.next.new.self.rest.items ∙ (ap (λ ds. c.loop-doc.yielded ++ ds) (sym step.0) ∙ i.docs);
+      docs =
+          append_assoc c.loop-doc.yielded (c.in-Some.doc ∷ []) c.next.new.self.rest.items
+          ∙ (ap (λ ds. c.loop-doc.yielded ++ ds) (sym step.0) ∙ i.docs);
       replies = omega (arith, longer, length_push c.loop-doc.yielded c.in-Some.doc, i.replies);
       room = omega (arith, longer, left, i.room, c.push_reserved.ensures.capacity);
     }
 
 pub returns-clause-rest : goal.returns-clause-rest
-returns-clause-rest c = let i = c.loop-doc.invariant in contents_stay (edits_of_store c.loop-doc.self-inside.store) i.locals i.limits i.life
+returns-clause-rest c =
+    let i = c.loop-doc.invariant in
+    contents_stay (edits_of_store c.loop-doc.self-inside.store) i.locals i.limits i.life
 
 pub returns-in-Err-clause-rest : goal.returns-in-Err-clause-rest
-returns-in-Err-clause-rest c = let i = c.loop-doc.invariant in contents_stay (edits_of_store c.write.new.self) i.locals (c.in-Err.ensures.limits ∙ i.limits) i.life
+returns-in-Err-clause-rest c =
+    let i = c.loop-doc.invariant in
+    contents_stay (edits_of_store c.write.new.self) i.locals (c.in-Err.ensures.limits ∙ i.limits) i.life

@@ -14,7 +14,8 @@ invariant-loop-doc l = record {
   locals : kept l.self-inside.locals ≡ l.fn.self.locals;
   life : l.self-inside.life ≡ l.fn.self.life;
   grown : length l.fn.self.journal ≤ length (edits_of_store l.self-inside.store);
-  all : writes l.new_edits false l.fn.self.limits.journal l.fn.self.journal l.yielded ≡ record { outcomes = l.list.items; journal = edits_of_store l.self-inside.store };
+  all : writes l.new_edits false l.fn.self.limits.journal l.fn.self.journal l.yielded
+      ≡ record { outcomes = l.list.items; journal = edits_of_store l.self-inside.store };
   docs : l.yielded ++ l.doc-iterator.rest.items ≡ l.fn.docs.items;
   replies : length l.list.items ≡ length l.yielded;
   room : length l.list.items + length l.doc-iterator.rest.items ≤ vec_capacity l.list;

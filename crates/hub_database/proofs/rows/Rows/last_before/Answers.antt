@@ -6,12 +6,24 @@ use Rattle.hub_database.proofs.RowLemmas.{last_low, last_shown}
 use Rattle.hub_database.proofs.rows.Rows.last_before.Goals as goal
 
 pub returns-in_default : goal.returns-in_default
-returns-in_default c = rw (sym c.self.view_is) (last_nothing (latest_at (files c.self.inside.store.now.documents.items)) (edits_of_store c.self.inside.store.now) c.self.inside.store.now.index c.self.invariant.1 c.args.place (sym c.in_default.is ∙ c.last_before.ensures.last))
+returns-in_default c =
+    rw (sym c.self.view_is)
+    (last_nothing (latest_at (files c.self.inside.store.now.documents.items))
+    (edits_of_store c.self.inside.store.now) c.self.inside.store.now.index c.self.invariant.1 c.args.place
+    (sym c.in_default.is ∙ c.last_before.ensures.last))
 
 pub index-document-requires : goal.index-document-requires
-index-document-requires c = omega (arith, last_low c.self.inside.store.now.documents.items c.self.inside.store.now.journal.items c.self.inside.store.now.index c.self.invariant.1 c.args.place (c.in-Some.seq, c.in-Some.number) c.in-Some.ensures.last, c.self.inside.store.now.documents.ok.0)
+index-document-requires c = omega (
+  arith,
+  last_low c.self.inside.store.now.documents.items
+      c.self.inside.store.now.journal.items c.self.inside.store.now.index c.self.invariant.1 c.args.place
+      (c.in-Some.seq, c.in-Some.number) c.in-Some.ensures.last,
+  c.self.inside.store.now.documents.ok.0,
+)
 
 pub returns : goal.returns
 returns c =
     rw (sym c.self.view_is, c.as_str.ensures.value)
-    (last_shown c.self.inside.store.now.documents.items c.self.inside.store.now.journal.items c.self.inside.store.now.index c.self.invariant.1 c.args.place (c.in-Some.seq, c.in-Some.number) c.in-Some.ensures.last c.index-document.result.now c.index-document.ensures)
+    (last_shown c.self.inside.store.now.documents.items c.self.inside.store.now.journal.items
+    c.self.inside.store.now.index c.self.invariant.1 c.args.place (c.in-Some.seq, c.in-Some.number)
+    c.in-Some.ensures.last c.index-document.result.now c.index-document.ensures)

@@ -7,25 +7,42 @@ use Rattle.hub_database.proofs.rows.RowsSource.next_of.Goals as goal
 pub returns-in_default : goal.returns-in_default
 returns-in_default c =
     let s = c.self.inside.store.now in
-    rw (sym c.self.view_is) (next_unedited (edits_of_store s) c.args.id.now c.args.place c.args.bound (c.self.invariant.0.filed.others c.args.id.now (sym c.number_of.ensures ∙ c.in_default.is)))
+    rw (sym c.self.view_is)
+    (next_unedited (edits_of_store s) c.args.id.now c.args.place c.args.bound
+    (c.self.invariant.0.filed.others c.args.id.now (sym c.number_of.ensures ∙ c.in_default.is)))
 
 pub index-document-requires : goal.index-document-requires
 index-document-requires c =
     let s = c.self.inside.store.now in
-    omega (arith, (numbered s.limits.journal (number_by s) s.documents.items s.journal.items c.self.invariant.0.filed c.args.id.now c.in-Some.number (sym c.in-Some.ensures)).0, s.documents.ok.0)
+    omega (
+      arith,
+      (numbered s.limits.journal (number_by s) s.documents.items s.journal.items c.self.invariant.0.filed
+          c.args.id.now c.in-Some.number (sym c.in-Some.ensures)).0,
+      s.documents.ok.0,
+    )
 
 pub returns-then-is_ahead : goal.returns-then-is_ahead
 returns-then-is_ahead c =
     let s = c.self.inside.store.now in
     let d = c.index-document.result.now in
-    let n = numbered s.limits.journal (number_by s) s.documents.items s.journal.items c.self.invariant.0.filed c.args.id.now c.in-Some.number (sym c.in-Some.ensures) in
-    let here = document_row s.documents.items s.journal.items s.index c.self.invariant.1 c.in-Some.number d n.0 c.index-document.ensures in
-    rw (sym c.self.view_is, sym (n.1 d c.index-document.ensures)) (next_ahead (edits_of_store s) d.id d.latest c.args.place c.args.bound here (sym c.if-is_ahead.ensures))
+    let n =
+    numbered s.limits.journal (number_by s) s.documents.items s.journal.items c.self.invariant.0.filed
+    c.args.id.now c.in-Some.number (sym c.in-Some.ensures) in
+    let here =
+    document_row s.documents.items s.journal.items s.index c.self.invariant.1 c.in-Some.number d n.0
+    c.index-document.ensures in
+    rw (sym c.self.view_is, sym (n.1 d c.index-document.ensures))
+    (next_ahead (edits_of_store s) d.id d.latest c.args.place c.args.bound here (sym c.if-is_ahead.ensures))
 
 pub returns : goal.returns
 returns c =
     let s = c.self.inside.store.now in
     let d = c.index-document.result.now in
-    let n = numbered s.limits.journal (number_by s) s.documents.items s.journal.items c.self.invariant.0.filed c.args.id.now c.in-Some.number (sym c.in-Some.ensures) in
-    let here = document_row s.documents.items s.journal.items s.index c.self.invariant.1 c.in-Some.number d n.0 c.index-document.ensures in
-    rw (sym c.self.view_is, sym (n.1 d c.index-document.ensures)) (next_apart (edits_of_store s) d.id d.latest c.args.place c.args.bound here (sym c.if-is_ahead.ensures))
+    let n =
+    numbered s.limits.journal (number_by s) s.documents.items s.journal.items c.self.invariant.0.filed
+    c.args.id.now c.in-Some.number (sym c.in-Some.ensures) in
+    let here =
+    document_row s.documents.items s.journal.items s.index c.self.invariant.1 c.in-Some.number d n.0
+    c.index-document.ensures in
+    rw (sym c.self.view_is, sym (n.1 d c.index-document.ensures))
+    (next_apart (edits_of_store s) d.id d.latest c.args.place c.args.bound here (sym c.if-is_ahead.ensures))

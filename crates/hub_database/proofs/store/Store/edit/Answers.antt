@@ -11,43 +11,78 @@ use Rattle.hub_database.proofs.store.Store.edit.Goals as goal
 pub returns-in_default-clause-edit : goal.returns-in_default-clause-edit
 returns-in_default-clause-edit c =
     let look = c.in_ok-entry.ensures.lookup in
-    let here : slice_get c.args.self.now.journal.items c.in_ok-at.at ≡ Some c.in_ok-entry.entry.now = get_default c.args.self.now.journal.items c.deref.result.now c.in_ok-at.at c.in_ok-entry.entry.now c.deref.ensures.value look.3.0 ∙ ap Some (sym look.1) in
-    let found = edit_found c.args.self.now.limits.journal (number_by c.args.self.now) c.args.self.now.documents.items c.args.self.now.journal.items c.requires.filed c.in_ok-at.at c.in_ok-entry.entry.now here c.index-document.result.now c.index-document.ensures in
+    let here : slice_get c.args.self.now.journal.items c.in_ok-at.at ≡ Some c.in_ok-entry.entry.now =
+    get_default c.args.self.now.journal.items c.deref.result.now c.in_ok-at.at c.in_ok-entry.entry.now
+    c.deref.ensures.value look.3.0
+    ∙ ap Some (sym look.1) in
+    let found =
+    edit_found c.args.self.now.limits.journal
+    (number_by c.args.self.now) c.args.self.now.documents.items c.args.self.now.journal.items c.requires.filed
+    c.in_ok-at.at c.in_ok-entry.entry.now here c.index-document.result.now c.index-document.ensures in
     let a = c.in_ok-at.ensures in
     let next : c.args.seq ≡ suc c.in_ok-at.at = omega (arith, a) in
     let entry = found ∙ sym (at_sequence (edits_of_store c.args.self.now) c.args.seq c.in_ok-at.at next) in
-    let none = none_lent c.index-document.result.now.id (slice_get c.index-document.result.now.tree.edits c.in_ok-entry.entry.now.revision) c.in_default.ensures.tip in
+    let none =
+    none_lent c.index-document.result.now.id
+    (slice_get c.index-document.result.now.tree.edits c.in_ok-entry.entry.now.revision)
+    c.in_default.ensures.tip in
     rw (sym entry, none) refl
 
 pub returns-in_default-clause-path : goal.returns-in_default-clause-path
 returns-in_default-clause-path c =
     let look = c.in_ok-entry.ensures.lookup in
-    let here : slice_get c.args.self.now.journal.items c.in_ok-at.at ≡ Some c.in_ok-entry.entry.now = get_default c.args.self.now.journal.items c.deref.result.now c.in_ok-at.at c.in_ok-entry.entry.now c.deref.ensures.value look.3.0 ∙ ap Some (sym look.1) in
-    let found = edit_found c.args.self.now.limits.journal (number_by c.args.self.now) c.args.self.now.documents.items c.args.self.now.journal.items c.requires.filed c.in_ok-at.at c.in_ok-entry.entry.now here c.index-document.result.now c.index-document.ensures in
+    let here : slice_get c.args.self.now.journal.items c.in_ok-at.at ≡ Some c.in_ok-entry.entry.now =
+    get_default c.args.self.now.journal.items c.deref.result.now c.in_ok-at.at c.in_ok-entry.entry.now
+    c.deref.ensures.value look.3.0
+    ∙ ap Some (sym look.1) in
+    let found =
+    edit_found c.args.self.now.limits.journal
+    (number_by c.args.self.now) c.args.self.now.documents.items c.args.self.now.journal.items c.requires.filed
+    c.in_ok-at.at c.in_ok-entry.entry.now here c.index-document.result.now c.index-document.ensures in
     let a = c.in_ok-at.ensures in
     let next : c.args.seq ≡ suc c.in_ok-at.at = omega (arith, a) in
     let entry = found ∙ sym (at_sequence (edits_of_store c.args.self.now) c.args.seq c.in_ok-at.at next) in
-    let none = none_lent c.index-document.result.now.id (slice_get c.index-document.result.now.tree.edits c.in_ok-entry.entry.now.revision) c.in_default.ensures.tip in
+    let none =
+    none_lent c.index-document.result.now.id
+    (slice_get c.index-document.result.now.tree.edits c.in_ok-entry.entry.now.revision)
+    c.in_default.ensures.tip in
     rw (sym entry, none) refl
 
 pub returns-clause-edit : goal.returns-clause-edit
 returns-clause-edit c =
     let look = c.in_ok-entry.ensures.lookup in
-    let here : slice_get c.args.self.now.journal.items c.in_ok-at.at ≡ Some c.in_ok-entry.entry.now = get_default c.args.self.now.journal.items c.deref.result.now c.in_ok-at.at c.in_ok-entry.entry.now c.deref.ensures.value look.3.0 ∙ ap Some (sym look.1) in
-    let found = edit_found c.args.self.now.limits.journal (number_by c.args.self.now) c.args.self.now.documents.items c.args.self.now.journal.items c.requires.filed c.in_ok-at.at c.in_ok-entry.entry.now here c.index-document.result.now c.index-document.ensures in
+    let here : slice_get c.args.self.now.journal.items c.in_ok-at.at ≡ Some c.in_ok-entry.entry.now =
+    get_default c.args.self.now.journal.items c.deref.result.now c.in_ok-at.at c.in_ok-entry.entry.now
+    c.deref.ensures.value look.3.0
+    ∙ ap Some (sym look.1) in
+    let found =
+    edit_found c.args.self.now.limits.journal
+    (number_by c.args.self.now) c.args.self.now.documents.items c.args.self.now.journal.items c.requires.filed
+    c.in_ok-at.at c.in_ok-entry.entry.now here c.index-document.result.now c.index-document.ensures in
     let a = c.in_ok-at.ensures in
     let next : c.args.seq ≡ suc c.in_ok-at.at = omega (arith, a) in
     let entry = found ∙ sym (at_sequence (edits_of_store c.args.self.now) c.args.seq c.in_ok-at.at next) in
-    bare_lent {A = StoredEdit} c.index-document.result.now.id (λ e. e.rev) (λ e. e.deleted) (λ e. e.body.now) c.in-Some.edit (slice_get c.index-document.result.now.tree.edits c.in_ok-entry.entry.now.revision) c.in-Some.ensures.tip
+    bare_lent {A = StoredEdit} c.index-document.result.now.id (λ e. e.rev) (λ e. e.deleted)
+    (λ e. e.body.now) c.in-Some.edit
+    (slice_get c.index-document.result.now.tree.edits c.in_ok-entry.entry.now.revision) c.in-Some.ensures.tip
     ∙ ap (option_map (doc_shown false)) entry
 
 pub returns-clause-path : goal.returns-clause-path
 returns-clause-path c =
     let look = c.in_ok-entry.ensures.lookup in
-    let here : slice_get c.args.self.now.journal.items c.in_ok-at.at ≡ Some c.in_ok-entry.entry.now = get_default c.args.self.now.journal.items c.deref.result.now c.in_ok-at.at c.in_ok-entry.entry.now c.deref.ensures.value look.3.0 ∙ ap Some (sym look.1) in
-    let found = edit_found c.args.self.now.limits.journal (number_by c.args.self.now) c.args.self.now.documents.items c.args.self.now.journal.items c.requires.filed c.in_ok-at.at c.in_ok-entry.entry.now here c.index-document.result.now c.index-document.ensures in
+    let here : slice_get c.args.self.now.journal.items c.in_ok-at.at ≡ Some c.in_ok-entry.entry.now =
+    get_default c.args.self.now.journal.items c.deref.result.now c.in_ok-at.at c.in_ok-entry.entry.now
+    c.deref.ensures.value look.3.0
+    ∙ ap Some (sym look.1) in
+    let found =
+    edit_found c.args.self.now.limits.journal
+    (number_by c.args.self.now) c.args.self.now.documents.items c.args.self.now.journal.items c.requires.filed
+    c.in_ok-at.at c.in_ok-entry.entry.now here c.index-document.result.now c.index-document.ensures in
     let a = c.in_ok-at.ensures in
     let next : c.args.seq ≡ suc c.in_ok-at.at = omega (arith, a) in
     let entry = found ∙ sym (at_sequence (edits_of_store c.args.self.now) c.args.seq c.in_ok-at.at next) in
-    path_lent c.index-document.result.now.id (option_map (take c.in-Some.edit.count) (path_to c.index-document.result.now.tree.edits c.in-Some.edit.rev)) (slice_get c.index-document.result.now.tree.edits c.in_ok-entry.entry.now.revision) c.in-Some.ensures.path
+    path_lent c.index-document.result.now.id
+    (option_map (take c.in-Some.edit.count)
+    (path_to c.index-document.result.now.tree.edits c.in-Some.edit.rev))
+    (slice_get c.index-document.result.now.tree.edits c.in_ok-entry.entry.now.revision) c.in-Some.ensures.path
     ∙ ap (option_map (λ e. Some e.path)) entry

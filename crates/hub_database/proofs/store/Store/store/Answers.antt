@@ -5,7 +5,8 @@ use Rattle.hub_database.specs.Filed.{Filed}
 use Rattle.hub_database.specs.Looked.{look_in}
 use Rattle.hub_database.specs.Store.{deleted_in, filed, files, number_by, setting_of}
 use Rattle.hub_database.proofs.IndexedLemmas.{rows_below}
-use Rattle.hub_database.proofs.StoreLemmas.{filed_at, no_row, number_below, document_there, few_edits, mark_counted}
+use Rattle.hub_database.proofs.StoreLemmas.{filed_at, no_row, number_below}
+use Rattle.hub_database.proofs.StoreLemmas.{document_there, few_edits, mark_counted}
 use Rattle.hub_database.proofs.StoreLemmas.{unchanged, extended, inserted_all, err_then, needs_at}
 use Rattle.hub_database.proofs.StoreLemmas.{needs_first, store_stays, id_kept}
 use Rattle.hub_database.proofs.store.Store.store.Goals as goal
@@ -17,7 +18,9 @@ index_mut-document-requires c =
     let k = c.in-Some.number in
     let there : number_by s c.args.id ≡ Some k =
     sym (rw c.as_str.ensures.value at c.in-Some.ensures) in
-    let low = number_below s.limits.journal (number_by s) s.documents.items s.journal.items c.requires.state.filed c.args.id k there in
+    let low =
+    number_below s.limits.journal
+    (number_by s) s.documents.items s.journal.items c.requires.state.filed c.args.id k there in
     omega (arith, low, s.documents.ok.0)
 
 pub extend-requires-clause-few : goal.extend-requires-clause-few
@@ -80,8 +83,9 @@ returns-in_err-outcome-in-Some-clause-err c =
     let at = document_there s c.requires.state c.args.id k there d c.index_mut-document.ensures.value in
     let e = c.in_err-outcome-in-Some.ensures.err in
     on_err c.from_residual.result _
-    ((unchanged s.limits.journal (number_by s) s.documents.items s.journal.items c.requires.state.filed k
-    d at s.index c.extend.new.index c.requires.rows c.extend.new.self c.extend.new.journal.items e.0 e.1 e.2).1)
+    ((unchanged s.limits.journal (number_by s) s.documents.items s.journal.items c.requires.state.filed k d
+    at s.index c.extend.new.index c.requires.rows c.extend.new.self
+    c.extend.new.journal.items e.0 e.1 e.2).1)
 
 pub recounted-self-requires-clause-some : goal.recounted-self-requires-clause-some
 recounted-self-requires-clause-some c =
@@ -105,7 +109,9 @@ returns-in_ok-outcome-in-Some-clause-state c =
     let at = document_there s c.requires.state c.args.id k there d c.index_mut-document.ensures.value in
     let count = rw (c.is_deleted-was.ensures.mark, c.is_deleted.ensures.mark) at c.recounted-self.ensures in
     let look = look_in s.limits.journal (setting_of k d s.journal.items s.index) c.args.edit in
-    let same = id_kept look k d c.extend.new.self s.journal.items s.index c.in_ok-outcome-in-Some.ensures.written.document in
+    let same =
+    id_kept look k d c.extend.new.self s.journal.items s.index
+    c.in_ok-outcome-in-Some.ensures.written.document in
     store_stays s _ k d c.extend.new.self c.requires.state at same refl refl
     (extended s.limits.journal (number_by s) s.documents.items s.journal.items c.requires.state.filed k d
     at s.index c.extend.new.index c.requires.rows c.args.id there c.is_deleted-was.ensures.tree c.args.edit
@@ -195,7 +201,8 @@ extend-requires-clause-own c =
     sym (rw c.as_str.ensures.value at c.in-Some.ensures) in
     let at = document_there s c.requires.state c.args.id k there d c.index_mut-document.ensures.value in
     let numbers = number_by s in
-    let now = filed_at s.limits.journal numbers s.documents.items s.journal.items c.requires.state.filed k d at in
+    let now =
+    filed_at s.limits.journal numbers s.documents.items s.journal.items c.requires.state.filed k d at in
     c.requires.rows.key k (latest_of (filed d)) (ap (option_map latest_of) now)
 
 pub extend-requires-clause-above : goal.extend-requires-clause-above

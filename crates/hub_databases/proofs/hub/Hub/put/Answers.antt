@@ -4,4 +4,7 @@ use Rattle.hub_databases.proofs.NameLemmas.{taken_back}
 use Rattle.hub_databases.proofs.hub.Hub.put.Goals as goal
 
 pub returns-in-Err-note-clause-same : goal.returns-in-Err-note-clause-same
-returns-in-Err-note-clause-same g c = c.take.ensures.names ∙ (ap (without_name c.args.name.now) c.in_default.ensures.ok ∙ taken_back c.args.names.now c.args.name.now c.in_default.ensures.new)
+returns-in-Err-note-clause-same g c =
+    c.take.ensures.names
+    ∙ (ap (without_name c.args.name.now) c.in_default.ensures.ok
+    ∙ taken_back c.args.names.now c.args.name.now c.in_default.ensures.new)

@@ -8,7 +8,9 @@ use Rattle.hub_databases.proofs.names.Names.find.Goals as goal
 pub returns-clause-some : goal.returns-clause-some
 returns-clause-some g c =
     subst (λ (s : NamesState). IsSome c.get.result ↔ Contains s.names c.args.name.now) c.self.view_is
-    (there c.get.result (subst (λ r. IsSome r ↔ Contains (names_of c.self.inside.list.entries) c.args.name.now) (sym c.get.ensures.value) (found_iff c.self.inside.list.entries c.args.name.now)))
+    (there c.get.result
+    (subst (λ r. IsSome r ↔ Contains (names_of c.self.inside.list.entries) c.args.name.now)
+    (sym c.get.ensures.value) (found_iff c.self.inside.list.entries c.args.name.now)))
   where
     there : {V P : Type 0} (r : Option (Bor V)) → (IsSome (option_copied r) ↔ P) → IsSome r ↔ P
     there None h = h
@@ -16,8 +18,11 @@ returns-clause-some g c =
 
 pub returns-clause-own : goal.returns-clause-own
 returns-clause-own g c =
-    behind (λ what. g.D.HasName.name_of what ≡ c.args.name.now) c.get.result (subst (λ r. IfSome r (λ what. g.D.HasName.name_of what ≡ c.args.name.now)) (sym c.get.ensures.value) (own_found g.D.HasName.name_of c.self.inside.list.entries c.args.name.now c.self.invariant.own))
+    behind (λ what. g.D.HasName.name_of what ≡ c.args.name.now) c.get.result
+    (subst (λ r. IfSome r (λ what. g.D.HasName.name_of what ≡ c.args.name.now)) (sym c.get.ensures.value)
+    (own_found g.D.HasName.name_of c.self.inside.list.entries c.args.name.now c.self.invariant.own))
   where
-    behind : {V : Type 0} (P : V → Type 0) (r : Option (Bor V)) → IfSome (option_copied r) P → IfSome r (λ x. P x.now)
+    behind : {V : Type 0} (P : V → Type 0) (r : Option (Bor V)) → IfSome (option_copied r) P
+        → IfSome r (λ x. P x.now)
     behind P None h = h
     behind P (Some x) h = h

@@ -5,15 +5,27 @@ use Rattle.hub_databases.proofs.NameLemmas.{found_iff, kept_taken, names_taken}
 use Rattle.hub_databases.proofs.names.Names.take.Goals as goal
 
 pub invariant_of-self : goal.invariant_of-self
-invariant_of-self g c = kept_taken g.D.HasName.name_of c.self.inside.limit c.self.inside.list.entries c.self.invariant c.args.name.now c.remove.new.self.entries c.remove.ensures.entries c.remove.ensures.ordered (omega (arith, c.remove.ensures.len))
+invariant_of-self g c =
+    kept_taken g.D.HasName.name_of c.self.inside.limit c.self.inside.list.entries c.self.invariant
+    c.args.name.now c.remove.new.self.entries c.remove.ensures.entries c.remove.ensures.ordered
+    (omega (arith, c.remove.ensures.len))
 
 pub returns-clause-some : goal.returns-clause-some
 returns-clause-some g c =
     subst (λ (s : NamesState). IsSome c.remove.result ↔ Contains s.names c.args.name.now) c.self.view_is
-    (subst (λ r. IsSome r ↔ Contains (names_of c.self.inside.list.entries) c.args.name.now) (sym c.remove.ensures.value) (found_iff c.self.inside.list.entries c.args.name.now))
+    (subst (λ r. IsSome r ↔ Contains (names_of c.self.inside.list.entries) c.args.name.now)
+    (sym c.remove.ensures.value) (found_iff c.self.inside.list.entries c.args.name.now))
 
 pub returns-clause-names : goal.returns-clause-names
 returns-clause-names g c =
-    let names : names_of c.remove.new.self.entries ≡ (without_name c.args.name.now (record { names = names_of c.self.inside.list.entries; limit = c.self.inside.limit; made = c.self.inside.made })).names =
+    let names : names_of c.remove.new.self.entries
+    ≡ (without_name c.args.name.now
+    (record {
+      names = names_of c.self.inside.list.entries;
+      limit = c.self.inside.limit;
+      made = c.self.inside.made;
+    })).names =
     ap names_of c.remove.ensures.entries ∙ names_taken c.self.inside.list.entries c.args.name.now in
-    ap (λ (ns : List (List ℕ)). record { names = ns; limit = c.self.inside.limit; made = c.self.inside.made }) names ∙ ap (without_name c.args.name.now) c.self.view_is
+    ap (λ (ns : List (List ℕ)). record { names = ns; limit = c.self.inside.limit; made = c.self.inside.made })
+    names
+    ∙ ap (without_name c.args.name.now) c.self.view_is

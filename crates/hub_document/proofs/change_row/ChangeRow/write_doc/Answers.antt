@@ -4,9 +4,13 @@ use Rattle.hub_document.proofs.WriteLemmas.{three_parts}
 use Rattle.hub_document.proofs.change_row.ChangeRow.write_doc.Goals as goal
 
 -- the parts before the document's own members, where there is no history
-front_written : (held a b new h r d : List ℕ) → a ≡ held ++ h → b ≡ a ++ r → new ≡ b ++ d → new ≡ held ++ (h ++ (r ++ (d ++ [])))
+front_written : (held a b new h r d : List ℕ) → a ≡ held ++ h → b ≡ a ++ r → new ≡ b ++ d
+    → new ≡ held ++ (h ++ (r ++ (d ++ [])))
 front_written held a b new h r d head rev deleted =
-    deleted ∙ ap (λ l. l ++ d) (rev ∙ ap (λ l. l ++ r) head) ∙ three_parts held h r d ∙ ap (λ l. held ++ (h ++ (r ++ l))) (sym (append-nil d))
+    deleted
+    ∙ ap (λ l. l ++ d) (rev ∙ ap (λ l. l ++ r) head)
+    ∙ three_parts held h r d
+    ∙ ap (λ l. held ++ (h ++ (r ++ l))) (sym (append-nil d))
 
 pub returns-clause-ok : goal.returns-clause-ok
 returns-clause-ok c =

@@ -5,9 +5,13 @@ use Rattle.hub_model.specs.Path.{names}
 use Rattle.hub_document.proofs.PlaceLemmas.{named}
 use Rattle.hub_document.proofs.path.Path.names.Goals as goal
 
-if_found : (path : List Revision) (r : Revision) (place : Option ℕ) → IfSome place (λ k. slice_get path k ≡ Some r) → IfNone place (names path r ≡ false) → is_some place ≡ names path r
+if_found : (path : List Revision) (r : Revision) (place : Option ℕ)
+    → IfSome place (λ k. slice_get path k ≡ Some r) → IfNone place (names path r ≡ false)
+    → is_some place ≡ names path r
 if_found path r (Some k) found absent = sym (named path k r found)
 if_found path r None found absent = sym absent
 
 pub returns : goal.returns
-returns c = c.is_some.ensures ∙ if_found c.args.self.now c.args.rev.now c.place.result c.place.ensures.found c.place.ensures.absent
+returns c =
+    c.is_some.ensures
+    ∙ if_found c.args.self.now c.args.rev.now c.place.result c.place.ensures.found c.place.ensures.absent

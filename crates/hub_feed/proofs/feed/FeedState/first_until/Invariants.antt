@@ -6,5 +6,6 @@ use Rattle.hub_feed.proofs.feed.FeedState.first_until.Given as goal
 abbrev pub invariant-loop : goal.invariant-loop
 invariant-loop g l = record {
   passed : l.counter ≤ l.place;
-  kept : find (is_in_reach l.self) (g.S.Source.current l.source) ≡ find (is_in_reach (record l.self { place = l.place })) (g.S.Source.current l.source);
+  kept : find (is_in_reach l.self) (g.S.Source.current l.source)
+      ≡ find (is_in_reach (record l.self { place = l.place })) (g.S.Source.current l.source);
 }

@@ -11,9 +11,12 @@ use Rattle.hub_feed.proofs.feeds.Feeds.accept_marked.Goals as goal
 pub returns-in_default-clause-new : goal.returns-in_default-clause-new
 returns-in_default-clause-new g c =
     let id = c.args.feed.number in
-    let none : position (λ (p : ℕ × Feed). nat_eq p.0 id) c.self.inside.list.items ≡ None = rw c.as_slice.ensures.value at (sym c.place_near.ensures ∙ c.in_default.is) in
-    subst (λ (z : FeedList). z ≡ feeds_of (handed (over (g.S.Source.length c.args.source.now) (g.S.Source.current c.args.source.now) (g.S.Source.shown c.args.source.now) z) id)) c.self.view_is
-    (ap (λ (fs : List (ℕ × Feed)). record { feeds = fs; next = c.self.inside.next }) (sym (changed_absent id _ c.self.inside.list.items (no_entry id c.self.inside.list.items none))))
+    let none : position (λ (p : ℕ × Feed). nat_eq p.0 id) c.self.inside.list.items ≡ None =
+    rw c.as_slice.ensures.value at (sym c.place_near.ensures ∙ c.in_default.is) in
+    subst (λ (z : FeedList). z ≡ feeds_of (handed (over (g.S.Source.length c.args.source.now)
+    (g.S.Source.current c.args.source.now) (g.S.Source.shown c.args.source.now) z) id)) c.self.view_is
+    (ap (λ (fs : List (ℕ × Feed)). record { feeds = fs; next = c.self.inside.next })
+    (sym (changed_absent id _ c.self.inside.list.items (no_entry id c.self.inside.list.items none))))
 
 pub accept_marked-requires : goal.accept_marked-requires
 accept_marked-requires g c =
@@ -21,10 +24,15 @@ accept_marked-requires g c =
     let feeds = c.self.inside.list.items in
     let len = g.S.Source.length c.args.source.now in
     let rows = g.S.Source.current c.args.source.now in
-    let placed : Some c.in-Some.at ≡ position (λ (p : ℕ × Feed). nat_eq p.0 id) feeds = rw c.as_slice.ensures.value at c.in-Some.ensures in
+    let placed : Some c.in-Some.at ≡ position (λ (p : ℕ × Feed). nat_eq p.0 id) feeds =
+    rw c.as_slice.ensures.value at c.in-Some.ensures in
     let p = c.index_mut-feed.result.now in
     let is = c.index_mut-feed.ensures.value in
-    let asked = subst (λ (z : FeedList). option_map (mark_of g.S.Source.seq_of) (item_due (over len rows (g.S.Source.shown c.args.source.now) z) id) ≡ Some c.args.mark) (sym c.self.view_is) c.requires.due in
+    let asked =
+    subst (λ (z : FeedList). option_map (mark_of g.S.Source.seq_of)
+    (item_due (over len rows (g.S.Source.shown c.args.source.now) z) id)
+    ≡ Some c.args.mark)
+    (sym c.self.view_is) c.requires.due in
     record { due = rw (entry_here id feeds c.in-Some.at placed p is) at asked }
 
 pub invariant_of-self : goal.invariant_of-self
@@ -33,11 +41,15 @@ invariant_of-self g c =
     let feeds = c.self.inside.list.items in
     let len = g.S.Source.length c.args.source.now in
     let rows = g.S.Source.current c.args.source.now in
-    let placed : Some c.in-Some.at ≡ position (λ (p : ℕ × Feed). nat_eq p.0 id) feeds = rw c.as_slice.ensures.value at c.in-Some.ensures in
+    let placed : Some c.in-Some.at ≡ position (λ (p : ℕ × Feed). nat_eq p.0 id) feeds =
+    rw c.as_slice.ensures.value at c.in-Some.ensures in
     let p = c.index_mut-feed.result.now in
     let is = c.index_mut-feed.ensures.value in
     let change : Feed → Feed = λ f. after_due f (due rows f) len in
-    subst (AreNumbered c.self.inside.next) (sym (changed_here id feeds c.in-Some.at placed p is change c.accept_marked.new.self c.self.invariant.rising c.accept_marked.ensures)) (numbered_changed id change c.self.inside.next feeds c.self.invariant)
+    subst (AreNumbered c.self.inside.next)
+    (sym (changed_here id feeds c.in-Some.at placed p is change c.accept_marked.new.self
+    c.self.invariant.rising c.accept_marked.ensures))
+    (numbered_changed id change c.self.inside.next feeds c.self.invariant)
 
 pub returns-clause-new : goal.returns-clause-new
 returns-clause-new g c =
@@ -45,12 +57,20 @@ returns-clause-new g c =
     let feeds = c.self.inside.list.items in
     let len = g.S.Source.length c.args.source.now in
     let rows = g.S.Source.current c.args.source.now in
-    let placed : Some c.in-Some.at ≡ position (λ (p : ℕ × Feed). nat_eq p.0 id) feeds = rw c.as_slice.ensures.value at c.in-Some.ensures in
+    let placed : Some c.in-Some.at ≡ position (λ (p : ℕ × Feed). nat_eq p.0 id) feeds =
+    rw c.as_slice.ensures.value at c.in-Some.ensures in
     let p = c.index_mut-feed.result.now in
     let is = c.index_mut-feed.ensures.value in
     let change : Feed → Feed = λ f. after_due f (due rows f) len in
-    subst (λ (z : FeedList). ◌≡◌ {A = FeedList} (record { feeds = slice_set feeds c.in-Some.at (p.0, c.accept_marked.new.self); next = c.self.inside.next }) (feeds_of (handed (over len rows (g.S.Source.shown c.args.source.now) z) id))) c.self.view_is
-    (ap (λ (fs : List (ℕ × Feed)). record { feeds = fs; next = c.self.inside.next }) (changed_here id feeds c.in-Some.at placed p is change c.accept_marked.new.self c.self.invariant.rising c.accept_marked.ensures))
+    subst (λ (z : FeedList). ◌≡◌ {A = FeedList}
+    (record {
+      feeds = slice_set feeds c.in-Some.at (p.0, c.accept_marked.new.self);
+      next = c.self.inside.next;
+    })
+    (feeds_of (handed (over len rows (g.S.Source.shown c.args.source.now) z) id))) c.self.view_is
+    (ap (λ (fs : List (ℕ × Feed)). record { feeds = fs; next = c.self.inside.next })
+    (changed_here id feeds c.in-Some.at placed p is change c.accept_marked.new.self c.self.invariant.rising
+    c.accept_marked.ensures))
 
 pub returns-clause-behind : goal.returns-clause-behind
 returns-clause-behind g c =
@@ -58,9 +78,15 @@ returns-clause-behind g c =
     let feeds = c.self.inside.list.items in
     let len = g.S.Source.length c.args.source.now in
     let rows = g.S.Source.current c.args.source.now in
-    let placed : Some c.in-Some.at ≡ position (λ (p : ℕ × Feed). nat_eq p.0 id) feeds = rw c.as_slice.ensures.value at c.in-Some.ensures in
+    let placed : Some c.in-Some.at ≡ position (λ (p : ℕ × Feed). nat_eq p.0 id) feeds =
+    rw c.as_slice.ensures.value at c.in-Some.ensures in
     let p = c.index_mut-feed.result.now in
     let is = c.index_mut-feed.ensures.value in
     let change : Feed → Feed = λ f. after_due f (due rows f) len in
-    let behind : AreBehind len feeds = subst (λ (z : FeedList). AreBehind len z.feeds) (sym c.self.view_is) c.requires.behind in
-    subst (AreBehind len) (sym (changed_here id feeds c.in-Some.at placed p is change c.accept_marked.new.self c.self.invariant.rising c.accept_marked.ensures)) (behind_changed id change len feeds (goes_behind rows len (g.met.S.Source.within c.args.source.now)) behind)
+    let behind : AreBehind len feeds =
+    subst (λ (z : FeedList). AreBehind len z.feeds) (sym c.self.view_is) c.requires.behind in
+    subst (AreBehind len)
+    (sym (changed_here id feeds c.in-Some.at placed p is change c.accept_marked.new.self
+    c.self.invariant.rising c.accept_marked.ensures))
+    (behind_changed id change len feeds
+    (goes_behind rows len (g.met.S.Source.within c.args.source.now)) behind)

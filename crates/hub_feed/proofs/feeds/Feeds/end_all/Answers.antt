@@ -4,8 +4,12 @@ use Rattle.hub_feed.proofs.FeedsLemmas.{behind_ended, numbered_ended}
 use Rattle.hub_feed.proofs.feeds.Feeds.end_all.Goals as goal
 
 pub invariant_of-self : goal.invariant_of-self
-invariant_of-self c = subst (AreNumbered c.self.inside.next) (sym c.end_each.ensures) (numbered_ended c.self.inside.next c.self.inside.list.items c.self.invariant)
+invariant_of-self c =
+    subst (AreNumbered c.self.inside.next) (sym c.end_each.ensures)
+    (numbered_ended c.self.inside.next c.self.inside.list.items c.self.invariant)
 
 pub returns-clause-behind : goal.returns-clause-behind
 returns-clause-behind c = λ len behind.
-    subst (AreBehind len) (sym c.end_each.ensures) (behind_ended len c.self.inside.list.items (subst (λ (z : FeedList). AreBehind len z.feeds) (sym c.self.view_is) behind))
+    subst (AreBehind len) (sym c.end_each.ensures)
+    (behind_ended len c.self.inside.list.items
+    (subst (λ (z : FeedList). AreBehind len z.feeds) (sym c.self.view_is) behind))

@@ -8,16 +8,23 @@ use Rattle.hub_feed.proofs.feeds.Feeds.finish.Goals as goal
 
 pub invariant_of-self : goal.invariant_of-self
 invariant_of-self c =
-    let left : c.retain.new.self.items ≡ without c.args.feed.number c.self.inside.list.items = filter_same _ _ _ (λ x b f' k. search rules) _ _ c.retain.ensures.filtered in
-    subst (AreNumbered c.self.inside.next) (sym left) (numbered_left c.self.inside.next c.args.feed.number c.self.inside.list.items c.self.invariant)
+    let left : c.retain.new.self.items ≡ without c.args.feed.number c.self.inside.list.items =
+    filter_same _ _ _ (λ x b f' k. search rules) _ _ c.retain.ensures.filtered in
+    subst (AreNumbered c.self.inside.next) (sym left)
+    (numbered_left c.self.inside.next c.args.feed.number c.self.inside.list.items c.self.invariant)
 
 pub returns-clause-new : goal.returns-clause-new
 returns-clause-new c =
-    let left : c.retain.new.self.items ≡ without c.args.feed.number c.self.inside.list.items = filter_same _ _ _ (λ x b f' k. search rules) _ _ c.retain.ensures.filtered in
-    subst (λ (z : FeedList). record { feeds = c.retain.new.self.items; next = c.self.inside.next } ≡ record z { feeds = without c.args.feed.number z.feeds }) c.self.view_is
+    let left : c.retain.new.self.items ≡ without c.args.feed.number c.self.inside.list.items =
+    filter_same _ _ _ (λ x b f' k. search rules) _ _ c.retain.ensures.filtered in
+    subst (λ (z : FeedList). record { feeds = c.retain.new.self.items; next = c.self.inside.next }
+    ≡ record z { feeds = without c.args.feed.number z.feeds }) c.self.view_is
     (ap (λ (fs : List (ℕ × Feed)). record { feeds = fs; next = c.self.inside.next }) left)
 
 pub returns-clause-behind : goal.returns-clause-behind
 returns-clause-behind c =
-    let left : c.retain.new.self.items ≡ without c.args.feed.number c.self.inside.list.items = filter_same _ _ _ (λ x b f' k. search rules) _ _ c.retain.ensures.filtered in
-    λ len behind. subst (AreBehind len) (sym left) (behind_left len c.args.feed.number c.self.inside.list.items (subst (λ (z : FeedList). AreBehind len z.feeds) (sym c.self.view_is) behind))
+    let left : c.retain.new.self.items ≡ without c.args.feed.number c.self.inside.list.items =
+    filter_same _ _ _ (λ x b f' k. search rules) _ _ c.retain.ensures.filtered in
+    λ len behind. subst (AreBehind len) (sym left)
+    (behind_left len c.args.feed.number c.self.inside.list.items
+    (subst (λ (z : FeedList). AreBehind len z.feeds) (sym c.self.view_is) behind))

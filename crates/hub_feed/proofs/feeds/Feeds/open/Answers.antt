@@ -9,11 +9,17 @@ use Rattle.hub_feed.proofs.feeds.Feeds.open.Goals as goal
 
 pub returns-clause-fresh : goal.returns-clause-fresh
 returns-clause-fresh c =
-    subst (λ (z : FeedList). entry_in c.self.inside.next z.feeds ≡ None) c.self.view_is (none_above c.self.inside.next c.self.inside.list.items c.self.invariant.given)
+    subst (λ (z : FeedList). entry_in c.self.inside.next z.feeds ≡ None) c.self.view_is
+    (none_above c.self.inside.next c.self.inside.list.items c.self.invariant.given)
 
 pub returns-clause-behind : goal.returns-clause-behind
 returns-clause-behind c =
     let feeds = c.self.inside.list.items in
-    let more : c.push_reserved.new.self.items ≡ feeds ++ (c.self.inside.next, begin (params_of c.args.params) c.args.length c.args.life) ∷ [] =
-    c.push_reserved.ensures.items ∙ (ap (λ fs. fs ++ (c.self.inside.next, c.begin.result) ∷ []) c.try_reserve.ensures.items ∙ ap (λ f. feeds ++ (c.self.inside.next, f) ∷ []) c.begin.ensures) in
-    λ behind. subst (AreBehind c.args.length) (sym more) (behind_opened c.args.length c.args.life c.self.inside.next (params_of c.args.params) feeds (subst (λ (z : FeedList). AreBehind c.args.length z.feeds) (sym c.self.view_is) behind))
+    let more : c.push_reserved.new.self.items
+    ≡ feeds ++ (c.self.inside.next, begin (params_of c.args.params) c.args.length c.args.life) ∷ [] =
+    c.push_reserved.ensures.items
+    ∙ (ap (λ fs. fs ++ (c.self.inside.next, c.begin.result) ∷ []) c.try_reserve.ensures.items
+    ∙ ap (λ f. feeds ++ (c.self.inside.next, f) ∷ []) c.begin.ensures) in
+    λ behind. subst (AreBehind c.args.length) (sym more)
+    (behind_opened c.args.length c.args.life c.self.inside.next (params_of c.args.params) feeds
+    (subst (λ (z : FeedList). AreBehind c.args.length z.feeds) (sym c.self.view_is) behind))

@@ -10,6 +10,9 @@ pub answer-requires : goal.answer-requires
 answer-requires c =
     let now = c.args.self.now in
     let call = call_of c.in-Some.call in
-    let next : follow.next_call now.follower ≡ Some call = sym (c.in-Some.ensures ∙ ap (λ (z : world.World). follow.next_call z.follower) c.self.view_is) in
-    let within : IsWithin (length now.source) call = subst (λ z. IsWithinNext (length now.source) z) next (within_next now.follower (length now.source) c.requires) in
+    let next : follow.next_call now.follower ≡ Some call =
+    sym (c.in-Some.ensures ∙ ap (λ (z : world.World). follow.next_call z.follower) c.self.view_is) in
+    let within : IsWithin (length now.source) call =
+    subst (λ z. IsWithinNext (length now.source) z) next
+    (within_next now.follower (length now.source) c.requires) in
     subst (λ (z : world.World). IsWithin (length z.source) call) (sym c.self.view_is) within

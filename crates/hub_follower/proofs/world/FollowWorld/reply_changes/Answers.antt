@@ -15,5 +15,10 @@ returns-in-Ok-None c =
     let items = c.args.items.items in
     let next = follow.next_call w.follower in
     wrong_items w since next items
-    (asked_since next since (c.in-Some.ensures ∙ ap changes_asked (c.next_call.ensures ∙ ap (λ (z : world.World). follow.next_call z.follower) c.self.view_is)))
-    (subst (λ (z : world.World). (rows : List ChangeRow) (last : ℕ) → ¬ IsChangesAnswer z.source (seq_in z.life since) items rows last) c.self.view_is (c.in-Ok-None.ensures.wrong c.in-Ok-None.field-0-is))
+    (asked_since next since
+    (c.in-Some.ensures
+    ∙ ap changes_asked
+    (c.next_call.ensures ∙ ap (λ (z : world.World). follow.next_call z.follower) c.self.view_is)))
+    (subst (λ (z : world.World).
+    (rows : List ChangeRow) (last : ℕ) → ¬ IsChangesAnswer z.source (seq_in z.life since) items rows last)
+    c.self.view_is (c.in-Ok-None.ensures.wrong c.in-Ok-None.field-0-is))

@@ -7,11 +7,17 @@ use Rattle.hub_http.proofs.chunk.ChunkWriter.write_chunk.Goals as goal
 pub returns-in-Ok-write_all-clause-bytes : goal.returns-in-Ok-write_all-clause-bytes
 returns-in-Ok-write_all-clause-bytes g c =
     let all = c.as_slice.result.now in
-    subst (Appends _ _) (between_to_end all c.in-Ok.start (length all) (omega arith) ∙ ap (drop c.in-Ok.start) c.as_slice.ensures.value ∙ c.in-Ok.ensures.made)
+    subst (Appends _ _)
+    (between_to_end all c.in-Ok.start (length all) (omega arith)
+    ∙ ap (drop c.in-Ok.start) c.as_slice.ensures.value
+    ∙ c.in-Ok.ensures.made)
     c.in-Ok-write_all.ensures.ok
 
 pub returns-in-Err-clause-bytes : goal.returns-in-Err-clause-bytes
 returns-in-Err-clause-bytes g c =
     let all = c.as_slice.result.now in
-    subst (AppendsFront _ _) (between_to_end all c.in-Ok.start (length all) (omega arith) ∙ ap (drop c.in-Ok.start) c.as_slice.ensures.value ∙ c.in-Ok.ensures.made)
+    subst (AppendsFront _ _)
+    (between_to_end all c.in-Ok.start (length all) (omega arith)
+    ∙ ap (drop c.in-Ok.start) c.as_slice.ensures.value
+    ∙ c.in-Ok.ensures.made)
     c.in-Err.ensures.front

@@ -6,5 +6,7 @@ use Rattle.hub_http.proofs.inbox.Inbox.next.Goals as goal
 pub returns-then-len-ge-HEAD_LIMIT-clause-told : goal.returns-then-len-ge-HEAD_LIMIT-clause-told
 returns-then-len-ge-HEAD_LIMIT-clause-told c =
     let bytes = came_to c.args.self.now in
-    let long : 16384 ≤ length bytes = omega (arith, c.len.ensures, c.if-len-ge-HEAD_LIMIT.true) in
-    (refl, goes_on_too_long bytes long (rw (c.in-Ok-None.field-0-is, c.as_slice.ensures) at c.in-Ok-None.ensures))
+    let long : 16384 ≤ length bytes = omega (arith, c.len.ensures, c.if-len-ge-HEAD_LIMIT.true) in (
+      refl,
+      goes_on_too_long bytes long (rw (c.in-Ok-None.field-0-is, c.as_slice.ensures) at c.in-Ok-None.ensures),
+    )

@@ -9,22 +9,34 @@ use Rattle.hub_http.proofs.inbox.Inbox.take_request.Goals.{in-Ok, in-Err}
 
 pub overflow_add-wanted : goal.overflow_add-wanted
 overflow_add-wanted c =
-    omega (arith, head_fits (came_to c.args.self.now) c.args.head c.unwrap_or-body_len.result c.requires c.unwrap_or-body_len.ensures)
+    omega (
+      arith,
+      head_fits (came_to c.args.self.now) c.args.head c.unwrap_or-body_len.result c.requires
+          c.unwrap_or-body_len.ensures,
+    )
 
 pub returns-then-len-wanted-clause-told : goal.returns-then-len-wanted-clause-told
 returns-then-len-wanted-clause-told c =
     let bytes = came_to c.args.self.now in
     let h = c.requires.0 in
-    let short : length bytes < c.args.head.len + c.unwrap_or-body_len.result = omega (arith, c.len-len.ensures, c.if-len-wanted.true) in
+    let short : length bytes < c.args.head.len + c.unwrap_or-body_len.result =
+    omega (arith, c.len-len.ensures, c.if-len-wanted.true) in
     elim c.match-make_room.branch [
-      | in-Ok w ↦ rw w.result-is (c.if-self.false, c.make_room.ensures, inr (inr (is_cut bytes c.args.head _ c.requires c.unwrap_or-body_len.ensures short)))
-      | in-Err w ↦ rw w.result-is (c.make_room.ensures, head_has_bytes bytes h (drop c.args.head.len bytes) c.requires.1.begins.reads)
+      | in-Ok w ↦ rw w.result-is (
+        c.if-self.false,
+        c.make_room.ensures,
+        inr (inr (is_cut bytes c.args.head _ c.requires c.unwrap_or-body_len.ensures short)),
+      )
+      | in-Err w ↦ rw w.result-is
+          (c.make_room.ensures, head_has_bytes bytes h (drop c.args.head.len bytes) c.requires.1.begins.reads)
     ]
 
 pub returns-in_default-clause-told : goal.returns-in_default-clause-told
 returns-in_default-clause-told c =
-    let bytes = came_to c.args.self.now in
-    (search (c.in_default.ensures.err), head_has_bytes bytes c.requires.0 (drop c.args.head.len bytes) c.requires.1.begins.reads)
+    let bytes = came_to c.args.self.now in (
+      search (c.in_default.ensures.err),
+      head_has_bytes bytes c.requires.0 (drop c.args.head.len bytes) c.requires.1.begins.reads,
+    )
 
 pub returns-clause-told : goal.returns-clause-told
 returns-clause-told c =
@@ -37,5 +49,7 @@ returns-clause-told c =
       body = c.in-Ok-take_body.body;
     } in
     let taken = c.in-Ok-take_body.ensures.ok in
-    rw c.release.ensures (whole bytes _ c.args.head request c.unwrap_or-body_len.result c.requires
-    (omega (arith, c.len-len.ensures, c.if-len-wanted.false)) c.unwrap_or-body_len.ensures taken.0 taken.1 refl refl c.is_some.ensures refl)
+    rw c.release.ensures
+    (whole bytes _ c.args.head request c.unwrap_or-body_len.result c.requires
+    (omega (arith, c.len-len.ensures, c.if-len-wanted.false)) c.unwrap_or-body_len.ensures taken.0 taken.1
+    refl refl c.is_some.ensures refl)

@@ -10,8 +10,10 @@ returns-clause-rest c =
     c.release.ensures.same
     ∙ elim c.if-count-texts.branch [
       | then-count-texts w ↦ ap pending_in w.self-is
-          ∙ drop_first old.texts old.moved _ c.args.count (omega (arith, c.len-texts.ensures, w.if-count-texts.true)) w.take.ensures
+          ∙ drop_first old.texts old.moved _ c.args.count
+          (omega (arith, c.len-texts.ensures, w.if-count-texts.true)) w.take.ensures
       | else-count-texts w ↦ ap pending_in w.self-is
-          ∙ drop_second old.texts old.moved _ _ c.args.count c.len-texts.result c.len-texts.ensures (omega (arith, w.if-count-texts.false))
+          ∙ drop_second old.texts old.moved _ _ c.args.count c.len-texts.result c.len-texts.ensures
+          (omega (arith, w.if-count-texts.false))
           w.take-else-count-texts.ensures w.take-else-count-texts-2.ensures
     ]

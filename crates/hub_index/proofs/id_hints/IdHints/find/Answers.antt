@@ -21,6 +21,7 @@ returns-in-loop-at g c =
     let ids = g.N.Named.ids c.args.names.now in
     let id = c.args.id.now in
     let is : id_at ids c.in-Some.number ≡ id =
-    (bytes_eq-Decides (id_at ids c.in-Some.number) id).0 (ap (λ t. bytes_eq t id) (sym c.id.ensures) ∙ (sym c.eq.ensures ∙ c.if-eq.true)) in
+    (bytes_eq-Decides (id_at ids c.in-Some.number) id).0
+    (ap (λ t. bytes_eq t id) (sym c.id.ensures) ∙ (sym c.eq.ensures ∙ c.if-eq.true)) in
     let some : length id ≢ 0 = eqb-false (length id) 0 (sym c.is_empty.ensures ∙ c.if-is_empty.false) in
     (numbered ids id c.in-Some.number is (omega arith), is)

@@ -9,23 +9,43 @@ pub place_in-at-requires : goal.place_in-at-requires
 place_in-at-requires g c =
     let f : Vec ℕ Global → List ℕ = λ v. v.items in
     let ids = g.N.Named.ids c.args.names.now in
-    let order : IsOrder ids (numbers_of c.self.inside.pages.items) = subst (IsOrder ids) (sym c.self.view_is) c.requires.order in
-    let low : c.page_at-page.result < length c.self.inside.pages.items = page_there c.page_at-page.result (length c.as_slice.result.now) c.len.result (length c.self.inside.pages.items) c.page_at-page.ensures.within c.page_at-page.ensures.first (ap (λ (l : List (Vec ℕ Global)). length l) c.as_slice.ensures.value) (c.as_slice.ensures.len ∙ sym c.len.ensures) c.if-page-len.false in
+    let order : IsOrder ids (numbers_of c.self.inside.pages.items) =
+    subst (IsOrder ids) (sym c.self.view_is) c.requires.order in
+    let low : c.page_at-page.result < length c.self.inside.pages.items =
+    page_there c.page_at-page.result (length c.as_slice.result.now) c.len.result
+    (length c.self.inside.pages.items) c.page_at-page.ensures.within c.page_at-page.ensures.first
+    (ap (λ (l : List (Vec ℕ Global)). length l) c.as_slice.ensures.value)
+    (c.as_slice.ensures.len ∙ sym c.len.ensures) c.if-page-len.false in
     let below = rw c.as_slice.ensures.value at c.page_at-page.ensures.below in
     let above = rw c.as_slice.ensures.value at c.page_at-page.ensures.above in
-    record { order = subst (IsOrder ids) (sym c.as_slice-2.ensures.value) (page_order f ids c.args.id.now c.self.inside.pages.items c.page_at-page.result c.index.result.now low c.index.ensures below above order) }
+    record {
+      order =
+          subst (IsOrder ids) (sym c.as_slice-2.ensures.value)
+          (page_order f ids c.args.id.now c.self.inside.pages.items c.page_at-page.result c.index.result.now
+          low c.index.ensures below above order);
+    }
 
 pub put-requires-clause-place : goal.put-requires-clause-place
 put-requires-clause-place g c =
-    let low : c.page_at-page.result < length c.self.inside.pages.items = page_there c.page_at-page.result (length c.as_slice.result.now) c.len.result (length c.self.inside.pages.items) c.page_at-page.ensures.within c.page_at-page.ensures.first (ap (λ (l : List (Vec ℕ Global)). length l) c.as_slice.ensures.value) (c.as_slice.ensures.len ∙ sym c.len.ensures) c.if-page-len.false in
-    at_some (λ (v : Vec ℕ Global). c.place_in-at.result ≤ length v.items) c.self.inside.pages.items c.page_at-page.result c.index.result.now low c.index.ensures
-    (subst (λ (l : List ℕ). c.place_in-at.result ≤ length l) c.as_slice-2.ensures.value c.place_in-at.ensures.within)
+    let low : c.page_at-page.result < length c.self.inside.pages.items =
+    page_there c.page_at-page.result (length c.as_slice.result.now) c.len.result
+    (length c.self.inside.pages.items) c.page_at-page.ensures.within c.page_at-page.ensures.first
+    (ap (λ (l : List (Vec ℕ Global)). length l) c.as_slice.ensures.value)
+    (c.as_slice.ensures.len ∙ sym c.len.ensures) c.if-page-len.false in
+    at_some (λ (v : Vec ℕ Global). c.place_in-at.result ≤ length v.items) c.self.inside.pages.items
+    c.page_at-page.result c.index.result.now low c.index.ensures
+    (subst (λ (l : List ℕ). c.place_in-at.result ≤ length l) c.as_slice-2.ensures.value
+    c.place_in-at.ensures.within)
 
 pub returns-clause-ok : goal.returns-clause-ok
 returns-clause-ok g c =
     let f : Vec ℕ Global → List ℕ = λ v. v.items in
     let ids = g.N.Named.ids c.args.names.now in
-    let low : c.page_at-page.result < length c.self.inside.pages.items = page_there c.page_at-page.result (length c.as_slice.result.now) c.len.result (length c.self.inside.pages.items) c.page_at-page.ensures.within c.page_at-page.ensures.first (ap (λ (l : List (Vec ℕ Global)). length l) c.as_slice.ensures.value) (c.as_slice.ensures.len ∙ sym c.len.ensures) c.if-page-len.false in
+    let low : c.page_at-page.result < length c.self.inside.pages.items =
+    page_there c.page_at-page.result (length c.as_slice.result.now) c.len.result
+    (length c.self.inside.pages.items) c.page_at-page.ensures.within c.page_at-page.ensures.first
+    (ap (λ (l : List (Vec ℕ Global)). length l) c.as_slice.ensures.value)
+    (c.as_slice.ensures.len ∙ sym c.len.ensures) c.if-page-len.false in
     let below = rw c.as_slice.ensures.value at c.page_at-page.ensures.below in
     let above = rw c.as_slice.ensures.value at c.page_at-page.ensures.above in
     let within = rw c.as_slice-2.ensures.value at c.place_in-at.ensures.within in
@@ -33,7 +53,8 @@ returns-clause-ok g c =
     let behind = rw c.as_slice-2.ensures.value at c.place_in-at.ensures.behind in
     on_ok_weaker c.put.result
     (λ e. e
-    ∙ (page_takes f ids c.args.id.now c.self.inside.pages.items c.page_at-page.result c.index.result.now low c.index.ensures below above c.place_in-at.result c.args.number within before behind
+    ∙ (page_takes f ids c.args.id.now c.self.inside.pages.items c.page_at-page.result c.index.result.now
+    low c.index.ensures below above c.place_in-at.result c.args.number within before behind
     ∙ ap (λ (l : List ℕ). with_number ids l c.args.id.now c.args.number) c.self.view_is))
     c.put.ensures.ok
 
@@ -41,5 +62,7 @@ pub returns-clause-order : goal.returns-clause-order
 returns-clause-order g c =
     let ids = g.N.Named.ids c.args.names.now in
     on_ok_weaker c.put.result
-    (λ e. subst (IsOrder (ids ++ c.args.id.now ∷ [])) (sym e) (order_more ids c.args.self.now c.args.id.now c.args.number c.requires.order c.requires.next c.requires.new))
+    (λ e. subst (IsOrder (ids ++ c.args.id.now ∷ [])) (sym e)
+    (order_more ids c.args.self.now c.args.id.now c.args.number c.requires.order
+    c.requires.next c.requires.new))
     (returns-clause-ok g c)

@@ -13,5 +13,7 @@ pub invariant_of-self : goal.invariant_of-self
 invariant_of-self c = record {
   each = c.remove_row.ensures.pages;
   rising = c.remove_row.ensures.rising;
-  index = subst IsIndex (sym (c.remove_row.ensures.rows ∙ removed_is c.args.seq _ c.self.invariant.index.rising)) (index_less (λ (r : ℕ × ℕ). not (nat_eq r.0 c.args.seq)) _ c.self.invariant.index);
+  index =
+      subst IsIndex (sym (c.remove_row.ensures.rows ∙ removed_is c.args.seq _ c.self.invariant.index.rising))
+      (index_less (λ (r : ℕ × ℕ). not (nat_eq r.0 c.args.seq)) _ c.self.invariant.index);
 }

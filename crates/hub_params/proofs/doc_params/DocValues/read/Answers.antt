@@ -27,7 +27,8 @@ returns-in_err-decoded_name-clause-memory c =
     let left = raw_pairs_left c.loop-encoded.encoded-iterator in
     let rest = raw_pairs_left c.next.new.self in
     let taken : left ≡ (name, value) ∷ rest = search rules in
-    at_any_error _ (λ _. HasEscapedName c.args.query.now) (λ _. escaped_name c.args.query.now name value left rest taken c.loop-encoded.invariant.plain c.in_err-decoded_name.ensures.borrows)
+    at_any_error _ (λ _. HasEscapedName c.args.query.now) (λ _. escaped_name c.args.query.now name value
+    left rest taken c.loop-encoded.invariant.plain c.in_err-decoded_name.ensures.borrows)
 
 pub loop-encoded-preserved-in_ok-decoded_name : goal.loop-encoded-preserved-in_ok-decoded_name
 loop-encoded-preserved-in_ok-decoded_name c =
@@ -40,10 +41,18 @@ loop-encoded-preserved-in_ok-decoded_name c =
     let named : text ≡ decoded name = c.as_str-name.ensures.value ∙ c.in_ok-decoded_name.ensures.value.2 in
     record {
       plain = plain_from_rest c.args.query.now name value left rest taken c.loop-encoded.invariant.plain;
-      rev = read_one (codes "rev") name value text left rest _ _ _ taken named c.later-rev.ensures c.loop-encoded.invariant.rev;
-      open_revs = read_one (codes "open_revs") name value text left rest _ _ _ taken named c.later-open_revs.ensures c.loop-encoded.invariant.open_revs;
-      revs = read_one (codes "revs") name value text left rest _ _ _ taken named c.later-revs.ensures c.loop-encoded.invariant.revs;
-      new_edits = read_one (codes "new_edits") name value text left rest _ _ _ taken named c.later-new_edits.ensures c.loop-encoded.invariant.new_edits;
+      rev =
+          read_one (codes "rev") name value text left rest _ _ _ taken named c.later-rev.ensures
+          c.loop-encoded.invariant.rev;
+      open_revs =
+          read_one (codes "open_revs") name value text left rest _ _ _ taken named c.later-open_revs.ensures
+          c.loop-encoded.invariant.open_revs;
+      revs =
+          read_one (codes "revs") name value text left rest _ _ _ taken named c.later-revs.ensures
+          c.loop-encoded.invariant.revs;
+      new_edits =
+          read_one (codes "new_edits") name value text left rest _ _ _ taken named c.later-new_edits.ensures
+          c.loop-encoded.invariant.new_edits;
     }
 
 pub loop-encoded-preserved : goal.loop-encoded-preserved
@@ -57,8 +66,16 @@ loop-encoded-preserved c =
     let named : text ≡ decoded name = c.as_str-name.ensures.value ∙ c.in_ok-decoded_name.ensures.value.2 in
     record {
       plain = plain_from_rest c.args.query.now name value left rest taken c.loop-encoded.invariant.plain;
-      rev = read_one (codes "rev") name value text left rest _ _ _ taken named c.later-rev.ensures c.loop-encoded.invariant.rev;
-      open_revs = read_one (codes "open_revs") name value text left rest _ _ _ taken named c.later-open_revs.ensures c.loop-encoded.invariant.open_revs;
-      revs = read_one (codes "revs") name value text left rest _ _ _ taken named c.later-revs.ensures c.loop-encoded.invariant.revs;
-      new_edits = read_one (codes "new_edits") name value text left rest _ _ _ taken named c.later-new_edits.ensures c.loop-encoded.invariant.new_edits;
+      rev =
+          read_one (codes "rev") name value text left rest _ _ _ taken named c.later-rev.ensures
+          c.loop-encoded.invariant.rev;
+      open_revs =
+          read_one (codes "open_revs") name value text left rest _ _ _ taken named c.later-open_revs.ensures
+          c.loop-encoded.invariant.open_revs;
+      revs =
+          read_one (codes "revs") name value text left rest _ _ _ taken named c.later-revs.ensures
+          c.loop-encoded.invariant.revs;
+      new_edits =
+          read_one (codes "new_edits") name value text left rest _ _ _ taken named c.later-new_edits.ensures
+          c.loop-encoded.invariant.new_edits;
     }

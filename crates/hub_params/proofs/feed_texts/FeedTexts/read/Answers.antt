@@ -33,7 +33,8 @@ returns-in_err-decoded_name-clause-memory c =
     let left = raw_pairs_left c.loop-encoded.encoded-iterator in
     let rest = raw_pairs_left c.next.new.self in
     let taken : left ≡ (name, value) ∷ rest = search rules in
-    at_any_error _ (λ _. HasEscapedName c.args.query.now) (λ _. escaped_name c.args.query.now name value left rest taken c.loop-encoded.invariant.plain c.in_err-decoded_name.ensures.borrows)
+    at_any_error _ (λ _. HasEscapedName c.args.query.now) (λ _. escaped_name c.args.query.now name value
+    left rest taken c.loop-encoded.invariant.plain c.in_err-decoded_name.ensures.borrows)
 
 pub loop-encoded-preserved-in_ok-decoded_name : goal.loop-encoded-preserved-in_ok-decoded_name
 loop-encoded-preserved-in_ok-decoded_name c =
@@ -46,16 +47,36 @@ loop-encoded-preserved-in_ok-decoded_name c =
     let named : text ≡ decoded name = c.as_str-name.ensures.value ∙ c.in_ok-decoded_name.ensures.value.2 in
     record {
       plain = plain_from_rest c.args.query.now name value left rest taken c.loop-encoded.invariant.plain;
-      since = read_one (codes "since") name value text left rest _ _ _ taken named c.later.ensures c.loop-encoded.invariant.since;
-      limit = read_one (codes "limit") name value text left rest _ _ _ taken named c.later-in-loop-encoded.ensures c.loop-encoded.invariant.limit;
-      style = read_one (codes "style") name value text left rest _ _ _ taken named c.later-in-loop-encoded-2.ensures c.loop-encoded.invariant.style;
-      feed = read_one (codes "feed") name value text left rest _ _ _ taken named c.later-in-loop-encoded-3.ensures c.loop-encoded.invariant.feed;
-      filter = read_one (codes "filter") name value text left rest _ _ _ taken named c.later-in-loop-encoded-4.ensures c.loop-encoded.invariant.filter;
-      doc_ids = read_one (codes "doc_ids") name value text left rest _ _ _ taken named c.later-in-loop-encoded-5.ensures c.loop-encoded.invariant.doc_ids;
-      heartbeat = read_one (codes "heartbeat") name value text left rest _ _ _ taken named c.later-in-loop-encoded-6.ensures c.loop-encoded.invariant.heartbeat;
-      timeout = read_one (codes "timeout") name value text left rest _ _ _ taken named c.later-in-loop-encoded-7.ensures c.loop-encoded.invariant.timeout;
-      descending = read_one (codes "descending") name value text left rest _ _ _ taken named c.later-in-loop-encoded-8.ensures c.loop-encoded.invariant.descending;
-      include_docs = read_one (codes "include_docs") name value text left rest _ _ _ taken named c.later-in-loop-encoded-9.ensures c.loop-encoded.invariant.include_docs;
+      since =
+          read_one (codes "since") name value text left rest _ _ _ taken named c.later.ensures
+          c.loop-encoded.invariant.since;
+      limit =
+          read_one (codes "limit") name value text left rest _ _ _ taken named c.later-in-loop-encoded.ensures
+          c.loop-encoded.invariant.limit;
+      style =
+          read_one (codes "style") name value text left rest _ _ _ taken named
+          c.later-in-loop-encoded-2.ensures c.loop-encoded.invariant.style;
+      feed =
+          read_one (codes "feed") name value text left rest _ _ _ taken
+          named c.later-in-loop-encoded-3.ensures c.loop-encoded.invariant.feed;
+      filter =
+          read_one (codes "filter") name value text left rest _ _ _ taken named
+          c.later-in-loop-encoded-4.ensures c.loop-encoded.invariant.filter;
+      doc_ids =
+          read_one (codes "doc_ids") name value text left rest _ _ _ taken named
+          c.later-in-loop-encoded-5.ensures c.loop-encoded.invariant.doc_ids;
+      heartbeat =
+          read_one (codes "heartbeat") name value text left rest _ _ _ taken named
+          c.later-in-loop-encoded-6.ensures c.loop-encoded.invariant.heartbeat;
+      timeout =
+          read_one (codes "timeout") name value text left rest _ _ _ taken named
+          c.later-in-loop-encoded-7.ensures c.loop-encoded.invariant.timeout;
+      descending =
+          read_one (codes "descending") name value text left rest _ _ _ taken named
+          c.later-in-loop-encoded-8.ensures c.loop-encoded.invariant.descending;
+      include_docs =
+          read_one (codes "include_docs") name value text left rest _ _ _ taken
+          named c.later-in-loop-encoded-9.ensures c.loop-encoded.invariant.include_docs;
     }
 
 pub loop-encoded-preserved : goal.loop-encoded-preserved
@@ -69,14 +90,34 @@ loop-encoded-preserved c =
     let named : text ≡ decoded name = c.as_str-name.ensures.value ∙ c.in_ok-decoded_name.ensures.value.2 in
     record {
       plain = plain_from_rest c.args.query.now name value left rest taken c.loop-encoded.invariant.plain;
-      since = read_one (codes "since") name value text left rest _ _ _ taken named c.later.ensures c.loop-encoded.invariant.since;
-      limit = read_one (codes "limit") name value text left rest _ _ _ taken named c.later-in-loop-encoded.ensures c.loop-encoded.invariant.limit;
-      style = read_one (codes "style") name value text left rest _ _ _ taken named c.later-in-loop-encoded-2.ensures c.loop-encoded.invariant.style;
-      feed = read_one (codes "feed") name value text left rest _ _ _ taken named c.later-in-loop-encoded-3.ensures c.loop-encoded.invariant.feed;
-      filter = read_one (codes "filter") name value text left rest _ _ _ taken named c.later-in-loop-encoded-4.ensures c.loop-encoded.invariant.filter;
-      doc_ids = read_one (codes "doc_ids") name value text left rest _ _ _ taken named c.later-in-loop-encoded-5.ensures c.loop-encoded.invariant.doc_ids;
-      heartbeat = read_one (codes "heartbeat") name value text left rest _ _ _ taken named c.later-in-loop-encoded-6.ensures c.loop-encoded.invariant.heartbeat;
-      timeout = read_one (codes "timeout") name value text left rest _ _ _ taken named c.later-in-loop-encoded-7.ensures c.loop-encoded.invariant.timeout;
-      descending = read_one (codes "descending") name value text left rest _ _ _ taken named c.later-in-loop-encoded-8.ensures c.loop-encoded.invariant.descending;
-      include_docs = read_one (codes "include_docs") name value text left rest _ _ _ taken named c.later-in-loop-encoded-9.ensures c.loop-encoded.invariant.include_docs;
+      since =
+          read_one (codes "since") name value text left rest _ _ _ taken named c.later.ensures
+          c.loop-encoded.invariant.since;
+      limit =
+          read_one (codes "limit") name value text left rest _ _ _ taken named c.later-in-loop-encoded.ensures
+          c.loop-encoded.invariant.limit;
+      style =
+          read_one (codes "style") name value text left rest _ _ _ taken named
+          c.later-in-loop-encoded-2.ensures c.loop-encoded.invariant.style;
+      feed =
+          read_one (codes "feed") name value text left rest _ _ _ taken
+          named c.later-in-loop-encoded-3.ensures c.loop-encoded.invariant.feed;
+      filter =
+          read_one (codes "filter") name value text left rest _ _ _ taken named
+          c.later-in-loop-encoded-4.ensures c.loop-encoded.invariant.filter;
+      doc_ids =
+          read_one (codes "doc_ids") name value text left rest _ _ _ taken named
+          c.later-in-loop-encoded-5.ensures c.loop-encoded.invariant.doc_ids;
+      heartbeat =
+          read_one (codes "heartbeat") name value text left rest _ _ _ taken named
+          c.later-in-loop-encoded-6.ensures c.loop-encoded.invariant.heartbeat;
+      timeout =
+          read_one (codes "timeout") name value text left rest _ _ _ taken named
+          c.later-in-loop-encoded-7.ensures c.loop-encoded.invariant.timeout;
+      descending =
+          read_one (codes "descending") name value text left rest _ _ _ taken named
+          c.later-in-loop-encoded-8.ensures c.loop-encoded.invariant.descending;
+      include_docs =
+          read_one (codes "include_docs") name value text left rest _ _ _ taken
+          named c.later-in-loop-encoded-9.ensures c.loop-encoded.invariant.include_docs;
     }

@@ -10,10 +10,14 @@ append_from-requires c =
       stems = c.self.invariant.0;
       index = rw c.lent-index.ensures c.self.invariant.2;
       legal = rw (sym c.self.view_is) at c.requires;
-      within = rev_within c.self.inside.stems.items c.in-Some.place c.args.rev.now (rw c.as_slice.ensures.value at c.in-Some.ensures.found);
+      within =
+          rev_within c.self.inside.stems.items c.in-Some.place c.args.rev.now
+          (rw c.as_slice.ensures.value at c.in-Some.ensures.found);
     })
 
 pub returns-in-None : goal.returns-in-None
 returns-in-None c =
-    let none = no_line c.self.inside.stems.items c.self.invariant.0 c.args.rev.now (rw c.as_slice.ensures.value at c.in-None.ensures.none) in
+    let none =
+    no_line c.self.inside.stems.items c.self.invariant.0 c.args.rev.now
+    (rw c.as_slice.ensures.value at c.in-None.ensures.none) in
     rw (sym c.self.view_is, none) (sym (append-nil c.args.line.now.items))

@@ -6,19 +6,37 @@ use Rattle.hub_revtree.proofs.StemLooks.{low_stem, read_stem}
 use Rattle.hub_revtree.proofs.branches.Branches.head_alone.Goals as goal
 
 pub index-requires : goal.index-requires
-index-requires c = let low = low_stem c.self.inside.stems.items c.args.self.now.list c.args.at (ap (λ (z : Storage). z.list) c.self.view_is) c.requires in omega (arith, low, c.self.inside.stems.ok.0)
+index-requires c =
+    let low =
+    low_stem c.self.inside.stems.items c.args.self.now.list c.args.at
+    (ap (λ (z : Storage). z.list) c.self.view_is) c.requires in
+    omega (arith, low, c.self.inside.stems.ok.0)
 
 pub newest-requires : goal.newest-requires
 newest-requires c =
-    let low = low_stem c.self.inside.stems.items c.args.self.now.list c.args.at (ap (λ (z : Storage). z.list) c.self.view_is) c.requires in
-    c.self.invariant.0.falling c.args.at c.index.result.now (read_stem c.self.inside.stems.items c.args.at c.index.result.now low c.index.ensures)
+    let low =
+    low_stem c.self.inside.stems.items c.args.self.now.list c.args.at
+    (ap (λ (z : Storage). z.list) c.self.view_is) c.requires in
+    c.self.invariant.0.falling c.args.at c.index.result.now
+    (read_stem c.self.inside.stems.items c.args.at c.index.result.now low c.index.ensures)
 
 pub returns-in_err-changes-clause-memory : goal.returns-in_err-changes-clause-memory
 returns-in_err-changes-clause-memory c =
-    let low = low_stem c.self.inside.stems.items c.args.self.now.list c.args.at (ap (λ (z : Storage). z.list) c.self.view_is) c.requires in
-    on_err c.from_residual.result _ (rw (sym c.self.view_is) (head_other c.self.inside.stems.items c.self.invariant.0 c.args.at c.index.result.now (read_stem c.self.inside.stems.items c.args.at c.index.result.now low c.index.ensures) c.in_err-changes.ensures.memory))
+    let low =
+    low_stem c.self.inside.stems.items c.args.self.now.list c.args.at
+    (ap (λ (z : Storage). z.list) c.self.view_is) c.requires in
+    on_err c.from_residual.result _
+    (rw (sym c.self.view_is)
+    (head_other c.self.inside.stems.items c.self.invariant.0 c.args.at c.index.result.now
+    (read_stem c.self.inside.stems.items c.args.at c.index.result.now low c.index.ensures)
+    c.in_err-changes.ensures.memory))
 
 pub returns-clause-ok : goal.returns-clause-ok
 returns-clause-ok c =
-    let low = low_stem c.self.inside.stems.items c.args.self.now.list c.args.at (ap (λ (z : Storage). z.list) c.self.view_is) c.requires in
-    rw (sym c.self.view_is) (head_alone c.self.inside.stems.items c.self.invariant.0 c.args.at c.index.result.now (read_stem c.self.inside.stems.items c.args.at c.index.result.now low c.index.ensures) c.in_ok-changes.changes c.in_ok-changes.ensures.ok)
+    let low =
+    low_stem c.self.inside.stems.items c.args.self.now.list c.args.at
+    (ap (λ (z : Storage). z.list) c.self.view_is) c.requires in
+    rw (sym c.self.view_is)
+    (head_alone c.self.inside.stems.items c.self.invariant.0 c.args.at c.index.result.now
+    (read_stem c.self.inside.stems.items c.args.at c.index.result.now low c.index.ensures)
+    c.in_ok-changes.changes c.in_ok-changes.ensures.ok)

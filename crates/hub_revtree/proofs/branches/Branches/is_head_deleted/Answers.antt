@@ -5,9 +5,18 @@ use Rattle.hub_revtree.proofs.StemLooks.{low_stem, read_stem}
 use Rattle.hub_revtree.proofs.branches.Branches.is_head_deleted.Goals as goal
 
 pub index-requires : goal.index-requires
-index-requires c = let low = low_stem c.self.inside.stems.items c.args.self.now.list c.args.at (ap (λ (z : Storage). z.list) c.self.view_is) c.requires in omega (arith, low, c.self.inside.stems.ok.0)
+index-requires c =
+    let low =
+    low_stem c.self.inside.stems.items c.args.self.now.list c.args.at
+    (ap (λ (z : Storage). z.list) c.self.view_is) c.requires in
+    omega (arith, low, c.self.inside.stems.ok.0)
 
 pub returns : goal.returns
 returns c =
-    let low = low_stem c.self.inside.stems.items c.args.self.now.list c.args.at (ap (λ (z : Storage). z.list) c.self.view_is) c.requires in
-    rw (sym c.self.view_is) (head_mark c.self.inside.stems.items c.self.invariant.0 c.args.at c.index.result.now (read_stem c.self.inside.stems.items c.args.at c.index.result.now low c.index.ensures) c.deleted.result c.deleted.ensures)
+    let low =
+    low_stem c.self.inside.stems.items c.args.self.now.list c.args.at
+    (ap (λ (z : Storage). z.list) c.self.view_is) c.requires in
+    rw (sym c.self.view_is)
+    (head_mark c.self.inside.stems.items c.self.invariant.0 c.args.at c.index.result.now
+    (read_stem c.self.inside.stems.items c.args.at c.index.result.now low c.index.ensures)
+    c.deleted.result c.deleted.ensures)

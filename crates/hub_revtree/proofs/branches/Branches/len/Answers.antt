@@ -4,4 +4,8 @@ use Rattle.hub_revtree.proofs.StemLemmas.{as_many}
 use Rattle.hub_revtree.proofs.branches.Branches.len.Goals as goal
 
 pub returns : goal.returns
-returns c = c.len.ensures ∙ c.self.inside.stems.ok.0 ∙ sym (as_many c.self.inside.stems.items) ∙ ap (λ (z : Storage). length z.list) c.self.view_is
+returns c =
+    c.len.ensures
+    ∙ c.self.inside.stems.ok.0
+    ∙ sym (as_many c.self.inside.stems.items)
+    ∙ ap (λ (z : Storage). length z.list) c.self.view_is

@@ -14,7 +14,8 @@ line_length-requires c =
     let found = rw c.as_slice.ensures.value at c.in-Some.ensures.found in
     let legal = rw (sym c.self.view_is) at c.requires in
     let few = line_short (edits_in (branches_of xs)) c.args.rev.now legal in
-    let short : length (line_to (edits_in (branches_of xs)) (Some c.args.rev.now)) < 2 ^ 16 = omega (arith, few, c.generation-revisions_at_most.ensures.value, c.generation-revisions_at_most.type_inv) in
+    let short : length (line_to (edits_in (branches_of xs)) (Some c.args.rev.now)) < 2 ^ 16 = omega
+    (arith, few, c.generation-revisions_at_most.ensures.value, c.generation-revisions_at_most.type_inv) in
     rw c.as_slice-in-Some.ensures.value
     (record {
       stems = c.self.invariant.0;
@@ -33,5 +34,7 @@ returns-in-Some c =
 
 pub returns-in-None : goal.returns-in-None
 returns-in-None c =
-    let none = no_line c.self.inside.stems.items c.self.invariant.0 c.args.rev.now (rw c.as_slice.ensures.value at c.in-None.ensures.none) in
+    let none =
+    no_line c.self.inside.stems.items c.self.invariant.0 c.args.rev.now
+    (rw c.as_slice.ensures.value at c.in-None.ensures.none) in
     rw (sym c.self.view_is) (sym (ap length none))

@@ -14,4 +14,6 @@ returns c =
     let newest = subst (λ o. IsNewestLine o stems) (sym c.in_ok-line.ensures) indexed.1 in
     let first = sym (rw c.as_slice.ensures.value at c.is_newest.ensures) ∙ c.if-not-is_newest.false in
     rw (sym c.self.view_is)
-    (newest ∙ ap (λ o. map (λ (r : Revision). r.hash) (line_to (edits_in (branches_of stems)) o)) (first_there 0 (revisions_at stems _) c.args.rev.now first))
+    (newest
+    ∙ ap (λ o. map (λ (r : Revision). r.hash) (line_to (edits_in (branches_of stems)) o))
+    (first_there 0 (revisions_at stems _) c.args.rev.now first))

@@ -4,10 +4,12 @@ use Rattle.hub_revtree.specs.Index.{IsNewestLine}
 use Rattle.hub_revtree.specs.Stem.{Stem, branches_of}
 use Rattle.hub_revtree.specs.Tree.{nameless}
 use Rattle.hub_revtree.proofs.BranchLemmas.{within_generation}
-use Rattle.hub_revtree.proofs.BringLemmas.{Brings, Meets, brought_edit, brought_line, brought_stems, met_brings, reach_low, some_kept, stands_low, take_falls}
+use Rattle.hub_revtree.proofs.BringLemmas.{Brings, Meets, brought_edit, brought_line, brought_stems}
+use Rattle.hub_revtree.proofs.BringLemmas.{met_brings, reach_low, some_kept, stands_low, take_falls}
 use Rattle.hub_revtree.proofs.CandidateLemmas.{candidates_more}
 use Rattle.hub_revtree.proofs.HighestLemmas.{up_to_more}
-use Rattle.hub_revtree.proofs.MarkLemmas.{branches_same, indexed_front, line_same, marked_more, plain_more, stems_same, up_to_same, within_told}
+use Rattle.hub_revtree.proofs.MarkLemmas.{branches_same, indexed_front, line_same, marked_more}
+use Rattle.hub_revtree.proofs.MarkLemmas.{plain_more, stems_same, up_to_same, within_told}
 use Rattle.hub_revtree.proofs.RunLemmas.{newest_of}
 use Rattle.hub_revtree.proofs.branches.Branches.push.Goals as goal
 use Rattle.hub_revtree.proofs.branches.Branches.push.Goals.{Joined-drop, then-whole, else-whole}
@@ -23,9 +25,21 @@ standing_of-standing-requires-clause-reach c =
     let legal = rw (sym c.self.view_is) at c.requires.legal in
     let ok = rw (sym c.self.view_is) at c.requires.acceptable in
     let met = rw c.as_slice-stems.ensures.value at c.met_by-met.ensures in
-    let is : Meets xs c.args.path c.met_by-met.result.at c.met_by-met.result.place c.met_by-met.result.behind c.met_by-met.result.joins = record { kept = met.kept; within = met.within; same = met.same; long = met.behind; rest = met.rest; none = met.none; fresh = met.fresh } in
+    let is : Meets xs c.args.path c.met_by-met.result.at c.met_by-met.result.place c.met_by-met.result.behind
+    c.met_by-met.result.joins =
+    record {
+      kept = met.kept;
+      within = met.within;
+      same = met.same;
+      long = met.behind;
+      rest = met.rest;
+      none = met.none;
+      fresh = met.fresh;
+    } in
     let head = newest_of c.args.path c.generation-newest.result c.generation-newest.ensures in
-    let low = reach_low xs c.self.invariant.0 legal c.args.path c.args.deleted c.args.body ok _ _ _ _ is head.0 head.1 in
+    let low =
+    reach_low xs c.self.invariant.0 legal c.args.path c.args.deleted c.args.body
+    ok _ _ _ _ is head.0 head.1 in
     omega (arith, low, head.2)
 
 pub kept-run-requires-clause-some : goal.kept-run-requires-clause-some
@@ -34,7 +48,17 @@ kept-run-requires-clause-some c =
     let legal = rw (sym c.self.view_is) at c.requires.legal in
     let ok = rw (sym c.self.view_is) at c.requires.acceptable in
     let met = rw c.as_slice-stems.ensures.value at c.met_by-met.ensures in
-    let is : Meets xs c.args.path c.met_by-met.result.at c.met_by-met.result.place c.met_by-met.result.behind c.met_by-met.result.joins = record { kept = met.kept; within = met.within; same = met.same; long = met.behind; rest = met.rest; none = met.none; fresh = met.fresh } in
+    let is : Meets xs c.args.path c.met_by-met.result.at c.met_by-met.result.place c.met_by-met.result.behind
+    c.met_by-met.result.joins =
+    record {
+      kept = met.kept;
+      within = met.within;
+      same = met.same;
+      long = met.behind;
+      rest = met.rest;
+      none = met.none;
+      fresh = met.fresh;
+    } in
     some_kept xs c.self.invariant.0 legal c.args.path c.args.deleted c.args.body ok _ _ _ _ is
 
 pub new-requires-clause-stands : goal.new-requires-clause-stands
@@ -43,8 +67,20 @@ new-requires-clause-stands c =
     let legal = rw (sym c.self.view_is) at c.requires.legal in
     let ok = rw (sym c.self.view_is) at c.requires.acceptable in
     let met = rw c.as_slice-stems.ensures.value at c.met_by-met.ensures in
-    let is : Meets xs c.args.path c.met_by-met.result.at c.met_by-met.result.place c.met_by-met.result.behind c.met_by-met.result.joins = record { kept = met.kept; within = met.within; same = met.same; long = met.behind; rest = met.rest; none = met.none; fresh = met.fresh } in
-    stands_low xs c.self.invariant.0 legal c.args.path c.args.deleted c.args.body ok _ _ _ _ is c.standing_of-standing.result.parent c.kept-run.result.0 c.standing_of-standing.result.reach c.standing_of-standing.ensures.parent c.kept-run.ensures.run c.standing_of-standing.ensures.reach
+    let is : Meets xs c.args.path c.met_by-met.result.at c.met_by-met.result.place c.met_by-met.result.behind
+    c.met_by-met.result.joins =
+    record {
+      kept = met.kept;
+      within = met.within;
+      same = met.same;
+      long = met.behind;
+      rest = met.rest;
+      none = met.none;
+      fresh = met.fresh;
+    } in
+    stands_low xs c.self.invariant.0 legal c.args.path c.args.deleted c.args.body ok _ _ _
+    _ is c.standing_of-standing.result.parent c.kept-run.result.0 c.standing_of-standing.result.reach
+    c.standing_of-standing.ensures.parent c.kept-run.ensures.run c.standing_of-standing.ensures.reach
 
 -- the stem that is put to them
 abbrev stem_of : Joined-drop → Stem
@@ -65,8 +101,21 @@ brings c =
     let legal = rw (sym c.self.view_is) at c.requires.legal in
     let ok = rw (sym c.self.view_is) at c.requires.acceptable in
     let met = rw c.as_slice-stems.ensures.value at c.met_by-met.ensures in
-    let is : Meets xs c.args.path c.met_by-met.result.at c.met_by-met.result.place c.met_by-met.result.behind c.met_by-met.result.joins = record { kept = met.kept; within = met.within; same = met.same; long = met.behind; rest = met.rest; none = met.none; fresh = met.fresh } in
-    met_brings xs c.self.invariant.0 legal c.args.path c.args.deleted c.args.body ok _ _ _ _ is (stem_of c) c.kept-run.ensures.run c.standing_of-standing.ensures.parent (c.standing_of-standing.ensures.count ∙ c.len.ensures) c.standing_of-standing.ensures.reach c.standing_of-standing.ensures.joins
+    let is : Meets xs c.args.path c.met_by-met.result.at c.met_by-met.result.place c.met_by-met.result.behind
+    c.met_by-met.result.joins =
+    record {
+      kept = met.kept;
+      within = met.within;
+      same = met.same;
+      long = met.behind;
+      rest = met.rest;
+      none = met.none;
+      fresh = met.fresh;
+    } in
+    met_brings xs c.self.invariant.0 legal c.args.path c.args.deleted c.args.body ok _ _ _ _ is
+    (stem_of c) c.kept-run.ensures.run c.standing_of-standing.ensures.parent
+    (c.standing_of-standing.ensures.count ∙ c.len.ensures) c.standing_of-standing.ensures.reach
+    c.standing_of-standing.ensures.joins
 
 -- the line that is kept is its path, where nothing stands behind that
 line_of : (c : Joined-drop) → IsNewestLine c.if-whole.line2 (c.self.inside.stems.items ++ stem_of c ∷ [])
@@ -76,7 +125,10 @@ line_of c =
     let ok = rw (sym c.self.view_is) at c.requires.acceptable in
     let ends = rw c.as_slice-stems.ensures.value at c.ends-whole.ensures in
     elim c.if-whole.branch [
-      | then-whole w ↦ rw w.line2-is (brought_line xs c.self.invariant.0 legal c.args.path c.args.deleted c.args.body ok (stem_of c) (brings c) refl refl c.kept-run.result.1 c.kept-run.ensures.line (ends w.if-whole.true))
+      | then-whole w ↦
+          rw w.line2-is
+          (brought_line xs c.self.invariant.0 legal c.args.path c.args.deleted c.args.body ok (stem_of c)
+          (brings c) refl refl c.kept-run.result.1 c.kept-run.ensures.line (ends w.if-whole.true))
       | else-whole w ↦ rw w.line2-is tt
     ]
 
@@ -86,9 +138,21 @@ note_inner-requires-clause-run c =
     let legal = rw (sym c.self.view_is) at c.requires.legal in
     let ok = rw (sym c.self.view_is) at c.requires.acceptable in
     let met = rw c.as_slice-stems.ensures.value at c.met_by-met.ensures in
-    let is : Meets xs c.args.path c.met_by-met.result.at c.met_by-met.result.place c.met_by-met.result.behind c.met_by-met.result.joins = record { kept = met.kept; within = met.within; same = met.same; long = met.behind; rest = met.rest; none = met.none; fresh = met.fresh } in
+    let is : Meets xs c.args.path c.met_by-met.result.at c.met_by-met.result.place c.met_by-met.result.behind
+    c.met_by-met.result.joins =
+    record {
+      kept = met.kept;
+      within = met.within;
+      same = met.same;
+      long = met.behind;
+      rest = met.rest;
+      none = met.none;
+      fresh = met.fresh;
+    } in
     let some = some_kept xs c.self.invariant.0 legal c.args.path c.args.deleted c.args.body ok _ _ _ _ is in
-    rw c.kept-run.ensures.run (take_falls c.met_by-met.result.at c.args.path (λ z. omega (arith, z, some)) c.requires.acceptable.history.falls)
+    rw c.kept-run.ensures.run
+    (take_falls c.met_by-met.result.at c.args.path
+    (λ z. omega (arith, z, some)) c.requires.acceptable.history.falls)
 
 pub note_inner-requires-clause-within : goal.note_inner-requires-clause-within
 note_inner-requires-clause-within c =
@@ -107,7 +171,17 @@ renewed-requires-clause-stems c =
     let legal = rw (sym c.self.view_is) at c.requires.legal in
     let ok = rw (sym c.self.view_is) at c.requires.acceptable in
     let met = rw c.as_slice-stems.ensures.value at c.met_by-met.ensures in
-    let is : Meets xs c.args.path c.met_by-met.result.at c.met_by-met.result.place c.met_by-met.result.behind c.met_by-met.result.joins = record { kept = met.kept; within = met.within; same = met.same; long = met.behind; rest = met.rest; none = met.none; fresh = met.fresh } in
+    let is : Meets xs c.args.path c.met_by-met.result.at c.met_by-met.result.place c.met_by-met.result.behind
+    c.met_by-met.result.joins =
+    record {
+      kept = met.kept;
+      within = met.within;
+      same = met.same;
+      long = met.behind;
+      rest = met.rest;
+      none = met.none;
+      fresh = met.fresh;
+    } in
     let stem : Stem = record {
       revisions = c.kept-run.result.0;
       parent = c.standing_of-standing.result.parent;
@@ -118,7 +192,11 @@ renewed-requires-clause-stems c =
       inner = false;
       body = c.args.body;
     } in
-    let path = met_brings xs c.self.invariant.0 legal c.args.path c.args.deleted c.args.body ok _ _ _ _ is stem c.kept-run.ensures.run c.standing_of-standing.ensures.parent (c.standing_of-standing.ensures.count ∙ c.len.ensures) c.standing_of-standing.ensures.reach c.standing_of-standing.ensures.joins in
+    let path =
+    met_brings xs c.self.invariant.0 legal c.args.path c.args.deleted
+    c.args.body ok _ _ _ _ is stem c.kept-run.ensures.run c.standing_of-standing.ensures.parent
+    (c.standing_of-standing.ensures.count ∙ c.len.ensures) c.standing_of-standing.ensures.reach
+    c.standing_of-standing.ensures.joins in
     rw (c.as_slice.ensures.value, c.push_reserved.ensures.items, c.new.ensures)
     (stems_same (xs ++ stem ∷ []) (ys ++ stem ∷ []) (plain_more xs ys stem c.note_inner.ensures.plain)
     (brought_stems xs c.self.invariant.0 legal c.args.path c.args.deleted c.args.body ok stem path))
@@ -127,9 +205,12 @@ pub renewed-requires-clause-index : goal.renewed-requires-clause-index
 renewed-requires-clause-index c =
     let xs = c.self.inside.stems.items in
     rw (c.as_slice.ensures.value, c.push_reserved.ensures.items)
-    (indexed_front xs c.note_inner.new.stems.items c.new.result _ c.note_inner.ensures.plain (c.without_line-index.ensures.index xs (rw c.take.ensures.value c.self.invariant.2)))
+    (indexed_front xs c.note_inner.new.stems.items c.new.result _ c.note_inner.ensures.plain
+    (c.without_line-index.ensures.index xs (rw c.take.ensures.value c.self.invariant.2)))
 
-edits_more : (c : Joined-drop) → edits_in (branches_of (c.note_inner.new.stems.items ++ stem_of c ∷ [])) ≡ edits_in (branches_of c.self.inside.stems.items) ++ nameless c.args.path c.args.deleted c.args.body ∷ []
+edits_more : (c : Joined-drop)
+    → edits_in (branches_of (c.note_inner.new.stems.items ++ stem_of c ∷ []))
+    ≡ edits_in (branches_of c.self.inside.stems.items) ++ nameless c.args.path c.args.deleted c.args.body ∷ []
 edits_more c =
     let xs = c.self.inside.stems.items in
     let ys = c.note_inner.new.stems.items in
@@ -148,18 +229,23 @@ invariant_of-self c =
     let path = brings c in
     let legal = rw (sym c.self.view_is) at c.requires.legal in
     let ok = rw (sym c.self.view_is) at c.requires.acceptable in
-    let more = brought_stems xs c.self.invariant.0 legal c.args.path c.args.deleted c.args.body ok stem path in
+    let more =
+    brought_stems xs c.self.invariant.0 legal c.args.path c.args.deleted c.args.body ok stem path in
     let head = newest_of c.args.path c.generation-newest.result c.generation-newest.ensures in
     let same = plain_more xs ys stem c.note_inner.ensures.plain in
     let up =
-    up_to_more xs stem c.args.path head.0 c.self.inside.highest c.max-self-inside.result c.self.invariant.0 more c.self.invariant.1 c.requires.acceptable.history.falls head.1 path.whole
+    up_to_more xs stem c.args.path head.0 c.self.inside.highest c.max-self-inside.result c.self.invariant.0
+    more c.self.invariant.1 c.requires.acceptable.history.falls head.1 path.whole
     (c.max-self-inside.ensures ∙ ap (λ n. max n c.self.inside.highest) (sym head.2)) in
     rw (c.push_reserved.ensures.items, c.new.ensures) (
       stems_same (xs ++ stem ∷ []) (ys ++ stem ∷ []) same more,
       up_to_same (xs ++ stem ∷ []) (ys ++ stem ∷ []) c.max-self-inside.result same up,
-      rw (c.as_slice.ensures.value, c.push_reserved.ensures.items, c.new.ensures) at c.renewed.ensures.index (line_same (xs ++ stem ∷ []) (ys ++ stem ∷ []) c.if-whole.line2 same (line_of c)),
-      marked_more xs ys stem c.self.invariant.0 more (within_told xs stem.parent path.next.within) c.note_inner.ensures.plain c.self.invariant.3 refl c.note_inner.ensures.noted,
-      candidates_more (branches_of xs) (branches_of (ys ++ stem ∷ [])) (nameless c.args.path c.args.deleted c.args.body) _ _ (edits_more c) c.renewed.ensures.candidates
+      rw (c.as_slice.ensures.value, c.push_reserved.ensures.items, c.new.ensures) at c.renewed.ensures.index
+          (line_same (xs ++ stem ∷ []) (ys ++ stem ∷ []) c.if-whole.line2 same (line_of c)),
+      marked_more xs ys stem c.self.invariant.0 more (within_told xs stem.parent path.next.within)
+          c.note_inner.ensures.plain c.self.invariant.3 refl c.note_inner.ensures.noted,
+      candidates_more (branches_of xs) (branches_of (ys ++ stem ∷ []))
+          (nameless c.args.path c.args.deleted c.args.body) _ _ (edits_more c) c.renewed.ensures.candidates
           (rw (c.without_line-index.ensures.candidates, c.take.ensures.value) c.self.invariant.4),
     )
 

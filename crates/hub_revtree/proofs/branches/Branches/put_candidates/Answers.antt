@@ -10,7 +10,13 @@ invariant_of-self c = elim c.match-self.branch [
       rw w.self-inside-is (
         c.self.invariant.0,
         c.self.invariant.1,
-        rw (w.put_candidates.ensures.stems, w.put_candidates.ensures.others, w.put_candidates.ensures.links, w.put_candidates.ensures.line, w.deref_mut.ensures.value) own,
+        rw (
+          w.put_candidates.ensures.stems,
+          w.put_candidates.ensures.others,
+          w.put_candidates.ensures.links,
+          w.put_candidates.ensures.line,
+          w.deref_mut.ensures.value,
+        ) own,
         c.self.invariant.3,
         rw w.put_candidates.ensures.candidates are,
       )

@@ -8,7 +8,13 @@ invariant_of-self c = elim c.match-self.branch [
       rw w.self-inside-is (
         c.self.invariant.0,
         c.self.invariant.1,
-        rw (w.take_candidates.ensures.stems, w.take_candidates.ensures.others, w.take_candidates.ensures.links, w.take_candidates.ensures.line, w.deref_mut.ensures.value) own,
+        rw (
+          w.take_candidates.ensures.stems,
+          w.take_candidates.ensures.others,
+          w.take_candidates.ensures.links,
+          w.take_candidates.ensures.line,
+          w.deref_mut.ensures.value,
+        ) own,
         c.self.invariant.3,
         rw w.take_candidates.ensures.candidates tt,
       )

@@ -3,7 +3,8 @@ use Rattle.std.specs.List.Sorted.{IsPermutation}
 use Rattle.hub_revtree.specs.Candidates.{candidate_of}
 use Rattle.hub_revtree.proofs.CandidateLemmas.{looked_at, looked_past}
 use Rattle.hub_revtree.proofs.candidates.Candidates.add_next.Goals as goal
-use Rattle.hub_revtree.proofs.candidates.Candidates.add_next.Goals.{then-not-is_head_inner+in_ok-number+in_ok-candidate+in_ok-push, else-not-is_head_inner}
+use Rattle.hub_revtree.proofs.candidates.Candidates.add_next.Goals.{then-not-is_head_inner+in_ok-number+in_ok-candidate+in_ok-push}
+use Rattle.hub_revtree.proofs.candidates.Candidates.add_next.Goals.{else-not-is_head_inner}
 
 pub returns-clause-candidates : goal.returns-clause-candidates
 returns-clause-candidates c =
@@ -13,10 +14,15 @@ returns-clause-candidates c =
     elim c.if-not-is_head_inner.branch [
       | then-not-is_head_inner+in_ok-number+in_ok-candidate+in_ok-push w ↦
           let this = w.in_ok-candidate.ensures ∙ ap (λ n. candidate_of n leaf) w.in_ok-number.ensures in
-          rw w.self-is (looked_at bs old (record { heap = w.push.new.self; count = old.count + 1 }) c.requires.candidates leaf c.head-leaf.ensures c.requires.more refl
+          rw w.self-is
+          (looked_at bs old (record { heap = w.push.new.self; count = old.count + 1 })
+          c.requires.candidates leaf c.head-leaf.ensures c.requires.more refl
           (w.in_ok-push.ensures.heap_order c.requires.candidates.ordered)
-          (subst (λ z. IsPermutation (z ∷ heap_items old.heap) (heap_items w.push.new.self)) this w.in_ok-push.ensures.permutation))
+          (subst (λ z. IsPermutation (z ∷ heap_items old.heap) (heap_items w.push.new.self))
+          this w.in_ok-push.ensures.permutation))
       | else-not-is_head_inner w ↦
-          rw w.self-is (looked_past bs old (record { heap = old.heap; count = old.count + 1 }) c.requires.candidates leaf c.head-leaf.ensures c.requires.more refl refl
+          rw w.self-is
+          (looked_past bs old (record { heap = old.heap; count = old.count + 1 })
+          c.requires.candidates leaf c.head-leaf.ensures c.requires.more refl refl
           (sym (c.is_head_inner.ensures leaf c.head-leaf.ensures) ∙ w.if-not-is_head_inner.false))
     ]

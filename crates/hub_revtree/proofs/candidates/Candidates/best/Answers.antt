@@ -3,7 +3,8 @@ use Rattle.std.specs.Prelude.{option_and_then, slice_get}
 use Rattle.hub_revtree.specs.Candidate.{Candidate}
 use Rattle.hub_revtree.specs.Candidates.{winner_in}
 use Rattle.hub_revtree.specs.Winner.{head_in}
-use Rattle.hub_revtree.proofs.CandidateLemmas.{below_bound, first_given_up, none_wins, nothing_in, top_wins, top_within}
+use Rattle.hub_revtree.proofs.CandidateLemmas.{below_bound, first_given_up, none_wins}
+use Rattle.hub_revtree.proofs.CandidateLemmas.{nothing_in, top_wins, top_within}
 use Rattle.hub_revtree.proofs.candidates.Candidates.best.Goals as goal
 use Rattle.hub_revtree.proofs.candidates.Candidates.best.Goals.{In-Some}
 
@@ -12,7 +13,9 @@ here c = (0, c.in-Some.ensures.item.3.0, sym c.in-Some.ensures.lookup)
 
 pub is_head_inner-requires : goal.is_head_inner-requires
 is_head_inner-requires c =
-    rw (sym c.top.view_is) at (top_within c.args.branches.now.list c.loop-top.self c.loop-top.invariant.candidates c.in-Some.top.now (here (goal.at.is_head_inner-requires c).In-Some))
+    rw (sym c.top.view_is)
+    at (top_within c.args.branches.now.list c.loop-top.self c.loop-top.invariant.candidates c.in-Some.top.now
+    (here (goal.at.is_head_inner-requires c).In-Some))
 
 pub returns-then-not-is_head_inner-clause-best : goal.returns-then-not-is_head_inner-clause-best
 returns-then-not-is_head_inner-clause-best c =
@@ -22,8 +25,12 @@ returns-then-not-is_head_inner-clause-best c =
     let there = here (goal.at.returns-then-not-is_head_inner-clause-best c).In-Some in
     let same : c.top.inside.number ≡ top.number = ap (λ (z : Candidate). z.number) c.top.view_is in
     let number = ap (λ k. option_and_then head_in (slice_get bs k)) same in
-    let leads = sym (c.is_head_inner.ensures (winner_in top) (number ∙ are.heads top there)) ∙ c.if-not-is_head_inner.true in
-    number ∙ top_wins bs c.requires.legal c.loop-top.self are c.loop-top.invariant.all top there (below_bound top _ (c.in-Some.ensures.greatest are.ordered)) leads
+    let leads =
+    sym (c.is_head_inner.ensures (winner_in top) (number ∙ are.heads top there))
+    ∙ c.if-not-is_head_inner.true in
+    number
+    ∙ top_wins bs c.requires.legal c.loop-top.self are c.loop-top.invariant.all top there
+    (below_bound top _ (c.in-Some.ensures.greatest are.ordered)) leads
 
 pub loop-top-preserved : goal.loop-top-preserved
 loop-top-preserved c =
@@ -33,14 +40,19 @@ loop-top-preserved c =
     let there = here (goal.at.loop-top-preserved c).In-Some in
     let same : c.top.inside.number ≡ top.number = ap (λ (z : Candidate). z.number) c.top.view_is in
     let number = ap (λ k. option_and_then head_in (slice_get bs k)) same in
-    let passed = sym (c.is_head_inner.ensures (winner_in top) (number ∙ are.heads top there)) ∙ c.if-not-is_head_inner.false in
+    let passed =
+    sym (c.is_head_inner.ensures (winner_in top) (number ∙ are.heads top there))
+    ∙ c.if-not-is_head_inner.false in
     record {
       candidates =
-          first_given_up bs c.loop-top.self (record { heap = c.pop.new.self; count = c.loop-top.self.count }) are top c.in-Some.ensures.item.3.0 c.in-Some.ensures.lookup passed refl
-          c.pop.result c.pop.ensures.top c.pop.ensures.permutation c.pop.ensures.heap_order c.pop.ensures.unchanged;
+          first_given_up bs c.loop-top.self (record { heap = c.pop.new.self; count = c.loop-top.self.count })
+          are top c.in-Some.ensures.item.3.0 c.in-Some.ensures.lookup passed refl
+          c.pop.result c.pop.ensures.top c.pop.ensures.permutation c.pop.ensures.heap_order
+          c.pop.ensures.unchanged;
       all = c.loop-top.invariant.all;
     }
 
 pub returns-clause-best : goal.returns-clause-best
 returns-clause-best c =
-    none_wins c.args.branches.now.list c.requires.legal c.loop-top.self c.loop-top.invariant.candidates c.loop-top.invariant.all (nothing_in _ c.in_default.ensures.item.3) c.len.result c.len.ensures
+    none_wins c.args.branches.now.list c.requires.legal c.loop-top.self c.loop-top.invariant.candidates
+    c.loop-top.invariant.all (nothing_in _ c.in_default.ensures.item.3) c.len.result c.len.ensures

@@ -10,10 +10,15 @@ returns-then-not-joins-clause-index c =
     let n = c.in_ok-number.number in
     let same : n ≡ length xs - 1 = omega (arith, c.in_ok-number.ensures) in
     let long : length xs ≡ n + 1 = omega (arith, same, c.requires.some) in
-    let there = read_stem xs n c.index-stems-newest.result (omega (arith, long)) (rw same c.index-stems-newest.is) in
-    let linked : AreLinked (Has (take n xs)) (take n xs) (link_in c.args.self.now) = subst (λ k. AreLinked (Has (take k xs)) (take k xs) (link_in c.args.self.now)) (sym same) c.requires.index.1 in (
+    let there =
+    read_stem xs n c.index-stems-newest.result (omega (arith, long)) (rw same c.index-stems-newest.is) in
+    let linked : AreLinked (Has (take n xs)) (take n xs) (link_in c.args.self.now) =
+    subst (λ k. AreLinked (Has (take k xs)) (take k xs) (link_in c.args.self.now))
+    (sym same) c.requires.index.1 in (
       c.in_ok-add_all.ensures.told,
-      rw c.add_all.ensures.links (link_fresh xs c.requires.stems n c.index-stems-newest.result (link_in c.args.self.now) long there (sym c.joins.ensures ∙ c.if-not-joins.true) (link_start xs n (link_in c.args.self.now) linked)),
+      rw c.add_all.ensures.links
+          (link_fresh xs c.requires.stems n c.index-stems-newest.result (link_in c.args.self.now) long there
+          (sym c.joins.ensures ∙ c.if-not-joins.true) (link_start xs n (link_in c.args.self.now) linked)),
     )
 
 pub link_all-requires-clause-linked : goal.link_all-requires-clause-linked
@@ -21,4 +26,6 @@ link_all-requires-clause-linked c =
     let xs = c.args.stems.now in
     let n = c.in_ok-number.number in
     let same : n ≡ length xs - 1 = omega (arith, c.in_ok-number.ensures) in
-    rw c.add_all.ensures.links (subst (λ k. AreLinked (Has (take k xs)) (take k xs) (link_in c.args.self.now)) (sym same) c.requires.index.1)
+    rw c.add_all.ensures.links
+    (subst (λ k. AreLinked (Has (take k xs)) (take k xs) (link_in c.args.self.now))
+    (sym same) c.requires.index.1)

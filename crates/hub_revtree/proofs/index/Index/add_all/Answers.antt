@@ -6,16 +6,31 @@ use Rattle.hub_revtree.proofs.index.Index.add_all.Goals as goal
 
 pub loop-at-init : goal.loop-at-init
 loop-at-init c = record {
-  told = told_start c.args.stems.now c.args.number (entry_in c.args.self.now) (other_in c.args.self.now) c.requires.told;
+  told =
+      told_start c.args.stems.now c.args.number (entry_in c.args.self.now)
+      (other_in c.args.self.now) c.requires.told;
   links = refl;
   candidates = refl;
 }
 
 pub add_at-requires-clause-within : goal.add_at-requires-clause-within
 add_at-requires-clause-within c =
-    omega (arith, read_long c.args.stems.now c.args.number c.index-stems-number.result (omega (arith, c.requires.newest)) c.index-stems-number.is, c.loop-at-test.true, c.len-at-end.ensures)
+    omega (
+      arith,
+      read_long c.args.stems.now c.args.number c.index-stems-number.result
+          (omega (arith, c.requires.newest)) c.index-stems-number.is,
+      c.loop-at-test.true,
+      c.len-at-end.ensures,
+    )
 
 pub returns-clause-told : goal.returns-clause-told
 returns-clause-told c =
-    told_end c.args.stems.now c.args.number c.loop-at.at (entry_in c.loop-at.self) (other_in c.loop-at.self) (omega (arith, c.requires.newest))
-    (omega (arith, read_long c.args.stems.now c.args.number c.index-stems-number.result (omega (arith, c.requires.newest)) c.index-stems-number.is, c.loop-at-test.false, c.len-at-end.ensures)) c.loop-at.invariant.told
+    told_end c.args.stems.now c.args.number c.loop-at.at (entry_in c.loop-at.self) (other_in c.loop-at.self)
+    (omega (arith, c.requires.newest))
+    (omega (
+      arith,
+      read_long c.args.stems.now c.args.number c.index-stems-number.result
+          (omega (arith, c.requires.newest)) c.index-stems-number.is,
+      c.loop-at-test.false,
+      c.len-at-end.ensures,
+    )) c.loop-at.invariant.told

@@ -14,7 +14,13 @@ loop-at-init c = record {
 
 pub link_at-requires-clause-within : goal.link_at-requires-clause-within
 link_at-requires-clause-within c =
-    omega (arith, read_long c.args.stems.now c.args.number c.index-stems-number.result (omega (arith, c.requires.newest)) c.index-stems-number.is, c.loop-at-test.true, c.len-at-end.ensures)
+    omega (
+      arith,
+      read_long c.args.stems.now c.args.number c.index-stems-number.result
+          (omega (arith, c.requires.newest)) c.index-stems-number.is,
+      c.loop-at-test.true,
+      c.len-at-end.ensures,
+    )
 
 pub link_at-requires-clause-told : goal.link_at-requires-clause-told
 link_at-requires-clause-told c = rw (c.loop-at.invariant.entries, c.loop-at.invariant.others) c.requires.told
@@ -22,6 +28,14 @@ link_at-requires-clause-told c = rw (c.loop-at.invariant.entries, c.loop-at.inva
 pub returns-clause-index : goal.returns-clause-index
 returns-clause-index c = (
   rw (c.loop-at.invariant.entries, c.loop-at.invariant.others) c.requires.told,
-  link_end c.args.stems.now c.args.number c.loop-at.at (link_in c.loop-at.self) (omega (arith, c.requires.newest))
-      (omega (arith, read_long c.args.stems.now c.args.number c.index-stems-number.result (omega (arith, c.requires.newest)) c.index-stems-number.is, c.loop-at-test.false, c.len-at-end.ensures)) c.loop-at.invariant.linked,
+  link_end c.args.stems.now c.args.number c.loop-at.at (link_in c.loop-at.self)
+      (omega (arith, c.requires.newest))
+      (omega (
+        arith,
+        read_long c.args.stems.now c.args.number c.index-stems-number.result
+            (omega (arith, c.requires.newest)) c.index-stems-number.is,
+        c.loop-at-test.false,
+        c.len-at-end.ensures,
+      ))
+      c.loop-at.invariant.linked,
 )

@@ -5,4 +5,5 @@ use Rattle.hub_revtree.proofs.run.Run.generation.Goals as goal
 
 pub returns-in-Digests : goal.returns-in-Digests
 returns-in-Digests c =
-    digest_newest c.args.self.now c.in-Digests.newest c.in-Digests.field-1.items (sym (ap kept_in c.in-Digests.is) ∙ c.self.view_is) c.requires
+    digest_newest c.args.self.now c.in-Digests.newest c.in-Digests.field-1.items
+    (sym (ap kept_in c.in-Digests.is) ∙ c.self.view_is) c.requires

@@ -1,46 +1,80 @@
 use Rattle.std.proofs.Common.{◌<◌, ◌^◌, ◌∙◌, ap, sym, arith, rules}
 use Rattle.hub_revtree.specs.Run.{kept_in}
-use Rattle.hub_revtree.proofs.RunLemmas.{digest_first, digest_length, digest_low, shared_first, shared_length, shared_low}
+use Rattle.hub_revtree.proofs.RunLemmas.{digest_first, digest_length, digest_low}
+use Rattle.hub_revtree.proofs.RunLemmas.{shared_first, shared_length, shared_low}
 use Rattle.hub_revtree.proofs.run.Run.is_at.Goals as goal
 
 pub overflow_cast-place : goal.overflow_cast-place
 overflow_cast-place c =
     let is = sym (ap kept_in c.in-Digests.is) ∙ c.self.view_is in
     let below : c.in-Digests.newest < 2 ^ 16 = search rules in
-    omega (arith, digest_low c.args.self.now c.in-Digests.newest c.in-Digests.digests.items is c.args.place c.requires.path c.requires.within, below)
+    omega (
+      arith,
+      digest_low c.args.self.now c.in-Digests.newest c.in-Digests.digests.items is c.args.place
+          c.requires.path c.requires.within,
+      below,
+    )
 
 pub overflow_sub-newest : goal.overflow_sub-newest
 overflow_sub-newest c =
     let is = sym (ap kept_in c.in-Digests.is) ∙ c.self.view_is in
-    omega (arith, digest_low c.args.self.now c.in-Digests.newest c.in-Digests.digests.items is c.args.place c.requires.path c.requires.within)
+    omega (
+      arith,
+      digest_low c.args.self.now c.in-Digests.newest c.in-Digests.digests.items is c.args.place
+          c.requires.path c.requires.within,
+    )
 
 pub index-requires : goal.index-requires
 index-requires c =
     let is = sym (ap kept_in c.in-Digests.is) ∙ c.self.view_is in
-    omega (arith, c.requires.within, digest_length c.args.self.now c.in-Digests.newest c.in-Digests.digests.items is, c.in-Digests.digests.ok.0)
+    omega (
+      arith,
+      c.requires.within,
+      digest_length c.args.self.now c.in-Digests.newest c.in-Digests.digests.items is,
+      c.in-Digests.digests.ok.0,
+    )
 
 pub returns-in-Digests : goal.returns-in-Digests
 returns-in-Digests c =
     let is = sym (ap kept_in c.in-Digests.is) ∙ c.self.view_is in
-    c.is_of-in-Digests.ensures ∙ sym (digest_first c.args.self.now c.in-Digests.newest c.in-Digests.digests.items is c.args.place c.index.result.now c.args.sought.now c.requires.within c.index.ensures)
+    c.is_of-in-Digests.ensures
+    ∙ sym (digest_first c.args.self.now c.in-Digests.newest c.in-Digests.digests.items is c.args.place
+    c.index.result.now c.args.sought.now c.requires.within c.index.ensures)
 
 pub overflow_cast-place-in-Shared : goal.overflow_cast-place-in-Shared
 overflow_cast-place-in-Shared c =
     let is = sym (ap kept_in c.in-Shared.is) ∙ c.self.view_is in
     let below : c.in-Shared.newest < 2 ^ 16 = search rules in
-    omega (arith, shared_low c.args.self.now c.in-Shared.newest c.in-Shared.field-1 c.in-Shared.digest c.in-Shared.line is c.args.place c.requires.path c.requires.within, below)
+    omega (
+      arith,
+      shared_low c.args.self.now c.in-Shared.newest c.in-Shared.field-1 c.in-Shared.digest c.in-Shared.line
+          is c.args.place c.requires.path c.requires.within,
+      below,
+    )
 
 pub overflow_sub-newest-in-Shared : goal.overflow_sub-newest-in-Shared
 overflow_sub-newest-in-Shared c =
     let is = sym (ap kept_in c.in-Shared.is) ∙ c.self.view_is in
-    omega (arith, shared_low c.args.self.now c.in-Shared.newest c.in-Shared.field-1 c.in-Shared.digest c.in-Shared.line is c.args.place c.requires.path c.requires.within)
+    omega (
+      arith,
+      shared_low c.args.self.now c.in-Shared.newest c.in-Shared.field-1 c.in-Shared.digest c.in-Shared.line
+          is c.args.place c.requires.path c.requires.within,
+    )
 
 pub digest_at-requires : goal.digest_at-requires
 digest_at-requires c =
     let is = sym (ap kept_in c.in-Shared.is) ∙ c.self.view_is in
-    omega (arith, c.requires.within, shared_length c.args.self.now c.in-Shared.newest c.in-Shared.field-1 c.in-Shared.digest c.in-Shared.line is)
+    omega (
+      arith,
+      c.requires.within,
+      shared_length c.args.self.now c.in-Shared.newest c.in-Shared.field-1
+          c.in-Shared.digest c.in-Shared.line is,
+    )
 
 pub returns-in-Shared : goal.returns-in-Shared
 returns-in-Shared c =
     let is = sym (ap kept_in c.in-Shared.is) ∙ c.self.view_is in
-    c.is_of-in-Shared.ensures ∙ sym (shared_first c.args.self.now c.in-Shared.newest c.in-Shared.field-1 c.in-Shared.digest c.in-Shared.line is c.args.place c.digest_at.result.now c.args.sought.now c.requires.within c.digest_at.ensures)
+    c.is_of-in-Shared.ensures
+    ∙ sym (shared_first c.args.self.now c.in-Shared.newest c.in-Shared.field-1
+    c.in-Shared.digest c.in-Shared.line is c.args.place c.digest_at.result.now c.args.sought.now
+    c.requires.within c.digest_at.ensures)

@@ -4,20 +4,28 @@ use Rattle.hub_revtree.proofs.run.Run.position.Goals as goal
 
 pub returns-then-generation-newest-clause-absent : goal.returns-then-generation-newest-clause-absent
 returns-then-generation-newest-clause-absent c =
-    too_new c.args.self.now c.requires c.generation-newest.result c.generation-newest.ensures c.args.sought.now (omega (arith, c.if-generation-newest.true, c.generation.ensures.value))
+    too_new c.args.self.now c.requires c.generation-newest.result c.generation-newest.ensures
+    c.args.sought.now (omega (arith, c.if-generation-newest.true, c.generation.ensures.value))
 
 pub returns-then-from-len-clause-absent : goal.returns-then-from-len-clause-absent
 returns-then-from-len-clause-absent c =
     let down : c.from.result ≡ c.generation-newest.result - c.args.sought.now.generation = grind arith in
-    too_old c.args.self.now c.requires c.generation-newest.result c.generation-newest.ensures c.args.sought.now c.from.result down (omega (arith, c.if-from-len.true, c.len.ensures))
+    too_old c.args.self.now c.requires c.generation-newest.result c.generation-newest.ensures
+    c.args.sought.now c.from.result down (omega (arith, c.if-from-len.true, c.len.ensures))
 
 pub returns-clause-found : goal.returns-clause-found
 returns-clause-found c =
     let down : c.from.result ≡ c.generation-newest.result - c.args.sought.now.generation = grind arith in
     let low : c.from.result < length c.args.self.now = omega (arith, c.if-from-len.false, c.len.ensures) in
-    rw (c.then_some-2.ensures, sym c.from.ensures) (is_there c.args.self.now c.requires c.generation-newest.result c.generation-newest.ensures c.args.sought.now c.from.result down c.is_at.result (rw (c.from-2.ensures, sym c.from.ensures) at c.is_at.ensures) low)
+    rw (c.then_some-2.ensures, sym c.from.ensures)
+    (is_there c.args.self.now c.requires c.generation-newest.result
+    c.generation-newest.ensures c.args.sought.now c.from.result down c.is_at.result
+    (rw (c.from-2.ensures, sym c.from.ensures) at c.is_at.ensures) low)
 
 pub returns-clause-absent : goal.returns-clause-absent
 returns-clause-absent c =
     let down : c.from.result ≡ c.generation-newest.result - c.args.sought.now.generation = grind arith in
-    rw (c.then_some-2.ensures, sym c.from.ensures) (is_absent c.args.self.now c.requires c.generation-newest.result c.generation-newest.ensures c.args.sought.now c.from.result down c.is_at.result (rw (c.from-2.ensures, sym c.from.ensures) at c.is_at.ensures))
+    rw (c.then_some-2.ensures, sym c.from.ensures)
+    (is_absent c.args.self.now c.requires c.generation-newest.result
+    c.generation-newest.ensures c.args.sought.now c.from.result down c.is_at.result
+    (rw (c.from-2.ensures, sym c.from.ensures) at c.is_at.ensures))

@@ -7,7 +7,8 @@ use Rattle.hub_revtree.proofs.tree.RevTree.adopt.Goals as goal
 pub push-requires : goal.push-requires
 push-requires c =
     let ok = rw (sym c.self.view_is, sym c.ready.view_is) at c.requires.acceptable in
-    let room : length c.args.ready.path ≤ 65535 * c.self.inside.branches.spare = rw (sym c.self.view_is) at c.requires.room in
+    let room : length c.args.ready.path ≤ 65535 * c.self.inside.branches.spare =
+    rw (sym c.self.view_is) at c.requires.room in
     record {
       legal = c.self.invariant.legal;
       acceptable = ok;
@@ -15,8 +16,12 @@ push-requires c =
       room = omega (arith, room, some_history c.args.ready.path c.requires.acceptable.history);
     }
 
-pub best_with_newest-self-inside-requires-clause-legal : goal.best_with_newest-self-inside-requires-clause-legal
-best_with_newest-self-inside-requires-clause-legal c = rw c.push.ensures (legal_more _ _ c.self.invariant.legal (rw (sym c.self.view_is, sym c.ready.view_is) at c.requires.acceptable))
+pub best_with_newest-self-inside-requires-clause-legal :
+    goal.best_with_newest-self-inside-requires-clause-legal
+best_with_newest-self-inside-requires-clause-legal c =
+    rw c.push.ensures
+    (legal_more _ _ c.self.invariant.legal
+    (rw (sym c.self.view_is, sym c.ready.view_is) at c.requires.acceptable))
 
 pub best_with_newest-self-inside-requires-clause-winner :
     goal.best_with_newest-self-inside-requires-clause-winner
@@ -25,6 +30,9 @@ best_with_newest-self-inside-requires-clause-winner c =
 
 pub invariant_of-self : goal.invariant_of-self
 invariant_of-self c = record {
-  legal = rw (c.best_with_newest-self-inside.ensures.list, c.push.ensures) (legal_more _ _ c.self.invariant.legal (rw (sym c.self.view_is, sym c.ready.view_is) at c.requires.acceptable));
+  legal =
+      rw (c.best_with_newest-self-inside.ensures.list, c.push.ensures)
+      (legal_more _ _ c.self.invariant.legal
+      (rw (sym c.self.view_is, sym c.ready.view_is) at c.requires.acceptable));
   first = rw c.best_with_newest-self-inside.ensures.list c.best_with_newest-self-inside.ensures.best;
 }

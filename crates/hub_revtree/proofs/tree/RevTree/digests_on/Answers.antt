@@ -10,7 +10,9 @@ returns c =
     let line = line_to c.args.self.now.edits c.args.older.now in
     let hashes = map (λ (r : Revision). r.hash) line in
     c.from_digests.ensures
-    ∙ digests_whole c.args.rev.now line c.generation.result c.append_digests.new.digests.items c.requires.falls c.generation.ensures.value
+    ∙ digests_whole c.args.rev.now line c.generation.result c.append_digests.new.digests.items
+    c.requires.falls c.generation.ensures.value
     (c.in_ok-append_digests.ensures c.if-not-branch.false
-    ∙ ap (λ z. map encode_lower z ++ hashes) (c.in_ok-push.ensures.items ∙ ap (λ z. z ++ c.digest.result ∷ []) c.in_ok-digests.ensures.items)
+    ∙ ap (λ z. map encode_lower z ++ hashes)
+    (c.in_ok-push.ensures.items ∙ ap (λ z. z ++ c.digest.result ∷ []) c.in_ok-digests.ensures.items)
     ∙ ap (λ z. z ∷ hashes) (sym c.digest.ensures))

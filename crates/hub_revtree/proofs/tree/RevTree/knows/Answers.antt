@@ -3,4 +3,6 @@ use Rattle.hub_revtree.proofs.TreeLemmas.{knows}
 use Rattle.hub_revtree.proofs.tree.RevTree.knows.Goals as goal
 
 pub returns : goal.returns
-returns c = rw (sym c.self.view_is) (knows c.self.inside.branches.list c.args.rev.now c.is_named.result c.is_named.ensures)
+returns c =
+    rw (sym c.self.view_is)
+    (knows c.self.inside.branches.list c.args.rev.now c.is_named.result c.is_named.ensures)

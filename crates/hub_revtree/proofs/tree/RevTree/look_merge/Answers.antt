@@ -8,7 +8,8 @@ returns-then-is_named-clause-tree c = rw (sym c.self.view_is) (rev_tree _ c.self
 pub returns-then-is_named-clause-known : goal.returns-then-is_named-clause-known
 returns-then-is_named-clause-known c =
     rw (sym c.self.view_is) (
-      λ _. head_known c.self.inside.branches.list c.args.path c.head-head.result c.head-head.ensures.value c.is_named.result c.is_named.ensures c.if-is_named.true,
+      λ _. head_known c.self.inside.branches.list c.args.path c.head-head.result c.head-head.ensures.value
+          c.is_named.result c.is_named.ensures c.if-is_named.true,
       λ _. refl,
     )
 
@@ -22,27 +23,38 @@ pub returns-in_default-clause-contradicts :
     goal.returns-in_default-clause-contradicts
 returns-in_default-clause-contradicts c =
     rw (sym c.self.view_is) (λ _. (
-      head_new c.self.inside.branches.list c.args.path c.head-head.result c.head-head.ensures.value c.is_named.result c.is_named.ensures c.if-is_named.false,
-      contradicts c.self.inside.branches.list c.args.path c.head-head.result c.head-head.ensures.value c.is_named.result c.is_named.ensures false c.in_default.ensures.agrees c.args.deleted c.args.body refl,
+      head_new c.self.inside.branches.list c.args.path c.head-head.result c.head-head.ensures.value
+          c.is_named.result c.is_named.ensures c.if-is_named.false,
+      contradicts c.self.inside.branches.list c.args.path c.head-head.result c.head-head.ensures.value
+          c.is_named.result c.is_named.ensures false c.in_default.ensures.agrees
+          c.args.deleted c.args.body refl,
     ))
 
 pub returns-in_err-ready-clause-tree : goal.returns-in_err-ready-clause-tree
-returns-in_err-ready-clause-tree c = rw (c.made_ready.ensures.edits, sym c.self.view_is) (rev_tree _ c.self.invariant.legal)
+returns-in_err-ready-clause-tree c =
+    rw (c.made_ready.ensures.edits, sym c.self.view_is) (rev_tree _ c.self.invariant.legal)
 
 pub returns-in_err-ready-clause-memory : goal.returns-in_err-ready-clause-memory
 returns-in_err-ready-clause-memory c =
-    rw (sym c.self.view_is) (λ _. acceptable c.self.inside.branches.list c.args.path c.head-head.result c.head-head.ensures.value c.is_named.result c.is_named.ensures true c.in-Some.ensures.agrees c.args.deleted c.args.body c.self.invariant.legal c.head-head.ensures.good c.if-is_named.false refl)
+    rw (sym c.self.view_is) (λ _. acceptable c.self.inside.branches.list c.args.path c.head-head.result
+    c.head-head.ensures.value c.is_named.result c.is_named.ensures true c.in-Some.ensures.agrees
+    c.args.deleted c.args.body c.self.invariant.legal c.head-head.ensures.good c.if-is_named.false refl)
 
 pub returns-clause-tree : goal.returns-clause-tree
-returns-clause-tree c = rw (c.made_ready.ensures.edits, sym c.self.view_is) (rev_tree _ c.self.invariant.legal)
+returns-clause-tree c =
+    rw (c.made_ready.ensures.edits, sym c.self.view_is) (rev_tree _ c.self.invariant.legal)
 
 pub returns-clause-known : goal.returns-clause-known
 returns-clause-known c =
     rw (sym c.self.view_is) (
       λ e. absurd (cc),
-      λ k. absurd (head_new c.self.inside.branches.list c.args.path c.head-head.result c.head-head.ensures.value c.is_named.result c.is_named.ensures c.if-is_named.false k),
+      λ k. absurd (head_new c.self.inside.branches.list c.args.path c.head-head.result
+          c.head-head.ensures.value c.is_named.result c.is_named.ensures c.if-is_named.false k),
     )
 
 pub returns-clause-acceptable : goal.returns-clause-acceptable
 returns-clause-acceptable c =
-    rw (c.in_ok-ready.ensures.ready, sym c.self.view_is) (acceptable c.self.inside.branches.list c.args.path c.head-head.result c.head-head.ensures.value c.is_named.result c.is_named.ensures true c.in-Some.ensures.agrees c.args.deleted c.args.body c.self.invariant.legal c.head-head.ensures.good c.if-is_named.false refl)
+    rw (c.in_ok-ready.ensures.ready, sym c.self.view_is)
+    (acceptable c.self.inside.branches.list c.args.path c.head-head.result c.head-head.ensures.value
+    c.is_named.result c.is_named.ensures true c.in-Some.ensures.agrees c.args.deleted c.args.body
+    c.self.invariant.legal c.head-head.ensures.good c.if-is_named.false refl)

@@ -5,6 +5,13 @@ use Rattle.hub_revtree.proofs.tree.RevTree.ready_with.Goals as goal
 
 pub returns-clause-room : goal.returns-clause-room
 returns-clause-room c =
-    let x = newest_of c.args.path c.generation-revisions_at_most.result c.generation-revisions_at_most.ensures in
+    let x =
+    newest_of c.args.path c.generation-revisions_at_most.result c.generation-revisions_at_most.ensures in
     let below : c.generation-revisions_at_most.result < 2 ^ 16 = search rules in
-    omega (arith, within_generation c.args.path x.0 c.requires.history x.1, x.2, below, c.in_ok-make_room.ensures.room)
+    omega (
+      arith,
+      within_generation c.args.path x.0 c.requires.history x.1,
+      x.2,
+      below,
+      c.in_ok-make_room.ensures.room,
+    )

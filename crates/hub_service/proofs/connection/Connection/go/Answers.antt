@@ -7,4 +7,5 @@ pub returns-in-DbUpdates : goal.returns-in-DbUpdates
 returns-in-DbUpdates g c =
     let body = c.args.body.now in
     subst (λ route. Responds body (Ok route) c.begin_updates.result) (sym c.in-DbUpdates.is)
-    (subst (λ (query : List ℕ). Begins BeginsUpdates query body c.begin_updates.result) c.as_slice.ensures.value c.begin_updates.ensures)
+    (subst (λ (query : List ℕ). Begins BeginsUpdates query body c.begin_updates.result)
+    c.as_slice.ensures.value c.begin_updates.ensures)

@@ -5,4 +5,6 @@ use Rattle.hub_service.specs.Moments.{HasDatabase}
 use Rattle.hub_service.proofs.target.Target.info.Goals as goal
 
 pub returns : goal.returns
-returns g c = subst (λ a. HasDatabase (λ db. (db.deleted ≡ false) × IsAnswer db asks.Info a)) c.in-Info.is c.in_ok-info.ensures
+returns g c =
+    subst (λ a. HasDatabase (λ db. (db.deleted ≡ false) × IsAnswer db asks.Info a))
+    c.in-Info.is c.in_ok-info.ensures

@@ -5,4 +5,6 @@ use Rattle.hub_service.specs.Moments.{HasDatabase}
 use Rattle.hub_service.proofs.target.Target.missing.Goals as goal
 
 pub returns : goal.returns
-returns g c = subst (λ a. HasDatabase (λ db. (db.deleted ≡ false) × IsAnswer db (asks.RevsDiff c.args.asked) a)) c.in-RevsDiff.is c.in_ok-found.ensures
+returns g c =
+    subst (λ a. HasDatabase (λ db. (db.deleted ≡ false) × IsAnswer db (asks.RevsDiff c.args.asked) a))
+    c.in-RevsDiff.is c.in_ok-found.ensures

@@ -5,4 +5,7 @@ use Rattle.hub_service.specs.Moments.{HasDatabase}
 use Rattle.hub_service.proofs.target.Target.revisions.Goals as goal
 
 pub returns : goal.returns
-returns g c = subst (λ a. HasDatabase (λ db. (db.deleted ≡ false) × IsAnswer db (asks.OpenRevs c.args.id c.args.which c.args.revs) a)) c.in-OpenRevs.is c.in_ok-found.ensures
+returns g c =
+    subst (λ a. HasDatabase (λ db.
+    (db.deleted ≡ false) × IsAnswer db (asks.OpenRevs c.args.id c.args.which c.args.revs) a))
+    c.in-OpenRevs.is c.in_ok-found.ensures

@@ -7,5 +7,11 @@ use Rattle.hub_session.proofs.machine.Session.new.Goals as goal
 
 pub returns-clause-run : goal.returns-clause-run
 returns-clause-run g c =
-    let begun : Seen _ = record { place = Between; bytes = c.new.result.pending; over = false; service = c.args.service; pending = pending_in c.args.outbox } in
+    let begun : Seen _ = record {
+      place = Between;
+      bytes = c.new.result.pending;
+      over = false;
+      service = c.args.service;
+      pending = pending_in c.args.outbox;
+    } in
     begun_run g.S.Service.rules c.args.service begun refl c.new.ensures.empty refl c.requires

@@ -4,4 +4,5 @@ use Rattle.hub_session.proofs.machine.Session.step.Goals as goal
 
 pub returns-clause-run : goal.returns-clause-run
 returns-clause-run g c = λ run d.
-    stepped_run g.S.Service.rules run (seen c.args.self.now) (seen c.go_on.new.self) c.go_on.result c.go_on.ensures.told d
+    stepped_run g.S.Service.rules run (seen c.args.self.now)
+    (seen c.go_on.new.self) c.go_on.result c.go_on.ensures.told d

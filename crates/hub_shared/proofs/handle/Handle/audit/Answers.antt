@@ -6,6 +6,15 @@ use Rattle.hub_shared.proofs.handle.Handle.audit.Goals as goal
 pub returns-clause-audit : goal.returns-clause-audit
 returns-clause-audit g c =
     let db : Database = c.deref_mut.result.now.state in
-    let counted : record { parts = g.C.Count.parts c.self.inside.share; count = g.C.Count.amount c.self.inside.share } ≡ c.args.self.now =
-    ap (λ (n : ℕ). record { parts = g.C.Count.parts c.self.inside.share; count = n }) c.self.invariant.1 ∙ c.self.view_is in
-    (db, subst (λ (h : HandleState). IsFoundBy g.C.Count.counts g.C.Count.all_parts h db) counted c.audit.ensures.found, c.audit.ensures.audit)
+    let counted : record {
+      parts = g.C.Count.parts c.self.inside.share;
+      count = g.C.Count.amount c.self.inside.share;
+    }
+    ≡ c.args.self.now =
+    ap (λ (n : ℕ). record { parts = g.C.Count.parts c.self.inside.share; count = n }) c.self.invariant.1
+    ∙ c.self.view_is in (
+      db,
+      subst (λ (h : HandleState). IsFoundBy g.C.Count.counts g.C.Count.all_parts h db)
+          counted c.audit.ensures.found,
+      c.audit.ensures.audit,
+    )

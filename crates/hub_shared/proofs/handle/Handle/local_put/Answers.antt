@@ -13,7 +13,9 @@ returns-clause-ok g c =
 pub returns-clause-once : goal.returns-clause-once
 returns-clause-once g c =
     let db : Database = c.deref_mut.result.now.state in
-    ok_by c.local_put.result (λ count is. subst (λ n. 0 < n) (sym is.1) (next_above (local_of db.locals c.args.doc.id))) c.local_put.ensures.ok
+    ok_by c.local_put.result
+    (λ count is. subst (λ n. 0 < n) (sym is.1) (next_above (local_of db.locals c.args.doc.id)))
+    c.local_put.ensures.ok
 
 pub returns-clause-faults : goal.returns-clause-faults
 returns-clause-faults g c =

@@ -12,23 +12,50 @@ use Rattle.hub_shared.proofs.handle.Handle.open_feed.Goals as goal
 pub returns-in_default-clause-err : goal.returns-in_default-clause-err
 returns-in_default-clause-err g c =
     let db : Database = c.deref_mut.result.now.state in
-    let counted : record { parts = g.C.Count.parts c.self.inside.share; count = g.C.Count.amount c.self.inside.share } ≡ c.args.self.now =
-    ap (λ (n : ℕ). record { parts = g.C.Count.parts c.self.inside.share; count = n }) c.self.invariant.1 ∙ c.self.view_is in
-    (db, subst (λ (h : HandleState). IsFoundBy g.C.Count.counts g.C.Count.all_parts h db) counted c.opening_fault.ensures.found, c.opening_fault.ensures.fault)
+    let counted : record {
+      parts = g.C.Count.parts c.self.inside.share;
+      count = g.C.Count.amount c.self.inside.share;
+    }
+    ≡ c.args.self.now =
+    ap (λ (n : ℕ). record { parts = g.C.Count.parts c.self.inside.share; count = n }) c.self.invariant.1
+    ∙ c.self.view_is in (
+      db,
+      subst (λ (h : HandleState). IsFoundBy g.C.Count.counts g.C.Count.all_parts h db) counted
+          c.opening_fault.ensures.found,
+      c.opening_fault.ensures.fault,
+    )
 
 pub returns-in_err-id-clause-err : goal.returns-in_err-id-clause-err
 returns-in_err-id-clause-err g c =
     let db : Database = c.deref_mut-2.result.now.state in
-    let counted : record { parts = g.C.Count.parts c.self.inside.share; count = g.C.Count.amount c.self.inside.share } ≡ c.args.self.now =
-    ap (λ (n : ℕ). record { parts = g.C.Count.parts c.self.inside.share; count = n }) c.self.invariant.1 ∙ c.self.view_is in
-    let found = subst (λ (h : HandleState). IsFoundBy g.C.Count.counts g.C.Count.all_parts h db) counted c.open_feed.ensures.found in
+    let counted : record {
+      parts = g.C.Count.parts c.self.inside.share;
+      count = g.C.Count.amount c.self.inside.share;
+    }
+    ≡ c.args.self.now =
+    ap (λ (n : ℕ). record { parts = g.C.Count.parts c.self.inside.share; count = n }) c.self.invariant.1
+    ∙ c.self.view_is in
+    let found =
+    subst (λ (h : HandleState). IsFoundBy g.C.Count.counts g.C.Count.all_parts h db) counted
+    c.open_feed.ensures.found in
     let told : IfErr c.from_residual.result (λ e. e ≡ opening_fault (hosted_of db)) = search rules in
     err_by c.from_residual.result (λ e is. (db, found, is)) told
 
 pub returns-clause-opened : goal.returns-clause-opened
 returns-clause-opened g c =
     let db : Database = c.deref_mut-2.result.now.state in
-    let counted : record { parts = g.C.Count.parts c.self.inside.share; count = g.C.Count.amount c.self.inside.share } ≡ c.args.self.now =
-    ap (λ (n : ℕ). record { parts = g.C.Count.parts c.self.inside.share; count = n }) c.self.invariant.1 ∙ c.self.view_is in
-    let found = subst (λ (h : HandleState). IsFoundBy g.C.Count.counts g.C.Count.all_parts h db) counted c.open_feed.ensures.found in
-    (db, found, subst (λ (feed : FeedState _). IsOpened (hosted_of db) (params_asked c.args.params) feed) (sym c.new.ensures) c.in_ok-id.ensures.opened)
+    let counted : record {
+      parts = g.C.Count.parts c.self.inside.share;
+      count = g.C.Count.amount c.self.inside.share;
+    }
+    ≡ c.args.self.now =
+    ap (λ (n : ℕ). record { parts = g.C.Count.parts c.self.inside.share; count = n }) c.self.invariant.1
+    ∙ c.self.view_is in
+    let found =
+    subst (λ (h : HandleState). IsFoundBy g.C.Count.counts g.C.Count.all_parts h db) counted
+    c.open_feed.ensures.found in (
+      db,
+      found,
+      subst (λ (feed : FeedState _). IsOpened (hosted_of db) (params_asked c.args.params) feed)
+          (sym c.new.ensures) c.in_ok-id.ensures.opened,
+    )

@@ -19,15 +19,26 @@ invariant_of-self-in-Ok-open_feed g c =
     let own = c.in-Ok-open_feed.ensures in
     let next = (h.hosted s).next_feed in
     let id = c.in-Ok.receiver.lane_id in
-    let senders = old ++ (next, new_sender id (label_of (params_asked c.args.params) (h.hosted s)) c.self.inside.lane) ∷ [] in
-    let sender : c.in-Ok.sender ≡ new_sender id (label_of (params_asked c.args.params) (h.hosted s)) c.self.inside.lane = subst (λ l. c.in-Ok.sender ≡ new_sender id (label_of (params_asked c.args.params) (h.hosted l.state)) l.lane) (sym c.self.view_is) c.in-Ok.ensures.sender in
-    let items : c.push_reserved.new.self.items ≡ senders = c.push_reserved.ensures.items ∙ (λ k. c.try_reserve.ensures.items k ++ (own.number k, sender k) ∷ []) in
-    let begins = subst (λ l. (p : Params) → h.fits l.state (begin p (h.hosted l.state).length (h.hosted l.state).life) []) (sym c.self.view_is) c.ends_for.ensures.begins in
-    let fresh : entry_in next (h.hosted s).feeds ≡ None = subst (λ n. entry_in n (h.hosted s).feeds ≡ None) own.number own.new in (
+    let senders =
+    old ++ (next, new_sender id (label_of (params_asked c.args.params) (h.hosted s)) c.self.inside.lane)
+    ∷ [] in
+    let sender : c.in-Ok.sender ≡ new_sender id
+    (label_of (params_asked c.args.params) (h.hosted s)) c.self.inside.lane =
+    subst (λ l.
+    c.in-Ok.sender ≡ new_sender id (label_of (params_asked c.args.params) (h.hosted l.state)) l.lane)
+    (sym c.self.view_is) c.in-Ok.ensures.sender in
+    let items : c.push_reserved.new.self.items ≡ senders =
+    c.push_reserved.ensures.items ∙ (λ k. c.try_reserve.ensures.items k ++ (own.number k, sender k) ∷ []) in
+    let begins =
+    subst (λ l. (p : Params) → h.fits l.state (begin p (h.hosted l.state).length (h.hosted l.state).life) [])
+    (sym c.self.view_is) c.ends_for.ensures.begins in
+    let fresh : entry_in next (h.hosted s).feeds ≡ None =
+    subst (λ n. entry_in n (h.hosted s).feeds ≡ None) own.number own.new in (
       c.self.invariant.0,
       subst (λ xs. AreSendersOf (h.fits new) (h.hosted new) xs) (sym items)
           (subst (λ z. AreSendersOf (h.fits z) (h.hosted z) senders) (sym own.ok)
-          (comes h.hosted h.with_hosted h.fits h.right laws.hosts laws.rightly laws.stays s c.args.params id c.self.inside.lane old begins fresh c.self.invariant.1)),
+          (comes h.hosted h.with_hosted h.fits h.right laws.hosts laws.rightly laws.stays s c.args.params
+          id c.self.inside.lane old begins fresh c.self.invariant.1)),
     )
 
 pub returns-in-Ok-open_feed-clause-ok : goal.returns-in-Ok-open_feed-clause-ok
@@ -36,11 +47,29 @@ returns-in-Ok-open_feed-clause-ok g c =
     let s = c.self.inside.state in
     let own = c.in-Ok-open_feed.ensures in
     let id = c.in-Ok.receiver.lane_id in
-    let senders = c.self.inside.senders.items ++ ((h.hosted s).next_feed, new_sender id (label_of (params_asked c.args.params) (h.hosted s)) c.self.inside.lane) ∷ [] in
-    let sender : c.in-Ok.sender ≡ new_sender id (label_of (params_asked c.args.params) (h.hosted s)) c.self.inside.lane = subst (λ l. c.in-Ok.sender ≡ new_sender id (label_of (params_asked c.args.params) (h.hosted l.state)) l.lane) (sym c.self.view_is) c.in-Ok.ensures.sender in
-    let items : c.push_reserved.new.self.items ≡ senders = c.push_reserved.ensures.items ∙ (λ k. c.try_reserve.ensures.items k ++ (own.number k, sender k) ∷ []) in
-    let receives = subst (λ l. c.in-Ok.receiver ≡ new_receiver c.in-Ok.sender.lane_id (label_of (params_asked c.args.params) (h.hosted l.state))) (sym c.self.view_is) c.in-Ok.ensures.receiver in
-    subst (λ l. Begins h.hosted h.with_hosted c.args.params l c.in-Ok-open_feed.feed.number c.in-Ok.receiver (record { state = c.open_feed.new.self; senders = c.push_reserved.new.self.items; lane = c.self.inside.lane })) c.self.view_is
+    let senders =
+    c.self.inside.senders.items
+    ++ (
+      (h.hosted s).next_feed,
+      new_sender id (label_of (params_asked c.args.params) (h.hosted s)) c.self.inside.lane,
+    ) ∷ [] in
+    let sender : c.in-Ok.sender ≡ new_sender id
+    (label_of (params_asked c.args.params) (h.hosted s)) c.self.inside.lane =
+    subst (λ l.
+    c.in-Ok.sender ≡ new_sender id (label_of (params_asked c.args.params) (h.hosted l.state)) l.lane)
+    (sym c.self.view_is) c.in-Ok.ensures.sender in
+    let items : c.push_reserved.new.self.items ≡ senders =
+    c.push_reserved.ensures.items ∙ (λ k. c.try_reserve.ensures.items k ++ (own.number k, sender k) ∷ []) in
+    let receives =
+    subst (λ l. c.in-Ok.receiver
+    ≡ new_receiver c.in-Ok.sender.lane_id (label_of (params_asked c.args.params) (h.hosted l.state)))
+    (sym c.self.view_is) c.in-Ok.ensures.receiver in
+    subst (λ l. Begins h.hosted h.with_hosted c.args.params l c.in-Ok-open_feed.feed.number c.in-Ok.receiver
+    (record {
+      state = c.open_feed.new.self;
+      senders = c.push_reserved.new.self.items;
+      lane = c.self.inside.lane;
+    })) c.self.view_is
     (record {
       opens = record {
         free = own.free;

@@ -12,5 +12,14 @@ new-requires-clause-allowed g c =
     let laws = g.met.S.FeedHost in
     let s = c.self.inside.state in
     let label : c.new-label.result ≡ label_of (params_asked c.args.params.now) (h.hosted s) =
-    c.new-label.ensures ∙ (λ k. record { asked = c.in_ok-copy.ensures.ok k; since = (c.within-since.ensures ∙ ap₂ (since_of c.args.params.now.since) c.length.ensures.length c.life-life.ensures) k; life = c.life-life.ensures k }) in
-    subst (λ (l : Label). h.right (params_in l.asked) l.since []) (sym label) (nothing_allowed h.hosted h.with_hosted h.fits h.right laws.hosts laws.rightly laws.stays s c.args.params.now c.length.ensures.begins)
+    c.new-label.ensures
+    ∙ (λ k. record {
+      asked = c.in_ok-copy.ensures.ok k;
+      since =
+          (c.within-since.ensures
+          ∙ ap₂ (since_of c.args.params.now.since) c.length.ensures.length c.life-life.ensures) k;
+      life = c.life-life.ensures k;
+    }) in
+    subst (λ (l : Label). h.right (params_in l.asked) l.since []) (sym label)
+    (nothing_allowed h.hosted h.with_hosted h.fits h.right laws.hosts laws.rightly laws.stays
+    s c.args.params.now c.length.ensures.begins)

@@ -10,5 +10,6 @@ invariant_of-self g c =
     let senders = c.self.inside.senders.items in (
       c.self.invariant.0,
       subst (λ s. AreSendersOf (h.fits s) (h.hosted s) senders) (sym c.expire.ensures)
-          (expires h.hosted h.with_hosted h.fits h.right laws.hosts laws.rightly laws.stays c.self.inside.state c.args.feed.number senders c.self.invariant.1 laws.expired_fits),
+          (expires h.hosted h.with_hosted h.fits h.right laws.hosts laws.rightly laws.stays
+          c.self.inside.state c.args.feed.number senders c.self.invariant.1 laws.expired_fits),
     )

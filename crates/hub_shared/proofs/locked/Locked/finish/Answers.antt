@@ -11,7 +11,9 @@ invariant_of-self g c =
     let senders = c.self.inside.senders.items in
     let id = c.args.feed.number in (
       c.self.invariant.0,
-      subst (λ xs. AreSendersOf (h.fits c.finish.new.self) (h.hosted c.finish.new.self) xs) (sym c.remove.ensures.senders)
+      subst (λ xs. AreSendersOf (h.fits c.finish.new.self) (h.hosted c.finish.new.self) xs)
+          (sym c.remove.ensures.senders)
           (subst (λ s. AreSendersOf (h.fits s) (h.hosted s) (without id senders)) (sym c.finish.ensures)
-          (finishes h.hosted h.with_hosted h.fits h.right laws.hosts laws.rightly laws.stays c.self.inside.state id senders c.self.invariant.1)),
+          (finishes h.hosted h.with_hosted h.fits h.right laws.hosts laws.rightly laws.stays
+          c.self.inside.state id senders c.self.invariant.1)),
     )

@@ -14,8 +14,10 @@ invariant_of-self-in-Nothing g c =
     let senders = c.self.inside.senders.items in
     let item = c.in_ok-item.ensures in
     let nothing : Nothing ≡ answered (h.hosted s) id = sym c.in-Nothing.is ∙ item.ok in
-    let new : c.next_item.new.self ≡ h.with_hosted s (behind_answer (h.hosted s) id Nothing) = item.new ∙ ap (λ n. h.with_hosted s (behind_answer (h.hosted s) id n)) c.in-Nothing.is in (
+    let new : c.next_item.new.self ≡ h.with_hosted s (behind_answer (h.hosted s) id Nothing) =
+    item.new ∙ ap (λ n. h.with_hosted s (behind_answer (h.hosted s) id n)) c.in-Nothing.is in (
       c.self.invariant.0,
       subst (λ z. AreSendersOf (h.fits z) (h.hosted z) senders) (sym new)
-          (rests h.hosted h.with_hosted h.fits h.right laws.hosts laws.rightly laws.stays s id senders c.self.invariant.1 laws.waiting_fits nothing),
+          (rests h.hosted h.with_hosted h.fits h.right laws.hosts laws.rightly laws.stays s id senders
+          c.self.invariant.1 laws.waiting_fits nothing),
     )

@@ -14,10 +14,14 @@ invariant_of-self c =
     let d = c.self.invariant.1 in (
       c.self.invariant.0,
       either c.delete.result c.delete.ensures.ok c.delete.ensures.err
-          (λ ok. subst (λ (db : Database). AreSendersOf (λ f items. IsFitting db.journal f items) (hosted_of db) senders) (sym ok.1) (senders_end old senders d))
-          (λ e err. subst (λ (db : Database). AreSendersOf (λ f items. IsFitting db.journal f items) (hosted_of db) senders) (sym err.2) d),
+          (λ ok. subst (λ (db : Database).
+          AreSendersOf (λ f items. IsFitting db.journal f items) (hosted_of db) senders)
+          (sym ok.1) (senders_end old senders d))
+          (λ e err. subst (λ (db : Database).
+          AreSendersOf (λ f items. IsFitting db.journal f items) (hosted_of db) senders) (sym err.2) d),
     )
   where
-    either : {A E X Z : Type 0} {Q : E → Type 0} → (r : Result A E) → OnOk r X → IfErr r Q → (X → Z) → ((e : E) → Q e → Z) → Z
+    either : {A E X Z : Type 0} {Q : E → Type 0} → (r : Result A E) → OnOk r X → IfErr r Q → (X → Z)
+        → ((e : E) → Q e → Z) → Z
     either (Ok a) x q f k = f x
     either (Err e) x q f k = k e q

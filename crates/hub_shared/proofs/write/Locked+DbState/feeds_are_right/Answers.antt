@@ -8,6 +8,9 @@ pub returns-clause-served : goal.returns-clause-served
 returns-clause-served c number f is =
     let db = c.self.inside.state in
     let senders = c.self.inside.senders.items in
-    let here : entry_in number db.feeds ≡ Some f = subst (λ l. entry_in number l.state.feeds ≡ Some f) (sym c.self.view_is) is in
-    let s = sender_of (λ f items. IsFitting db.journal f items) (entry_in number db.feeds) (entry_in number senders) f here (c.self.invariant.1.each number) in
+    let here : entry_in number db.feeds ≡ Some f =
+    subst (λ l. entry_in number l.state.feeds ≡ Some f) (sym c.self.view_is) is in
+    let s =
+    sender_of (λ f items. IsFitting db.journal f items) (entry_in number db.feeds)
+    (entry_in number senders) f here (c.self.invariant.1.each number) in
     (s.0, subst (λ l. entry_in number l.senders ≡ Some s.0) c.self.view_is s.1)

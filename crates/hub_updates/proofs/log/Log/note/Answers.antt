@@ -9,54 +9,102 @@ use Rattle.hub_updates.proofs.log.Log.note.Goals as goal
 pub raise-requires-clause-there : goal.raise-requires-clause-there
 raise-requires-clause-there c =
     let s = c.self.inside in
-    let known : get_by_text s.numbers (id_of c.args.notice.now) ≡ Some c.in-Some.number = ap (get_by_text s.numbers) (sym c.in_ok-id.ensures) ∙ sym (rw c.as_str.ensures.value at c.in-Some.ensures) in
-    omega (arith, kept_there (get_by_text s.numbers) (ids_of s.pairs.items) s.notes.items s.index c.self.invariant (id_of c.args.notice.now) c.in-Some.number known, length-map s.pairs.items pair_of)
+    let known : get_by_text s.numbers (id_of c.args.notice.now) ≡ Some c.in-Some.number =
+    ap (get_by_text s.numbers) (sym c.in_ok-id.ensures)
+    ∙ sym (rw c.as_str.ensures.value at c.in-Some.ensures) in
+    omega (
+      arith,
+      kept_there (get_by_text s.numbers) (ids_of s.pairs.items) s.notes.items s.index c.self.invariant
+          (id_of c.args.notice.now) c.in-Some.number known,
+      length-map s.pairs.items pair_of,
+    )
 
 pub raise-requires-clause-above : goal.raise-requires-clause-above
 raise-requires-clause-above c =
     let s = c.self.inside in
-    λ k d l. omega (arith, kept_rows (get_by_text s.numbers) (ids_of s.pairs.items) s.notes.items s.index c.self.invariant k d l, c.len.ensures, c.in_ok-try_reserve.ensures.len, s.notes.ok.0)
+    λ k d l. omega (
+      arith,
+      kept_rows (get_by_text s.numbers) (ids_of s.pairs.items) s.notes.items s.index c.self.invariant k d l,
+      c.len.ensures,
+      c.in_ok-try_reserve.ensures.len,
+      s.notes.ok.0,
+    )
 
 pub add-requires-clause-own : goal.add-requires-clause-own
 add-requires-clause-own c =
     let s = c.self.inside in
-    rw (sym (length-map s.pairs.items pair_of)) (kept_past (get_by_text s.numbers) (ids_of s.pairs.items) s.notes.items s.index c.self.invariant)
+    rw (sym (length-map s.pairs.items pair_of))
+    (kept_past (get_by_text s.numbers) (ids_of s.pairs.items) s.notes.items s.index c.self.invariant)
 
 pub add-requires-clause-above : goal.add-requires-clause-above
 add-requires-clause-above c =
     let s = c.self.inside in
-    λ k d l. omega (arith, kept_rows (get_by_text s.numbers) (ids_of s.pairs.items) s.notes.items s.index c.self.invariant k d l, c.len.ensures, c.in_ok-try_reserve.ensures.len, s.notes.ok.0)
+    λ k d l. omega (
+      arith,
+      kept_rows (get_by_text s.numbers) (ids_of s.pairs.items) s.notes.items s.index c.self.invariant k d l,
+      c.len.ensures,
+      c.in_ok-try_reserve.ensures.len,
+      s.notes.ok.0,
+    )
 
 pub invariant_of-self-in-Some-1 : goal.invariant_of-self-in-Some-1
 invariant_of-self-in-Some-1 c =
     let s = c.self.inside in
-    let known : get_by_text s.numbers (id_of c.args.notice.now) ≡ Some c.in-Some.number = ap (get_by_text s.numbers) (sym c.in_ok-id.ensures) ∙ sym (rw c.as_str.ensures.value at c.in-Some.ensures) in
-    let last : c.len.result + 1 ≡ length s.notes.items + 1 = omega (arith, c.len.ensures, c.in_ok-try_reserve.ensures.len, s.notes.ok.0) in
-    (raised_so (get_by_text s.numbers) (ids_of s.pairs.items) s.notes.items s.index c.self.invariant c.args.notice.now c.in-Some.number (c.len.result + 1) last known
-    (ids_of c.raise.new.pairs.items) c.push_reserved.new.self.items c.raise.new.index c.in_ok-raise-in-Some.ensures.pairs (rw c.try_reserve.ensures.items at c.push_reserved.ensures.items) c.in_ok-raise-in-Some.ensures.index).0
+    let known : get_by_text s.numbers (id_of c.args.notice.now) ≡ Some c.in-Some.number =
+    ap (get_by_text s.numbers) (sym c.in_ok-id.ensures)
+    ∙ sym (rw c.as_str.ensures.value at c.in-Some.ensures) in
+    let last : c.len.result + 1 ≡ length s.notes.items + 1 =
+    omega (arith, c.len.ensures, c.in_ok-try_reserve.ensures.len, s.notes.ok.0) in
+    (raised_so (get_by_text s.numbers) (ids_of s.pairs.items) s.notes.items s.index c.self.invariant
+    c.args.notice.now c.in-Some.number (c.len.result + 1) last known (ids_of c.raise.new.pairs.items)
+    c.push_reserved.new.self.items c.raise.new.index c.in_ok-raise-in-Some.ensures.pairs
+    (rw c.try_reserve.ensures.items at c.push_reserved.ensures.items) c.in_ok-raise-in-Some.ensures.index).0
 
 pub invariant_of-self-in-None : goal.invariant_of-self-in-None
 invariant_of-self-in-None c =
     let s = c.self.inside in
-    let none : get_by_text s.numbers (string_bytes c.in_ok-id.id) ≡ None = sym (rw c.as_str.ensures.value at c.in-None.ensures) in
-    let last : c.len.result + 1 ≡ length s.notes.items + 1 = omega (arith, c.len.ensures, c.in_ok-try_reserve.ensures.len, s.notes.ok.0) in
-    (added_so (get_by_text s.numbers) (ids_of s.pairs.items) s.notes.items s.index c.self.invariant c.args.notice.now (c.len.result + 1) last (string_bytes c.in_ok-id.id) c.in_ok-id.ensures none
-    c.in_ok-number-in-None.number (c.in_ok-number-in-None.ensures.number ∙ sym (length-map s.pairs.items pair_of)) (get_by_text c.add.new.numbers)
-    (ids_of c.add.new.pairs.items) c.push_reserved-in-None.new.self.items c.add.new.index c.in_ok-number-in-None.ensures.numbers c.in_ok-number-in-None.ensures.pairs (rw c.try_reserve.ensures.items at c.push_reserved-in-None.ensures.items) c.in_ok-number-in-None.ensures.index).0
+    let none : get_by_text s.numbers (string_bytes c.in_ok-id.id) ≡ None =
+    sym (rw c.as_str.ensures.value at c.in-None.ensures) in
+    let last : c.len.result + 1 ≡ length s.notes.items + 1 =
+    omega (arith, c.len.ensures, c.in_ok-try_reserve.ensures.len, s.notes.ok.0) in
+    (added_so (get_by_text s.numbers)
+    (ids_of s.pairs.items) s.notes.items s.index c.self.invariant c.args.notice.now
+    (c.len.result + 1) last (string_bytes c.in_ok-id.id) c.in_ok-id.ensures none c.in_ok-number-in-None.number
+    (c.in_ok-number-in-None.ensures.number ∙ sym (length-map s.pairs.items pair_of))
+    (get_by_text c.add.new.numbers) (ids_of c.add.new.pairs.items) c.push_reserved-in-None.new.self.items
+    c.add.new.index c.in_ok-number-in-None.ensures.numbers c.in_ok-number-in-None.ensures.pairs
+    (rw c.try_reserve.ensures.items at c.push_reserved-in-None.ensures.items)
+    c.in_ok-number-in-None.ensures.index).0
 
 pub returns-in_ok-raise-in-Some-clause-ok : goal.returns-in_ok-raise-in-Some-clause-ok
 returns-in_ok-raise-in-Some-clause-ok c =
     let s = c.self.inside in
-    let known : get_by_text s.numbers (id_of c.args.notice.now) ≡ Some c.in-Some.number = ap (get_by_text s.numbers) (sym c.in_ok-id.ensures) ∙ sym (rw c.as_str.ensures.value at c.in-Some.ensures) in
-    let last : c.len.result + 1 ≡ length s.notes.items + 1 = omega (arith, c.len.ensures, c.in_ok-try_reserve.ensures.len, s.notes.ok.0) in
-    rw (sym c.self.view_is) (ap (λ (ns : List Note). record { notes = ns; life = s.life }) (raised_so (get_by_text s.numbers) (ids_of s.pairs.items) s.notes.items s.index c.self.invariant c.args.notice.now c.in-Some.number (c.len.result + 1) last known
-    (ids_of c.raise.new.pairs.items) c.push_reserved.new.self.items c.raise.new.index c.in_ok-raise-in-Some.ensures.pairs (rw c.try_reserve.ensures.items at c.push_reserved.ensures.items) c.in_ok-raise-in-Some.ensures.index).1)
+    let known : get_by_text s.numbers (id_of c.args.notice.now) ≡ Some c.in-Some.number =
+    ap (get_by_text s.numbers) (sym c.in_ok-id.ensures)
+    ∙ sym (rw c.as_str.ensures.value at c.in-Some.ensures) in
+    let last : c.len.result + 1 ≡ length s.notes.items + 1 =
+    omega (arith, c.len.ensures, c.in_ok-try_reserve.ensures.len, s.notes.ok.0) in
+    rw (sym c.self.view_is)
+    (ap (λ (ns : List Note). record { notes = ns; life = s.life })
+    (raised_so (get_by_text s.numbers) (ids_of s.pairs.items) s.notes.items s.index c.self.invariant
+    c.args.notice.now c.in-Some.number (c.len.result + 1) last known (ids_of c.raise.new.pairs.items)
+    c.push_reserved.new.self.items c.raise.new.index c.in_ok-raise-in-Some.ensures.pairs
+    (rw c.try_reserve.ensures.items at c.push_reserved.ensures.items) c.in_ok-raise-in-Some.ensures.index).1)
 
 pub returns-in_ok-number-in-None-clause-ok : goal.returns-in_ok-number-in-None-clause-ok
 returns-in_ok-number-in-None-clause-ok c =
     let s = c.self.inside in
-    let none : get_by_text s.numbers (string_bytes c.in_ok-id.id) ≡ None = sym (rw c.as_str.ensures.value at c.in-None.ensures) in
-    let last : c.len.result + 1 ≡ length s.notes.items + 1 = omega (arith, c.len.ensures, c.in_ok-try_reserve.ensures.len, s.notes.ok.0) in
-    rw (sym c.self.view_is) (ap (λ (ns : List Note). record { notes = ns; life = s.life }) (added_so (get_by_text s.numbers) (ids_of s.pairs.items) s.notes.items s.index c.self.invariant c.args.notice.now (c.len.result + 1) last (string_bytes c.in_ok-id.id) c.in_ok-id.ensures none
-    c.in_ok-number-in-None.number (c.in_ok-number-in-None.ensures.number ∙ sym (length-map s.pairs.items pair_of)) (get_by_text c.add.new.numbers)
-    (ids_of c.add.new.pairs.items) c.push_reserved-in-None.new.self.items c.add.new.index c.in_ok-number-in-None.ensures.numbers c.in_ok-number-in-None.ensures.pairs (rw c.try_reserve.ensures.items at c.push_reserved-in-None.ensures.items) c.in_ok-number-in-None.ensures.index).1)
+    let none : get_by_text s.numbers (string_bytes c.in_ok-id.id) ≡ None =
+    sym (rw c.as_str.ensures.value at c.in-None.ensures) in
+    let last : c.len.result + 1 ≡ length s.notes.items + 1 =
+    omega (arith, c.len.ensures, c.in_ok-try_reserve.ensures.len, s.notes.ok.0) in
+    rw (sym c.self.view_is)
+    (ap (λ (ns : List Note). record { notes = ns; life = s.life })
+    (added_so (get_by_text s.numbers)
+    (ids_of s.pairs.items) s.notes.items s.index c.self.invariant c.args.notice.now
+    (c.len.result + 1) last (string_bytes c.in_ok-id.id) c.in_ok-id.ensures none c.in_ok-number-in-None.number
+    (c.in_ok-number-in-None.ensures.number ∙ sym (length-map s.pairs.items pair_of))
+    (get_by_text c.add.new.numbers) (ids_of c.add.new.pairs.items) c.push_reserved-in-None.new.self.items
+    c.add.new.index c.in_ok-number-in-None.ensures.numbers c.in_ok-number-in-None.ensures.pairs
+    (rw c.try_reserve.ensures.items at c.push_reserved-in-None.ensures.items)
+    c.in_ok-number-in-None.ensures.index).1)

@@ -9,15 +9,25 @@ use Rattle.hub_updates.proofs.rows.LogSource.next_after.Goals as goal
 pub returns-in_default : goal.returns-in_default
 returns-in_default c =
     let s = c.self.inside in
-    rw (sym c.self.view_is) (next_nothing (slice_get (ids_of s.pairs.items)) (edits_of_log (notes_of (ids_of s.pairs.items) s.notes.items)) s.index c.self.invariant.rows c.args.place c.args.bound (sym c.in_default.is ∙ c.next_after.ensures.next))
+    rw (sym c.self.view_is)
+    (next_nothing (slice_get (ids_of s.pairs.items))
+    (edits_of_log (notes_of (ids_of s.pairs.items) s.notes.items)) s.index c.self.invariant.rows c.args.place
+    c.args.bound (sym c.in_default.is ∙ c.next_after.ensures.next))
 
 pub index-pair-requires : goal.index-pair-requires
 index-pair-requires c =
     let s = c.self.inside in
-    omega (arith, next_low (get_by_text s.numbers) s.pairs.items s.notes.items s.index c.self.invariant c.args.place c.args.bound (c.in-Some.seq, c.in-Some.number) c.in-Some.ensures.next, s.pairs.ok.0)
+    omega (
+      arith,
+      next_low (get_by_text s.numbers) s.pairs.items s.notes.items s.index c.self.invariant c.args.place
+          c.args.bound (c.in-Some.seq, c.in-Some.number) c.in-Some.ensures.next,
+      s.pairs.ok.0,
+    )
 
 pub returns : goal.returns
 returns c =
     let s = c.self.inside in
     rw (sym c.self.view_is, c.as_str.ensures.value)
-    (next_shown (get_by_text s.numbers) s.pairs.items s.notes.items s.index c.self.invariant c.args.place c.args.bound (c.in-Some.seq, c.in-Some.number) c.in-Some.ensures.next c.index-pair.result.now c.index-pair.ensures)
+    (next_shown (get_by_text s.numbers)
+    s.pairs.items s.notes.items s.index c.self.invariant c.args.place c.args.bound
+    (c.in-Some.seq, c.in-Some.number) c.in-Some.ensures.next c.index-pair.result.now c.index-pair.ensures)

@@ -12,34 +12,49 @@ use Rattle.hub_world.proofs.Growing.{row_grows, fails_as}
 use Rattle.hub_world.proofs.world.World.hand.Goals as goal
 
 -- the step
-leads : (c : goal.In-Nothing) → Leads (record { db = c.self.inside.db; lanes = c.self.inside.lanes.items }) (model.Hand c.args.feed.number) model.Nothing (record { db = c.next_item.new.self; lanes = c.self.inside.lanes.items })
+leads : (c : goal.In-Nothing)
+    → Leads (record { db = c.self.inside.db; lanes = c.self.inside.lanes.items })
+    (model.Hand c.args.feed.number) model.Nothing
+    (record { db = c.next_item.new.self; lanes = c.self.inside.lanes.items })
 leads c =
     let old : Core = record { db = c.self.inside.db; lanes = c.self.inside.lanes.items } in
     let f = c.args.feed.number in
     let own = rw c.in-Nothing.is at c.in_ok-item.ensures.ok in
-    to_same old (record old { db = with_hosted old.db (behind_answer (hosted_of old.db) f next.Nothing) }) (record old { db = c.next_item.new.self }) (model.Hand c.args.feed.number) model.Nothing (ap (λ (db : Database). record { db = db; lanes = old.lanes }) (sym own.1)) (hand_nothing old f own.0)
+    to_same old (record old { db = with_hosted old.db (behind_answer (hosted_of old.db) f next.Nothing) })
+    (record old { db = c.next_item.new.self }) (model.Hand c.args.feed.number) model.Nothing
+    (ap (λ (db : Database). record { db = db; lanes = old.lanes }) (sym own.1)) (hand_nothing old f own.0)
 
 pub invariant_of-self-in-Nothing : goal.invariant_of-self-in-Nothing
 invariant_of-self-in-Nothing c =
-    let old : Core = record { db = c.self.inside.db; lanes = c.self.inside.lanes.items } in
-    (c.self.invariant.0 ∙ sym (ap (λ (db : Database). db.limits.lane) c.in_ok-item.ensures.ok.1), still_shows old (record old { db = c.next_item.new.self }) (model.Hand c.args.feed.number) model.Nothing c.self.invariant.1 (leads c))
+    let old : Core = record { db = c.self.inside.db; lanes = c.self.inside.lanes.items } in (
+      c.self.invariant.0 ∙ sym (ap (λ (db : Database). db.limits.lane) c.in_ok-item.ensures.ok.1),
+      still_shows old (record old { db = c.next_item.new.self })
+          (model.Hand c.args.feed.number) model.Nothing c.self.invariant.1 (leads c),
+    )
 
 pub returns-in-Nothing-clause-ok : goal.returns-in-Nothing-clause-ok
 returns-in-Nothing-clause-ok c =
     let old : Core = record { db = c.self.inside.db; lanes = c.self.inside.lanes.items } in
-    from_same old c.args.self.now (record old { db = c.next_item.new.self }) (model.Hand c.args.feed.number) model.Nothing c.self.view_is (leads c)
+    from_same old c.args.self.now (record old { db = c.next_item.new.self })
+    (model.Hand c.args.feed.number) model.Nothing c.self.view_is (leads c)
 
 pub returns-in-Gone-clause-ok : goal.returns-in-Gone-clause-ok
 returns-in-Gone-clause-ok c =
     let old : Core = record { db = c.self.inside.db; lanes = c.self.inside.lanes.items } in
     let f = c.args.feed.number in
     let own = rw c.in-Gone.is at c.in_ok-item.ensures.ok in
-    from_same old c.args.self.now (record old { db = c.next_item.new.self }) (model.Hand c.args.feed.number) model.Gone c.self.view_is
-    (to_same old old (record old { db = c.next_item.new.self }) (model.Hand c.args.feed.number) model.Gone (ap (λ (db : Database). record { db = db; lanes = old.lanes }) (sym own.1)) (hand_gone old f own.0))
+    from_same old c.args.self.now (record old { db = c.next_item.new.self })
+    (model.Hand c.args.feed.number) model.Gone c.self.view_is
+    (to_same old old (record old { db = c.next_item.new.self }) (model.Hand c.args.feed.number) model.Gone
+    (ap (λ (db : Database). record { db = db; lanes = old.lanes }) (sym own.1)) (hand_gone old f own.0))
 
 pub returns-in_err-item-clause-err : goal.returns-in_err-item-clause-err
 returns-in_err-item-clause-err c =
     let old : Core = record { db = c.self.inside.db; lanes = c.self.inside.lanes.items } in
     let err = c.in_err-item.ensures.err in
     let same = ap (λ (db : Database). record { db = db; lanes = old.lanes }) err.0 ∙ c.self.view_is in
-    on_err c.from_residual.result _ (same, fails_as old c.args.self.now (event.Hand c.args.feed) c.self.view_is (row_grows old c.args.feed.number err.1))
+    on_err c.from_residual.result _ (
+      same,
+      fails_as old c.args.self.now (event.Hand c.args.feed) c.self.view_is
+          (row_grows old c.args.feed.number err.1),
+    )

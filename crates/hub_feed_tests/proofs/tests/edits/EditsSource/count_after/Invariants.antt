@@ -8,5 +8,6 @@ abbrev pub invariant-loop-edit : goal.invariant-loop-edit
 invariant-loop-edit l = record {
   numbered : l.seq ≡ l.edit-index;
   counted : l.count ≤ l.edit-index;
-  kept : pending (rows_of 1 l.self.ids.now) l.place ≡ l.count + pending (rows_of (l.edit-index + 1) (drop l.edit-index l.self.ids.now)) l.place;
+  kept : pending (rows_of 1 l.self.ids.now) l.place
+      ≡ l.count + pending (rows_of (l.edit-index + 1) (drop l.edit-index l.self.ids.now)) l.place;
 }
