@@ -18,6 +18,7 @@ import matplotlib
 
 matplotlib.use("svg")
 import matplotlib.pyplot as pyplot
+import matplotlib.ticker as ticker
 
 TOP = os.path.dirname(os.path.dirname(os.path.abspath(__file__)))
 FIGURES = os.path.join(TOP, "bench", "out")
@@ -78,8 +79,11 @@ def draw_panel(axes, title, each, cases, entries):
     axes.set_title(title)
     axes.set_xlabel("documents of the database")
     axes.set_ylabel("processor time of the hub, µs")
+    for axis in (axes.xaxis, axes.yaxis):
+        axis.set_major_formatter(ticker.FormatStrFormatter("%g"))
+    axes.yaxis.set_major_locator(ticker.LogLocator(subs=(1, 2, 5)))
     axes.grid(True, which="major", alpha=0.3)
-    axes.legend(fontsize="small")
+    axes.legend(fontsize="small", loc="upper center", bbox_to_anchor=(0.5, -0.16), ncol=2)
 
 
 def draw_growth(entries):
