@@ -1,7 +1,7 @@
 -- What a connection answers to a request (CouchDB API reference, the server, its databases, and
 -- each call on one; own for the order of refusals). Each call looks at a database under its lock,
 -- and is answered as the database says it that lies there then.
-use Rattle.std.specs.Prelude.{◌≡◌, ◌⊎◌, ⊤, ℕ, List, true, false, Option, Some, Result, Ok, Err}
+use Rattle.std.specs.Prelude.{◌≡◌, ◌⊎◌, ℕ, List, true, false, Option, Some, Result, Ok, Err}
 use Rattle.std.specs.Prelude.{string_bytes}
 use Rattle.hub_document.specs.Local.{local_in}
 use Rattle.hub_document.specs.Put.{put_in}
@@ -10,7 +10,7 @@ use Rattle.hub_databases.specs.Kept.{AreNames, most_databases}
 use Rattle.hub_databases.specs.Names.{is_name}
 use Rattle.hub_http.specs.Stream.{Asked}
 use Rattle.hub_http.specs.declared.refusal.Refusal.{Refusal}
-use Rattle.hub_http.specs.declared.refusal.Refusal.TheVariants.{NoMemory, BadName, Exists, TooMany, Absent}
+use Rattle.hub_http.specs.declared.refusal.Refusal.TheVariants.{BadName, Exists, TooMany, Absent}
 use Rattle.hub_http.specs.declared.refusal.Refusal.TheVariants.{SequenceFull}
 use Rattle.hub_http.specs.declared.reply.Reply.TheVariants.{Done, Refused}
 use Rattle.hub_params.specs.DocParams.{doc_asked}
@@ -35,7 +35,6 @@ use Rattle.hub_service.specs.Said.{Body, IsSaid, IsWant, Says}
 use Rattle.hub_service.specs.declared.response.Response.{Response}
 use Rattle.hub_service.specs.declared.response.Response.TheVariants as response
 use Rattle.hub_service.specs.declared.sent.Sent.{Sent}
-use Rattle.hub_service.specs.declared.sent.Sent.TheVariants.{Listed, Changes, Updates}
 
 -- what a call on the database of a name, with this body, is answered
 abbrev pub AnswersCall : Call → List ℕ → List ℕ → Result Response Refusal → Type 0
@@ -90,20 +89,12 @@ Responds body (Ok (route.DbUpdates query)) r = Begins BeginsUpdates query.items 
 Responds body (Ok (route.Database name c)) r =
     AtName (string_bytes name) (λ r. IsCalled c (string_bytes name) body r) r
 
--- something has to hand it its items
-abbrev pub IsFeed : Sent → Type 0
-IsFeed (Listed answer) = ⊥
-IsFeed (Changes feed) = ⊤
-IsFeed (Updates feed) = ⊤
-
--- the response is sent so, and what is being sent is then this: a feed that is begun takes the
--- place of none, and is refused where nothing could be found to hand it its items
+-- the response is sent so, and what is being sent is then this: a feed that is begun takes the place of none
 abbrev pub IsSent : Result Response Refusal → Answer → Option Sent → Option Sent → Type 0
 IsSent (Ok (response.Body status body)) a s t =
     (a ≡ answer.Whole (Done status body)) × (t ≡ s)
 IsSent (Ok (response.Stream mode sent)) a s t =
-    ((a ≡ answer.Stream mode (life_of sent)) × (t ≡ Some sent))
-    ⊎ (IsFeed sent × (a ≡ answer.Whole (Refused NoMemory)) × (t ≡ s))
+    (a ≡ answer.Stream mode (life_of sent)) × (t ≡ Some sent)
 IsSent (Err e) a s t = (a ≡ answer.Whole (Refused e)) × (t ≡ s)
 
 -- from what is being sent, a request may be answered so, and leave this

@@ -1,13 +1,13 @@
 //! Connections: what a client is answered, request by request.
 
-ghost use Rattle.std.specs.Prelude.{◌≡◌, None, Ok, OnErr, Result, Some, true};
+ghost use Rattle.std.specs.Prelude.{◌≡◌, None, Ok, Result, Some, true};
 ghost use Rattle.hub_http.specs.Stream.{asked_by};
 ghost use Rattle.hub_routes.specs.Routes.{GoesTo};
 ghost use Rattle.hub_routes.specs.declared.route.Route.{Route};
 ghost use Rattle.hub_routes.specs.declared.route.RouteFault.{RouteFault};
 ghost use Rattle.hub_service.specs.Laws.{connection_rules};
 ghost use Rattle.hub_service.specs.Requests.{AtName, IsCalled, IsListed, IsMade};
-ghost use Rattle.hub_service.specs.Requests.{IsRemoved, IsFeed, IsSent, Responds};
+ghost use Rattle.hub_service.specs.Requests.{IsRemoved, IsSent, Responds};
 
 use crate::database::answer;
 use crate::feeds::begin_updates;
@@ -22,10 +22,11 @@ use hub_databases::{Hub, is_name};
 use hub_http::{Refusal, Reply, Request};
 use hub_replies::{names_body, ok_body, welcome_body};
 use hub_routes::{Call, Route, Routes};
-use hub_session::{Answer, Service, StreamItem};
-use std::alloc::{AllocError, Global};
+use hub_session::{Answer, Polled, Service, StreamItem};
+use hub_shared::Watch;
+use std::alloc::Global;
 use std::marker::Model;
-use std::sync::Wait;
+use std::sync::{Arc, Wait};
 
 /// A connection to a hub, which other connections share. It answers one request at a time, and sends at
 /// most one feed.
@@ -149,14 +150,41 @@ impl<'h, N: Wait, P: Pumping> Connection<'h, N, P> {
         }
     }
 
-    // Begins to hand a feed its items. A list needs nothing beside it.
-    fn begin(&self, sent: &Sent) -> Result<(), AllocError>
-        ensures err { OnErr result (IsFeed sent.now) }
-    {
-        match sent {
-            Sent::Listed(_) => Ok(()),
-            Sent::Changes(feed) => self.pumping.begin_changes(feed),
-            Sent::Updates(feed) => self.pumping.begin_updates(feed),
+    // Whether a feed that gave no item may give one later.
+    fn waits(&self) -> bool {
+        match &self.sent {
+            Some(Sent::Changes(feed)) => self.pumping.waits(feed),
+            Some(Sent::Updates(feed)) => self.pumping.waits(feed),
+            Some(Sent::Listed(_)) | None => false,
+        }
+    }
+
+    /// Where a feed is sent, the reading of the clock at which it is to be asked for its next item though its
+    /// host has no news. Constant time.
+    pub fn due(&self) -> Option<u64> {
+        match &self.sent {
+            Some(Sent::Changes(feed)) => Some(feed.due()),
+            Some(Sent::Updates(feed)) => Some(feed.due()),
+            Some(Sent::Listed(_)) | None => None,
+        }
+    }
+
+    /// The number of the life that the sequences of what is sent are of: it names one database of a hub, and 0
+    /// its log of updates. Constant time.
+    pub fn life(&self) -> Option<u64> {
+        match &self.sent {
+            Some(sent) => Some(sent.life()),
+            None => None,
+        }
+    }
+
+    /// From here on this watch has news of each change that the feed which is sent may wait for, as by
+    /// `HostFeed::watch`: the feed is to be asked for its next item once more after it.
+    pub fn watch(&self, watch: Arc<Watch, Global>) {
+        match &self.sent {
+            Some(Sent::Changes(feed)) => feed.watch(self.rt, watch),
+            Some(Sent::Updates(feed)) => feed.watch(self.rt, watch),
+            Some(Sent::Listed(_)) | None => {}
         }
     }
 
@@ -167,10 +195,6 @@ impl<'h, N: Wait, P: Pumping> Connection<'h, N, P> {
         match response {
             Response::Body(status, body) => Answer::Whole(Reply::Done { status, body }),
             Response::Stream(mode, sent) => {
-                if self.begin(&sent).is_err() {
-                    sent.finish(self.rt);
-                    return Answer::Whole(Reply::Refused(Refusal::NoMemory));
-                }
                 let life = sent.life();
                 self.sent = Some(sent);
                 Answer::Stream(mode, life)
@@ -191,11 +215,7 @@ impl<'h, N: Wait, P: Pumping> Service for Connection<'h, N, P> {
     }
 
     fn is_ready(&self) -> bool {
-        match &self.sent {
-            Some(Sent::Changes(feed)) => self.pumping.is_ready(feed),
-            Some(Sent::Updates(feed)) => self.pumping.is_ready(feed),
-            Some(Sent::Listed(_)) | None => true,
-        }
+        true
     }
 
     fn item(&mut self) -> Option<StreamItem> {
@@ -203,6 +223,13 @@ impl<'h, N: Wait, P: Pumping> Service for Connection<'h, N, P> {
         let (item, left) = next(self.rt, &self.pumping, sent);
         self.sent = left;
         item
+    }
+
+    fn poll_item(&mut self) -> Polled {
+        match self.item() {
+            None if self.waits() => Polled::Waits,
+            given => Polled::Given(given),
+        }
     }
 
     fn drop_stream(&mut self) {

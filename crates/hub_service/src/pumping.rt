@@ -7,8 +7,7 @@ ghost use Rattle.hub_shared.specs.Feeds.{behind_item, receiver_of};
 
 use hub_feed::FeedHost;
 use hub_model::Item;
-use hub_shared::{Feed, Gate, HostFeed, Plain, Point, Pumped, Turn, UpdatesFeed};
-use std::alloc::AllocError;
+use hub_shared::{Gate, HostFeed, Point, Pumped, Turn};
 use std::sync::Wait;
 
 /// What hands feeds their items while a connection sends them.
@@ -16,13 +15,8 @@ pub trait Pumping: Drop {
     /// A request is answered next: where a test may hold the connection.
     fn pass_request(&self);
 
-    /// Begins to hand a feed of a database its items. An error says that memory or a thread was missing.
-    fn begin_changes(&self, feed: &Feed<Plain>) -> Result<(), AllocError>;
-
-    /// Begins to hand a feed of the log of updates its items.
-    fn begin_updates(&self, feed: &UpdatesFeed) -> Result<(), AllocError>;
-
-    /// The next item of a feed. There is none where nothing hands it further, as out of memory.
+    /// The next item of a feed. There is none where nothing hands it further, as out of memory, and where
+    /// the feed waits.
     fn next_item<S: FeedHost, H: Pumped<S>>(
         &self,
         feed: &mut HostFeed<S, H>,
@@ -32,8 +26,8 @@ pub trait Pumping: Drop {
         ensures allowed { IsAllowedBeginning
             (λ l items. S.right (params_in l.asked) l.since items) (receiver_of feed.new) };
 
-    /// Whether `next_item` would answer at once. It decides flushing alone.
-    fn is_ready<S: FeedHost, H: Pumped<S>>(&self, feed: &HostFeed<S, H>) -> bool;
+    /// Whether a feed of which `next_item` gave none waits, and may give one later.
+    fn waits<S: FeedHost, H: Pumped<S>>(&self, feed: &HostFeed<S, H>) -> bool;
 }
 
 // A gate that holds nobody.
@@ -61,14 +55,6 @@ impl<'h, N: Wait> ByTurns<'h, N> {
 impl<'h, N: Wait> Pumping for ByTurns<'h, N> {
     fn pass_request(&self) {}
 
-    fn begin_changes(&self, _feed: &Feed<Plain>) -> Result<(), AllocError> {
-        Ok(())
-    }
-
-    fn begin_updates(&self, _feed: &UpdatesFeed) -> Result<(), AllocError> {
-        Ok(())
-    }
-
     fn next_item<S: FeedHost, H: Pumped<S>>(
         &self,
         feed: &mut HostFeed<S, H>,
@@ -85,7 +71,7 @@ impl<'h, N: Wait> Pumping for ByTurns<'h, N> {
         feed.take(self.rt)
     }
 
-    fn is_ready<S: FeedHost, H: Pumped<S>>(&self, _feed: &HostFeed<S, H>) -> bool {
-        true
+    fn waits<S: FeedHost, H: Pumped<S>>(&self, _feed: &HostFeed<S, H>) -> bool {
+        false
     }
 }

@@ -8,7 +8,6 @@ ghost use Rattle.hub_shared.specs.Feeds.{behind_item, feed_of, receiver_of};
 use crate::gate::Gate;
 use crate::guarded::Guarded;
 use crate::host::{Host, Pumped};
-use crate::host_pump::HostPump;
 use crate::label::FeedLabel;
 use crate::locked::Handed;
 use crate::pumping::{Turn, hold};
@@ -37,10 +36,14 @@ pub type Feed<C> = HostFeed<DbState, Guarded<C>>;
 pub struct HostFeed<S: FeedHost, G: Pumped<S>> {
     pub(crate) host: Host<G>,
     pub(crate) id: FeedId,
-    receiver: Receiver<FeedLabel<S>, Item<S::Row>>,
+    pub(crate) receiver: Receiver<FeedLabel<S>, Item<S::Row>>,
     pub(crate) signals: Arc<Signals, Global>,
-    /// How many items were taken, but for heartbeats.
-    taken: u64,
+    /// Whether its host may have items for it, where it is polled.
+    pub(crate) is_behind: bool,
+    /// The clock's reading as a poll found no item for the first time behind the last one.
+    pub(crate) idle_since: Option<u64>,
+    /// The clock's reading at which a feed that waits is to be polled.
+    pub(crate) due: u64,
     of: PhantomData<S>,
 }
 
@@ -51,7 +54,9 @@ impl<S: FeedHost, G: Pumped<S>> Drop for HostFeed<S, G> {
             id,
             receiver,
             signals,
-            taken,
+            is_behind,
+            idle_since,
+            due,
             of,
         } = self;
     }
@@ -79,7 +84,9 @@ impl<S: FeedHost, G: Pumped<S>> HostFeed<S, G> {
             id,
             receiver,
             signals,
-            taken: 0,
+            is_behind: true,
+            idle_since: None,
+            due: 0,
             of: PhantomData,
         }
     }
@@ -110,28 +117,10 @@ impl<S: FeedHost, G: Pumped<S>> HostFeed<S, G> {
             (λ l items. S.right (params_in l.asked) l.since items) (receiver_of self.new) }
     {
         let item = self.receiver.take(rt);
-        match &item {
-            None => self.signals.ring_room(),
-            Some(Item::Beat) => {}
-            Some(_) => self.taken = self.taken.wrapping_add(1),
+        if item.is_none() {
+            self.signals.ring_room();
         }
         item
-    }
-
-    // Whether it was told of items that were not taken yet. Where it was not, items may lie there all the
-    // same.
-    pub(crate) fn has_told(&self) -> bool {
-        self.taken < self.signals.handed()
-    }
-
-    /// A pump of all feeds that wait, where this feed waits and there is none yet: it is to be run by another
-    /// thread, for `next` to be told of what is written. It takes no memory, and costs the wait for the
-    /// lock; an error says that too many share the host.
-    pub fn missing_pump<R: Wait>(&self, rt: &R) -> Result<Option<HostPump<S, G>>, AllocError> {
-        if !self.signals.waits || self.host.has_pump(rt) {
-            return Ok(None);
-        }
-        Ok(Some(HostPump::new(self.host.again()?)))
     }
 
     /// Sleeps until the feed's pump handed items or ended, for a connection that found nothing to
@@ -140,7 +129,8 @@ impl<S: FeedHost, G: Pumped<S>> HostFeed<S, G> {
         self.signals.wait_for_items(rt);
     }
 
-    /// Whether the feed's pump has ended: what can be taken then is all that will come. Constant time.
+    /// Whether nothing more is handed, as the feed's pump has ended, or `poll` found the feed gone or no
+    /// memory for a row: what can be taken then is all that will come. Constant time.
     pub fn is_over(&self) -> bool {
         self.signals.is_over()
     }
@@ -164,7 +154,9 @@ impl<S: FeedHost, G: Pumped<S>> HostFeed<S, G> {
             id,
             receiver,
             signals,
-            taken: _,
+            is_behind: _,
+            idle_since: _,
+            due: _,
             of: _,
         } = self;
         host.guarded().lock(rt).finish(id);

@@ -26,6 +26,7 @@ use crate::question::{Answer, Question, answer_of};
 use crate::receipt::{AuditFault, Receipt, ReceiptRoom, audit_of};
 use crate::served::{OpenedFeed, Served};
 use crate::signals::Signals;
+use crate::watch::Watch;
 use crate::write::Accepted;
 use hub_database::{DbFault, DbState};
 use hub_document::{Doc, Limits, LocalDoc};
@@ -223,16 +224,8 @@ impl<C: Count> Pumped<DbState> for Guarded<C> {
         self.served.signals(feed)
     }
 
-    fn waiting(&self, from: u64) -> Result<Option<(FeedId, Arc<Signals, Global>)>, AllocError> {
-        self.served.waiting(from)
-    }
-
-    fn has_pump(&self) -> bool {
-        self.served.has_pump()
-    }
-
-    fn set_pump(&mut self, has: bool) {
-        self.served.set_pump(has);
+    fn watch(&mut self, feed: FeedId, watch: Arc<Watch, Global>) {
+        self.served.watch(feed, watch);
     }
 
     fn most(&self) -> u64 {

@@ -9,6 +9,7 @@ ghost use Rattle.hub_shared.specs.Locked.{Beats, Hands, stepped};
 use crate::label::FeedLabel;
 use crate::locked::Handed;
 use crate::signals::Signals;
+use crate::watch::Watch;
 use hub_feed::{FeedHost, FeedId};
 use hub_lane::Asks;
 use hub_model::Item;
@@ -17,7 +18,7 @@ use std::sync::{Arc, Condvar, Mutex, Wait};
 use std::time::{self, Duration};
 
 /// The longest wait, in milliseconds.
-pub(crate) const MINUTE: u64 = 60_000;
+const MINUTE: u64 = 60_000;
 
 /// What lies under a lock and keeps feeds, as pumps use it.
 pub trait Pumped<S: FeedHost>: Drop {
@@ -32,15 +33,9 @@ pub trait Pumped<S: FeedHost>: Drop {
     /// The signals of a feed, if there is one of this number. A binary search.
     fn signals(&self, feed: FeedId) -> Result<Option<Arc<Signals, Global>>, AllocError>;
 
-    /// The first feed of a number from this one on that waits for edits to come, with its signals. A
-    /// binary search, and a look at each feed up to it.
-    fn waiting(&self, from: u64) -> Result<Option<(FeedId, Arc<Signals, Global>)>, AllocError>;
-
-    /// Whether one pump hands all feeds that wait. Constant time.
-    fn has_pump(&self) -> bool;
-
-    /// From here on one pump hands all feeds that wait, or none does. Constant time.
-    fn set_pump(&mut self, has: bool)
+    /// From here on this watch has news of each change that a feed may wait for, while there is a feed of
+    /// this number. A binary search.
+    fn watch(&mut self, feed: FeedId, watch: Arc<Watch, Global>)
         ensures { locked self.new ≡ locked self.old };
 
     /// How many items a feed is handed in one holding at most.
@@ -129,43 +124,6 @@ impl<G: Drop> Host<G> {
             shared: Arc::try_clone(&self.shared)?,
             alloc: self.alloc,
         })
-    }
-
-    /// Whether one pump hands all feeds that wait.
-    pub(crate) fn has_pump<S: FeedHost, R: Wait>(&self, rt: &R) -> bool
-    where
-        G: Pumped<S>,
-    {
-        self.guarded().lock(rt).has_pump()
-    }
-
-    /// Whether it had no pump for all feeds that wait: then from here on it has one.
-    pub(crate) fn take_pump<S: FeedHost, R: Wait>(&self, rt: &R) -> bool
-    where
-        G: Pumped<S>,
-    {
-        let mut guarded = self.guarded().lock(rt);
-        let has = guarded.has_pump();
-        guarded.set_pump(true);
-        !has
-    }
-
-    /// Waits for news that came after these, for the pump of all feeds that wait. Whether it is to go
-    /// on: where no feed waits any more there is no such pump from here on.
-    pub(crate) fn wait_for_work<S: FeedHost, R: Wait>(&self, rt: &R, seen: u64) -> bool
-    where
-        G: Pumped<S>,
-    {
-        let mut guarded = self.guarded().lock(rt);
-        if guarded.news() != seen {
-            return true;
-        }
-        if let Ok(None) = guarded.waiting(0) {
-            guarded.set_pump(false);
-            return false;
-        }
-        let _waited = self.shared.news.wait(rt, guarded);
-        true
     }
 
     /// Waits for news that came after these, for so many milliseconds at most, and for a minute at most.

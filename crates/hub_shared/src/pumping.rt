@@ -178,7 +178,6 @@ impl<'a, S: FeedHost, H: Pumped<S>, K: Clock> PumpState<'a, S, H, K> {
             let holding = self.host.hold_once(rt, self.feed, turn, gate)?;
             if holding.sent > 0 {
                 self.last_item = self.clock.now_ms();
-                self.signals.count_handed(holding.sent);
                 self.signals.ring_items();
             }
             turn = match holding.last {

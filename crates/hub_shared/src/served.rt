@@ -8,6 +8,7 @@ use crate::host::Pumped;
 use crate::label::FeedLabel;
 use crate::locked::{Handed, Locked};
 use crate::signals::Signals;
+use crate::watch::Watch;
 use hub_feed::{FeedHost, FeedId, OpenFault};
 use hub_lane::{Asks, Receiver};
 use hub_model::Item;
@@ -24,14 +25,21 @@ pub(crate) struct OpenedFeed<S: FeedHost> {
     pub(crate) signals: Arc<Signals, Global>,
 }
 
-/// What keeps feeds, with their senders and the signals of each.
+/// Who is told of a feed.
+#[derive(Drop)]
+struct Told {
+    /// What a pump of the feed and its connection share.
+    signals: Arc<Signals, Global>,
+    /// What has news where one sends the feed who waits for none.
+    watch: Option<Arc<Watch, Global>>,
+}
+
+/// What keeps feeds, with their senders, and with whom to tell of each.
 pub struct Served<S: FeedHost> {
     pub(crate) locked: Locked<S>,
     pub(crate) alloc: Global,
-    /// The signals of the feeds that are not finished, by the numbers of the feeds, which rise.
-    signals: Vec<(u64, Arc<Signals, Global>)>,
-    /// Whether one pump hands all feeds that wait.
-    has_pump: bool,
+    /// Who is told of the feeds that are not finished, by the numbers of the feeds, which rise.
+    told: Vec<(u64, Told)>,
     /// How many items a feed is handed in one holding at most.
     hold: u64,
     /// Another number after each change that a pump may wait for, and each end of a feed.
@@ -43,8 +51,7 @@ impl<S: FeedHost + Drop> Drop for Served<S> {
         let Self {
             locked,
             alloc,
-            signals,
-            has_pump,
+            told,
             hold,
             news,
         } = self;
@@ -70,8 +77,7 @@ impl<S: FeedHost> Served<S> {
         Served {
             locked: Locked::new(alloc, state, lane),
             alloc,
-            signals: Vec::new(alloc),
-            has_pump: false,
+            told: Vec::new(alloc),
             hold,
             news: 0,
         }
@@ -84,17 +90,22 @@ impl<S: FeedHost> Served<S> {
         self.locked.state()
     }
 
-    // The signals of the feeds of a number from this one on. A binary search.
-    fn signals_from(&self, number: u64) -> &[(u64, Arc<Signals, Global>)] {
-        let at = self.signals.partition_point(|kept| kept.0 < number);
-        &self.signals.as_slice()[at..]
+    // Where it stands who is told of a feed: there, or nowhere. A binary search.
+    fn place_of(&self, feed: FeedId) -> usize {
+        self.told.partition_point(|kept| kept.0 < feed.number)
     }
 
-    /// There is something that a pump may wait for.
+    /// There is something that feeds may wait for: pumps find another number, and watches have news. It costs
+    /// a look at each feed.
     pub(crate) fn tell(&mut self)
         ensures { self.new ≡ self.old }
     {
         self.news = self.news.wrapping_add(1);
+        for kept in &self.told {
+            if let Some(watch) = &kept.1.watch {
+                watch.tell();
+            }
+        }
     }
 
     /// Opens a feed, as `Locked::begin`, with signals of its own.
@@ -109,12 +120,18 @@ impl<S: FeedHost> Served<S> {
         }
         let (Ok((own, signals)), Ok(())) = (
             Signals::shared(self.alloc, &params),
-            self.signals.try_reserve(1),
+            self.told.try_reserve(1),
         ) else {
             return Err(OpenFault::NoMemory);
         };
         let (id, receiver) = self.locked.begin(params)?;
-        self.signals.push_reserved((id.number, own));
+        self.told.push_reserved((
+            id.number,
+            Told {
+                signals: own,
+                watch: None,
+            },
+        ));
         Ok(OpenedFeed {
             id,
             receiver,
@@ -131,28 +148,19 @@ impl<S: FeedHost + Drop> Pumped<S> for Served<S> {
     }
 
     fn signals(&self, feed: FeedId) -> Result<Option<Arc<Signals, Global>>, AllocError> {
-        match self.signals_from(feed.number).first() {
-            Some(entry) if entry.0 == feed.number => Ok(Some(Arc::try_clone(&entry.1)?)),
+        match self.told.get(self.place_of(feed)) {
+            Some(kept) if kept.0 == feed.number => Ok(Some(Arc::try_clone(&kept.1.signals)?)),
             _ => Ok(None),
         }
     }
 
-    fn waiting(&self, from: u64) -> Result<Option<(FeedId, Arc<Signals, Global>)>, AllocError> {
-        for entry in self.signals_from(from) {
-            if entry.1.waits {
-                let signals = Arc::try_clone(&entry.1)?;
-                return Ok(Some((FeedId { number: entry.0 }, signals)));
+    fn watch(&mut self, feed: FeedId, watch: Arc<Watch, Global>) {
+        let at = self.place_of(feed);
+        if let Some(kept) = self.told.get_mut(at) {
+            if kept.0 == feed.number {
+                kept.1.watch = Some(watch);
             }
         }
-        Ok(None)
-    }
-
-    fn has_pump(&self) -> bool {
-        self.has_pump
-    }
-
-    fn set_pump(&mut self, has: bool) {
-        self.has_pump = has;
     }
 
     fn most(&self) -> u64 {
@@ -178,7 +186,7 @@ impl<S: FeedHost + Drop> Pumped<S> for Served<S> {
     fn finish(&mut self, feed: FeedId) {
         let sender = self.locked.finish(feed);
         drop(sender);
-        self.signals.retain(|kept| kept.0 != feed.number);
-        self.tell();
+        self.told.retain(|kept| kept.0 != feed.number);
+        self.news = self.news.wrapping_add(1);
     }
 }

@@ -1,0 +1,130 @@
+//! How one thread sends many feeds: each is asked for its next item, and none is waited for.
+
+ghost use Rattle.std.specs.Prelude.{◌≡◌, IfSome, IfNone};
+ghost use Rattle.hub_lane.specs.Ends.{IsAllowedBeginning};
+ghost use Rattle.hub_params.specs.FeedModel.{params_in};
+ghost use Rattle.hub_shared.specs.Feeds.{behind_item, receiver_of};
+
+use crate::feed::HostFeed;
+use crate::gate::{Clock, Gate};
+use crate::host::Pumped;
+use crate::label::FeedLabel;
+use crate::locked::Handed;
+use crate::pumping::Turn;
+use crate::times::Due;
+use crate::watch::Watch;
+use hub_feed::FeedHost;
+use hub_lane::Asks;
+use hub_model::Item;
+use std::alloc::Global;
+use std::sync::{Arc, Wait};
+
+impl<S: FeedHost, H: Pumped<S>> HostFeed<S, H> {
+    // One holding of the lock for this feed. It is over without memory for a row, and behind its end.
+    fn hold_own<R, G>(&mut self, rt: &R, turn: Turn, gate: &G)
+    where
+        R: Asks<FeedLabel<S>, Item<S::Row>>,
+        G: Gate,
+        ensures { self.new ≡ self.old }
+    {
+        match self.host.hold_once(rt, self.id, turn, gate) {
+            Ok(holding) => {
+                self.is_behind = holding.last != Handed::Nothing;
+                if holding.last == Handed::Gone {
+                    self.signals.end();
+                }
+            }
+            Err(_) => self.signals.end(),
+        }
+    }
+
+    // Takes the next item. Where there is none, a feed that may be behind is handed on first.
+    fn take_handed<R, G>(&mut self, rt: &R, gate: &G) -> Option<Item<S::Row>>
+    where
+        R: Asks<FeedLabel<S>, Item<S::Row>>,
+        G: Gate,
+        ensures taken { IfSome result (λ item. self.new ≡ behind_item self.old item) }
+        ensures same { IfNone result (self.new ≡ self.old) }
+        ensures allowed { IsAllowedBeginning
+            (λ l items. S.right (params_in l.asked) l.since items) (receiver_of self.new) }
+    {
+        let item = self.receiver.take(rt);
+        if item.is_some() || !self.is_behind || self.signals.is_over() {
+            return item;
+        }
+        self.hold_own(rt, Turn::Hand, gate);
+        self.receiver.take(rt)
+    }
+
+    // Sends the heartbeat that is due, or ends the feed's time, where no item was there to take. Else the feed
+    // waits from here on.
+    fn pass_time<R, G, K>(&mut self, rt: &R, gate: &G, clock: &K) -> Option<Item<S::Row>>
+    where
+        R: Asks<FeedLabel<S>, Item<S::Row>>,
+        G: Gate,
+        K: Clock,
+        ensures taken { IfSome result (λ item. self.new ≡ behind_item self.old item) }
+        ensures same { IfNone result (self.new ≡ self.old) }
+        ensures allowed { IsAllowedBeginning
+            (λ l items. S.right (params_in l.asked) l.since items) (receiver_of self.new) }
+    {
+        let now = clock.now_ms();
+        let since = self.idle_since.unwrap_or(now);
+        self.idle_since = Some(since);
+        match self.signals.times.due_after(now.saturating_sub(since)) {
+            Due::Beat => {
+                self.idle_since = Some(now);
+                self.hold_own(rt, Turn::Beat, gate);
+            }
+            Due::Expire => {
+                self.hold_own(rt, Turn::Expire, gate);
+                self.hold_own(rt, Turn::Hand, gate);
+            }
+            Due::Wait(most) => {
+                self.due = now.saturating_add(most);
+                self.is_behind = true;
+            }
+        }
+        self.receiver.take(rt)
+    }
+
+    /// The next item, for one who sends many feeds and waits for none. Where none lies in the lane, one
+    /// holding of the lock hands as many as it may. Where none is due either, a heartbeat or the end of the
+    /// feed's time comes as the clock says. `None` says that the feed waits, or that it is over (`is_over`):
+    /// it finds no memory for a row, or it handed its end. A feed that waits is to be asked again when its
+    /// host has news (`watch`), and at the reading `due` of the clock at the latest. It costs a holding where
+    /// the lane is empty, and none where the last one found nothing more to hand.
+    pub fn poll<R, G, K>(&mut self, rt: &R, gate: &G, clock: &K) -> Option<Item<S::Row>>
+    where
+        R: Asks<FeedLabel<S>, Item<S::Row>>,
+        G: Gate,
+        K: Clock,
+        ensures taken { IfSome result (λ item. self.new ≡ behind_item self.old item) }
+        ensures same { IfNone result (self.new ≡ self.old) }
+        ensures allowed { IsAllowedBeginning
+            (λ l items. S.right (params_in l.asked) l.since items) (receiver_of self.new) }
+    {
+        let item = self.take_handed(rt, gate);
+        if item.is_some() {
+            self.idle_since = None;
+            return item;
+        }
+        if self.signals.is_over() {
+            return item;
+        }
+        self.pass_time(rt, gate, clock)
+    }
+
+    /// The reading of the clock at which a feed that `poll` left waiting gets a heartbeat, or its end.
+    /// Constant time.
+    pub fn due(&self) -> u64 {
+        self.due
+    }
+
+    /// From here on each write, each deletion and each note of the host gives this watch news, until the feed
+    /// is finished. Who calls this polls the feed once more after it: what was written before gave no news.
+    /// It costs the wait for the lock, and a binary search.
+    pub fn watch<R: Wait>(&self, rt: &R, watch: Arc<Watch, Global>) {
+        self.host.guarded().lock(rt).watch(self.id, watch);
+    }
+}
