@@ -17,7 +17,10 @@ pub(crate) struct Driven<S: Service> {
 
 impl<S: Service> Driven<S> {
     /// A session to which nothing was offered. An error says that there was no memory for its outbox.
-    pub(crate) fn new(alloc: Global, service: S) -> Result<Driven<S>, AllocError> {
+    pub(crate) fn new(alloc: Global, service: S) -> Result<Driven<S>, AllocError>
+    where
+        S: Drop,
+    {
         let outbox = Outbox::new(alloc)?;
         Ok(Driven {
             session: Session::new(alloc, outbox, service),

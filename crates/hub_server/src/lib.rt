@@ -1,15 +1,31 @@
-//! The hub over TCP: each connection in a thread of its own, and one more for each database of which a feed
-//! waits.
+//! The hub over TCP: as many workers as there are processors, each with a poll of its own. A connection is a
+//! value of one worker, which steps it when its socket is ready or its feed has news.
 #![tactic(auto)]
 
+mod accepting;
 mod alive;
+mod awaits;
+mod budget;
 mod clock;
-mod connection;
-mod orders;
-mod pumps;
+mod conn;
+mod desk;
+mod driven;
+mod event_loop;
+mod monitor;
+mod out;
+mod port;
+mod pumping;
+mod readiness;
+mod relief;
+mod seat;
 mod server;
-mod starter;
+mod services;
+mod slot;
+mod table;
+mod team;
+mod turn;
+mod watchable;
 
 pub use clock::Uptime;
-pub use pumps::ByThreads;
+pub use pumping::ByWorkers;
 pub use server::run_server;

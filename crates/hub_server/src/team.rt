@@ -2,7 +2,7 @@
 
 use crate::alive::Alive;
 use crate::conn::Conn;
-use crate::monitor::{Looks, Monitor};
+use crate::monitor::Monitor;
 use crate::port::Given;
 use crate::seat::Seat;
 use crate::watchable::Watchable;
@@ -11,14 +11,13 @@ use hub_shared::Clock;
 use std::alloc::{AllocError, Global};
 use std::io;
 use std::net::Net;
-use std::num::NonZeroUsize;
 use std::sync::Wait;
-use std::thread::{self, Scope, Threads};
+use std::thread::{self, Threads};
 
 /// How many bytes a runner reads at once.
 const ROOM: usize = 65_536;
 
-/// The fewest workers of a server: one goes on while another is held.
+/// The fewest workers of a server.
 const FEWEST: usize = 2;
 
 /// What the threads of a server share.
@@ -27,22 +26,24 @@ pub(crate) struct Team<'e, S: Service, K> {
     alloc: Global,
     clock: &'e K,
     seats: Vec<Seat<S>>,
-    monitor: Monitor,
     /// How many connections are served.
-    alive: Alive,
+    pub(crate) alive: Alive,
+    /// When the workers are looked at.
+    pub(crate) monitor: Monitor,
 }
 
-/// How many workers a server has: one a processor.
+/// How many workers a server has: one a processor. Where the system does not tell how many there are, it has
+/// as few as may be.
 fn worker_count(rt: &impl Threads) -> usize {
-    // Where the system does not tell, there are as few as may be.
-    thread::available_parallelism(rt)
-        .map_or(FEWEST, NonZeroUsize::get)
-        .max(FEWEST)
+    match thread::available_parallelism(rt) {
+        Ok(count) => count.get().max(FEWEST),
+        Err(_) => FEWEST,
+    }
 }
 
 impl<'e, S: Watchable, K: Clock> Team<'e, S, K> {
-    /// A team without connections, whose workers nobody runs yet. An error says that there was no memory, or
-    /// that the system has no descriptor left.
+    /// Workers without connections, whom nobody runs yet. An error says that there was no memory, or that the
+    /// system has no descriptor left.
     pub(crate) fn new<R: Threads + Net>(
         rt: &R,
         alloc: Global,
@@ -56,14 +57,9 @@ impl<'e, S: Watchable, K: Clock> Team<'e, S, K> {
             alloc,
             clock,
             seats,
-            monitor: Monitor::new(),
             alive: Alive::new(),
+            monitor: Monitor::new(),
         })
-    }
-
-    /// How many connections are served.
-    pub(crate) fn alive(&self) -> &Alive {
-        &self.alive
     }
 
     /// The workers.
@@ -71,14 +67,69 @@ impl<'e, S: Watchable, K: Clock> Team<'e, S, K> {
         self.seats.as_slice()
     }
 
-    /// Wakes each worker that sleeps while a stream of it has news.
+    /// Whether a worker goes on with a connection.
+    pub(crate) fn is_busy(&self) -> bool {
+        self.seats.iter().any(|seat| seat.is_busy())
+    }
+
+    // Wakes each worker that sleeps while a stream of it has news.
     fn ring(&self) {
         for seat in &self.seats {
             seat.port().ring();
         }
     }
 
-    /// Gives a worker a connection, to each one in turn; it is closed where there is no memory for that.
+    /// Gives a connection to a worker, to each one in turn. One for which there is no memory is closed.
     pub(crate) fn give<R: Wait>(&self, rt: &R, number: u64, conn: Box<Conn<S>>) {
+        let count = self.seats.len().max(1);
+        let place = usize::try_from(number).unwrap_or(0) % count;
+        self.alive.begin(rt);
+        let is_given = match self.seats.get(place) {
+            Some(seat) => seat.port().give(rt, Given::New(conn)).is_ok(),
+            None => false,
+        };
+        if !is_given {
+            self.alive.end(rt);
+        }
+    }
+
+    /// There will be no more connections: the threads end.
+    pub(crate) fn close(&self) {
+        for seat in &self.seats {
+            seat.port().close();
+        }
+        self.monitor.end();
+    }
+
+    /// Room for what a runner reads at once.
+    pub(crate) fn make_room(&self) -> Result<Vec<u8>, AllocError> {
+        vec![in self.alloc; 0u8; ROOM]
+    }
+
+    /// Runs a worker, until there will be no more connections or another thread relieves this one. Each read
+    /// of a connection fills this room.
+    pub(crate) fn run<R: Wait>(&self, rt: &R, seat: &Seat<S>, mut room: Vec<u8>) {
+        for _ in rt.forever() {
+            let Some((turn, mut out)) = seat.take_out(rt, self.clock, &self.alive) else {
+                break;
+            };
+            self.monitor.wake();
+            out.go_on(room.as_mut_slice());
+            self.ring();
+            if !seat.end_turn(turn) {
+                seat.give_back(rt, out);
+                break;
+            }
+            seat.put_back(rt, self.clock, &self.alive, out);
+        }
+    }
+
+    /// Runs a worker in place of a thread that is held in this turn, unless that turn has ended.
+    pub(crate) fn relieve<R: Wait>(&self, rt: &R, seat: &Seat<S>, turn: u64, room: Vec<u8>) {
+        if seat.end_turn(turn) {
+            // What was written in that turn may be news.
+            self.ring();
+            self.run(rt, seat, room);
+        }
     }
 }

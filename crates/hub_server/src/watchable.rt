@@ -7,7 +7,7 @@ use std::alloc::Global;
 use std::sync::{Arc, Wait};
 
 /// A service that can be watched for news while its stream waits.
-pub(crate) trait Watchable: Service {
+pub(crate) trait Watchable: Service + Drop {
     /// The number of the life that the sequences of its stream are of, `None` where it sends no stream that
     /// can wait. Constant time.
     fn life(&self) -> Option<u64>;
@@ -23,7 +23,7 @@ pub(crate) trait Watchable: Service {
 
 impl<'h, N: Wait, P: Pumping> Watchable for Connection<'h, N, P> {
     fn life(&self) -> Option<u64> {
-        self.feed_life()
+        Connection::life(self)
     }
 
     fn due(&self) -> Option<u64> {

@@ -1,0 +1,84 @@
+//! The relief of runners that are held: at a gate, behind a lock, or by a long request.
+
+use crate::monitor::Looks;
+use crate::seat::Seat;
+use crate::team::Team;
+use crate::watchable::Watchable;
+use hub_shared::Clock;
+use std::sync::Wait;
+use std::thread::Scope;
+
+// Starts a thread that relieves a worker's runner, where that was held since the last look. Without memory or
+// a thread for it, the next look tries again.
+fn relieve_held<'s, 'e, R, S, K>(
+    scope: &'s Scope<'s, &'e ()>,
+    rt: &'e R,
+    team: &'e Team<'e, S, K>,
+    seat: &'e Seat<S>,
+) where
+    R: Wait + Sync,
+    S: Watchable + Send,
+    K: Clock + Sync,
+{
+    let Some(turn) = seat.held() else {
+        return;
+    };
+    if let Ok(room) = team.make_room() {
+        let _started = scope.spawn(move || team.relieve(rt, seat, turn, room));
+    }
+}
+
+// Looks at each worker; whether one is busy.
+fn look<'s, 'e, R, S, K>(
+    scope: &'s Scope<'s, &'e ()>,
+    rt: &'e R,
+    team: &'e Team<'e, S, K>,
+) -> bool
+where
+    R: Wait + Sync,
+    S: Watchable + Send,
+    K: Clock + Sync,
+{
+    for seat in team.seats() {
+        relieve_held(scope, rt, team, seat);
+    }
+    team.is_busy()
+}
+
+// Waits until the next look: while no worker was busy for a while, until one is.
+fn rest<R, S, K>(rt: &R, team: &Team<'_, S, K>, looks: Looks)
+where
+    R: Wait,
+    S: Watchable,
+    K: Clock,
+{
+    if !looks.is_idle() {
+        team.monitor.rest(rt);
+        return;
+    }
+    team.monitor.lie_down();
+    if !team.is_busy() && !team.monitor.is_over() {
+        team.monitor.sleep(rt);
+    }
+    team.monitor.get_up();
+}
+
+/// Looks for runners that are held, and has each relieved, until there will be no more connections.
+pub(crate) fn watch_over<'s, 'e, R, S, K>(
+    scope: &'s Scope<'s, &'e ()>,
+    rt: &'e R,
+    team: &'e Team<'e, S, K>,
+) where
+    R: Wait + Sync,
+    S: Watchable + Send,
+    K: Clock + Sync,
+{
+    let mut looks = Looks::new();
+    for _ in rt.forever() {
+        if team.monitor.is_over() {
+            break;
+        }
+        rest(rt, team, looks);
+        looks.note(look(scope, rt, team));
+    }
+}
