@@ -1,7 +1,5 @@
 //! What connections wait for.
 
-ghost use Rattle.std.specs.Prelude.{◌↔◌, IsTrue};
-
 use crate::readiness::Readiness;
 
 /// What a connection waits for behind a turn.

@@ -2,12 +2,12 @@
 
 use crate::awaits::Awaits;
 use crate::conn::Conn;
-use crate::desk::Desk;
-use crate::out::Out;
 use crate::port::{Given, Port};
 use crate::readiness::Readiness;
 use crate::table::Table;
+use crate::turn::Turn;
 use crate::watchable::Watchable;
+use crate::watches::Watches;
 use hub_session::Service;
 use hub_shared::Bell;
 use mio::{Events, Poll, Token};
@@ -25,17 +25,21 @@ pub(crate) struct EventLoop<S: Service> {
     poll: Poll,
     events: Events,
     table: Table<S>,
-    desk: Desk,
+    watches: Watches,
 }
 
 impl<S: Watchable> EventLoop<S> {
     /// That of a worker without connections, whose streams ring this bell.
-    pub(crate) fn new(alloc: Global, poll: Poll, bell: Arc<Bell, Global>) -> io::Result<EventLoop<S>> {
+    pub(crate) fn new(
+        alloc: Global,
+        poll: Poll,
+        bell: Arc<Bell, Global>,
+    ) -> io::Result<EventLoop<S>> {
         Ok(EventLoop {
             poll,
             events: Events::with_capacity(alloc, EVENTS)?,
             table: Table::new(alloc),
-            desk: Desk::new(alloc, bell),
+            watches: Watches::new(alloc, bell),
         })
     }
 
@@ -56,7 +60,7 @@ impl<S: Watchable> EventLoop<S> {
     // Forgets the watch of a connection's stream.
     fn forget(&mut self, token: usize) {
         if let Some(life) = self.table.life(token) {
-            self.desk.remove(life, token);
+            self.watches.remove(life, token);
             self.table.set_life(token, None);
         }
     }
@@ -64,7 +68,7 @@ impl<S: Watchable> EventLoop<S> {
     // Gives a connection a watch, which its next turn sets for its stream. Without memory for it the
     // connection is given up: its stream could not go on.
     fn put_unwatched(&mut self, token: usize, mut conn: Box<Conn<S>>, life: u64, now: u64) {
-        match self.desk.add(life, token) {
+        match self.watches.add(life, token) {
             Ok(watch) => {
                 self.table.set_life(token, Some(life));
                 conn.take_watch(watch);
@@ -76,13 +80,13 @@ impl<S: Watchable> EventLoop<S> {
 
     /// Puts back a connection behind its turn, at this reading of the clock. One that has ended is closed;
     /// whether it has not.
-    pub(crate) fn put_back(&mut self, out: Out<S>, now: u64) -> bool {
-        let Out {
+    pub(crate) fn put_back(&mut self, turn: Turn<S>, now: u64) -> bool {
+        let Turn {
             token,
             conn,
             awaits,
-            is_late: _,
-        } = out;
+            ..
+        } = turn;
         if awaits == Awaits::Nothing || !conn.is_watched() {
             self.forget(token);
         }
@@ -103,12 +107,12 @@ impl<S: Watchable> EventLoop<S> {
     pub(crate) fn take_given(&mut self, given: Given<S>, now: u64) -> bool {
         match given {
             Given::New(conn) => self.take_new(conn, now),
-            Given::Back(out) => self.put_back(out, now),
+            Given::Back(turn) => self.put_back(turn, now),
         }
     }
 
-    /// Takes out the connection whose turn is next.
-    pub(crate) fn take_ready(&mut self) -> Option<Out<S>> {
+    /// Takes out the connection whose turn is next. The turn has no number yet.
+    pub(crate) fn take_ready(&mut self) -> Option<Turn<S>> {
         self.table.take_ready()
     }
 
@@ -126,19 +130,19 @@ impl<S: Watchable> EventLoop<S> {
     /// something else for the worker. It may come back for no reason.
     pub(crate) fn look<R: Wait>(&mut self, rt: &R, port: &Port<S>, now: u64) {
         self.table.tell_time(now);
-        if self.desk.take_bell() {
-            self.desk.take_news(&mut self.table);
+        if self.watches.take_bell() {
+            self.watches.take_news(&mut self.table);
         }
         if self.table.is_ready() {
             return;
         }
-        let most = if self.table.has_later() || !port.lie_down(rt) {
+        let most = if self.table.has_later() || !port.begin_sleep(rt) {
             Some(0)
         } else {
             self.table.time_left(now)
         };
         self.ask(most.map(Duration::from_millis));
-        port.get_up();
+        port.end_sleep();
         self.table.begin_round();
     }
 }

@@ -1,5 +1,7 @@
 //! When workers are looked at.
 
+ghost use Rattle.std.specs.Prelude.{◌≡◌, ◌-◌, ◌↔◌, IsTrue, if◌then◌else◌};
+
 use std::sync::Wait;
 use std::sync::atomic::{AtomicBool, Ordering};
 use std::thread::Parker;
@@ -8,7 +10,7 @@ use std::time::Duration;
 /// How long a runner may be held before it is relieved, in milliseconds: so often the workers are looked at.
 const PERIOD: u64 = 4;
 
-/// How many looks that found no worker busy come before a sleep.
+/// How many looks in a row that find no worker busy come before a sleep.
 const LOOKS: u32 = 25;
 
 /// When the thread that looks for runners that are held does so: every few milliseconds while a worker is
@@ -22,31 +24,35 @@ pub(crate) struct Monitor {
     is_over: AtomicBool,
 }
 
-/// The looks of a monitor.
+/// The looks for runners that are held.
 #[derive(Clone, Copy, Debug)]
 pub(crate) struct Looks {
-    /// How many found no worker busy, since one did.
-    idle: u32,
+    /// How many are left before a sleep.
+    left: u32,
 }
 
 impl Looks {
     /// None yet.
     pub(crate) fn new() -> Looks {
-        Looks { idle: 0 }
+        Looks { left: LOOKS }
     }
 
     /// One more, which found a worker busy, or none.
-    pub(crate) fn note(&mut self, is_busy: bool) {
-        self.idle = if is_busy {
-            0
+    pub(crate) fn note(&mut self, is_busy: bool)
+        ensures { self.new.left ≡ (if is_busy then LOOKS else self.old.left - 1) }
+    {
+        self.left = if is_busy {
+            LOOKS
         } else {
-            self.idle.saturating_add(1)
+            self.left.saturating_sub(1)
         };
     }
 
-    /// Whether none was found busy for a while.
-    pub(crate) fn is_idle(self) -> bool {
-        self.idle >= LOOKS
+    /// Whether none was found busy for so long that it is time to sleep.
+    pub(crate) fn are_over(self) -> bool
+        ensures { IsTrue result ↔ (self.left ≡ 0) }
+    {
+        self.left == 0
     }
 }
 
@@ -84,7 +90,7 @@ impl Monitor {
     }
 
     /// It is about to sleep: who begins a turn from here on wakes it.
-    pub(crate) fn lie_down(&self) {
+    pub(crate) fn begin_sleep(&self) {
         self.is_asleep.store(true, Ordering::SeqCst);
     }
 
@@ -94,7 +100,7 @@ impl Monitor {
     }
 
     /// It is awake.
-    pub(crate) fn get_up(&self) {
+    pub(crate) fn end_sleep(&self) {
         self.is_asleep.store(false, Ordering::SeqCst);
     }
 }

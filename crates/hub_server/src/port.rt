@@ -1,7 +1,7 @@
 //! How a worker is given connections, and woken.
 
 use crate::conn::Conn;
-use crate::out::Out;
+use crate::turn::Turn;
 use hub_session::Service;
 use hub_shared::Bell;
 use mio::{Registry, Token, Waker};
@@ -19,8 +19,8 @@ pub(crate) const WAKER: Token = Token(usize::MAX);
 pub(crate) enum Given<S: Service> {
     /// A new connection.
     New(Box<Conn<S>>),
-    /// One that a runner had out which was relieved.
-    Back(Out<S>),
+    /// One that had a turn in which its runner was relieved.
+    Back(Turn<S>),
 }
 
 /// What others have of a worker.
@@ -95,13 +95,13 @@ impl<S: Service> Port<S> {
     }
 
     /// The worker is about to sleep: whether there is nothing for it. What comes from here on wakes it.
-    pub(crate) fn lie_down<R: Wait>(&self, rt: &R) -> bool {
+    pub(crate) fn begin_sleep<R: Wait>(&self, rt: &R) -> bool {
         self.is_asleep.store(true, Ordering::SeqCst);
         !self.bell.is_rung() && !self.is_closed() && self.inbox.lock(rt).is_empty()
     }
 
     /// The worker is awake.
-    pub(crate) fn get_up(&self) {
+    pub(crate) fn end_sleep(&self) {
         self.is_asleep.store(false, Ordering::SeqCst);
     }
 }

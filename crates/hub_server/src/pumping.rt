@@ -21,12 +21,7 @@ pub struct ByWorkers<'h, R, G, K> {
 
 impl<'h, R, G, K> ByWorkers<'h, R, G, K> {
     /// What hands the feeds of the connection of this number.
-    pub(crate) fn new(
-        rt: &'h R,
-        gate: &'h G,
-        clock: &'h K,
-        number: u64,
-    ) -> ByWorkers<'h, R, G, K> {
+    pub(crate) fn new(rt: &'h R, gate: &'h G, clock: &'h K, number: u64) -> ByWorkers<'h, R, G, K> {
         ByWorkers {
             rt,
             gate,

@@ -15,25 +15,22 @@ fn relieve_held<'s, 'e, R, S, K>(
     rt: &'e R,
     team: &'e Team<'e, S, K>,
     seat: &'e Seat<S>,
-) where
+)
+where
     R: Wait + Sync,
     S: Watchable + Send,
     K: Clock + Sync,
 {
-    let Some(turn) = seat.held() else {
+    let Some(number) = seat.held() else {
         return;
     };
     if let Ok(room) = team.make_room() {
-        let _started = scope.spawn(move || team.relieve(rt, seat, turn, room));
+        let _started = scope.spawn(move || team.relieve(rt, seat, number, room));
     }
 }
 
 // Looks at each worker; whether one is busy.
-fn look<'s, 'e, R, S, K>(
-    scope: &'s Scope<'s, &'e ()>,
-    rt: &'e R,
-    team: &'e Team<'e, S, K>,
-) -> bool
+fn look<'s, 'e, R, S, K>(scope: &'s Scope<'s, &'e ()>, rt: &'e R, team: &'e Team<'e, S, K>) -> bool
 where
     R: Wait + Sync,
     S: Watchable + Send,
@@ -45,22 +42,18 @@ where
     team.is_busy()
 }
 
-// Waits until the next look: while no worker was busy for a while, until one is.
-fn rest<R, S, K>(rt: &R, team: &Team<'_, S, K>, looks: Looks)
+// Sleeps while no worker is busy, until one is.
+fn sleep<R, S, K>(rt: &R, team: &Team<'_, S, K>)
 where
     R: Wait,
     S: Watchable,
     K: Clock,
 {
-    if !looks.is_idle() {
-        team.monitor.rest(rt);
-        return;
-    }
-    team.monitor.lie_down();
+    team.monitor.begin_sleep();
     if !team.is_busy() && !team.monitor.is_over() {
         team.monitor.sleep(rt);
     }
-    team.monitor.get_up();
+    team.monitor.end_sleep();
 }
 
 /// Looks for runners that are held, and has each relieved, until there will be no more connections.
@@ -68,7 +61,8 @@ pub(crate) fn watch_over<'s, 'e, R, S, K>(
     scope: &'s Scope<'s, &'e ()>,
     rt: &'e R,
     team: &'e Team<'e, S, K>,
-) where
+)
+where
     R: Wait + Sync,
     S: Watchable + Send,
     K: Clock + Sync,
@@ -78,7 +72,12 @@ pub(crate) fn watch_over<'s, 'e, R, S, K>(
         if team.monitor.is_over() {
             break;
         }
-        rest(rt, team, looks);
+        if looks.are_over() {
+            sleep(rt, team);
+            looks = Looks::new();
+        } else {
+            team.monitor.rest(rt);
+        }
         looks.note(look(scope, rt, team));
     }
 }

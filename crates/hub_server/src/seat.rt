@@ -2,18 +2,17 @@
 
 use crate::alive::Alive;
 use crate::event_loop::EventLoop;
-use crate::out::Out;
 use crate::port::{Given, Port};
+use crate::turn::Turn;
 use crate::watchable::Watchable;
 use hub_session::Service;
 use hub_shared::{Bell, Clock};
 use mio::Poll;
 use std::alloc::{AllocFailed, Global};
-use std::io;
 use std::net::Net;
 use std::sync::atomic::{AtomicU64, Ordering};
 use std::sync::{Arc, Mutex, Wait};
-use std::thread;
+use std::{io, thread};
 
 /// The seat of a worker. One thread runs it at a time, its runner: it takes out a connection, goes on with it
 /// outside of the lock, and puts it back. A runner that is held meanwhile can be relieved: another thread is
@@ -22,8 +21,7 @@ use std::thread;
 pub(crate) struct Seat<S: Service> {
     port: Port<S>,
     events: Mutex<EventLoop<S>>,
-    /// How often a connection was taken out, and its turn ended: odd while one is out. Its runner counts, and
-    /// who relieves it.
+    /// How many turns began, and how many ended: odd while one goes on, of which it is the number.
     turns: AtomicU64,
     /// What `turns` was at the last look for a runner that is held.
     seen: AtomicU64,
@@ -49,7 +47,7 @@ impl<S: Watchable> Seat<S> {
         &self.port
     }
 
-    /// Whether a connection is out for a turn.
+    /// Whether a connection has a turn.
     pub(crate) fn is_busy(&self) -> bool {
         self.turns.load(Ordering::SeqCst) & 1 == 1
     }
@@ -61,10 +59,11 @@ impl<S: Watchable> Seat<S> {
         (now & 1 == 1 && now == before).then_some(now)
     }
 
-    /// Ends this turn, for its runner or for who relieves it: whether nobody did before.
-    pub(crate) fn end_turn(&self, turn: u64) -> bool {
+    /// Ends the turn of this number: whether nobody did before. Who ends it is the seat's runner.
+    pub(crate) fn end_turn(&self, number: u64) -> bool {
+        let next = number.wrapping_add(1);
         self.turns
-            .compare_exchange(turn, turn.wrapping_add(1), Ordering::SeqCst, Ordering::SeqCst)
+            .compare_exchange(number, next, Ordering::SeqCst, Ordering::SeqCst)
             .is_ok()
     }
 
@@ -80,9 +79,9 @@ impl<S: Watchable> Seat<S> {
         }
     }
 
-    /// Takes out the connection whose turn is next, with the number of the turn, and sleeps while there is
-    /// none. None once there will be no more connections.
-    pub(crate) fn take_out<R, K>(&self, rt: &R, clock: &K, alive: &Alive) -> Option<(u64, Out<S>)>
+    /// Begins a turn of the connection that is next, and sleeps while there is none. None once there will be no
+    /// more connections.
+    pub(crate) fn begin_turn<R, K>(&self, rt: &R, clock: &K, alive: &Alive) -> Option<Turn<S>>
     where
         R: Wait,
         K: Clock,
@@ -90,9 +89,9 @@ impl<S: Watchable> Seat<S> {
         let mut guard = self.events.lock(rt);
         let events = &mut *guard;
         for _ in rt.forever() {
-            if let Some(out) = events.take_ready() {
-                let turn = self.turns.fetch_add(1, Ordering::SeqCst).wrapping_add(1);
-                return Some((turn, out));
+            if let Some(mut turn) = events.take_ready() {
+                turn.number = self.turns.fetch_add(1, Ordering::SeqCst).wrapping_add(1);
+                return Some(turn);
             }
             if self.port.is_closed() {
                 break;
@@ -104,22 +103,22 @@ impl<S: Watchable> Seat<S> {
         None
     }
 
-    /// Puts back a connection behind its turn, for the runner whose turn it was.
-    pub(crate) fn put_back<R, K>(&self, rt: &R, clock: &K, alive: &Alive, out: Out<S>)
+    /// Puts back a connection behind a turn, for the runner who ended it.
+    pub(crate) fn put_back<R, K>(&self, rt: &R, clock: &K, alive: &Alive, turn: Turn<S>)
     where
         R: Wait,
         K: Clock,
     {
-        let is_open = self.events.lock(rt).put_back(out, clock.now_ms());
+        let is_open = self.events.lock(rt).put_back(turn, clock.now_ms());
         if !is_open {
             alive.end(rt);
         }
     }
 
-    /// Gives a connection back behind a turn in which its runner was relieved. It is tried until there is
-    /// memory for it: the connection must not be lost.
-    pub(crate) fn give_back<R: Wait>(&self, rt: &R, out: Out<S>) {
-        let mut given = Given::Back(out);
+    /// Gives a connection back behind a turn that somebody else ended, for the seat's runner to put it back. It
+    /// is tried until there is memory for it: the connection must not be lost.
+    pub(crate) fn give_back<R: Wait>(&self, rt: &R, turn: Turn<S>) {
+        let mut given = Given::Back(turn);
         for _ in rt.forever() {
             match self.port.give(rt, given) {
                 Ok(()) => return,

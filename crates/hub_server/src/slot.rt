@@ -2,8 +2,8 @@
 
 use crate::awaits::Awaits;
 use crate::conn::Conn;
-use crate::out::Out;
 use crate::readiness::Readiness;
+use crate::turn::Turn;
 use crate::watchable::Watchable;
 use hub_session::Service;
 
@@ -20,13 +20,13 @@ pub(crate) const NEVER: u64 = u64::MAX;
 /// The place of a connection.
 #[derive(Drop)]
 pub(crate) struct Slot<S: Service> {
-    /// The connection, `None` where it is out for a turn and where there is none.
+    /// The connection, `None` while it has a turn, and where there is none.
     conn: Option<Box<Conn<S>>>,
     /// What it waits for. It is never a turn or a watch.
     awaits: Awaits,
-    /// What the socket is ready for. Of one that is out, what the poll told meanwhile.
+    /// What the socket is ready for. During a turn, what the poll told since it began.
     readiness: Readiness,
-    /// Whether its stream may go on: there is news that came since it was out last, or its time has come.
+    /// Whether its stream may go on, for news that came since its last turn began, or as its time has come.
     has_news: bool,
     /// Whether it waited too long for its client.
     is_late: bool,
@@ -36,7 +36,7 @@ pub(crate) struct Slot<S: Service> {
     since: u64,
     /// When it will have waited long enough, in milliseconds of the clock.
     due: u64,
-    /// The life under which its token stands on the desk.
+    /// The life that its stream is of, where that is watched.
     pub(crate) life: Option<u64>,
 }
 
@@ -85,11 +85,12 @@ impl<S: Watchable> Slot<S> {
         self.due
     }
 
-    /// Takes its connection out for a turn, None where there is none here.
-    pub(crate) fn take(&mut self, token: usize) -> Option<Out<S>> {
+    /// Takes its connection out for a turn, which has no number yet. None where there is none here.
+    pub(crate) fn take(&mut self, token: usize) -> Option<Turn<S>> {
         let mut conn = self.conn.take()?;
         conn.readiness = self.readiness;
-        let out = Out {
+        let turn = Turn {
+            number: 0,
             token,
             conn,
             awaits: self.awaits,
@@ -99,7 +100,7 @@ impl<S: Watchable> Slot<S> {
         self.has_news = false;
         self.is_late = false;
         self.is_queued = false;
-        Some(out)
+        Some(turn)
     }
 
     /// The poll told this of its socket.

@@ -2,9 +2,9 @@
 
 use crate::awaits::Awaits;
 use crate::conn::Conn;
-use crate::out::Out;
 use crate::readiness::Readiness;
 use crate::slot::{NEVER, Slot};
+use crate::turn::Turn;
 use crate::watchable::Watchable;
 use hub_session::Service;
 use std::alloc::{AllocError, Global};
@@ -73,12 +73,12 @@ impl<S: Watchable> Table<S> {
         let _kept = self.free.push(token);
     }
 
-    /// The life under which a token stands on the desk.
+    /// The life that the stream of a token is of, where that is watched.
     pub(crate) fn life(&self, token: usize) -> Option<u64> {
         self.slots.get(token)?.life
     }
 
-    /// A token stands on the desk under this life.
+    /// The stream of a token is of this life, and watched, or it is not watched.
     pub(crate) fn set_life(&mut self, token: usize, life: Option<u64>) {
         if let Some(slot) = self.slots.get_mut(token) {
             slot.life = life;
@@ -142,14 +142,14 @@ impl<S: Watchable> Table<S> {
         !self.later.is_empty()
     }
 
-    /// Takes out the connection whose turn is next.
-    pub(crate) fn take_ready(&mut self) -> Option<Out<S>> {
+    /// Takes out the connection whose turn is next. The turn has no number yet.
+    pub(crate) fn take_ready(&mut self) -> Option<Turn<S>> {
         for _ in 0..u64::MAX {
             let token = self.ready.pop_front()?;
             if let Some(slot) = self.slots.get_mut(token)
-                && let Some(out) = slot.take(token)
+                && let Some(turn) = slot.take(token)
             {
-                return Some(out);
+                return Some(turn);
             }
         }
         None

@@ -110,23 +110,23 @@ impl<'e, S: Watchable, K: Clock> Team<'e, S, K> {
     /// of a connection fills this room.
     pub(crate) fn run<R: Wait>(&self, rt: &R, seat: &Seat<S>, mut room: Vec<u8>) {
         for _ in rt.forever() {
-            let Some((turn, mut out)) = seat.take_out(rt, self.clock, &self.alive) else {
+            let Some(mut turn) = seat.begin_turn(rt, self.clock, &self.alive) else {
                 break;
             };
             self.monitor.wake();
-            out.go_on(room.as_mut_slice());
+            turn.run(room.as_mut_slice());
             self.ring();
-            if !seat.end_turn(turn) {
-                seat.give_back(rt, out);
+            if !seat.end_turn(turn.number) {
+                seat.give_back(rt, turn);
                 break;
             }
-            seat.put_back(rt, self.clock, &self.alive, out);
+            seat.put_back(rt, self.clock, &self.alive, turn);
         }
     }
 
-    /// Runs a worker in place of a thread that is held in this turn, unless that turn has ended.
-    pub(crate) fn relieve<R: Wait>(&self, rt: &R, seat: &Seat<S>, turn: u64, room: Vec<u8>) {
-        if seat.end_turn(turn) {
+    /// Runs a worker in place of a thread that is held in the turn of this number, unless that turn has ended.
+    pub(crate) fn relieve<R: Wait>(&self, rt: &R, seat: &Seat<S>, number: u64, room: Vec<u8>) {
+        if seat.end_turn(number) {
             // What was written in that turn may be news.
             self.ring();
             self.run(rt, seat, room);

@@ -1,4 +1,4 @@
-//! Connections whose streams wait for news.
+//! The watches of streams that wait for news.
 
 use crate::table::Table;
 use crate::watchable::Watchable;
@@ -12,23 +12,23 @@ use std::sync::Arc;
 struct Watched {
     life: u64,
     watch: Arc<Watch, Global>,
-    /// The tokens of the connections. There is at least one.
+    /// The tokens of the connections.
     tokens: Vec<usize>,
 }
 
 /// The connections of a worker whose streams are watched, by the lives that these are of.
 #[derive(Drop)]
-pub(crate) struct Desk {
+pub(crate) struct Watches {
     alloc: Global,
     /// Rung with each news of a watch.
     bell: Arc<Bell, Global>,
     watched: Vec<Watched>,
 }
 
-impl Desk {
+impl Watches {
     /// No stream is watched yet.
-    pub(crate) fn new(alloc: Global, bell: Arc<Bell, Global>) -> Desk {
-        Desk {
+    pub(crate) fn new(alloc: Global, bell: Arc<Bell, Global>) -> Watches {
+        Watches {
             alloc,
             bell,
             watched: Vec::new(alloc),
@@ -37,9 +37,7 @@ impl Desk {
 
     // The place of a life.
     fn place(&self, life: u64) -> Option<usize> {
-        self.watched
-            .iter()
-            .position(|watched| watched.life == life)
+        self.watched.iter().position(|watched| watched.life == life)
     }
 
     // The place of a life, which is made where there is none.
@@ -59,7 +57,11 @@ impl Desk {
 
     /// Notes a connection whose stream is of this life, and gives the watch that is to be set for it. It costs
     /// a look at each life. An error says that there was no memory.
-    pub(crate) fn add(&mut self, life: u64, token: usize) -> Result<Arc<Watch, Global>, AllocError> {
+    pub(crate) fn add(
+        &mut self,
+        life: u64,
+        token: usize,
+    ) -> Result<Arc<Watch, Global>, AllocError> {
         let place = self.place_of(life)?;
         let Some(watched) = self.watched.get_mut(place) else {
             return Err(AllocError);
