@@ -75,6 +75,8 @@ impl<S: FeedHost, H: Pumped<S>> HostFeed<S, H> {
             Due::Beat => {
                 self.idle_since = Some(now);
                 self.hold_own(rt, Turn::Beat, gate);
+                // Rows go before the next heartbeat, however soon that is due.
+                self.is_behind = true;
             }
             Due::Expire => {
                 self.hold_own(rt, Turn::Expire, gate);
