@@ -169,8 +169,8 @@ impl<'h, N: Wait, P: Pumping> Connection<'h, N, P> {
         }
     }
 
-    /// The number of the life that the sequences of what is sent are of: it names one database of a hub, and 0
-    /// its log of updates. Constant time.
+    /// The number of the life that the sequences of what is sent are of. It names one database of a hub, and
+    /// 0 its log of updates. Constant time.
     pub fn life(&self) -> Option<u64> {
         match &self.sent {
             Some(sent) => Some(sent.life()),
