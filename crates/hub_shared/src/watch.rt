@@ -40,8 +40,8 @@ pub trait Watchable {
     /// names one database of a hub, and 0 its log of updates. Constant time.
     fn life(&self) -> Option<u64>;
 
-    /// Where a feed is sent, the reading of the clock, in milliseconds, at which it is to be asked for its next
-    /// item though its host has no news. Constant time.
+    /// Where a feed is sent, the reading of the clock, in milliseconds, at which it is to be asked for its
+    /// next item though its host has no news. Constant time.
     fn due(&self) -> Option<u64>;
 
     /// From here on this watch has news of each change that the feed which is sent may wait for. Who calls
