@@ -273,9 +273,9 @@ impl Hub {
         }
     }
 
-    /// Opens a feed of the log of updates, which stays until it is finished: something is to call
-    /// `pump_updates` for it, and `HostFeed::take`. It shows every row of the log, upwards
-    /// (`Updates::open_feed`). It costs the wait for the log, and what `Updates::open_feed` does.
+    /// Opens a feed of the log of updates, which stays until it is finished: its connection is to call
+    /// `HostFeed::poll`, or something `pump_updates` for it, and `HostFeed::take`. It shows every row of the
+    /// log, upwards (`Updates::open_feed`). It costs the wait for the log, and what that call does.
     pub fn updates<R: Wait>(&self, rt: &R, params: FeedParams) -> Result<UpdatesFeed, OpenFault>
         ensures asks { IfOk result (λ feed. feed.label.asked ≡ updates_asked (params_asked params)) }
         ensures begins { IfOk result (λ feed. IsBeginningFor params.since 0 feed.label) }

@@ -8,6 +8,7 @@
 mod locks;
 mod names;
 mod rows;
+mod watches;
 
 use hub_database::Info;
 use hub_databases::{Hub, HubDb, HubFault, Written};

@@ -23,7 +23,7 @@ use hub_http::{Refusal, Reply, Request};
 use hub_replies::{names_body, ok_body, welcome_body};
 use hub_routes::{Call, Route, Routes};
 use hub_session::{Answer, Polled, Service, StreamItem};
-use hub_shared::Watch;
+use hub_shared::{Watch, Watchable};
 use std::alloc::Global;
 use std::marker::Model;
 use std::sync::{Arc, Wait};
@@ -159,35 +159,6 @@ impl<'h, N: Wait, P: Pumping> Connection<'h, N, P> {
         }
     }
 
-    /// Where a feed is sent, the reading of the clock at which it is to be asked for its next item though its
-    /// host has no news. Constant time.
-    pub fn due(&self) -> Option<u64> {
-        match &self.sent {
-            Some(Sent::Changes(feed)) => Some(feed.due()),
-            Some(Sent::Updates(feed)) => Some(feed.due()),
-            Some(Sent::Listed(_)) | None => None,
-        }
-    }
-
-    /// The number of the life that the sequences of what is sent are of: it names one database of a hub, and 0
-    /// its log of updates. Constant time.
-    pub fn life(&self) -> Option<u64> {
-        match &self.sent {
-            Some(sent) => Some(sent.life()),
-            None => None,
-        }
-    }
-
-    /// From here on this watch has news of each change that the feed which is sent may wait for, as by
-    /// `HostFeed::watch`: the feed is to be asked for its next item once more after it.
-    pub fn watch(&self, watch: Arc<Watch, Global>) {
-        match &self.sent {
-            Some(Sent::Changes(feed)) => feed.watch(self.rt, watch),
-            Some(Sent::Updates(feed)) => feed.watch(self.rt, watch),
-            Some(Sent::Listed(_)) | None => {}
-        }
-    }
-
     // The response as it is sent: a feed is kept until its end was handed.
     fn send(&mut self, response: Response) -> Answer
         ensures { IsSent (Ok response) result self.old self.new }
@@ -199,6 +170,31 @@ impl<'h, N: Wait, P: Pumping> Connection<'h, N, P> {
                 self.sent = Some(sent);
                 Answer::Stream(mode, life)
             }
+        }
+    }
+}
+
+impl<'h, N: Wait, P: Pumping> Watchable for Connection<'h, N, P> {
+    fn life(&self) -> Option<u64> {
+        match &self.sent {
+            Some(sent) => Some(sent.life()),
+            None => None,
+        }
+    }
+
+    fn due(&self) -> Option<u64> {
+        match &self.sent {
+            Some(Sent::Changes(feed)) => Some(feed.due()),
+            Some(Sent::Updates(feed)) => Some(feed.due()),
+            Some(Sent::Listed(_)) | None => None,
+        }
+    }
+
+    fn watch(&self, watch: Arc<Watch, Global>) {
+        match &self.sent {
+            Some(Sent::Changes(feed)) => feed.watch(self.rt, watch),
+            Some(Sent::Updates(feed)) => feed.watch(self.rt, watch),
+            Some(Sent::Listed(_)) | None => {}
         }
     }
 }

@@ -21,4 +21,4 @@ mod target;
 pub use connection::Connection;
 pub use laws::streams_are_right;
 pub use pumping::{ByTurns, Pumping};
-pub use stream::{answer_stream, serve_connection};
+pub use stream::answer_stream;

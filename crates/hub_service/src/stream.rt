@@ -10,7 +10,7 @@ ghost use Rattle.hub_service.specs.Laws.{connection_rules};
 ghost use Rattle.hub_service.specs.declared.sent.Sent.{Sent};
 
 use crate::connection::Connection;
-use crate::pumping::{ByTurns, Pumping};
+use crate::pumping::ByTurns;
 use hub_databases::Hub;
 use hub_document::Limits;
 use hub_http::{Input, Output, Requests};
@@ -18,40 +18,6 @@ use hub_routes::Routes;
 use hub_session::{Closing, serve};
 use std::alloc::{AllocError, Global};
 use std::sync::Wait;
-
-/// Answers the requests of one connection to a hub, one after the other, up to the first closing, and
-/// says why it closed. The table of routes may serve every connection.
-pub fn serve_connection<N: Wait, P: Pumping, R: Input, W: Output>(
-    rt: &N,
-    alloc: Global,
-    hub: &Hub,
-    routes: &Routes,
-    pumping: P,
-    requests: &mut Requests<R>,
-    writer: &mut W,
-) -> Closing
-    ensures session { IsOpen requests.old → IfSome (to_come R.left requests.old) (λ bytes.
-        (last : Option Sent) × IsSession connection_rules bytes result
-        (moment None (W.written writer.old)) (moment last (W.written writer.new))) }
-    ensures ended { HasEnded requests.old → (result ≡ Closing.Fault HttpFault.Ended)
-        × (requests.new ≡ requests.old) × (writer.new ≡ writer.old) }
-    ensures writes { W.fault_count writer.old ≤ W.fault_count writer.new }
-    ensures failed_writes { W.failure_count writer.old ≤ W.failure_count writer.new }
-    ensures reads { faults_of R.fault_count requests.old ≤ faults_of R.fault_count requests.new }
-    ensures failed_reads { failures_of R.failure_count requests.old
-        ≤ failures_of R.failure_count requests.new }
-    ensures broken { result ≡ Closing.Broken → Rose (W.fault_count writer.old) (W.fault_count writer.new) }
-    ensures tried { result ≡ Closing.Broken → GaveUp (W.failure_count writer.old)
-        (W.failure_count writer.new) (W.fault_count writer.old) (W.fault_count writer.new) }
-    ensures fault { result ≡ Closing.Fault HttpFault.IoFault
-        → Rose (faults_of R.fault_count requests.old) (faults_of R.fault_count requests.new) }
-    ensures tried_reads { result ≡ Closing.Fault HttpFault.IoFault
-        → GaveUp (failures_of R.failure_count requests.old) (failures_of R.failure_count requests.new)
-        (faults_of R.fault_count requests.old) (faults_of R.fault_count requests.new) }
-{
-    let mut connection = Connection::new(rt, alloc, hub, routes, pumping);
-    serve(alloc, requests, writer, &mut connection)
-}
 
 /// Answers requests, one after the other, by a hub without databases, up to the first closing, and
 /// says why it closed. An error says that the hub found no memory to begin with: nothing was read
@@ -86,6 +52,6 @@ pub fn answer_stream<N: Wait, R: Input, W: Output>(
 {
     let hub = Hub::new(alloc, limits)?;
     let routes = Routes::new(alloc)?;
-    let pumping = ByTurns::new(rt);
-    Ok(serve_connection(rt, alloc, &hub, &routes, pumping, requests, writer))
+    let mut connection = Connection::new(rt, alloc, &hub, &routes, ByTurns::new(rt));
+    Ok(serve(alloc, requests, writer, &mut connection))
 }

@@ -136,7 +136,7 @@ impl<C: Count> Handle<C> {
         self.db.guarded().lock(rt).local_put(doc)
     }
 
-    /// Opens a feed, which stays until it is finished: its connection is to call `HostFeed::next`, or
+    /// Opens a feed, which stays until it is finished: its connection is to call `HostFeed::poll`, or
     /// something `pump` for it, and `Feed::take`. `descending` is not looked at. A deleted database is
     /// told first, then too many feeds, and out of memory only where the database refuses nothing. It
     /// costs the wait for the lock, and what `Locked::begin` does.

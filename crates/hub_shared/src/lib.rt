@@ -40,5 +40,5 @@ pub use question::{Answer, Question, answer_of};
 pub use receipt::{AuditFault, Receipt, ReceiptRoom, audit_of};
 pub use served::Served;
 pub use updates::{Updates, UpdatesFeed};
-pub use watch::{Bell, Watch};
+pub use watch::{Bell, Watch, Watchable};
 pub use write::Accepted;

@@ -56,8 +56,8 @@ impl<S: FeedHost, H: Pumped<S>> HostFeed<S, H> {
         self.receiver.take(rt)
     }
 
-    // Sends the heartbeat that is due, or ends the feed's time, where no item was there to take. Else the feed
-    // waits from here on.
+    // Sends the heartbeat that is due, or ends the feed's time, where no item was there to take. Else the
+    // feed waits from here on.
     fn pass_time<R, G, K>(&mut self, rt: &R, gate: &G, clock: &K) -> Option<Item<S::Row>>
     where
         R: Asks<FeedLabel<S>, Item<S::Row>>,
@@ -75,6 +75,8 @@ impl<S: FeedHost, H: Pumped<S>> HostFeed<S, H> {
             Due::Beat => {
                 self.idle_since = Some(now);
                 self.hold_own(rt, Turn::Beat, gate);
+                // Rows go before the next heartbeat, however soon that is due.
+                self.is_behind = true;
             }
             Due::Expire => {
                 self.hold_own(rt, Turn::Expire, gate);

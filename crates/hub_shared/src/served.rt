@@ -95,17 +95,22 @@ impl<S: FeedHost> Served<S> {
         self.told.partition_point(|kept| kept.0 < feed.number)
     }
 
+    // Each watch has news. It costs a look at each feed.
+    fn tell_watches(&self) {
+        for kept in &self.told {
+            if let Some(watch) = &kept.1.watch {
+                watch.tell();
+            }
+        }
+    }
+
     /// There is something that feeds may wait for: pumps find another number, and watches have news. It costs
     /// a look at each feed.
     pub(crate) fn tell(&mut self)
         ensures { self.new ≡ self.old }
     {
         self.news = self.news.wrapping_add(1);
-        for kept in &self.told {
-            if let Some(watch) = &kept.1.watch {
-                watch.tell();
-            }
-        }
+        self.tell_watches();
     }
 
     /// Opens a feed, as `Locked::begin`, with signals of its own.

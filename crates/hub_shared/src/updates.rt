@@ -56,7 +56,7 @@ impl Host<Served<UpdatesState>> {
         noted
     }
 
-    /// Opens a feed, which stays until it is finished: its connection is to call `HostFeed::next`, or
+    /// Opens a feed, which stays until it is finished: its connection is to call `HostFeed::poll`, or
     /// something `pump` for it, and `HostFeed::take`. It shows every row of the log, upwards
     /// (`UpdatesState::effective`). It costs the wait for the lock, and what `Locked::begin` does.
     pub fn open_feed<R: Wait>(&self, rt: &R, params: FeedParams) -> Result<UpdatesFeed, OpenFault>

@@ -34,6 +34,22 @@ impl Bell {
     }
 }
 
+/// What sends at most one feed at a time, which can be watched for news while it waits.
+pub trait Watchable {
+    /// The number of the life that the sequences of what is sent are of, `None` where nothing is sent. It
+    /// names one database of a hub, and 0 its log of updates. Constant time.
+    fn life(&self) -> Option<u64>;
+
+    /// Where a feed is sent, the reading of the clock, in milliseconds, at which it is to be asked for its
+    /// next item though its host has no news. Constant time.
+    fn due(&self) -> Option<u64>;
+
+    /// From here on this watch has news of each change that the feed which is sent may wait for. Who calls
+    /// this asks the feed for its next item once more after it: what was written before gave no news. It may
+    /// wait for the host's lock.
+    fn watch(&self, watch: Arc<Watch, Global>);
+}
+
 /// Whether a host has news for one who sends feeds of it. All its feeds of that host share the watch.
 #[derive(Drop)]
 pub struct Watch {

@@ -4,6 +4,7 @@
 //! then answers as it does with ample memory. So these tests hold whichever one of their growths is refused;
 //! the growths of the tests themselves, as of a document's text, are among them.
 
+mod polls;
 mod surface;
 
 use hub_database::{DbFault, DbState, Info};

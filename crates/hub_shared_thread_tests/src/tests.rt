@@ -11,10 +11,12 @@ mod feeds;
 mod holding;
 mod limits;
 mod lives;
+mod polls;
 mod readers;
-mod shared;
 mod stopped;
 mod stress;
+mod watches;
+mod workers;
 
 use hub_document::{ChangeRow, Doc, Limits};
 use hub_feed::FeedId;
@@ -38,6 +40,11 @@ impl Counting {
         Counting {
             holdings: AtomicU64::new(0),
         }
+    }
+
+    // How often it was held.
+    fn count(&self) -> u64 {
+        self.holdings.load(Ordering::SeqCst)
     }
 
     // Waits until a pump has held the lock.
@@ -165,6 +172,13 @@ fn store<R: Wait>(
 ) -> Result<(), Fail> {
     let _accepted = write(rt, alloc, handle, texts)?;
     Ok(())
+}
+
+// Stores one document, which another database made; None where it is not stored.
+fn put<R: Wait>(rt: &R, alloc: Global, handle: &mut Handle<Plain>, text: &str) -> Option<()> {
+    let doc = Doc::read(alloc, text.as_bytes(), false).ok()?;
+    let accepted = handle.write(rt, vec![in alloc; doc].ok()?, false).ok()?;
+    (accepted.receipts.len() == 1).then_some(())
 }
 
 // The parameters that a query asks for.

@@ -46,8 +46,13 @@ fn try_open<R: Wait>(
     }
 }
 
-// The same, also where a growth of it is refused.
-fn open<R: Wait>(rt: &R, alloc: Global, hub: &Hub, query: &str) -> Result<UpdatesFeed, AllocError> {
+/// The same, also where a growth of it is refused.
+pub(crate) fn open<R: Wait>(
+    rt: &R,
+    alloc: Global,
+    hub: &Hub,
+    query: &str,
+) -> Result<UpdatesFeed, AllocError> {
     again(|| try_open(rt, alloc, hub, query))
 }
 
@@ -200,8 +205,8 @@ fn try_follow<R: Wait>(
     }
 }
 
-// The same, also where a growth of it is refused.
-fn follow<R: Wait>(
+/// The same, also where a growth of it is refused.
+pub(crate) fn follow<R: Wait>(
     rt: &R,
     alloc: Global,
     db: &HubDb,

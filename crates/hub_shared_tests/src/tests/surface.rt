@@ -8,8 +8,8 @@ use hub_lane::Asks;
 use hub_model::{Fault, Item, UpdateKind};
 use hub_params::FeedParams;
 use hub_shared::{
-    Answer, Db, Feed, FeedLabel, Gate, Handed, Host, HostFeed, HostPump, Locked, Plain, Point,
-    Pumped, Question, Turn, Updates, UpdatesFeed, answer_of, hold,
+    Answer, Db, Feed, FeedLabel, Gate, Handed, Host, HostFeed, Locked, Plain, Point, Pumped,
+    Question, Turn, Updates, UpdatesFeed, answer_of, hold,
 };
 use hub_updates::{Notice, UpdatesState};
 use std::alloc::{AllocError, Global};
@@ -50,8 +50,8 @@ fn questions_to_a_lent_database(rt: HostRuntime) -> Result<(), Fail> {
     Ok(())
 }
 
-// The parameters of a query; an error where they find no memory, and each time where it is refused.
-fn params(alloc: Global, query: &str) -> Result<FeedParams, AllocError> {
+/// The parameters of a query; an error where they find no memory, and each time where it is refused.
+pub(crate) fn params(alloc: Global, query: &str) -> Result<FeedParams, AllocError> {
     match FeedParams::read(alloc, query.as_bytes(), b"") {
         Ok(params) => Ok(params),
         Err(_) => Err(AllocError),
@@ -101,16 +101,16 @@ fn notes_go_under_a_lock(rt: HostRuntime) -> Result<(), Fail> {
     Ok(())
 }
 
-// A gate that holds nobody.
+/// A gate that holds nobody.
 #[derive(Drop)]
-struct Open;
+pub(crate) struct Open;
 
 impl Gate for Open {
     fn pass(&self, _point: Point) {}
 }
 
-// A feed that the query opens of a new database, with the database.
-fn of_database<R: Wait>(
+/// A feed that the query opens of a new database, with the database.
+pub(crate) fn of_database<R: Wait>(
     rt: &R,
     alloc: Global,
     query: &str,
@@ -122,18 +122,26 @@ fn of_database<R: Wait>(
     }
 }
 
-// A feed that the query opens of a new log in which one thing is noted, with the log.
-fn of_log<R: Wait>(
+/// Notes something in a log; an error where it finds no memory.
+pub(crate) fn note<R: Wait>(rt: &R, alloc: Global, log: &Updates) -> Result<(), AllocError> {
+    let notice = Notice::new(alloc, UpdateKind::Created, "d")?;
+    match log.note(rt, notice) {
+        Ok(()) => Ok(()),
+        Err((notice, _fault)) => {
+            notice.lapse();
+            Err(AllocError)
+        }
+    }
+}
+
+/// A feed that the query opens of a new log in which one thing is noted, with the log.
+pub(crate) fn of_log<R: Wait>(
     rt: &R,
     alloc: Global,
     query: &str,
 ) -> Result<(Updates, UpdatesFeed), AllocError> {
     let log = Updates::of_updates(alloc, Limits::full())?;
-    let notice = Notice::new(alloc, UpdateKind::Created, "d")?;
-    if let Err((notice, _fault)) = log.note(rt, notice) {
-        notice.lapse();
-        return Err(AllocError);
-    }
+    note(rt, alloc, &log)?;
     match log.open_feed(rt, params(alloc, query)?) {
         Ok(feed) => Ok((log, feed)),
         Err(_) => Err(AllocError),
@@ -173,53 +181,5 @@ fn both_hand<R: Wait>(rt: &R, alloc: Global) -> Result<bool, AllocError> {
 #[test]
 fn feeds_of_any_host_are_handed(rt: HostRuntime) -> Result<(), Fail> {
     assert!(rt; again(|| both_hand(&rt, rt.alloc()))?);
-    Ok(())
-}
-
-// Runs a pump to its end.
-fn run<R, S, H>(rt: &R, pump: &HostPump<S, H>)
-where
-    R: Asks<FeedLabel<S>, Item<S::Row>>,
-    S: FeedHost,
-    H: Pumped<S>,
-{
-    pump.run(rt, &Open);
-}
-
-// Whether a host has no pump for its feeds that wait, of which this is one. A pump ends once none waits.
-fn misses_a_pump<R, S, H>(rt: &R, feed: HostFeed<S, H>) -> Result<bool, AllocError>
-where
-    R: Asks<FeedLabel<S>, Item<S::Row>>,
-    S: FeedHost,
-    H: Pumped<S>,
-{
-    let missing = feed.missing_pump(rt)?;
-    let _receiver = feed.finish(rt);
-    match missing {
-        Some(pump) => {
-            run(rt, &pump);
-            Ok(true)
-        }
-        None => Ok(false),
-    }
-}
-
-// Whether feeds of a database and of a log miss a pump that this query opens.
-fn both_miss<R: Wait>(rt: &R, alloc: Global, query: &str) -> Result<(bool, bool), AllocError> {
-    let (_db, changes) = of_database(rt, alloc, query)?;
-    let (_log, updates) = of_log(rt, alloc, query)?;
-    Ok((misses_a_pump(rt, changes)?, misses_a_pump(rt, updates)?))
-}
-
-#[test]
-fn feeds_that_wait_miss_a_pump(rt: HostRuntime) -> Result<(), Fail> {
-    for (query, misses) in [
-        ("", false),
-        ("feed=longpoll", true),
-        ("feed=continuous", true),
-    ] {
-        let found = again(|| both_miss(&rt, rt.alloc(), query))?;
-        assert_eq!(rt; found, (misses, misses), "{query}");
-    }
     Ok(())
 }

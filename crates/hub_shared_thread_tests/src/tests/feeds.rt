@@ -1,6 +1,6 @@
 //! Feeds as tables: what is done with a feed of a database, and what that answers.
 
-use crate::tests::{Counting, Stepping, Told, open, pumps, take, told_of};
+use crate::tests::{Counting, FIVE, Stepping, Told, open, pumps, put, take, told_of};
 use hub_shared::{Db, Feed, Handed, Handle, Plain, Turn, hold};
 use std::alloc::Global;
 use std::process::Abort;
@@ -16,17 +16,28 @@ pub(crate) enum Step {
     Turns(Turn, Handed),
     /// The next item that was handed and not taken yet.
     Takes(Option<Told>),
-    /// The next item, as a connection gets it.
-    Gets(Option<Told>),
-    /// Whether a connection gets an item at once.
-    IsReady(bool),
+    /// The next item that a poll gives.
+    Polls(Option<Told>),
+    /// How often all polls together held the lock.
+    Held(u64),
+    /// The reading of the clock at which the feed is due.
+    IsDue(u64),
+    /// Whether the feed is over.
+    IsOver(bool),
+    /// A handle of its own stores the document of this place among `FIVE`.
+    Writes(usize),
     /// A pump of the feed ends, and the feed is over then.
     Pumps,
 }
 
-/// The next item, as a connection gets it.
-pub(crate) fn get<R: Wait>(rt: &R, feed: &mut Feed<Plain>, clock: &Stepping) -> Option<Told> {
-    told_of(feed.next(rt, &Counting::new(), clock))
+/// The next item that a poll gives.
+pub(crate) fn poll<R: Wait>(
+    rt: &R,
+    feed: &mut Feed<Plain>,
+    gate: &Counting,
+    clock: &Stepping,
+) -> Option<Told> {
+    told_of(feed.poll(rt, gate, clock))
 }
 
 /// What a holding answers that hands what is due; None where it answers a fault.
@@ -34,36 +45,54 @@ pub(crate) fn hand<R: Wait>(rt: &R, feed: &Feed<Plain>) -> Option<Handed> {
     feed.hold(rt, Turn::Hand, &Counting::new()).ok()
 }
 
+// Stores a document by a handle of its own; None where it is not stored.
+fn write<R: Wait>(rt: &R, alloc: Global, db: &Db<Plain>, at: usize) -> Option<()> {
+    let mut handle = db.handle().ok()?;
+    put(rt, alloc, &mut handle, *FIVE.get(at)?)
+}
+
+/// Who polls a feed.
+#[derive(Drop)]
+struct Poller {
+    gate: Counting,
+    clock: Stepping,
+}
+
 // Whether a step has its answer.
 fn holds<R: Wait + time::Clock>(
     rt: &R,
-    db: &Db<Plain>,
-    feed: &mut Feed<Plain>,
-    clock: &Stepping,
+    alloc: Global,
+    (db, feed): (&Db<Plain>, &mut Feed<Plain>),
+    poller: &Poller,
     step: &Step,
 ) -> bool {
-    let gate = Counting::new();
+    let Poller { gate, clock } = poller;
     match step {
         Step::Hands(handed) => hand(rt, feed) == Some(*handed),
-        Step::Turns(turn, handed) => hold(rt, db, feed.id(), *turn, &gate) == Ok(*handed),
+        Step::Turns(turn, handed) => {
+            hold(rt, db, feed.id(), *turn, &Counting::new()) == Ok(*handed)
+        }
         Step::Takes(told) => take(rt, feed) == *told,
-        Step::Gets(told) => get(rt, feed, clock) == *told,
-        Step::IsReady(is_ready) => feed.is_ready(rt, &gate) == *is_ready,
-        Step::Pumps => pumps(rt, db, feed.id(), &gate, clock) && feed.is_over(),
+        Step::Polls(told) => poll(rt, feed, gate, clock) == *told,
+        Step::Held(count) => gate.count() == *count,
+        Step::IsDue(due) => feed.due() == *due,
+        Step::IsOver(is_over) => feed.is_over() == *is_over,
+        Step::Writes(at) => write(rt, alloc, db, *at).is_some(),
+        Step::Pumps => pumps(rt, db, feed.id(), gate, clock) && feed.is_over(),
     }
 }
 
 // How many steps have their answers, before the first that has another.
 fn held_count<R: Wait + time::Clock>(
     rt: &R,
-    db: &Db<Plain>,
-    feed: &mut Feed<Plain>,
-    clock: &Stepping,
+    alloc: Global,
+    (db, feed): (&Db<Plain>, &mut Feed<Plain>),
+    poller: &Poller,
     steps: &[Step],
 ) -> usize {
     let mut count = 0usize;
     for step in steps {
-        if !holds(rt, db, feed, clock, step) {
+        if !holds(rt, alloc, (db, &mut *feed), poller, step) {
             return count;
         }
         count = count.saturating_add(1);
@@ -84,7 +113,11 @@ fn shown_count<R: Wait + time::Clock>(
     (query, milliseconds, steps): Shown,
 ) -> Result<usize, Fail> {
     let mut feed = open(rt, alloc, handle, query)?;
-    let count = held_count(rt, db, &mut feed, &Stepping::new(milliseconds), steps);
+    let poller = Poller {
+        gate: Counting::new(),
+        clock: Stepping::new(milliseconds),
+    };
+    let count = held_count(rt, alloc, (db, &mut feed), &poller, steps);
     drop(feed.finish(rt));
     Ok(count)
 }
