@@ -8,8 +8,8 @@ use crate::alive::Alive;
 use crate::conn::Conn;
 use crate::services::MakeService;
 use crate::team::Team;
-use crate::watchable::Watchable;
-use hub_shared::Clock;
+use hub_session::Service;
+use hub_shared::{Clock, Watchable};
 use std::alloc::Global;
 use std::io::{self, ErrorKind};
 use std::net::{TcpListener, TcpStream};
@@ -64,7 +64,11 @@ fn prepare(stream: TcpStream) -> io::Result<mio::net::TcpStream> {
 }
 
 /// The connection of a socket.
-fn open<S: Watchable>(alloc: Global, stream: TcpStream, service: S) -> io::Result<Box<Conn<S>>> {
+fn open<S: Service + Watchable + Drop>(
+    alloc: Global,
+    stream: TcpStream,
+    service: S,
+) -> io::Result<Box<Conn<S>>> {
     let conn = Conn::new(alloc, prepare(stream)?, service)?;
     Ok(Box::new(alloc, conn)?)
 }
@@ -85,7 +89,7 @@ impl<'a, M> Acceptor<'a, M> {
     fn accept_all<R, S, K>(&self, rt: &R, team: &Team<'_, S, K>) -> io::Result<()>
     where
         R: Wait,
-        S: Watchable,
+        S: Service + Watchable + Drop,
         K: Clock,
         M: MakeService<S>,
     {
@@ -105,7 +109,7 @@ impl<'a, M> Acceptor<'a, M> {
     pub(crate) fn run<R, S, K>(&self, rt: &R, team: &Team<'_, S, K>) -> io::Result<()>
     where
         R: Wait,
-        S: Watchable,
+        S: Service + Watchable + Drop,
         K: Clock,
         M: MakeService<S>,
     {

@@ -3,17 +3,16 @@
 use crate::awaits::Awaits;
 use crate::driven::Driven;
 use crate::readiness::Readiness;
-use crate::watchable::Watchable;
 use hub_session::Service;
-use hub_shared::Watch;
+use hub_shared::{Watch, Watchable};
 use mio::net::TcpStream;
 use mio::{Interest, Registry, Token};
 use std::alloc::{AllocError, Global};
 use std::io;
 use std::sync::Arc;
 
-/// A connection: its socket, which never waits, and its session. One runner at a time has it, and goes on with
-/// it by turns.
+/// A connection: its socket, which never waits, and its session. One runner at a time has it, and goes on
+/// with it by turns.
 #[derive(Drop)]
 pub(crate) struct Conn<S: Service> {
     pub(crate) stream: TcpStream,
@@ -30,7 +29,7 @@ pub(crate) struct Conn<S: Service> {
     pub(crate) unread: Option<usize>,
 }
 
-impl<S: Watchable> Conn<S> {
+impl<S: Service + Watchable + Drop> Conn<S> {
     /// A connection over a socket that does not wait. An error says that there was no memory.
     pub(crate) fn new(alloc: Global, stream: TcpStream, service: S) -> Result<Conn<S>, AllocError> {
         Ok(Conn {

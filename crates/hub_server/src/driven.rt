@@ -8,7 +8,8 @@ use mio::net::TcpStream;
 use std::alloc::{AllocError, Global};
 
 /// The session of a connection. However a worker drives it, there is a run that it had: the bytes that left
-/// its outbox and those that lie there are, in order, the texts of a session over all bytes that were offered.
+/// its outbox and those that lie there are, in order, the texts of a session over all bytes that were
+/// offered.
 #[derive(Drop)]
 pub(crate) struct Driven<S: Service> {
     session: Session<S>,

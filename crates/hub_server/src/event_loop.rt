@@ -6,10 +6,9 @@ use crate::port::{Given, Port};
 use crate::readiness::Readiness;
 use crate::table::Table;
 use crate::turn::Turn;
-use crate::watchable::Watchable;
 use crate::watches::Watches;
 use hub_session::Service;
-use hub_shared::Bell;
+use hub_shared::{Bell, Watchable};
 use mio::{Events, Poll, Token};
 use std::alloc::Global;
 use std::io;
@@ -28,7 +27,7 @@ pub(crate) struct EventLoop<S: Service> {
     watches: Watches,
 }
 
-impl<S: Watchable> EventLoop<S> {
+impl<S: Service + Watchable + Drop> EventLoop<S> {
     /// That of a worker without connections, whose streams ring this bell.
     pub(crate) fn new(
         alloc: Global,

@@ -23,7 +23,6 @@ mod stepping;
 mod table;
 mod team;
 mod turn;
-mod watchable;
 mod watches;
 
 pub use clock::Uptime;

@@ -6,8 +6,8 @@ use hub_service::Pumping;
 use hub_shared::{Clock, Gate, HostFeed, Point, Pumped};
 use std::sync::Wait;
 
-/// By workers: the worker that steps a connection hands its feed on too. Nobody waits for a feed: one that has
-/// nothing to hand is asked again once its database has news, or its time has come.
+/// By workers: the worker that steps a connection hands its feed on too. Nobody waits for a feed: one that
+/// has nothing to hand is asked again once its database has news, or its time has come.
 #[derive(Drop)]
 pub struct ByWorkers<'h, R, G, K> {
     rt: &'h R,

@@ -3,8 +3,8 @@
 use crate::monitor::Looks;
 use crate::seat::Seat;
 use crate::team::Team;
-use crate::watchable::Watchable;
-use hub_shared::Clock;
+use hub_session::Service;
+use hub_shared::{Clock, Watchable};
 use std::sync::Wait;
 use std::thread::Scope;
 
@@ -18,7 +18,7 @@ fn relieve_held<'s, 'e, R, S, K>(
 )
 where
     R: Wait + Sync,
-    S: Watchable + Send,
+    S: Service + Watchable + Send + Drop,
     K: Clock + Sync,
 {
     let Some(number) = seat.held() else {
@@ -33,7 +33,7 @@ where
 fn look<'s, 'e, R, S, K>(scope: &'s Scope<'s, &'e ()>, rt: &'e R, team: &'e Team<'e, S, K>) -> bool
 where
     R: Wait + Sync,
-    S: Watchable + Send,
+    S: Service + Watchable + Send + Drop,
     K: Clock + Sync,
 {
     for seat in team.seats() {
@@ -46,7 +46,7 @@ where
 fn sleep<R, S, K>(rt: &R, team: &Team<'_, S, K>)
 where
     R: Wait,
-    S: Watchable,
+    S: Service + Watchable + Drop,
     K: Clock,
 {
     team.monitor.begin_sleep();
@@ -64,7 +64,7 @@ pub(crate) fn watch_over<'s, 'e, R, S, K>(
 )
 where
     R: Wait + Sync,
-    S: Watchable + Send,
+    S: Service + Watchable + Send + Drop,
     K: Clock + Sync,
 {
     let mut looks = Looks::new();

@@ -4,9 +4,8 @@ use crate::alive::Alive;
 use crate::event_loop::EventLoop;
 use crate::port::{Given, Port};
 use crate::turn::Turn;
-use crate::watchable::Watchable;
 use hub_session::Service;
-use hub_shared::{Bell, Clock};
+use hub_shared::{Bell, Clock, Watchable};
 use mio::Poll;
 use std::alloc::{AllocFailed, Global};
 use std::net::Net;
@@ -27,7 +26,7 @@ pub(crate) struct Seat<S: Service> {
     seen: AtomicU64,
 }
 
-impl<S: Watchable> Seat<S> {
+impl<S: Service + Watchable + Drop> Seat<S> {
     /// A seat without connections, which nobody runs yet. An error says that there was no memory, or that the
     /// system has no descriptor left.
     pub(crate) fn new(net: &impl Net, alloc: Global) -> io::Result<Seat<S>> {
@@ -79,8 +78,8 @@ impl<S: Watchable> Seat<S> {
         }
     }
 
-    /// Begins a turn of the connection that is next, and sleeps while there is none. None once there will be no
-    /// more connections.
+    /// Begins a turn of the connection that is next, and sleeps while there is none. None once there will
+    /// be no more connections.
     pub(crate) fn begin_turn<R, K>(&self, rt: &R, clock: &K, alive: &Alive) -> Option<Turn<S>>
     where
         R: Wait,
@@ -115,8 +114,8 @@ impl<S: Watchable> Seat<S> {
         }
     }
 
-    /// Gives a connection back behind a turn that somebody else ended, for the seat's runner to put it back. It
-    /// is tried until there is memory for it: the connection must not be lost.
+    /// Gives a connection back behind a turn that somebody else ended, for the seat's runner to put it
+    /// back. It is tried until there is memory for it: the connection must not be lost.
     pub(crate) fn give_back<R: Wait>(&self, rt: &R, turn: Turn<S>) {
         let mut given = Given::Back(turn);
         for _ in rt.forever() {

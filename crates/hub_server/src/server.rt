@@ -4,11 +4,11 @@ use crate::accepting::Acceptor;
 use crate::relief::watch_over;
 use crate::services::{HubServices, MakeService};
 use crate::team::Team;
-use crate::watchable::Watchable;
 use hub_databases::Hub;
 use hub_document::Limits;
 use hub_routes::Routes;
-use hub_shared::{Clock, Gate};
+use hub_session::Service;
+use hub_shared::{Clock, Gate, Watchable};
 use std::alloc::{AllocError, Global};
 use std::io;
 use std::net::{Net, TcpListener};
@@ -25,7 +25,7 @@ fn start<'s, 'e, R, S, K, M>(
 ) -> Result<JoinHandle<io::Result<()>>, AllocError>
 where
     R: Wait + Sync,
-    S: Watchable + Send,
+    S: Service + Watchable + Send + Drop,
     K: Clock + Sync,
     M: MakeService<S> + Sync,
 {
@@ -44,7 +44,7 @@ fn serve<'e, R, S, K, M>(
 ) -> io::Result<()>
 where
     R: Threads + Wait + Sync,
-    S: Watchable + Send,
+    S: Service + Watchable + Send + Drop,
     K: Clock + Sync,
     M: MakeService<S> + Sync,
 {
@@ -62,16 +62,16 @@ where
     })
 }
 
-/// Serves so many connections of a hub without databases, by as many workers as there are processors, and comes
-/// back once all have ended. Connections are numbered from 1 as they are accepted; each passes `Point::Request`
-/// of its number at the gate before each answer. A connection is a value of one worker, in turn, and has no
-/// thread of its own. Where one holds its worker's thread for more than some milliseconds, at a gate, behind a
-/// lock or by a long request, another thread goes on with the worker's others. A connection for which there is
-/// no memory is closed unanswered. One whose next request is not whole within ten minutes behind the answer
-/// before, and one whose client takes no byte of an answer within ten minutes, is closed too. An error says
-/// that there was no memory, no thread or no descriptor to begin with, or that no connection could be accepted
-/// while none was open. Where none can be accepted beside those that are open, the next one waits until one of
-/// them has ended.
+/// Serves so many connections of a hub without databases, by as many workers as there are processors, and
+/// comes back once all have ended. Connections are numbered from 1 as they are accepted; each passes
+/// `Point::Request` of its number at the gate before each answer. A connection is a value of one worker, in
+/// turn, and has no thread of its own. Where one holds its worker's thread for more than some milliseconds,
+/// at a gate, behind a lock or by a long request, another thread goes on with the worker's others. A
+/// connection for which there is no memory is closed unanswered. One whose next request is not whole within
+/// ten minutes behind the answer before, and one whose client takes no byte of an answer within ten
+/// minutes, is closed too. An error says that there was no memory, no thread or no descriptor to begin
+/// with, or that no connection could be accepted while none was open. Where none can be accepted beside
+/// those that are open, the next one waits until one of them has ended.
 pub fn run_server<R, G, K>(
     rt: &R,
     alloc: Global,

@@ -4,8 +4,8 @@ use crate::awaits::Awaits;
 use crate::conn::Conn;
 use crate::readiness::Readiness;
 use crate::turn::Turn;
-use crate::watchable::Watchable;
 use hub_session::Service;
+use hub_shared::Watchable;
 
 /// How long a client may take for its next request, or to make room for some byte, in milliseconds: behind
 /// this its connection ends.
@@ -40,7 +40,7 @@ pub(crate) struct Slot<S: Service> {
     pub(crate) life: Option<u64>,
 }
 
-impl<S: Watchable> Slot<S> {
+impl<S: Service + Watchable + Drop> Slot<S> {
     /// A place of no connection.
     pub(crate) fn free() -> Slot<S> {
         Slot {

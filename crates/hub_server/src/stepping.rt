@@ -6,9 +6,9 @@ ghost use Rattle.hub_server.specs.Sockets.{IsEndedHere};
 use crate::awaits::Awaits;
 use crate::budget::Budget;
 use crate::conn::Conn;
-use crate::watchable::Watchable;
 use hub_http::Handed;
-use hub_session::{Closing, Step};
+use hub_session::{Closing, Service, Step};
+use hub_shared::Watchable;
 use std::io::{self, ErrorKind, Read};
 use std::net::Shutdown;
 
@@ -37,7 +37,7 @@ enum Got {
     Gone,
 }
 
-impl<S: Watchable> Conn<S> {
+impl<S: Service + Watchable + Drop> Conn<S> {
     /// Goes on with it, until it waits for something or its turn is used up. Each read fills this room. It
     /// waits for no socket; what it asks of the service may wait for a lock, or at a gate.
     pub(crate) fn go_on(&mut self, room: &mut [u8]) -> Awaits {

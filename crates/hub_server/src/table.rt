@@ -5,8 +5,8 @@ use crate::conn::Conn;
 use crate::readiness::Readiness;
 use crate::slot::{NEVER, Slot};
 use crate::turn::Turn;
-use crate::watchable::Watchable;
 use hub_session::Service;
+use hub_shared::Watchable;
 use std::alloc::{AllocError, Global};
 use std::collections::VecDeque;
 
@@ -33,7 +33,7 @@ fn step_of(time: u64) -> u64 {
     time.div_ceil(STEP).saturating_mul(STEP)
 }
 
-impl<S: Watchable> Table<S> {
+impl<S: Service + Watchable + Drop> Table<S> {
     /// There is no connection.
     pub(crate) fn new(alloc: Global) -> Table<S> {
         Table {

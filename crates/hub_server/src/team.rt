@@ -5,9 +5,8 @@ use crate::conn::Conn;
 use crate::monitor::Monitor;
 use crate::port::Given;
 use crate::seat::Seat;
-use crate::watchable::Watchable;
 use hub_session::Service;
-use hub_shared::Clock;
+use hub_shared::{Clock, Watchable};
 use std::alloc::{AllocError, Global};
 use std::io;
 use std::net::Net;
@@ -41,7 +40,7 @@ fn worker_count(rt: &impl Threads) -> usize {
     }
 }
 
-impl<'e, S: Watchable, K: Clock> Team<'e, S, K> {
+impl<'e, S: Service + Watchable + Drop, K: Clock> Team<'e, S, K> {
     /// Workers without connections, whom nobody runs yet. An error says that there was no memory, or that the
     /// system has no descriptor left.
     pub(crate) fn new<R: Threads + Net>(
@@ -124,7 +123,8 @@ impl<'e, S: Watchable, K: Clock> Team<'e, S, K> {
         }
     }
 
-    /// Runs a worker in place of a thread that is held in the turn of this number, unless that turn has ended.
+    /// Runs a worker in place of a thread that is held in the turn of this number, unless that turn has
+    /// ended.
     pub(crate) fn relieve<R: Wait>(&self, rt: &R, seat: &Seat<S>, number: u64, room: Vec<u8>) {
         if seat.end_turn(number) {
             // What was written in that turn may be news.

@@ -2,8 +2,8 @@
 
 use crate::awaits::Awaits;
 use crate::conn::Conn;
-use crate::watchable::Watchable;
 use hub_session::Service;
+use hub_shared::Watchable;
 
 /// A turn of a connection, which a runner has for as long as the turn goes on: nobody else has it meanwhile.
 #[derive(Drop)]
@@ -19,7 +19,7 @@ pub(crate) struct Turn<S: Service> {
     pub(crate) is_late: bool,
 }
 
-impl<S: Watchable> Turn<S> {
+impl<S: Service + Watchable + Drop> Turn<S> {
     /// Goes on with the connection, or gives it up where it is late. Each of its reads fills this room.
     pub(crate) fn run(&mut self, room: &mut [u8]) {
         self.awaits = if self.is_late {

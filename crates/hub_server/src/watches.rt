@@ -1,9 +1,8 @@
 //! The watches of streams that wait for news.
 
 use crate::table::Table;
-use crate::watchable::Watchable;
 use hub_session::Service;
-use hub_shared::{Bell, Watch};
+use hub_shared::{Bell, Watch, Watchable};
 use std::alloc::{AllocError, Global};
 use std::sync::Arc;
 
@@ -55,8 +54,8 @@ impl Watches {
         Ok(place)
     }
 
-    /// Notes a connection whose stream is of this life, and gives the watch that is to be set for it. It costs
-    /// a look at each life. An error says that there was no memory.
+    /// Notes a connection whose stream is of this life, and gives the watch that is to be set for it. It
+    /// costs a look at each life. An error says that there was no memory.
     pub(crate) fn add(
         &mut self,
         life: u64,
@@ -92,7 +91,7 @@ impl Watches {
     }
 
     /// Tells the table the news of each watch.
-    pub(crate) fn take_news<S: Watchable>(&self, table: &mut Table<S>) {
+    pub(crate) fn take_news<S: Service + Watchable + Drop>(&self, table: &mut Table<S>) {
         for watched in &self.watched {
             if watched.watch.take() {
                 table.tell_news(watched.tokens.as_slice());
