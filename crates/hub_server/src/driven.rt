@@ -13,7 +13,7 @@ use std::alloc::{AllocError, Global};
 #[derive(Drop)]
 pub(crate) struct Driven<S: Service> {
     session: Session<S>,
-    ghost has_run: { ∥ (run : Run S) × HasRun S.rules run (seen session) ∥₁ },
+    ghost has_run: { ∥ ((run : Run S) × HasRun S.rules run (seen session)) ∥₁ },
 }
 
 impl<S: Service> Driven<S> {
