@@ -34,7 +34,7 @@ pub(crate) struct Slot<S: Service> {
     is_queued: bool,
     /// Since when it waits for its client, in milliseconds of the clock.
     since: u64,
-    /// When it will have waited long enough, in milliseconds of the clock.
+    /// When it will have waited long enough, in milliseconds of the clock; never during a turn.
     due: u64,
     /// The life that its stream is of, where that is watched.
     pub(crate) life: Option<u64>,
@@ -100,6 +100,7 @@ impl<S: Service + Watchable + Drop> Slot<S> {
         self.has_news = false;
         self.is_late = false;
         self.is_queued = false;
+        self.due = NEVER;
         Some(turn)
     }
 
@@ -120,7 +121,7 @@ impl<S: Service + Watchable + Drop> Slot<S> {
 
     /// The clock reads so: when it will have waited long enough, unless it did.
     pub(crate) fn tell_time(&mut self, now: u64) -> u64 {
-        if self.conn.is_some() && self.due <= now {
+        if self.due <= now {
             self.due = NEVER;
             match self.awaits {
                 Awaits::News => self.has_news = true,
