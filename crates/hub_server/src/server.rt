@@ -1,66 +1,16 @@
 //! The server.
 
-use crate::accepting::Acceptor;
-use crate::relief::watch_over;
-use crate::services::{HubServices, MakeService};
-use crate::team::Team;
+use crate::services::HubServices;
 use hub_databases::Hub;
 use hub_document::Limits;
 use hub_routes::Routes;
-use hub_session::Service;
-use hub_shared::{Clock, Gate, Watchable};
-use std::alloc::{AllocError, Global};
+use hub_shared::{Clock, Gate};
+use hub_workers::serve_all;
+use std::alloc::Global;
 use std::io;
 use std::net::{Net, TcpListener};
 use std::sync::Wait;
-use std::thread::{self, JoinHandle, Scope, Threads};
-
-// Starts a thread for each worker, and one that accepts. An error says that there was no memory, or that one
-// of them could not be made.
-fn start<'s, 'e, R, S, K, M>(
-    scope: &'s Scope<'s, &'e ()>,
-    rt: &'e R,
-    team: &'e Team<'e, S, K>,
-    acceptor: &'e Acceptor<'e, M>,
-) -> Result<JoinHandle<io::Result<()>>, AllocError>
-where
-    R: Wait + Sync,
-    S: Service + Watchable + Send + Drop,
-    K: Clock + Sync,
-    M: MakeService<S> + Sync,
-{
-    for seat in team.seats() {
-        let room = team.make_room()?;
-        scope.spawn(move || team.run(rt, seat, room))?;
-    }
-    Ok(scope.spawn(move || acceptor.run(rt, team))?)
-}
-
-// Serves the connections of an acceptor by a team. This thread looks for workers that are held meanwhile.
-fn serve<'e, R, S, K, M>(
-    rt: &'e R,
-    team: &'e Team<'e, S, K>,
-    acceptor: &'e Acceptor<'e, M>,
-) -> io::Result<()>
-where
-    R: Threads + Wait + Sync,
-    S: Service + Watchable + Send + Drop,
-    K: Clock + Sync,
-    M: MakeService<S> + Sync,
-{
-    thread::scope(thread::scope_env(), rt, |scope| {
-        match start(scope, rt, team, acceptor) {
-            Ok(accepting) => {
-                watch_over(scope, rt, team);
-                accepting.join(rt)
-            }
-            Err(error) => {
-                team.close();
-                Err(io::Error::from(error))
-            }
-        }
-    })
-}
+use std::thread::Threads;
 
 /// Serves so many connections of a hub without databases, by as many workers as there are processors, and
 /// comes back once all have ended. Connections are numbered from 1 as they are accepted; each passes
@@ -88,7 +38,6 @@ where
 {
     let hub = Hub::new(alloc, limits)?;
     let routes = Routes::new(alloc)?;
-    let team = Team::new(rt, alloc, &clock)?;
     let services = HubServices {
         rt,
         alloc,
@@ -97,11 +46,5 @@ where
         gate: &gate,
         clock: &clock,
     };
-    let acceptor = Acceptor {
-        alloc,
-        listener,
-        count,
-        services: &services,
-    };
-    serve(rt, &team, &acceptor)
+    serve_all(rt, alloc, listener, count, &clock, &services)
 }

@@ -5,14 +5,9 @@ use hub_databases::Hub;
 use hub_routes::Routes;
 use hub_service::Connection;
 use hub_shared::{Clock, Gate};
+use hub_workers::MakeService;
 use std::alloc::Global;
 use std::sync::Wait;
-
-/// What makes the service of each connection.
-pub(crate) trait MakeService<S> {
-    /// That of the connection of this number.
-    fn make(&self, number: u64) -> S;
-}
 
 /// What the connections to a hub share.
 #[derive(Drop)]

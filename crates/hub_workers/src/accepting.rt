@@ -2,7 +2,7 @@
 
 ghost use Rattle.std.specs.Prelude.{◌↔◌, IfErr, IsTrue};
 ghost use Rattle.std.specs.IoError.{error_kind};
-ghost use Rattle.hub_server.specs.Sockets.{IsPassing};
+ghost use Rattle.hub_workers.specs.Sockets.{IsPassing};
 
 use crate::alive::Alive;
 use crate::conn::Conn;

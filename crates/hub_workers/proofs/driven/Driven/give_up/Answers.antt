@@ -1,6 +1,6 @@
 use Rattle.hub_session.specs.Runs.{seen}
-use Rattle.hub_server.proofs.DrivenLemmas.{driven_on}
-use Rattle.hub_server.proofs.driven.Driven.give_up.Goals as goal
+use Rattle.hub_workers.proofs.DrivenLemmas.{driven_on}
+use Rattle.hub_workers.proofs.driven.Driven.give_up.Goals as goal
 
 pub invariant_of-self : goal.invariant_of-self
 invariant_of-self g c = record {

@@ -1,7 +1,7 @@
 //! How connections go on.
 
 ghost use Rattle.std.specs.Prelude.{◌↔◌, IsTrue};
-ghost use Rattle.hub_server.specs.Sockets.{IsEndedHere};
+ghost use Rattle.hub_workers.specs.Sockets.{IsEndedHere};
 
 use crate::awaits::Awaits;
 use crate::budget::Budget;

@@ -1,7 +1,7 @@
 use Rattle.hub_http.specs.Boxes.{handed_of}
 use Rattle.hub_session.specs.Runs.{seen, with_gone}
-use Rattle.hub_server.proofs.DrivenLemmas.{driven_on}
-use Rattle.hub_server.proofs.driven.Driven.send_to.Goals as goal
+use Rattle.hub_workers.proofs.DrivenLemmas.{driven_on}
+use Rattle.hub_workers.proofs.driven.Driven.send_to.Goals as goal
 
 pub invariant_of-self : goal.invariant_of-self
 invariant_of-self g c =
