@@ -59,15 +59,15 @@ where
     })
 }
 
-/// Serves so many connections, by as many workers as there are processors, and comes back once all have ended.
-/// Connections are numbered from 1 as they are accepted, and each has the service that is made for its number.
-/// A connection is a value of one worker, in turn, and has no thread of its own. Where one holds its worker's
-/// thread for more than some milliseconds, behind a lock or by a long request, another thread goes on with the
-/// worker's others. A connection for which there is no memory is closed unanswered. One whose next request is
-/// not whole within ten minutes behind the answer before, and one whose client takes no byte of an answer
-/// within ten minutes, is closed too. An error says that there was no memory, no thread or no descriptor to
-/// begin with, or that no connection could be accepted while none was open. Where none can be accepted beside
-/// those that are open, the next one waits until one of them has ended.
+/// Serves so many connections, by as many workers as there are processors, and comes back once all have
+/// ended. Connections are numbered from 1 as they are accepted, and each has the service that is made for
+/// its number. A connection is a value of one worker, in turn, and has no thread of its own. Where one
+/// holds its worker's thread for more than some milliseconds, behind a lock or by a long request, another
+/// thread goes on with the worker's others. A connection for which there is no memory is closed unanswered.
+/// One whose next request is not whole within ten minutes behind the answer before, and one whose client
+/// takes no byte of an answer within ten minutes, is closed too. An error says that there was no memory, no
+/// thread or no descriptor to begin with, or that no connection could be accepted while none was open.
+/// Where none can be accepted beside those that are open, the next one waits until one of them has ended.
 pub fn serve_all<R, S, K, M>(
     rt: &R,
     alloc: Global,

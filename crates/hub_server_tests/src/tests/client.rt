@@ -22,14 +22,6 @@ impl Answer {
     }
 }
 
-/// What stands in a head, as far as a client needs it.
-#[derive(Drop)]
-struct Head {
-    status: String,
-    /// The length of the body, where it has no chunks.
-    length: Option<usize>,
-}
-
 /// A connection to a server.
 #[derive(Drop)]
 pub(crate) struct Client {
@@ -100,13 +92,17 @@ impl Client {
         }
     }
 
-    /// The head of the next answer.
-    fn head(&mut self) -> io::Result<Head> {
-        let first = self.line()?;
-        let Some(status) = first.as_str().strip_prefix("HTTP/1.1 ") else {
-            return Err(bad("no answer"));
-        };
-        let status = status.to_string(self.alloc)?;
+    /// The status of the next answer, of whose head the first line is read.
+    fn status(&mut self) -> io::Result<String> {
+        let line = self.line()?;
+        match line.as_str().strip_prefix("HTTP/1.1 ") {
+            Some(status) => Ok(status.to_string(self.alloc)?),
+            None => Err(bad("no answer")),
+        }
+    }
+
+    /// The rest of a head: the length of the body, where it has no chunks.
+    fn fields(&mut self) -> io::Result<Option<usize>> {
         let mut length = None;
         for _ in 0..u64::MAX {
             let line = self.line()?;
@@ -117,7 +113,15 @@ impl Client {
                 length = value.parse::<usize>().ok();
             }
         }
-        Ok(Head { status, length })
+        Ok(length)
+    }
+
+    /// What is left of an answer behind the first line of its head.
+    fn body(&mut self) -> io::Result<String> {
+        match self.fields()? {
+            Some(length) => self.text(length),
+            None => self.chunks(),
+        }
     }
 
     /// The next chunk, which is empty behind the last.
@@ -148,11 +152,8 @@ impl Client {
 
     /// The next answer, to its end.
     pub(crate) fn answer(&mut self) -> io::Result<Answer> {
-        let Head { status, length } = self.head()?;
-        let body = match length {
-            Some(length) => self.text(length)?,
-            None => self.chunks()?,
-        };
+        let status = self.status()?;
+        let body = self.body()?;
         Ok(Answer { status, body })
     }
 
@@ -168,16 +169,60 @@ impl Client {
         Ok(answer.is(status))
     }
 
+    /// Asks for a feed. Whether its answer has begun: then the first line was read, and else the whole.
+    pub(crate) fn begins(&mut self, line: &str) -> io::Result<bool> {
+        self.ask(line, "")?;
+        let has_begun = self.status()?.as_str().starts_with("200");
+        if !has_begun {
+            self.body()?;
+        }
+        Ok(has_begun)
+    }
+
+    /// The same, but of an answer that has begun no more than twelve bytes are taken of the socket. It is for
+    /// a client that read nothing but whole answers before.
+    pub(crate) fn begins_barely(&mut self, line: &str) -> io::Result<bool> {
+        self.ask(line, "")?;
+        let mut bytes = [0u8; 12];
+        let mut stream = self.reader.get_ref();
+        stream.read_exact(&mut bytes)?;
+        let has_begun = bytes.ends_with(b"200");
+        if !has_begun {
+            self.line()?;
+            self.body()?;
+        }
+        Ok(has_begun)
+    }
+
     /// Asks for a feed. Whether it has begun: then the head of its answer was read, and else the whole.
     pub(crate) fn follows(&mut self, line: &str) -> io::Result<bool> {
-        self.ask(line, "")?;
-        match self.head()?.length {
+        if !self.begins(line)? {
+            return Ok(false);
+        }
+        match self.fields()? {
             Some(length) => {
                 self.text(length)?;
                 Ok(false)
             }
             None => Ok(true),
         }
+    }
+
+    /// Reads the rest of a head, of which the first line was read, and which has chunks behind it.
+    pub(crate) fn skip_head(&mut self) -> io::Result<()> {
+        match self.fields()? {
+            Some(_) => Err(bad("no chunks")),
+            None => Ok(()),
+        }
+    }
+
+    /// The next byte, and no other is taken of the socket. It is for a client that read nothing but bytes and
+    /// whole answers before.
+    pub(crate) fn byte(&mut self) -> io::Result<u8> {
+        let mut byte = [0u8; 1];
+        let mut stream = self.reader.get_ref();
+        stream.read_exact(&mut byte)?;
+        Ok(byte[0])
     }
 
     /// What comes until the server has ended.

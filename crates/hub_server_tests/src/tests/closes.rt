@@ -87,7 +87,7 @@ fn two_hundred_clients_that_close(rt: HostRuntime) -> Result<(), Fail> {
 }
 
 /// A batch of one document of a million bytes.
-fn large_batch(alloc: Global, id: u64) -> Result<String, Fail> {
+pub(crate) fn large_batch(alloc: Global, id: u64) -> Result<String, Fail> {
     let mut body = format!(in alloc;
         r#"{{"new_edits":false,"docs":[{{"_id":"{id}","_rev":"1-a","text":""#
     )?;
@@ -172,6 +172,14 @@ fn clients_that_go_in_the_middle(rt: HostRuntime) -> Result<(), Fail> {
 fn a_client_that_says_nothing(rt: HostRuntime) -> Result<(), Fail> {
     let server = serve(&rt, rt.alloc(), 1)?;
     drop(Client::connect(&rt, rt.alloc(), server.address)?);
+    assert!(rt; server.ends(&rt));
+    Ok(())
+}
+
+/// A server of no connections ends.
+#[test]
+fn a_server_without_clients(rt: HostRuntime) -> Result<(), Fail> {
+    let server = serve(&rt, rt.alloc(), 0)?;
     assert!(rt; server.ends(&rt));
     Ok(())
 }

@@ -17,18 +17,18 @@ const LOOKS: u64 = 1_000;
 
 /// What a gate and its test tell each other.
 #[derive(Drop)]
-struct Scene {
+pub(crate) struct Scene {
     /// Somebody stands before the gate.
     is_held: AtomicBool,
-    /// The other connection was answered.
-    is_answered: AtomicBool,
+    /// The other connections were answered.
+    pub(crate) is_answered: AtomicBool,
     /// The gate looked as often as it does, and opened.
-    gave_up: AtomicBool,
+    pub(crate) gave_up: AtomicBool,
 }
 
 impl Scene {
     /// Nothing happened yet.
-    fn new(alloc: Global) -> Result<Arc<Scene, Global>, Fail> {
+    pub(crate) fn new(alloc: Global) -> Result<Arc<Scene, Global>, Fail> {
         let scene = Arc::new(
             alloc,
             Scene {
@@ -41,12 +41,12 @@ impl Scene {
     }
 }
 
-/// Holds who passes a point until another connection was answered.
+/// Holds who passes a point until the other connections were answered.
 #[derive(Drop)]
-struct Held<R> {
-    rt: R,
-    held: Point,
-    scene: Arc<Scene, Global>,
+pub(crate) struct Held<R> {
+    pub(crate) rt: R,
+    pub(crate) held: Point,
+    pub(crate) scene: Arc<Scene, Global>,
 }
 
 impl<R: time::Clock> Gate for Held<R> {
@@ -66,7 +66,7 @@ impl<R: time::Clock> Gate for Held<R> {
 }
 
 /// Waits until somebody stands before the gate; whether one came.
-fn is_held<R: time::Clock>(rt: &R, scene: &Scene) -> bool {
+pub(crate) fn is_held<R: time::Clock>(rt: &R, scene: &Scene) -> bool {
     for _ in 0..LOOKS {
         if scene.is_held.load(Ordering::SeqCst) {
             return true;
