@@ -38,13 +38,16 @@ impl<S: Service> Driven<S> {
         self.session.step()
     }
 
-    /// Offers bytes that came. A socket that said its end gives none behind it: such bytes would be no part
-    /// of the session. An error says that there was no memory for them.
-    pub(crate) fn offer(&mut self, bytes: &[u8]) -> Result<(), AllocError> {
+    /// Takes bytes that came. Where there is no memory for them the session answers so, and closes. A socket
+    /// that said its end gives none behind it: such bytes would be no part of the session.
+    pub(crate) fn take_in(&mut self, bytes: &[u8]) {
         if self.session.is_over() {
-            return Ok(());
+            return;
         }
-        self.session.offer(bytes)
+        match self.session.offer(bytes) {
+            Ok(()) => {}
+            Err(AllocError) => self.session.close_out_of_memory(bytes),
+        }
     }
 
     /// Says that no more bytes come.

@@ -9,7 +9,6 @@ use crate::conn::Conn;
 use hub_http::Handed;
 use hub_session::{Closing, Service, Step};
 use hub_shared::Watchable;
-use std::alloc::AllocError;
 use std::io::{self, ErrorKind, Read};
 use std::net::Shutdown;
 
@@ -144,12 +143,11 @@ impl<S: Service + Watchable + Drop> Conn<S> {
                 self.driven.end();
                 None
             }
-            // A read gives no more bytes than there is room for.
-            Got::Bytes(count) => match self.driven.offer(room.get(..count)?) {
-                Ok(()) => None,
-                // Without memory for what it asks, the client gets no answer.
-                Err(AllocError) => Some(self.give_up()),
-            },
+            Got::Bytes(count) => {
+                // A read gives no more bytes than there is room for.
+                self.driven.take_in(room.get(..count)?);
+                None
+            }
         }
     }
 
