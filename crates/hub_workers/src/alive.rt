@@ -49,7 +49,8 @@ impl Alive {
         self.numbers.lock(rt).ended
     }
 
-    /// Sleeps until another number has ended than this, and says whether one has: none will where none is served.
+    /// Sleeps until another number has ended than this, and says whether one has: none will where none is
+    /// served.
     pub(crate) fn wait_for_end<R: Wait>(&self, rt: &R, ended: u64) -> bool {
         let numbers = self.numbers.lock(rt);
         let numbers = self.news.wait_while(rt, numbers, move |now| {

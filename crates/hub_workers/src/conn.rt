@@ -23,8 +23,9 @@ pub(crate) struct Conn<S: Service> {
     watch: Option<Arc<Watch, Global>>,
     /// Whether a watch is set for its stream.
     is_watched: bool,
-    /// Whether some byte went since this was asked.
-    pub(crate) has_sent: bool,
+    /// Whether its time begins anew: since this was asked some byte went, or came behind the end of its
+    /// session.
+    pub(crate) is_renewed: bool,
     /// How many bytes were read behind the end of its session, `None` before it.
     pub(crate) unread: Option<usize>,
 }
@@ -38,7 +39,7 @@ impl<S: Service + Watchable + Drop> Conn<S> {
             readiness: Readiness::NONE,
             watch: None,
             is_watched: false,
-            has_sent: false,
+            is_renewed: false,
             unread: None,
         })
     }

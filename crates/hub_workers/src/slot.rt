@@ -11,7 +11,7 @@ use hub_shared::Watchable;
 /// this its connection ends.
 const PATIENCE: u64 = 600_000;
 
-/// How long a client is waited for to whom all is said, in milliseconds.
+/// How long a client is waited for to whom all is said, in milliseconds behind the last byte that it sent.
 const FAREWELL: u64 = 1_000;
 
 /// No time, as a reading of the clock.
@@ -72,12 +72,13 @@ impl<S: Service + Watchable + Drop> Slot<S> {
     }
 
     /// Puts a connection here that waits for this, at this reading of the clock, and tells when it will have
-    /// waited long enough. It waits for its client since some byte went, or since it began to wait for this.
+    /// waited long enough. It waits for its client since its time was renewed, or since it began to wait for
+    /// this.
     pub(crate) fn put(&mut self, mut conn: Box<Conn<S>>, awaits: Awaits, now: u64) -> u64 {
-        if conn.has_sent || self.awaits != awaits {
+        if conn.is_renewed || self.awaits != awaits {
             self.since = now;
         }
-        conn.has_sent = false;
+        conn.is_renewed = false;
         self.awaits = awaits;
         self.readiness = self.readiness.or(conn.readiness);
         self.due = self.time_due(&conn);

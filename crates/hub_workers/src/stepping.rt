@@ -86,7 +86,7 @@ impl<S: Service + Watchable + Drop> Conn<S> {
             match self.hand() {
                 Handed::Took(0) => return None,
                 Handed::Took(count) => {
-                    self.has_sent = true;
+                    self.is_renewed = true;
                     budget.spend(count);
                 }
                 Handed::Again if !self.readiness.hang_up => {
@@ -183,6 +183,7 @@ impl<S: Service + Watchable + Drop> Conn<S> {
             Got::End | Got::Gone => Some(Awaits::Nothing),
             Got::Bytes(_) if before >= FAREWELL => Some(Awaits::Nothing),
             Got::Bytes(count) => {
+                self.is_renewed = true;
                 self.unread = Some(before.saturating_add(count));
                 None
             }
