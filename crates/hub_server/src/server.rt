@@ -12,8 +12,8 @@ use std::net::{Net, TcpListener};
 use std::sync::Wait;
 use std::thread::Threads;
 
-/// How many items the lane of a feed holds at most. Who hands a feed its items takes them in the same turn, and
-/// a place in a lane has some 100 bytes: so a feed that waits stays small.
+/// How many items the lane of a feed holds at most. Who hands a feed its items takes them in the same turn,
+/// and a place in a lane has some 100 bytes: so a feed that waits stays small.
 const LANE: u64 = 8;
 
 /// These limits, with lanes of a server.
