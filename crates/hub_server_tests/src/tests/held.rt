@@ -126,7 +126,8 @@ fn assert_lock_held<R: Abort + Clock>(
     alloc: Global,
     scene: &Scene,
     follower: &mut Client,
-    (writers, others): (&mut [Client], &mut [Client]),
+    writers: &mut [Client],
+    others: &mut [Client],
 ) -> Result<(), Fail> {
     follower.ask("GET /x/_changes", "")?;
     assert!(rt; is_held(rt, scene));
@@ -136,7 +137,7 @@ fn assert_lock_held<R: Abort + Clock>(
     assert_answered(rt, alloc, others)?;
     scene.is_answered.store(true, Ordering::SeqCst);
     assert!(rt; follower.answer()?.is("200"));
-    for writer in writers {
+    for writer in writers.iter_mut() {
         assert!(rt; writer.answer()?.is("201"));
     }
     assert!(rt; !scene.gave_up.load(Ordering::SeqCst));
@@ -159,8 +160,14 @@ fn a_lock_that_is_held_beside_many(rt: HostRuntime) -> Result<(), Fail> {
     make_databases(&rt, &mut follower)?;
     let mut writers = connect(&rt, alloc, server.address, WRITES)?;
     let mut others = connect(&rt, alloc, server.address, OTHERS)?;
-    let clients = (writers.as_mut_slice(), others.as_mut_slice());
-    assert_lock_held(&rt, alloc, &scene, &mut follower, clients)?;
+    assert_lock_held(
+        &rt,
+        alloc,
+        &scene,
+        &mut follower,
+        writers.as_mut_slice(),
+        others.as_mut_slice(),
+    )?;
     drop(follower);
     drop(writers);
     drop(others);
