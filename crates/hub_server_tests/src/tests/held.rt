@@ -119,6 +119,14 @@ fn ask_writes(alloc: Global, writers: &mut [Client]) -> Result<(), Fail> {
     Ok(())
 }
 
+/// Asserts that the writes that wait are answered.
+fn assert_written(rt: &impl Abort, writers: &mut [Client]) -> Result<(), Fail> {
+    for writer in writers {
+        assert!(rt; writer.answer()?.is("201"));
+    }
+    Ok(())
+}
+
 /// Asserts that all others are answered while the lock of `x` is held, for which writes to `x` wait, and then
 /// these.
 fn assert_lock_held<R: Abort + Clock>(
@@ -136,9 +144,7 @@ fn assert_lock_held<R: Abort + Clock>(
     assert_answered(rt, alloc, others)?;
     scene.is_answered.store(true, Ordering::SeqCst);
     assert!(rt; follower.answer()?.is("200"));
-    for writer in writers {
-        assert!(rt; writer.answer()?.is("201"));
-    }
+    assert_written(rt, writers)?;
     assert!(rt; !scene.gave_up.load(Ordering::SeqCst));
     Ok(())
 }
