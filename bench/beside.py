@@ -5,7 +5,8 @@
 
 runs each program as `PROGRAM serve 127.0.0.1:0 4294967295`, which prints the address that it listens on,
 asks all of them the same by turns, and prints a table: the first one's rate against that of each other,
-each round and the median, and the processor time of each for a request or a row. No figure is asserted.
+each round and the median, the processor time of each for a request or a row, and the time of the 99th of 100
+requests or of a feed. No figure is asserted.
 `--keep` writes the rates of the first by those of the second to bench/out/beside.json. It takes wrk and curl. A figure is read beside the load and what the host took, which are printed too.
 
 `bench/hyper` is such a server, of the hub's routes and bytes over hyper and tokio:
@@ -97,12 +98,12 @@ class Wrk:
         self.name = "%s by %d" % (kind, connections)
 
     def measure(self, server):
-        """Requests a second, and microseconds of the server for each."""
+        """Requests a second, microseconds of the server for each, and the milliseconds of the 99th of 100."""
         Wrk.runs += 1
         with tempfile.NamedTemporaryFile("w", suffix=".lua") as script:
             script.write(SCRIPTS[self.kind])
             script.flush()
-            words = ["wrk", "-t%d" % min(self.connections, 2), "-c%d" % self.connections, "-d%ds" % self.seconds]
+            words = ["wrk", "--latency", "-t%d" % min(self.connections, 2), "-c%d" % self.connections, "-d%ds" % self.seconds]
             words += ["-s", script.name, "http://127.0.0.1:%d/" % server.port]
             before = server.seconds()
             told = subprocess.run(
@@ -112,7 +113,9 @@ class Wrk:
         if "Non-2xx" in told or "Socket errors" in told:
             print("!", told, file=sys.stderr)
         count = int(re.search(r"(\d+) requests in", told).group(1))
-        return float(re.search(r"Requests/sec:\s+([\d.]+)", told).group(1)), 1e6 * spent / max(count, 1)
+        last = re.search(r"99%\s+([\d.]+)(us|ms|s)", told)
+        late = float(last.group(1)) * {"us": 1e-3, "ms": 1.0, "s": 1e3}[last.group(2)]
+        return float(re.search(r"Requests/sec:\s+([\d.]+)", told).group(1)), 1e6 * spent / max(count, 1), late
 
 
 class Rows:
@@ -122,7 +125,7 @@ class Rows:
         self.name, self.query = name, query
 
     def measure(self, server):
-        """Rows a second, and microseconds of the server for each."""
+        """Rows a second, microseconds of the server for each, and the milliseconds of the median feed."""
         took, before = [], server.seconds()
         for _ in range(7):
             words = ["curl", "-s", "-o", "/dev/null", "-w", "%{time_total} %{size_download} %{http_code}"]
@@ -131,7 +134,8 @@ class Rows:
             if told[2] != "200" or int(told[1]) < 80 * ROWS:
                 sys.exit("no whole feed: %s" % told)
             took.append(float(told[0]))
-        return ROWS / statistics.median(took), 1e6 * (server.seconds() - before) / ROWS / 7
+        spent = server.seconds() - before
+        return ROWS / statistics.median(took), 1e6 * spent / ROWS / 7, 1e3 * statistics.median(took)
 
 
 def machine():
@@ -170,7 +174,7 @@ def show(names, figures):
     """The table."""
     first, others = names[0], names[1:]
     print("| Case | " + " | ".join("%s against %s, each round, median" % (first, n) for n in others), end=" | ")
-    print(" | ".join("%s, a second, µs" % n for n in names) + " |")
+    print(" | ".join("%s, a second, µs, ms" % n for n in names) + " |")
     print("|---" * (1 + len(others) + len(names)) + "|")
     for case, by in figures.items():
         cells = [case]
@@ -178,8 +182,7 @@ def show(names, figures):
             ratios = ratios_of(first, other, by)
             cells.append("%s; %.2f" % (", ".join("%.2f" % r for r in ratios), statistics.median(ratios)))
         for name in names:
-            rates, costs = zip(*by[name])
-            cells.append("%.0f, %.2f" % (statistics.median(rates), statistics.median(costs)))
+            cells.append("%.0f, %.2f, %.2f" % tuple(statistics.median(it) for it in zip(*by[name])))
         print("| %s |" % " | ".join(cells))
 
 
@@ -207,7 +210,7 @@ def main():
                     figure = case.measure(servers[name])
                     figures.setdefault(case.name, {}).setdefault(name, []).append(figure)
                     shown = (round_ + 1, case.name, name, *figure, disturbance(before))
-                    print("%d %-20s %-8s %10.0f %8.2f µs; %s" % shown, flush=True)
+                    print("%d %-20s %-8s %10.0f %8.2f µs %8.2f ms; %s" % shown, flush=True)
         finally:
             for server in servers.values():
                 server.stop()

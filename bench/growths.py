@@ -17,8 +17,9 @@ The rules:
 
 - Each answer before the refusal is the one with ample memory.
 - The call that meets it is answered 503 `out_of_memory`, or as with ample memory. A feed ends without a last
-  chunk, and its bytes are a front. A new connection may be closed unanswered. Over TCP another thread may meet
-  the refusal: then a feed is cut beside an answer as with ample memory.
+  chunk, and its bytes are a front. A new connection may be closed unanswered. Over TCP another connection may
+  meet the refusal: then its feed is cut beside an answer as with ample memory. So may a thread that is to
+  relieve another one: no answer changes then.
 - Further requests, with ample memory, show the state as before, and the same call then has its answer.
 - Behind a 503 a write may stand. The table counts these: "behind", "unnoted" where the log of updates has no
   note of it, "stopped" where it is a front of a batch.

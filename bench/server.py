@@ -33,6 +33,8 @@ FIGURES = os.path.join(TOP, "bench", "out", "server.json")
 TICK = os.sysconf("SC_CLK_TCK")
 # The most feeds that a database may have.
 MOST = 1_000
+# The bytes of the kernel's stack of a thread (THREAD_SIZE of x86-64 and arm64).
+KERNEL_STACK = 16_384
 # What wrk sends: a document of a new id each time, and one document.
 SCRIPTS = {
     "PUT": """
@@ -77,7 +79,7 @@ class Server:
         return (int(fields[11]) + int(fields[12])) / TICK
 
     def memory(self):
-        """Bytes of its own, without what it shares, and its threads."""
+        """Bytes of its own memory (Pss), and how many threads it has."""
         with open("/proc/%d/smaps_rollup" % self.process.pid) as file:
             pss = int(re.search(r"^Pss:\s+(\d+)", file.read(), re.MULTILINE).group(1))
         with open("/proc/%d/status" % self.process.pid) as file:
@@ -342,7 +344,7 @@ def idle(program, feeds, seconds):
     ):
         with Server(program) as server:
             server.connect().ask("PUT /fan")
-            empty, _ = server.memory()
+            empty, threads_before = server.memory()
             read = Feeds(server, feeds, query)
             time.sleep(1.5)
             before = server.seconds()
@@ -353,13 +355,12 @@ def idle(program, feeds, seconds):
         entry = {
             "case": "%d %s" % (feeds, name),
             "processor_milliseconds_a_second": round(1000 * spent / seconds, 2),
-            "kilobytes_a_feed": round((memory - empty) / feeds / 1024, 1),
+            "bytes_a_feed": round((memory - empty) / feeds),
+            "kernel_stack_bytes_a_feed": round(KERNEL_STACK * (threads - threads_before) / feeds),
             "threads": threads,
         }
-        print(
-            "%-36s %.2f ms of the hub a second, %.1f KB a feed, %d threads" % tuple(entry.values()),
-            flush=True,
-        )
+        told = "%-36s %.2f ms of the hub a second, %d bytes a feed, %d of kernel stacks, %d threads"
+        print(told % tuple(entry.values()), flush=True)
         entries.append(entry)
     return entries
 

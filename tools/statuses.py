@@ -19,8 +19,13 @@ TOP = os.path.dirname(os.path.dirname(os.path.abspath(__file__)))
 PROGRAM = f"{TOP}/crates/changes_hub/out/changes_hub"
 # The seconds that a run may take.
 PATIENCE = 20
-# The descriptors of a server that has few, and the clients that come to it.
-FEW, MANY = 16, 30
+# How many workers a server has: one a processor, and at least two. Each has two descriptors.
+WORKERS = max(2, len(os.sched_getaffinity(0)))
+# The descriptors of a server that has room for some clients, and the clients that come to it.
+FEW = 12 + 2 * WORKERS
+MANY = FEW + 14
+# The descriptors of a server that has too few to begin with: its streams, its socket, and one.
+TOO_FEW = 5
 
 WHOLE = b"PUT /d HTTP/1.1\r\n\r\n"
 CLOSE = b"PUT /d HTTP/1.1\r\nConnection: close\r\n\r\nx"
@@ -101,14 +106,25 @@ def try_served(program):
         fail(["serve", "127.0.0.1:0", "2"], status, 0)
 
 
-def few_files():
-    resource.setrlimit(resource.RLIMIT_NOFILE, (FEW, FEW))
+def limited(files):
+    """What a process does before its program begins: it may have so many open files."""
+    return lambda: resource.setrlimit(resource.RLIMIT_NOFILE, (files, files))
+
+
+def try_too_few_files(program):
+    """A server without descriptors for its workers ends with 1, behind the line with its address."""
+    words = ["serve", "127.0.0.1:0", "1"]
+    how = {"capture_output": True, "timeout": PATIENCE, "preexec_fn": limited(TOO_FEW)}
+    ended = subprocess.run([program, *words], stdin=subprocess.DEVNULL, **how)
+    found = (ended.returncode, ended.stdout[:13], ended.stderr)
+    if found != (1, b"listening on ", b""):
+        fail(words, found, (1, b"listening on ", b""))
 
 
 def try_few_files(program):
     """A server with fewer descriptors than clients goes on: it accepts again once clients have gone."""
     words = ["serve", "127.0.0.1:0", str(MANY + 1)]
-    with subprocess.Popen([program, *words], stdout=subprocess.PIPE, preexec_fn=few_files) as server:
+    with subprocess.Popen([program, *words], stdout=subprocess.PIPE, preexec_fn=limited(FEW)) as server:
         port = int(server.stdout.readline().decode().rsplit(":", 1)[1])
         try:
             clients = [socket.create_connection(("127.0.0.1", port), PATIENCE) for _ in range(MANY)]
@@ -137,7 +153,8 @@ def main():
     try_full(program)
     try_served(program)
     try_few_files(program)
-    print(f"statuses: {len(CASES) + 4} runs as they should be")
+    try_too_few_files(program)
+    print(f"statuses: {len(CASES) + 5} runs as they should be")
 
 
 if __name__ == "__main__":

@@ -1,15 +1,11 @@
-//! The hub over TCP: each connection in a thread of its own, and one more for each database of which a feed
-//! waits.
+//! The hub over TCP.
 #![tactic(auto)]
 
-mod alive;
 mod clock;
-mod connection;
-mod orders;
-mod pumps;
+mod pumping;
 mod server;
-mod starter;
+mod services;
 
 pub use clock::Uptime;
-pub use pumps::ByThreads;
+pub use pumping::ByWorkers;
 pub use server::run_server;

@@ -35,7 +35,7 @@ use Rattle.hub_session.specs.Items.{rows_after}
 use Rattle.hub_session.specs.Replies.{fault_text}
 use Rattle.hub_session.specs.Rules.{Rules, moment}
 use Rattle.hub_session.specs.Runs.{Run, new_run, with_gone, with_offered, Seen, Steps, IsOfEnd}
-use Rattle.hub_session.specs.Runs.{IsStepped, place_behind, IsBetween, IsWithin, HasDone, HasRun}
+use Rattle.hub_session.specs.Runs.{GivesUpAt, IsStepped, place_behind, IsBetween, IsWithin, HasDone, HasRun}
 use Rattle.hub_session.specs.Sessions.{Answers, Closes, Ending, Exchange, Goes, HasServed, IsServed}
 use Rattle.hub_session.specs.Sessions.{Session, Standing, after_answer, after_stream, breaks}
 use Rattle.hub_session.specs.Sessions.{exchange_text, is_broken, is_head, standing, stream_head}
@@ -536,6 +536,29 @@ module _ {S : Type 0} (rules : Rules S) (run : Run S) where
       place d in
       done_ends rules run.start run.offered old later run.gone sending close stream.Broken w refl
       (λ sent low. ([], Streams.breaks drops, (0, sym (append-nil old.pending))))
+
+-- a session was given up where more bytes came
+pub given_up_behind : {S : Type 0} (rules : Rules S) (run : Run S) (place : Place) (old new : Seen S)
+    (behind : List ℕ) → old.place ≡ place → old.over ≡ false → GivesUpAt place rules old new
+    → HasRun rules run old → HasRun rules (with_offered run behind) new
+given_up_behind rules run Between old new behind place awaited is d =
+    let all = record old { bytes = old.bytes ++ behind } in
+    subst (HasRun rules (with_offered run behind)) (sym is)
+    (given_up_between rules (with_offered run behind) all place
+    (offered_run rules run old all behind awaited refl d))
+given_up_behind rules run (Within sending close) old new behind place awaited is d =
+    let all = record old { bytes = old.bytes ++ behind } in
+    subst (HasRun rules (with_offered run behind)) (sym is.1)
+    (given_up_within rules (with_offered run behind) sending close all new.service place is.0
+    (offered_run rules run old all behind awaited refl d))
+given_up_behind rules run (Closed closing) old new behind place awaited is d =
+    let all = record old { bytes = old.bytes ++ behind } in
+    let later = with_offered run behind in
+    let text = run.gone ++ old.pending in
+    subst (HasRun rules later) (sym is)
+    (subst (HasDone rules later.start later.offered old.bytes old.over old.service text) (sym place)
+    (subst (HasDone rules later.start later.offered all.bytes old.over old.service text) place
+    (offered_run rules run old all behind awaited refl d)))
 
 -- what follows of what is so where a call succeeded
 pub on_ok : {A E : Type 0} (r : Result A E) (P Q : Type 0) → (P → Q) → OnOk r P → OnOk r Q

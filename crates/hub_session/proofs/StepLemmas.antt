@@ -1,6 +1,8 @@
 -- What one step of a session did.
-use Rattle.std.proofs.Common.{◌≡◌, ◌≤◌, ◌⊎◌, ℕ, List, [], Bool, true, Option, Some, None}
-use Rattle.std.proofs.Common.{Ok, Err, refl, sym, ap, subst, ◌∙◌, append-nil, inl, inr}
+use Rattle.std.proofs.Common.{◌≡◌, ◌<◌, ◌≤◌, ◌⊎◌, ℕ, List, [], ◌++◌, Bool, true, false, length}
+use Rattle.std.proofs.Common.{Option, Some, None, Ok, Err, refl, sym, ap, subst, ◌∙◌, append-nil}
+use Rattle.std.proofs.Common.{inl, inr, arith}
+use Rattle.std.proofs.lemmas.Grind.{common_steps}
 use Rattle.std.specs.Io.KnownBytes.{Appends}
 use Rattle.std.proofs.KnownBytes.{Appends-nil}
 use Rattle.hub_http.specs.Counts.{Sends, last_count}
@@ -14,16 +16,16 @@ use Rattle.hub_session.specs.declared.closing.Closing.TheVariants.{Finished, Fau
 use Rattle.hub_session.specs.declared.closing.StreamEnd.{StreamEnd}
 use Rattle.hub_session.specs.declared.closing.StreamEnd.TheVariants as stream
 use Rattle.hub_session.specs.declared.feed.Sending.{Sending}
-use Rattle.hub_session.specs.declared.machine.Place.TheVariants.{Between, Within}
+use Rattle.hub_session.specs.declared.machine.Place.TheVariants.{Between, Within, Closed}
 use Rattle.hub_session.specs.declared.machine.Step.{Step}
 use Rattle.hub_session.specs.declared.machine.Step.TheVariants as step
 use Rattle.hub_session.specs.Feeds.{IsStreamed, Streams}
 use Rattle.hub_session.specs.Replies.{fault_text}
 use Rattle.hub_session.specs.Rules.{Rules, Moment}
-use Rattle.hub_session.specs.Runs.{HasAnswered, IsOfEnd, IsStepped, Seen, Steps}
-use Rattle.hub_session.specs.Runs.{moment_of, place_behind, step_behind}
+use Rattle.hub_session.specs.Runs.{HasAnswered, HasRun, IsOfEnd, IsStepped, Run, Seen, Steps, TellsNoMemory}
+use Rattle.hub_session.specs.Runs.{moment_of, place_behind, step_behind, with_offered}
 use Rattle.hub_session.specs.Sessions.{HasAnswer, IsServed, after_stream, is_broken}
-use Rattle.hub_session.proofs.RunLemmas.{not_end}
+use Rattle.hub_session.proofs.RunLemmas.{not_end, offered_run, stepped_run}
 use Rattle.hub_session.proofs.SessionLemmas.{faulty_closes}
 
 -- a step that closed a session as broken
@@ -179,3 +181,34 @@ module _ {S : Type 0} (rules : Rules S) where
     Streams.gives_up drops (subst (λ n. n ≤ sent) all low),
     subst (λ w. Appends old.written w []) (sym same) (Appends-nil old.written),
   )
+
+-- some bytes behind others are some
+some_behind : (bytes behind : List ℕ) → 0 < length behind → 0 < length (bytes ++ behind)
+some_behind bytes behind some = grind (arith, common_steps)
+
+module _ {S : Type 0} (rules : Rules S) (closing : Closing) (old new : Seen S) (pending : List ℕ) where
+  -- out of memory was told, and the place was set
+  pub told_no_memory : (closing ≡ Fault NoMemory) ⊎ (closing ≡ Broken)
+      → Sends (is_broken closing) (Some old.pending) (Some pending) (fault_text NoMemory)
+      → new ≡ record old { place = Closed closing; pending = pending } → TellsNoMemory old new
+  told_no_memory (inl is) sent shown =
+      let whole : pending ≡ old.pending ++ fault_text NoMemory =
+      subst (λ c. Sends (is_broken c) (Some old.pending) (Some pending) (fault_text NoMemory)) is sent in
+      TellsNoMemory.whole (shown ∙ (cc))
+  told_no_memory (inr is) sent shown =
+      let front =
+      subst (λ c. Sends (is_broken c) (Some old.pending) (Some pending) (fault_text NoMemory)) is sent in
+      TellsNoMemory.front front.0 (shown ∙ (cc))
+
+  -- it was told of bytes that came
+  pub no_memory_run : (run : Run S) (behind : List ℕ) → old.place ≡ Between → old.over ≡ false
+      → 0 < length behind → (closing ≡ Fault NoMemory) ⊎ (closing ≡ Broken)
+      → Sends (is_broken closing) (Some old.pending) (Some pending) (fault_text NoMemory)
+      → new ≡ record old { place = Closed closing; pending = pending }
+      → HasRun rules run old → HasRun rules (with_offered run behind) new
+  no_memory_run run behind place awaited some why sent shown d =
+      let all = record old { bytes = old.bytes ++ behind } in
+      stepped_run rules (with_offered run behind) all new (step.Ended closing)
+      (stepped_fault rules NoMemory closing all (record old { pending = pending }) new (step.Ended closing)
+      place (some_behind old.bytes behind some) refl refl why sent shown refl)
+      (offered_run rules run old all behind awaited refl d)

@@ -1,6 +1,6 @@
 -- own: sessions that are stepped: what one shows, what one step does, and what all of its steps did.
 use Rattle.std.specs.Prelude.{◌≡◌, ⊤, ◌<◌, ◌≤◌, ◌⊎◌, ℕ, List, [], ◌++◌}
-use Rattle.std.specs.Prelude.{Bool, true, false, length, Option, Some}
+use Rattle.std.specs.Prelude.{Bool, true, false, length, take, Option, Some}
 use Rattle.std.specs.Prelude.{None, Ok, Err}
 use Rattle.std.specs.List.{flat_map}
 use Rattle.hub_http.specs.Boxes.{came_to, is_over, pending_in}
@@ -10,7 +10,7 @@ use Rattle.hub_http.specs.declared.fault.HttpFault.TheVariants as fault
 use Rattle.hub_session.specs.declared.item.StreamItem.{StreamItem}
 use Rattle.hub_session.specs.declared.service.Answer.TheVariants.{Stream}
 use Rattle.hub_session.specs.declared.closing.Closing.{Closing}
-use Rattle.hub_session.specs.declared.closing.Closing.TheVariants.{Finished, Fault}
+use Rattle.hub_session.specs.declared.closing.Closing.TheVariants.{Finished, Fault, Broken}
 use Rattle.hub_session.specs.declared.closing.StreamEnd.{StreamEnd}
 use Rattle.hub_session.specs.declared.feed.Sending.{Sending}
 use Rattle.hub_session.specs.declared.machine.Place.{Place}
@@ -20,6 +20,7 @@ use Rattle.hub_session.specs.declared.machine.Step.{Step}
 use Rattle.hub_session.specs.declared.machine.Step.TheVariants.{Served, WantsInput}
 use Rattle.hub_session.specs.declared.machine.Step.TheVariants.{WantsRoom, WantsNews, Ended}
 use Rattle.hub_session.specs.Feeds.{HasStreamed, IsStreamed, items_text, rows_behind}
+use Rattle.hub_session.specs.Replies.{fault_text}
 use Rattle.hub_session.specs.Rules.{Rules, Moment, moment}
 use Rattle.hub_session.specs.Sessions.{Exchange, HasAnswer, HasServed, IsServed, IsSession, after_stream}
 use Rattle.hub_session.specs.Sessions.{exchange_text, is_head, standing, stream_head}
@@ -120,6 +121,39 @@ IsStepped rules old WantsInput new =
 IsStepped rules old WantsRoom new = (0 < length old.pending) × (new ≡ old)
 IsStepped rules old WantsNews new =
     (sending : Sending) × (close : Bool) × (old.place ≡ Within sending close) × (new ≡ old)
+
+-- ---- other closings
+
+-- What a session shows before and behind a closing that tells out of memory. The refusal is to go behind what
+-- was, or where the outbox found no memory a front of the refusal. Nothing else changed. So where the end of
+-- an answer is to go, the refusal stands behind it.
+pub data TellsNoMemory {S : Type 0} (old new : Seen S) : Type 0 where
+  -- all of it
+  whole : new ≡ record old {
+    place = Closed (Fault fault.NoMemory);
+    pending = old.pending ++ fault_text fault.NoMemory;
+  }
+      → TellsNoMemory old new
+  -- the first bytes of it, so many
+  front : (count : ℕ) → new ≡ record old {
+    place = Closed Broken;
+    pending = old.pending ++ take count (fault_text fault.NoMemory);
+  }
+      → TellsNoMemory old new
+
+-- What a session at this place shows before and behind a call that gives it up. Between two requests it
+-- closes as Broken. So does one that sends a stream, and its service gives back what the stream holds. One
+-- that closed stays as it is.
+abbrev pub GivesUpAt : {S : Type 0} → Place → Rules S → Seen S → Seen S → Type 0
+GivesUpAt Between rules old new = new ≡ record old { place = Closed Broken }
+GivesUpAt (Within sending close) rules old new =
+    rules.drops old.service new.service
+    × (new ≡ record old { place = Closed Broken; service = new.service })
+GivesUpAt (Closed closing) rules old new = new ≡ old
+
+-- a session was given up
+abbrev pub IsGivenUp : {S : Type 0} → Rules S → Seen S → Seen S → Type 0
+IsGivenUp rules old new = GivesUpAt old.place rules old new
 
 -- ---- all steps
 

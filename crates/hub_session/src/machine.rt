@@ -4,8 +4,9 @@ ghost use Rattle.std.specs.Prelude.{false, true, length, take, drop, IsSome, OnO
 ghost use Rattle.hub_http.specs.Boxes.{Hands, faults_in, handed_of, pending_in};
 ghost use Rattle.hub_http.specs.Counts.{Rose};
 ghost use Rattle.hub_http.specs.Stream.{asked_by};
-ghost use Rattle.hub_session.specs.Runs.{HasAnswered, HasRun, IsStepped, Run, Seen, closing_at, new_run};
-ghost use Rattle.hub_session.specs.Runs.{place_behind, seen, step_behind, with_gone, with_offered};
+ghost use Rattle.hub_session.specs.Runs.{HasAnswered, HasRun, IsGivenUp, IsStepped, Run, Seen, TellsNoMemory};
+ghost use Rattle.hub_session.specs.Runs.{closing_at, new_run, place_behind, seen, step_behind};
+ghost use Rattle.hub_session.specs.Runs.{with_gone, with_offered};
 
 use crate::answering::{Begun, after_stream, answer_fault, begin_answer};
 use crate::closing::{Closing, StreamEnd};
@@ -231,6 +232,34 @@ impl<S: Service> Session<S> {
         self.inbox.offer(bytes)
     }
 
+    /// Bytes came for which there is no memory, and they are lost. Between two requests the session answers
+    /// as to a request that found none, and closes. Where nothing else is to go, the outbox has room for
+    /// that answer. At another place, and where there are no bytes, the session is given up.
+    pub fn close_out_of_memory(&mut self, bytes: &[u8])
+        requires { (seen self.old).over ≡ false }
+        ensures told { (seen self.old).place ≡ Place.Between → 0 < length bytes.now
+            → TellsNoMemory (seen self.old) (seen self.new) }
+        ensures elsewhere { ((seen self.old).place ≡ Place.Between → bytes.now ≡ [])
+            → IsGivenUp S.rules (seen self.old) (seen self.new) }
+        ensures closed { IsSome (closing_at (seen self.new).place) }
+        ensures broken { (seen self.old).place ≡ Place.Between → 0 < length bytes.now
+            → (seen self.new).place ≡ Place.Closed Closing.Broken
+            → Rose (faults_in self.old.outbox) (faults_in self.new.outbox) }
+        ensures run { (run : Run S) → HasRun S.rules run (seen self.old)
+            → HasRun S.rules (with_offered run bytes.now) (seen self.new) }
+    {
+        if bytes.is_empty() {
+            return self.give_up();
+        }
+        match self.place {
+            Place::Between => {
+                let closing = answer_fault(&mut self.outbox, HttpFault::NoMemory);
+                self.go_behind(Some(closing));
+            }
+            Place::Within(..) | Place::Closed(_) => self.give_up(),
+        }
+    }
+
     /// Says that no more bytes come.
     pub fn end(&mut self)
         ensures shown { seen self.new ≡ record (seen self.old) { over = true } }
@@ -274,6 +303,7 @@ impl<S: Service> Session<S> {
     /// The other side is gone: a session that did not close does so as `Broken`, and its service gets back
     /// what a stream holds.
     pub fn give_up(&mut self)
+        ensures told { IsGivenUp S.rules (seen self.old) (seen self.new) }
         ensures closed { IsSome (closing_at (seen self.new).place) }
         ensures run { (run : Run S) → HasRun S.rules run (seen self.old)
             → HasRun S.rules run (seen self.new) }

@@ -1,8 +1,10 @@
 //! Sessions that are stepped.
 
 use crate::cut::CutWriter;
-use crate::made_again::{Told, is_right};
-use crate::rows::{CREATED, EXCHANGES, Exchange, Rows, VERSION, answers, asks, two_rows};
+use crate::made_again::{REFUSED_LAST, Told, is_right};
+use crate::rows::{
+    CREATED, EXCHANGES, Exchange, FEED_HEAD, NORMAL, Rows, VERSION, answers, asks, two_rows,
+};
 use hub_http::{Handed, HttpFault, Outbox, Request};
 use hub_session::{Answer, Closing, Polled, Service, Session, Step, StreamItem};
 use std::alloc::Global;
@@ -133,18 +135,23 @@ fn driven(alloc: Global, driver: Driver<'_>) -> Option<(Told, usize)> {
     Some((told, waits))
 }
 
-/// The same, and whether it waited so often. Without an outbox the session is one that was cut.
+/// A session that was cut before it began, as one without an outbox.
+fn cut(alloc: Global) -> Told {
+    Told {
+        closing: Some(Closing::Cut),
+        output: Vec::new(alloc),
+        counted: false,
+    }
+}
+
+/// The same, and whether it waited so often.
 fn told(alloc: Global, driver: Driver<'_>, expected: usize) -> Told {
     match driven(alloc, driver) {
         Some((told, waits)) => Told {
             counted: waits == expected,
             ..told
         },
-        None => Told {
-            closing: Some(Closing::Cut),
-            output: Vec::new(alloc),
-            counted: false,
-        },
+        None => cut(alloc),
     }
 }
 
@@ -216,6 +223,65 @@ fn closed_sessions_answer_nothing(rt: HostRuntime) -> Result<(), Fail> {
         let end = Some(Closing::Fault(HttpFault::Version));
         let right = is_right(CLOSES, expected, end, move || told(alloc, driver, 0));
         assert!(rt; right, "{size} bytes an offer");
+    }
+    Ok(())
+}
+
+/// Behind these exchanges there is no memory for the bytes that come: behind none, half a head, and whole
+/// requests.
+const REFUSED: [&[Exchange]; 3] = [
+    &[Exchange("", &[REFUSED_LAST])],
+    &[Exchange("GET /nor", &[REFUSED_LAST])],
+    &[
+        Exchange("PUT /d HTTP/1.1\r\n\r\n", &[CREATED]),
+        Exchange("GET /normal HTTP/1.1\r\n\r\n", &[FEED_HEAD, NORMAL]),
+        Exchange("", &[REFUSED_LAST]),
+    ],
+];
+
+/// What became of a session that finds no memory for the bytes behind its input. None where it found none
+/// for its input either.
+fn refused(alloc: Global, input: &[u8]) -> Option<Told> {
+    let Ok(outbox) = Outbox::new(alloc) else {
+        return None;
+    };
+    let mut session = Session::new(alloc, outbox, two_rows(alloc));
+    if session.offer(input).is_err() {
+        return None;
+    }
+    let mut writer = CutWriter::new(alloc, usize::MAX, usize::MAX);
+    for _ in 0..STEPS {
+        match session.step() {
+            Step::WantsRoom => drain(&mut session, &mut writer),
+            Step::WantsInput | Step::Ended(_) => break,
+            Step::Served | Step::WantsNews => {}
+        }
+    }
+    drain(&mut session, &mut writer);
+    if !session.is_over() {
+        session.close_out_of_memory(b"mal HTTP/1.1\r\n\r\n");
+    }
+    drain(&mut session, &mut writer);
+    Some(Told {
+        closing: session.closing(),
+        output: writer.held,
+        counted: true,
+    })
+}
+
+/// Where there is no memory for bytes that come, the client is told so behind the answers before.
+#[test]
+fn bytes_without_memory(rt: HostRuntime) -> Result<(), Fail> {
+    let alloc = rt.alloc();
+    for exchanges in REFUSED {
+        let input = asks(alloc, exchanges)?;
+        let expected = answers(alloc, exchanges)?;
+        let (input, expected) = (input.as_bytes(), expected.as_bytes());
+        let end = Some(Closing::Fault(HttpFault::NoMemory));
+        let right = is_right(exchanges, expected, end, move || {
+            refused(alloc, input).unwrap_or(cut(alloc))
+        });
+        assert!(rt; right, "behind {} bytes", input.len());
     }
     Ok(())
 }

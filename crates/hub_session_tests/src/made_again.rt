@@ -22,7 +22,7 @@ const REFUSED: &str = concat!(
 );
 
 /// The same of a request that could not be read, which closes the session.
-const REFUSED_LAST: &str = concat!(
+pub(crate) const REFUSED_LAST: &str = concat!(
     "HTTP/1.1 503 Service Unavailable\r\nContent-Type: application/json\r\n",
     "Content-Length: 51\r\nConnection: close\r\n\r\n",
     r#"{"error":"out_of_memory","reason":"out of memory"}"#,

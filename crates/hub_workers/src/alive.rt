@@ -1,15 +1,15 @@
-//! How many threads serve connections, or hand feeds.
+//! How many connections are served.
 
 use std::sync::{Condvar, Mutex, Wait};
 
-/// How many such threads run, and how many have ended.
+/// How many are served, and how many have ended.
 #[derive(Clone, Copy)]
 struct Numbers {
-    running: u64,
+    served: u64,
     ended: u64,
 }
 
-/// The threads that serve connections or pump feeds, and which nobody joins, by their numbers.
+/// The connections that are served, by their numbers.
 #[derive(Drop)]
 pub(crate) struct Alive {
     numbers: Mutex<Numbers>,
@@ -22,7 +22,7 @@ impl Alive {
     pub(crate) fn new() -> Alive {
         Alive {
             numbers: Mutex::new(Numbers {
-                running: 0,
+                served: 0,
                 ended: 0,
             }),
             news: Condvar::new(),
@@ -32,13 +32,13 @@ impl Alive {
     /// One more.
     pub(crate) fn begin<R: Wait>(&self, rt: &R) {
         let mut numbers = self.numbers.lock(rt);
-        numbers.running = numbers.running.saturating_add(1);
+        numbers.served = numbers.served.saturating_add(1);
     }
 
     /// One has ended.
     pub(crate) fn end<R: Wait>(&self, rt: &R) {
         let mut numbers = self.numbers.lock(rt);
-        numbers.running = numbers.running.saturating_sub(1);
+        numbers.served = numbers.served.saturating_sub(1);
         numbers.ended = numbers.ended.wrapping_add(1);
         drop(numbers);
         self.news.notify_all();
@@ -49,11 +49,12 @@ impl Alive {
         self.numbers.lock(rt).ended
     }
 
-    /// Sleeps until another number has ended than this, and says whether one has: none will where none runs.
+    /// Sleeps until another number has ended than this, and says whether one has: none will where none is
+    /// served.
     pub(crate) fn wait_for_end<R: Wait>(&self, rt: &R, ended: u64) -> bool {
         let numbers = self.numbers.lock(rt);
         let numbers = self.news.wait_while(rt, numbers, move |now| {
-            now.running > 0 && now.ended == ended
+            now.served > 0 && now.ended == ended
         });
         numbers.ended != ended
     }
@@ -61,6 +62,6 @@ impl Alive {
     /// Sleeps until there is none.
     pub(crate) fn wait<R: Wait>(&self, rt: &R) {
         let numbers = self.numbers.lock(rt);
-        let _none = self.news.wait_while(rt, numbers, |now| now.running > 0);
+        let _none = self.news.wait_while(rt, numbers, |now| now.served > 0);
     }
 }

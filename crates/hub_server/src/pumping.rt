@@ -1,0 +1,49 @@
+//! How the server hands feeds their items.
+
+use hub_feed::FeedHost;
+use hub_model::Item;
+use hub_service::Pumping;
+use hub_shared::{Clock, Gate, HostFeed, Point, Pumped};
+use std::sync::Wait;
+
+/// By workers: the worker that steps a connection hands its feed on too. Nobody waits for a feed: one that
+/// has nothing to hand is asked again once its database has news, or its time has come.
+#[derive(Drop)]
+pub struct ByWorkers<'h, R, G, K> {
+    rt: &'h R,
+    /// What a request passes.
+    gate: &'h G,
+    /// What tells when a heartbeat is due, or a feed's end.
+    clock: &'h K,
+    /// The connection's number.
+    number: u64,
+}
+
+impl<'h, R, G, K> ByWorkers<'h, R, G, K> {
+    /// What hands the feeds of the connection of this number.
+    pub(crate) fn new(rt: &'h R, gate: &'h G, clock: &'h K, number: u64) -> ByWorkers<'h, R, G, K> {
+        ByWorkers {
+            rt,
+            gate,
+            clock,
+            number,
+        }
+    }
+}
+
+impl<'h, R: Wait, G: Gate, K: Clock> Pumping for ByWorkers<'h, R, G, K> {
+    fn pass_request(&self) {
+        self.gate.pass(Point::Request(self.number));
+    }
+
+    fn next_item<S: FeedHost, H: Pumped<S>>(
+        &self,
+        feed: &mut HostFeed<S, H>,
+    ) -> Option<Item<S::Row>> {
+        feed.poll(self.rt, self.gate, self.clock)
+    }
+
+    fn waits<S: FeedHost, H: Pumped<S>>(&self, feed: &HostFeed<S, H>) -> bool {
+        !feed.is_over()
+    }
+}

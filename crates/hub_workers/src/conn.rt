@@ -1,0 +1,91 @@
+//! Connections as values.
+
+use crate::awaits::Awaits;
+use crate::driven::Driven;
+use crate::readiness::Readiness;
+use hub_session::Service;
+use hub_shared::{Watch, Watchable};
+use mio::net::TcpStream;
+use mio::{Interest, Registry, Token};
+use std::alloc::{AllocError, Global};
+use std::io;
+use std::sync::Arc;
+
+/// A connection: its socket, which never waits, and its session. One runner at a time has it, and goes on
+/// with it by turns.
+#[derive(Drop)]
+pub(crate) struct Conn<S: Service> {
+    pub(crate) stream: TcpStream,
+    pub(crate) driven: Driven<S>,
+    /// What the socket is ready for, as far as it is known.
+    pub(crate) readiness: Readiness,
+    /// A watch that is to be set for its stream.
+    watch: Option<Arc<Watch, Global>>,
+    /// Whether a watch is set for its stream.
+    is_watched: bool,
+    /// Whether its time begins anew: since this was asked some byte went, or came behind the end of its
+    /// session.
+    pub(crate) is_renewed: bool,
+    /// How many bytes were read behind the end of its session, `None` before it.
+    pub(crate) unread: Option<usize>,
+}
+
+impl<S: Service + Watchable + Drop> Conn<S> {
+    /// A connection over a socket that does not wait. An error says that there was no memory.
+    pub(crate) fn new(alloc: Global, stream: TcpStream, service: S) -> Result<Conn<S>, AllocError> {
+        Ok(Conn {
+            stream,
+            driven: Driven::new(alloc, service)?,
+            readiness: Readiness::NONE,
+            watch: None,
+            is_watched: false,
+            is_renewed: false,
+            unread: None,
+        })
+    }
+
+    /// Has a poll tell of its socket under this token.
+    pub(crate) fn register(&mut self, registry: &Registry, token: usize) -> io::Result<()> {
+        let both = Interest::READABLE | Interest::WRITABLE;
+        registry.register(&mut self.stream, Token(token), both)
+    }
+
+    /// Whether a watch is set for its stream. Constant time.
+    pub(crate) fn is_watched(&self) -> bool {
+        self.is_watched
+    }
+
+    /// Takes a watch, which its next turn sets.
+    pub(crate) fn take_watch(&mut self, watch: Arc<Watch, Global>) {
+        self.watch = Some(watch);
+    }
+
+    /// Sets the watch that it took, if it did.
+    pub(crate) fn set_watch(&mut self) {
+        if let Some(watch) = self.watch.take() {
+            self.driven.service().watch(watch);
+            self.is_watched = true;
+        }
+    }
+
+    /// Notes where its stream has ended, and with it the stream's watch.
+    pub(crate) fn note_stream(&mut self) {
+        if self.is_watched && self.driven.service().life().is_none() {
+            self.is_watched = false;
+        }
+    }
+
+    /// What a connection waits for whose stream has no item: a watch, if there is none yet.
+    pub(crate) fn awaited_news(&self) -> Awaits {
+        match self.driven.service().life() {
+            Some(life) if !self.is_watched => Awaits::Watch(life),
+            _ => Awaits::News,
+        }
+    }
+
+    /// The client is gone, or nobody waits for it any longer.
+    pub(crate) fn give_up(&mut self) -> Awaits {
+        self.driven.give_up();
+        Awaits::Nothing
+    }
+}

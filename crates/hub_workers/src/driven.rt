@@ -1,0 +1,67 @@
+//! Sessions as a worker drives them.
+
+ghost use Rattle.hub_session.specs.Runs.{HasRun, Run, seen};
+
+use hub_http::{Handed, Outbox};
+use hub_session::{Service, Session, Step};
+use mio::net::TcpStream;
+use std::alloc::{AllocError, Global};
+
+/// The session of a connection. However a worker drives it, there is a run that it had: the bytes that left
+/// its outbox and those that lie there are, in order, the texts of a session over all bytes that were
+/// offered.
+#[derive(Drop)]
+pub(crate) struct Driven<S: Service> {
+    session: Session<S>,
+    ghost has_run: { ∥ ((run : Run S) × HasRun S.rules run (seen session)) ∥₁ },
+}
+
+impl<S: Service> Driven<S> {
+    /// A session to which nothing was offered. An error says that there was no memory for its outbox.
+    pub(crate) fn new(alloc: Global, service: S) -> Result<Driven<S>, AllocError>
+    where
+        S: Drop,
+    {
+        let outbox = Outbox::new(alloc)?;
+        Ok(Driven {
+            session: Session::new(alloc, outbox, service),
+        })
+    }
+
+    /// What answers its requests. Constant time.
+    pub(crate) fn service(&self) -> &S {
+        self.session.service()
+    }
+
+    /// Goes on by one exchange, by the head of a stream, or by one item of it.
+    pub(crate) fn step(&mut self) -> Step {
+        self.session.step()
+    }
+
+    /// Takes bytes that came. Where there is no memory for them the session answers so, and closes. A socket
+    /// that said its end gives none behind it: such bytes would be no part of the session.
+    pub(crate) fn take_in(&mut self, bytes: &[u8]) {
+        if self.session.is_over() {
+            return;
+        }
+        match self.session.offer(bytes) {
+            Ok(()) => {}
+            Err(AllocError) => self.session.close_out_of_memory(bytes),
+        }
+    }
+
+    /// Says that no more bytes come.
+    pub(crate) fn end(&mut self) {
+        self.session.end();
+    }
+
+    /// Hands a front of what is to go to a socket, by one write.
+    pub(crate) fn send_to(&mut self, stream: &mut TcpStream) -> Handed {
+        self.session.send_to(stream)
+    }
+
+    /// The client is gone: the service gives back what its stream holds.
+    pub(crate) fn give_up(&mut self) {
+        self.session.give_up();
+    }
+}

@@ -1,0 +1,147 @@
+//! The event loops of workers.
+
+use crate::awaits::Awaits;
+use crate::conn::Conn;
+use crate::port::{Given, Port};
+use crate::readiness::Readiness;
+use crate::table::Table;
+use crate::turn::Turn;
+use crate::watches::Watches;
+use hub_session::Service;
+use hub_shared::{Bell, Watchable};
+use mio::{Events, Poll, Token};
+use std::alloc::Global;
+use std::io;
+use std::sync::{Arc, Wait};
+use std::time::Duration;
+
+/// How many events are taken of the poll at once.
+const EVENTS: usize = 256;
+
+/// The connections of a worker, and what tells of them.
+#[derive(Drop)]
+pub(crate) struct EventLoop<S: Service> {
+    poll: Poll,
+    events: Events,
+    table: Table<S>,
+    watches: Watches,
+}
+
+impl<S: Service + Watchable + Drop> EventLoop<S> {
+    /// That of a worker without connections, whose streams ring this bell.
+    pub(crate) fn new(
+        alloc: Global,
+        poll: Poll,
+        bell: Arc<Bell, Global>,
+    ) -> io::Result<EventLoop<S>> {
+        Ok(EventLoop {
+            poll,
+            events: Events::with_capacity(alloc, EVENTS)?,
+            table: Table::new(alloc),
+            watches: Watches::new(alloc, bell),
+        })
+    }
+
+    // Takes a new connection. One for which there is no memory, or no place in the poll, is closed; whether
+    // it was taken.
+    fn take_new(&mut self, mut conn: Box<Conn<S>>, now: u64) -> bool {
+        let Ok(token) = self.table.take_free() else {
+            return false;
+        };
+        if conn.register(self.poll.registry(), token).is_err() {
+            self.table.give_free(token);
+            return false;
+        }
+        self.table.put(token, conn, Awaits::Input, now);
+        true
+    }
+
+    // Forgets the watch of a connection's stream.
+    fn forget(&mut self, token: usize) {
+        if let Some(life) = self.table.life(token) {
+            self.watches.remove(life, token);
+            self.table.set_life(token, None);
+        }
+    }
+
+    // Gives a connection a watch, which its next turn sets for its stream. Without memory for it the
+    // connection is given up: its stream could not go on.
+    fn put_unwatched(&mut self, token: usize, mut conn: Box<Conn<S>>, life: u64, now: u64) {
+        match self.watches.add(life, token) {
+            Ok(watch) => {
+                self.table.set_life(token, Some(life));
+                conn.take_watch(watch);
+                self.table.put_watched(token, conn, now);
+            }
+            Err(_) => self.table.put_late(token, conn, now),
+        }
+    }
+
+    /// Puts back a connection behind its turn, at this reading of the clock. One that has ended is closed;
+    /// whether it has not.
+    pub(crate) fn put_back(&mut self, turn: Turn<S>, now: u64) -> bool {
+        let Turn {
+            token,
+            conn,
+            awaits,
+            ..
+        } = turn;
+        if awaits == Awaits::Nothing || !conn.is_watched() {
+            self.forget(token);
+        }
+        match awaits {
+            Awaits::Nothing => {
+                drop(conn);
+                self.table.give_free(token);
+                return false;
+            }
+            Awaits::Turn => self.table.put_later(token, conn, now),
+            Awaits::Watch(life) => self.put_unwatched(token, conn, life, now),
+            _ => self.table.put(token, conn, awaits, now),
+        }
+        true
+    }
+
+    /// Takes what the worker was given; whether it is the worker's from here on, and else it is closed.
+    pub(crate) fn take_given(&mut self, given: Given<S>, now: u64) -> bool {
+        match given {
+            Given::New(conn) => self.take_new(conn, now),
+            Given::Back(turn) => self.put_back(turn, now),
+        }
+    }
+
+    /// Takes out the connection whose turn is next. The turn has no number yet.
+    pub(crate) fn take_ready(&mut self) -> Option<Turn<S>> {
+        self.table.take_ready()
+    }
+
+    // Asks the poll, which waits at most so long for something to tell. It fails by a wrong descriptor or a
+    // wrong buffer alone (epoll_wait(2)), and tells nothing then.
+    fn ask(&mut self, most: Option<Duration>) {
+        let _asked = self.poll.poll(&mut self.events, most);
+        for event in &self.events {
+            let Token(token) = event.token();
+            self.table.tell(token, Readiness::of(event));
+        }
+    }
+
+    /// Looks for connections that are to have a turn, where none is known, and sleeps until there is one, or
+    /// something else for the worker. It may come back for no reason.
+    pub(crate) fn look<R: Wait>(&mut self, rt: &R, port: &Port<S>, now: u64) {
+        self.table.tell_time(now);
+        if self.watches.take_bell() {
+            self.watches.take_news(&mut self.table);
+        }
+        if self.table.is_ready() {
+            return;
+        }
+        let most = if self.table.has_later() || !port.begin_sleep(rt) {
+            Some(0)
+        } else {
+            self.table.time_left(now)
+        };
+        self.ask(most.map(Duration::from_millis));
+        port.end_sleep();
+        self.table.begin_round();
+    }
+}

@@ -1,0 +1,93 @@
+//! Servers of connections.
+
+use crate::accepting::Acceptor;
+use crate::relief::watch_over;
+use crate::services::MakeService;
+use crate::team::Team;
+use hub_session::Service;
+use hub_shared::{Clock, Watchable};
+use std::alloc::{AllocError, Global};
+use std::io;
+use std::net::{Net, TcpListener};
+use std::sync::Wait;
+use std::thread::{self, JoinHandle, Scope, Threads};
+
+// Starts a thread for each worker, and one that accepts. An error says that there was no memory, or that one
+// of them could not be made.
+fn start<'s, 'e, R, S, K, M>(
+    scope: &'s Scope<'s, &'e ()>,
+    rt: &'e R,
+    team: &'e Team<'e, S, K>,
+    acceptor: &'e Acceptor<'e, M>,
+) -> Result<JoinHandle<io::Result<()>>, AllocError>
+where
+    R: Wait + Sync,
+    S: Service + Watchable + Send + Drop,
+    K: Clock + Sync,
+    M: MakeService<S> + Sync,
+{
+    for seat in team.seats() {
+        let room = team.make_room()?;
+        scope.spawn(move || team.run(rt, seat, room))?;
+    }
+    Ok(scope.spawn(move || acceptor.run(rt, team))?)
+}
+
+// Serves the connections of an acceptor by a team. This thread looks for workers that are held meanwhile.
+fn serve<'e, R, S, K, M>(
+    rt: &'e R,
+    team: &'e Team<'e, S, K>,
+    acceptor: &'e Acceptor<'e, M>,
+) -> io::Result<()>
+where
+    R: Threads + Wait + Sync,
+    S: Service + Watchable + Send + Drop,
+    K: Clock + Sync,
+    M: MakeService<S> + Sync,
+{
+    thread::scope(thread::scope_env(), rt, |scope| {
+        match start(scope, rt, team, acceptor) {
+            Ok(accepting) => {
+                watch_over(scope, rt, team);
+                accepting.join(rt)
+            }
+            Err(error) => {
+                team.close();
+                Err(io::Error::from(error))
+            }
+        }
+    })
+}
+
+/// Serves so many connections, by as many workers as there are processors, and comes back once all have
+/// ended. Connections are numbered from 1 as they are accepted, and each has the service that is made for
+/// its number. A connection is a value of one worker, in turn, and has no thread of its own. Where one
+/// holds its worker's thread for more than some milliseconds, behind a lock or by a long request, another
+/// thread goes on with the worker's others. A connection for which there is no memory is closed unanswered.
+/// One whose next request is not whole within ten minutes behind the answer before, and one whose client
+/// takes no byte of an answer within ten minutes, is closed too. An error says that there was no memory, no
+/// thread or no descriptor to begin with, or that no connection could be accepted while none was open.
+/// Where none can be accepted beside those that are open, the next one waits until one of them has ended.
+pub fn serve_all<R, S, K, M>(
+    rt: &R,
+    alloc: Global,
+    listener: &TcpListener,
+    count: u64,
+    clock: &K,
+    services: &M,
+) -> io::Result<()>
+where
+    R: Threads + Wait + Net + Sync,
+    S: Service + Watchable + Send + Drop,
+    K: Clock + Sync,
+    M: MakeService<S> + Sync,
+{
+    let team = Team::new(rt, alloc, clock)?;
+    let acceptor = Acceptor {
+        alloc,
+        listener,
+        count,
+        services,
+    };
+    serve(rt, &team, &acceptor)
+}
