@@ -22,8 +22,10 @@ pub(crate) const NEVER: u64 = u64::MAX;
 pub(crate) struct Slot<S: Service> {
     /// The connection, `None` while it has a turn, and where there is none.
     conn: Option<Box<Conn<S>>>,
-    /// What it waits for. It is never a turn or a watch.
+    /// What it waits for. It is never a watch.
     awaits: Awaits,
+    /// What its time is counted for: what it waits for, or waited for before it used up a turn.
+    timed: Awaits,
     /// What the socket is ready for. During a turn, what the poll told since it began.
     readiness: Readiness,
     /// Whether its stream may go on, for news that came since its last turn began, or as its time has come.
@@ -46,6 +48,7 @@ impl<S: Service + Watchable + Drop> Slot<S> {
         Slot {
             conn: None,
             awaits: Awaits::Nothing,
+            timed: Awaits::Nothing,
             readiness: Readiness::NONE,
             has_news: false,
             is_late: false,
@@ -54,11 +57,6 @@ impl<S: Service + Watchable + Drop> Slot<S> {
             due: NEVER,
             life: None,
         }
-    }
-
-    /// What its connection waited for last.
-    pub(crate) fn awaits(&self) -> Awaits {
-        self.awaits
     }
 
     // When this connection will have waited long enough.
@@ -75,10 +73,13 @@ impl<S: Service + Watchable + Drop> Slot<S> {
     /// waited long enough. It waits for its client since its time was renewed, or since it began to wait for
     /// this.
     pub(crate) fn put(&mut self, mut conn: Box<Conn<S>>, awaits: Awaits, now: u64) -> u64 {
-        if conn.is_renewed || self.awaits != awaits {
-            self.since = now;
+        if awaits != Awaits::Turn {
+            if conn.is_renewed || self.timed != awaits {
+                self.since = now;
+            }
+            conn.is_renewed = false;
+            self.timed = awaits;
         }
-        conn.is_renewed = false;
         self.awaits = awaits;
         self.readiness = self.readiness.or(conn.readiness);
         self.due = self.time_due(&conn);
@@ -86,7 +87,9 @@ impl<S: Service + Watchable + Drop> Slot<S> {
         self.due
     }
 
-    /// Takes its connection out for a turn, which has no number yet. None where there is none here.
+    /// Takes its connection out for a turn, which has no number yet. None where there is none here. Its news
+    /// is dropped only where it waited for news: then its stream asks its host in this turn. Else the stream
+    /// may still have items that it got before the news, and ends the turn behind these.
     pub(crate) fn take(&mut self, token: usize) -> Option<Turn<S>> {
         let mut conn = self.conn.take()?;
         conn.readiness = self.readiness;
@@ -98,7 +101,9 @@ impl<S: Service + Watchable + Drop> Slot<S> {
             is_late: self.is_late,
         };
         self.readiness = Readiness::NONE;
-        self.has_news = false;
+        if self.awaits == Awaits::News {
+            self.has_news = false;
+        }
         self.is_late = false;
         self.is_queued = false;
         self.due = NEVER;

@@ -108,9 +108,8 @@ impl<S: Service + Watchable + Drop> Table<S> {
     /// Puts a connection at its token that has a turn again, behind the others.
     pub(crate) fn put_later(&mut self, token: usize, conn: Box<Conn<S>>, now: u64) {
         if let Some(slot) = self.slots.get_mut(token) {
-            let due = slot.put(conn, slot.awaits(), now);
+            slot.put(conn, Awaits::Turn, now);
             slot.set_queued();
-            self.next_look = self.next_look.min(step_of(due));
             // There is room for each token.
             let _kept = self.later.push_back(token);
         }

@@ -183,6 +183,13 @@ fn is_row(client: &mut Client, alloc: Global, seq: u64) -> Result<bool, Fail> {
     Ok(false)
 }
 
+/// The feed of a client that reads late: no heartbeat is due in it, so that nothing but its rows makes it go
+/// on.
+const LATE: &str = "GET /d/_changes?feed=continuous&include_docs=true&heartbeat=600000";
+
+/// The feed of a client that reads at once.
+const AT_ONCE: &str = "GET /d/_changes?feed=continuous&include_docs=true&heartbeat=500";
+
 /// Asserts that one client gets each row as it is written, and another one, which reads late, gets all then.
 fn assert_not_held(
     rt: &impl Abort,
@@ -190,9 +197,8 @@ fn assert_not_held(
     (writer, slow, fast): (&mut Client, &mut Client, &mut Client),
 ) -> Result<(), Fail> {
     assert!(rt; writer.gets("PUT /d", "", "201")?);
-    let line = "GET /d/_changes?feed=continuous&include_docs=true&heartbeat=500";
-    assert!(rt; slow.follows(line)?);
-    assert!(rt; fast.follows(line)?);
+    assert!(rt; slow.follows(LATE)?);
+    assert!(rt; fast.follows(AT_ONCE)?);
     for seq in 1..=LARGE {
         let batch = large_batch(alloc, seq)?;
         assert!(rt; writer.gets("POST /d/_bulk_docs", batch.as_str(), "201")?);

@@ -5,6 +5,8 @@ use crate::tests::serve;
 use std::alloc::Global;
 use std::process::Abort;
 use std::test::Fail;
+use std::thread;
+use std::time::{Clock, Duration};
 
 /// How the program's stored run begins, as it is sent.
 const STORED_ASKED: &str = concat!(
@@ -153,6 +155,29 @@ fn a_body_that_is_too_long(rt: HostRuntime) -> Result<(), Fail> {
     send_long(alloc, &client)?;
     assert!(rt; client.answer()?.is("413"));
     assert!(rt; client.rest()?.is_empty());
+    drop(client);
+    assert!(rt; server.ends(&rt));
+    Ok(())
+}
+
+/// Sends a part of a request whose body is too long, and more of it for longer than a second.
+fn send_long_slowly(rt: &impl Clock, client: &Client) -> Result<(), Fail> {
+    client.send("PUT /d/a HTTP/1.1\r\nContent-Length: 8388609\r\n\r\n")?;
+    for _ in 0..15 {
+        thread::sleep(rt, Duration::from_millis(100));
+        client.send("{\"text\":")?;
+    }
+    Ok(())
+}
+
+/// A client that goes on sending a body which was refused reads the refusal behind it.
+#[test]
+fn a_body_that_is_refused_while_it_is_sent(rt: HostRuntime) -> Result<(), Fail> {
+    let alloc = rt.alloc();
+    let server = serve(&rt, alloc, 1)?;
+    let mut client = Client::connect(&rt, alloc, server.address)?;
+    send_long_slowly(&rt, &client)?;
+    assert!(rt; client.answer()?.is("413"));
     drop(client);
     assert!(rt; server.ends(&rt));
     Ok(())
