@@ -207,6 +207,8 @@ fn assert_not_held(
     for seq in 1..=LARGE {
         assert!(rt; is_row(slow, alloc, seq)?);
     }
+    // The feeds end here. A client that goes in a feed is seen only when the next bytes are sent to it.
+    assert!(rt; writer.gets("DELETE /d", "", "200")?);
     Ok(())
 }
 
