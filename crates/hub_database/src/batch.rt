@@ -57,13 +57,6 @@ impl Replies {
     {
         self.list.as_slice()
     }
-
-    /// The vector. It takes no memory.
-    pub fn into_vec(self) -> Vec<Outcome<RevId>>
-        ensures { result.items ≡ self }
-    {
-        self.list
-    }
 }
 
 /// What a batch of writes did.

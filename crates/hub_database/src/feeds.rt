@@ -1,21 +1,24 @@
 //! The feeds of a database.
 
-ghost use Rattle.std.specs.Prelude.{◌≡◌, ◌⊎◌, Some, None, Err, option_map, IfSome, IfOk, IfErr, OnErr};
+ghost use Rattle.std.specs.Prelude.{◌≡◌, ◌⊎◌, Some, None, Err, option_map, position, IfSome, IfOk, IfErr};
+ghost use Rattle.std.specs.Prelude.{OnErr};
 ghost use Rattle.hub_model.specs.Current.{current};
-ghost use Rattle.hub_model.specs.Entries.{entry_in};
+ghost use Rattle.hub_model.specs.Entries.{entry_in, is_of};
 ghost use Rattle.hub_model.specs.Row.{ChangeRow as Shown};
+ghost use Rattle.hub_feed.specs.Hand.{HandsTo, MayTake};
 ghost use Rattle.hub_feed.specs.Host.{is_full, refuses, opened, is_beat_due, expired, item_due};
 ghost use Rattle.hub_feed.specs.Host.{answered, behind_answer, handed, finished, due_to};
 ghost use Rattle.hub_feed.specs.Mark.{mark_of};
 ghost use Rattle.hub_feed.specs.Next.{IsRowDue};
 ghost use Rattle.hub_feed.specs.Reach.{IsFirst};
+ghost use Rattle.hub_feed.specs.declared.next.Next.TheVariants.{Nothing};
 ghost use Rattle.hub_params.specs.FeedModel.{params_of};
 ghost use Rattle.hub_database.specs.Hosting.{hosted_of, with_hosted};
 
 use crate::database::DbState;
 use crate::rows::Rows;
 use hub_document::ChangeRow;
-use hub_feed::{FeedId, Mark, Next, OpenFault};
+use hub_feed::{FeedId, Handed, Mark, Next, OpenFault, Pushes, Sink};
 use hub_model::Item;
 use hub_params::FeedParams;
 use std::alloc::AllocError;
@@ -54,15 +57,16 @@ impl DbState {
         }
     }
 
-    // The sequence of the first row in reach of a feed, if there is one, where the feed is open and
-    // shows listed documents, its rows are kept, and more edits lie above its place than ids are
-    // listed. It costs what `Listing::holds` and `Listing::first_between` do.
-    fn first_listed(&mut self, feed: FeedId) -> Option<Option<u64>>
+    // The sequence of the first row in reach of the feed that stands here, if there is one, where the
+    // feed is open and shows listed documents, its rows are kept, and more edits lie above its place
+    // than ids are listed. It costs what `Listing::holds` and `Listing::first_between` do.
+    fn first_listed(&mut self, feed: FeedId, at: usize) -> Option<Option<u64>>
+        requires placed { Some at ≡ position (is_of feed.number) self.old.feeds }
         ensures same { self.new ≡ self.old }
         ensures first { IfSome result (λ first. IsFirst first (current self.old.journal)
             (entry_in feed.number self.old.feeds)) }
     {
-        let state = self.feeds.state(feed)?;
+        let state = self.feeds.state_at(feed, at);
         let ids = state.listed()?;
         let few = state.place().saturating_add(ids.len() as u64);
         if !state.is_open() || self.contents.update_seq() <= few {
@@ -73,6 +77,22 @@ impl DbState {
             return None;
         }
         Some(self.listing.first_between(state.place(), state.bound()))
+    }
+
+    // The sequence of the first row in reach of the feed that stands here, if it is open. It costs
+    // what `first_listed` does, and where that knows nothing what `Feeds::first_at` does.
+    fn first_at(&mut self, feed: FeedId, at: usize) -> Option<u64>
+        requires placed { Some at ≡ position (is_of feed.number) self.old.feeds }
+        ensures same { self.new ≡ self.old }
+        ensures first { IsFirst result (current self.old.journal) (entry_in feed.number self.old.feeds) }
+    {
+        match self.first_listed(feed, at) {
+            Some(first) => first,
+            None => {
+                let rows = self.contents.rows();
+                self.feeds.first_at(&rows, feed, at)
+            }
+        }
     }
 
     /// What a feed has to hand now. An item is made and nothing changes: `accept_item` goes on. A
@@ -87,17 +107,46 @@ impl DbState {
         ensures err { OnErr result ((self.new ≡ self.old)
             × IsRowDue (due_to (hosted_of self.old) feed.number)) }
     {
-        self.feeds.seek(feed);
-        match self.first_listed(feed) {
-            Some(first) => {
-                let rows = self.contents.rows();
-                self.feeds.next_item_at(&rows, feed, first)
-            }
-            None => {
-                let rows = self.contents.rows();
-                self.feeds.next_item(&rows, feed)
-            }
-        }
+        let Some(at) = self.feeds.place(feed) else {
+            return Ok(Next::Gone);
+        };
+        let first = self.first_at(feed, at);
+        let rows = self.contents.rows();
+        self.feeds.next_at(&rows, feed, at, first)
+    }
+
+    /// Hands what is due to a feed: the item is made, then `sink` takes it, and only then the feed goes
+    /// on. Where `sink` gives it back nothing changes, and the next hand makes it again. A feed that has
+    /// nothing to hand goes to the journal's length. Only a row takes memory, and without it nothing
+    /// changes. It costs what `next_item` does, and a push: one search for the feed in all.
+    pub fn hand<K: Sink<Item<ChangeRow>>, H: Pushes<K, Item<ChangeRow>>>(
+        &mut self,
+        feed: FeedId,
+        handle: &H,
+        sink: &mut K,
+    ) -> Result<Handed, AllocError>
+        requires may { IfSome (item_due (hosted_of self.old) feed.number)
+            (MayTake K.allows K.sent sink.old) }
+        ensures ok { IfOk result (λ did. HandsTo K.behind (H.refuses handle.now) self.old
+            (with_hosted self.old (handed (hosted_of self.old) feed.number))
+            (with_hosted self.old (behind_answer (hosted_of self.old) feed.number Nothing))
+            sink.old (answered (hosted_of self.old) feed.number) did self.new sink.new) }
+        ensures err { OnErr result ((self.new ≡ self.old) × (sink.new ≡ sink.old)
+            × IsRowDue (due_to (hosted_of self.old) feed.number)) }
+    {
+        let Some(at) = self.feeds.place(feed) else {
+            return Ok(Handed::Gone);
+        };
+        let first = self.first_at(feed, at);
+        let rows = self.contents.rows();
+        self.feeds.hand_at(&rows, feed, at, first, handle, sink)
+    }
+
+    /// The mark of an item, by which `accept_marked` goes on behind it. Constant time.
+    pub fn mark(item: &Item<ChangeRow>) -> Mark
+        ensures { result ≡ mark_of (λ (r : Shown). r.seq) item.now }
+    {
+        Mark::of::<Rows>(item)
     }
 
     /// Goes on behind the item that `next_item` gives now. It takes no memory, and constant time where
@@ -106,7 +155,7 @@ impl DbState {
         requires due { item_due (hosted_of self.old) feed.number ≡ Some item.now }
         ensures { self.new ≡ with_hosted self.old (handed (hosted_of self.old) feed.number) }
     {
-        self.accept_marked(feed, Mark::of::<Rows>(item));
+        self.accept_marked(feed, DbState::mark(item));
     }
 
     /// Goes on behind the item that `next_item` gives now, of which this is the mark. It takes no

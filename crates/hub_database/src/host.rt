@@ -1,9 +1,8 @@
 //! A database as what keeps feeds.
 
 use crate::database::DbState;
-use crate::rows::Rows;
 use hub_document::ChangeRow;
-use hub_feed::{FeedHost, FeedId, Mark, Next, OpenFault};
+use hub_feed::{FeedHost, FeedId, Handed, OpenFault, Pushes, Sink};
 use hub_model::Item;
 use hub_params::FeedParams;
 use std::alloc::AllocError;
@@ -87,24 +86,14 @@ impl FeedHost for DbState {
         }
     }
 
-    /// It costs what `DbState::next_item` does.
-    fn next_item(&mut self, feed: FeedId) -> Result<Next<ChangeRow>, AllocError> {
-        DbState::next_item(self, feed)
-    }
-
-    /// Constant time.
-    fn near(&self) -> usize {
-        self.feeds.near()
-    }
-
-    /// Constant time.
-    fn mark(item: &Item<ChangeRow>) -> Mark {
-        Mark::of::<Rows>(item)
-    }
-
-    /// Constant time, where the last item was made for this feed.
-    fn accept_marked(&mut self, feed: FeedId, mark: Mark) {
-        DbState::accept_marked(self, feed, mark);
+    /// It costs what `DbState::hand` does.
+    fn hand<K: Sink<Item<ChangeRow>>, H: Pushes<K, Item<ChangeRow>>>(
+        &mut self,
+        feed: FeedId,
+        handle: &H,
+        sink: &mut K,
+    ) -> Result<Handed, AllocError> {
+        DbState::hand(self, feed, handle, sink)
     }
 
     /// It costs a binary search among the feeds.

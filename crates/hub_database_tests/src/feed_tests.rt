@@ -42,6 +42,8 @@ pub(crate) enum Handed {
     Nothing,
     /// Nothing any more.
     Gone,
+    /// What is due, to a list that is full and does not take it.
+    Full,
 }
 
 /// What a row shows.
@@ -112,8 +114,8 @@ fn shows(row: &ChangeRow, shown: &ShownRow) -> bool {
         && brings(row, shown.members)
 }
 
-// Whether an item is this.
-fn is_item(item: &Item<ChangeRow>, handed: &Handed) -> bool {
+/// Whether an item is this.
+pub(crate) fn is_item(item: &Item<ChangeRow>, handed: &Handed) -> bool {
     match (item, handed) {
         (Item::Row(row), Row(seq)) => row.seq == *seq,
         (Item::Row(row), Whole(shown)) => shows(row, shown),
@@ -123,8 +125,8 @@ fn is_item(item: &Item<ChangeRow>, handed: &Handed) -> bool {
     }
 }
 
-/// Whether what a feed has to hand is this.
-pub(crate) fn is_handed(next: &Next<ChangeRow>, handed: &Handed) -> bool {
+// Whether what a feed has to hand is this.
+fn is_handed(next: &Next<ChangeRow>, handed: &Handed) -> bool {
     match next {
         Next::Give(item) => is_item(item, handed),
         Next::Nothing => matches!(handed, Nothing),

@@ -1,34 +1,47 @@
 //! A database whose feeds are driven as those of any host.
 
 use crate::feed_tests::FeedStep::{Beats, Expire, Finish, Hands, Open};
-use crate::feed_tests::Handed::{End, Gone, Nothing, Row};
-use crate::feed_tests::{FIRST, FeedStep, Handed, SECOND, asked, is_handed};
+use crate::feed_tests::Handed::{End, Full, Gone, Nothing, Row, Whole};
+use crate::feed_tests::{FIRST, FeedStep, Handed, SECOND, ShownRow, asked, is_item};
+use crate::listed::{Listed, NoHandle};
 use crate::made_again::is_right;
 use crate::tests::Step::{Batch, Delete, Feed, Hosted, Length};
 use crate::tests::{Step, assert_steps};
 use hub_database::DbState;
 use hub_document::ChangeRow;
-use hub_feed::{FeedHost, FeedId, Next, OpenFault};
+use hub_feed::{FeedHost, FeedId, Handed as Did, OpenFault};
+use hub_model::Item;
 use hub_model::Outcome::Stored;
 use std::alloc::{AllocError, Global};
 
-// Whether a feed of a host hands this next.
+// Whether a hand that did this, to a list that has this first item now, handed so.
+fn is_hand(did: Did, item: Option<&Item<ChangeRow>>, handed: &Handed) -> bool {
+    match (did, item, handed) {
+        (Did::Row, Some(item), Row(_) | Whole(_)) => is_item(item, handed),
+        (Did::End, Some(item), End(_, _)) => is_item(item, handed),
+        (Did::Full, None, Full) | (Did::Nothing, None, Nothing) | (Did::Gone, None, Gone) => true,
+        _ => false,
+    }
+}
+
+// Whether a feed of a host hands this next. The list has room for one item, or for none where it is to be
+// full.
 fn hands<H: FeedHost<Row = ChangeRow>>(
+    alloc: Global,
     host: &mut H,
     feed: FeedId,
     handed: &Handed,
 ) -> Result<bool, AllocError> {
-    let next = host.next_item(feed)?;
-    if let Next::Give(item) = &next {
-        host.accept_item(feed, item);
-    }
-    Ok(is_handed(&next, handed))
+    let room = if matches!(handed, Full) { 0 } else { 1 };
+    let mut list = Listed::new(alloc, room)?;
+    let did = host.hand(feed, &NoHandle, &mut list)?;
+    Ok(is_hand(did, list.items().first(), handed))
 }
 
 // Whether a feed hands these, one after the other.
-fn hands_all(state: &mut DbState, feed: FeedId, all: &[Handed]) -> bool {
+fn hands_all(alloc: Global, state: &mut DbState, feed: FeedId, all: &[Handed]) -> bool {
     for handed in all {
-        if !is_right(state, |state| hands(state, feed, handed)) {
+        if !is_right(state, |state| hands(alloc, state, feed, handed)) {
             return false;
         }
     }
@@ -68,7 +81,7 @@ fn is_done<H: FeedHost>(host: &mut H, step: &FeedStep) -> bool {
 pub(crate) fn host_holds(alloc: Global, state: &mut DbState, step: &FeedStep) -> bool {
     match step {
         Open(query, answer) => is_right(state, |state| opens(alloc, state, query, *answer)),
-        Hands(feed, handed) => hands_all(state, *feed, handed),
+        Hands(feed, handed) => hands_all(alloc, state, *feed, handed),
         _ => is_done(state, step),
     }
 }
@@ -116,4 +129,56 @@ const LEFT: &[Step] = &[
 #[test]
 fn a_feed_goes_on_where_its_host_left_it(rt: HostRuntime) {
     assert_steps(&rt, rt.alloc(), LEFT);
+}
+
+const MEMBERS: &[Step] = &[
+    Batch(&[r#"{"_id":"a","_rev":"1-a","v":1}"#], &[Stored("1-a")]),
+    Hosted(Open("include_docs=true", Ok(FIRST))),
+    Hosted(Hands(
+        FIRST,
+        &[
+            Whole(ShownRow {
+                seq: 1,
+                id: "a",
+                revs: &["1-a"],
+                deleted: false,
+                members: Some(r#"{"v":1}"#),
+            }),
+            End(1, 0),
+            Gone,
+        ],
+    )),
+];
+
+#[test]
+fn a_list_has_the_row_that_it_took(rt: HostRuntime) {
+    assert_steps(&rt, rt.alloc(), MEMBERS);
+}
+
+const REFUSED: &[Step] = &[
+    STORED,
+    Hosted(Open("feed=continuous&heartbeat=1000", Ok(FIRST))),
+    Hosted(Hands(FIRST, &[Full, Full, Row(1), Full])),
+    Feed(Hands(FIRST, &[Row(2)])),
+    Hosted(Hands(FIRST, &[Nothing])),
+    Hosted(Expire(FIRST)),
+    Hosted(Hands(FIRST, &[Full, End(2, 0), Gone])),
+];
+
+#[test]
+fn a_full_list_leaves_a_feed_as_it_was(rt: HostRuntime) {
+    assert_steps(&rt, rt.alloc(), REFUSED);
+}
+
+const ABSENT: &[Step] = &[
+    STORED,
+    Hosted(Hands(FIRST, &[Gone])),
+    Hosted(Open("", Ok(FIRST))),
+    Hosted(Hands(SECOND, &[Gone])),
+    Hosted(Hands(FIRST, &[Row(1)])),
+];
+
+#[test]
+fn a_hand_to_no_feed_is_gone(rt: HostRuntime) {
+    assert_steps(&rt, rt.alloc(), ABSENT);
 }

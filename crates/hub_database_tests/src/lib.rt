@@ -12,6 +12,8 @@ mod host_tests;
 #[cfg(test)]
 mod life_tests;
 #[cfg(test)]
+mod listed;
+#[cfg(test)]
 mod listed_tests;
 #[cfg(test)]
 mod local_tests;

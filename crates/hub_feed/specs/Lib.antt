@@ -1,4 +1,5 @@
 pub mod Feeds
+pub mod Hand
 pub mod Handing
 pub mod Host
 pub mod Mark

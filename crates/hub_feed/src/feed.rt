@@ -3,18 +3,23 @@
 ghost use Rattle.std.specs.Prelude.{◌≡◌, ◌<◌, ◌≤◌, map, option_map, find};
 ghost use Rattle.std.specs.Prelude.{Some, string_bytes, IfSome, IfOk, OnErr};
 ghost use Rattle.hub_model.specs.Feed.{Open, begin, due, is_in_reach, is_open, bound_of, bound_after};
-ghost use Rattle.hub_model.specs.Feed.{status_after, after_due, after_row, beat_due, expire, end};
+ghost use Rattle.hub_model.specs.Feed.{status_after, after_due, after_nothing, after_row, beat_due, expire};
+ghost use Rattle.hub_model.specs.Feed.{end};
 ghost use Rattle.hub_model.specs.Hand.{item_of};
 ghost use Rattle.hub_model.specs.declared.feeds.Item.TheVariants.{End};
 ghost use Rattle.hub_model.specs.Current.{pending};
 ghost use Rattle.hub_params.specs.FeedModel.{params_of};
+ghost use Rattle.hub_feed.specs.Hand.{HandsTo, MayTake};
 ghost use Rattle.hub_feed.specs.Mark.{mark_of};
 ghost use Rattle.hub_feed.specs.Next.{next_of, after_next, IsRowDue};
 ghost use Rattle.hub_feed.specs.Reach.{first_listed, lesser, listed_in};
 ghost use Rattle.hub_feed.specs.Shown.{status_of};
+ghost use Rattle.hub_feed.specs.declared.next.Next.TheVariants.{Give};
 
+use crate::handed::Handed;
 use crate::mark::Mark;
 use crate::next::Next;
+use crate::sink::{Pushes, Sink};
 use crate::source::Source;
 use hub_filter::Filter;
 use hub_model::{Item, Mode, by_mode};
@@ -330,6 +335,69 @@ impl FeedState {
                 self.place = last_seq;
                 self.status = Status::Ended;
             }
+        }
+    }
+
+    // The item that is due is taken, and only then the feed goes on.
+    fn give<S: Source, K: Sink<Item<S::Row>>, H: Pushes<K, Item<S::Row>>>(
+        &mut self,
+        source: &S,
+        item: Item<S::Row>,
+        handle: &H,
+        sink: &mut K,
+    ) -> Handed
+        requires due { item_of (S.shown source.now self.old.params.style self.old.params.include_docs)
+            (S.current source.now) (due (S.current source.now) self.old)
+            ≡ Some item }
+        requires may { MayTake K.allows K.sent sink.old item }
+        ensures { HandsTo K.behind (H.refuses handle.now) self.old
+            (after_due self.old (due (S.current source.now) self.old) (S.length source.now))
+            (after_nothing self.old (S.length source.now)) sink.old
+            (Give item) result self.new sink.new }
+    {
+        let handed = Handed::of(&item);
+        let mark = Mark::of::<S>(&item);
+        match handle.push(sink, item) {
+            Ok(()) => {
+                self.accept_marked(source, mark);
+                handed
+            }
+            Err(_) => Handed::Full,
+        }
+    }
+
+    /// Hands what is due, where the first row in reach of an open feed is known: it has this sequence,
+    /// if there is one. The item is made, then `sink` takes it, and only then the feed goes on. Where
+    /// `sink` gives it back nothing changes, and the next hand makes it again. A feed that has nothing
+    /// to hand goes to the source's length. Only a row takes memory, and without it nothing changes. It
+    /// costs what `next_item_at` does, and a push.
+    pub fn hand<S: Source, K: Sink<Item<S::Row>>, H: Pushes<K, Item<S::Row>>>(
+        &mut self,
+        source: &S,
+        first: Option<u64>,
+        handle: &H,
+        sink: &mut K,
+    ) -> Result<Handed, AllocError>
+        requires reached { self.old.place ≤ S.length source.now }
+        requires first { self.old.status ≡ Open
+            → first ≡ option_map (λ c. c.seq) (find (is_in_reach self.old) (S.current source.now)) }
+        requires may { IfSome (item_of
+            (S.shown source.now self.old.params.style self.old.params.include_docs)
+            (S.current source.now) (due (S.current source.now) self.old))
+            (MayTake K.allows K.sent sink.old) }
+        ensures ok { IfOk result (λ did. HandsTo K.behind (H.refuses handle.now) self.old
+            (after_due self.old (due (S.current source.now) self.old) (S.length source.now))
+            (after_nothing self.old (S.length source.now)) sink.old
+            (next_of (S.shown source.now self.old.params.style self.old.params.include_docs)
+            (S.current source.now) (due (S.current source.now) self.old))
+            did self.new sink.new) }
+        ensures err { OnErr result ((self.new ≡ self.old) × (sink.new ≡ sink.old)
+            × IsRowDue (due (S.current source.now) self.old)) }
+    {
+        match self.next_item_at(source, first)? {
+            Next::Give(item) => Ok(self.give(source, item, handle, sink)),
+            Next::Nothing => Ok(Handed::Nothing),
+            Next::Gone => Ok(Handed::Gone),
         }
     }
 

@@ -1,22 +1,26 @@
 //! The feeds that something keeps, by their numbers.
 
 ghost use Rattle.std.specs.Prelude.{◌≡◌, ◌<◌, ◌^◌, ◌+◌, ◌-◌, ◌||◌, ◌++◌, ◌∷◌, [], ℕ, length, map};
-ghost use Rattle.std.specs.Prelude.{nat_le, Some, None, option_map, IfSome, IfOk, OnOk, OnErr};
-ghost use Rattle.hub_model.specs.Entries.{changed, entry_in, without};
+ghost use Rattle.std.specs.Prelude.{nat_le, position, Some, None, option_map, IfSome, IfOk, OnOk, OnErr};
+ghost use Rattle.hub_model.specs.Entries.{changed, entry_in, is_of, without};
 ghost use Rattle.hub_model.specs.Feed.{begin, expire};
 ghost use Rattle.hub_params.specs.FeedModel.{params_of};
 ghost use Rattle.hub_feed.specs.Feeds.{AreBehind, ended, feeds_of, over};
+ghost use Rattle.hub_feed.specs.Hand.{HandsTo, MayTake};
 ghost use Rattle.hub_feed.specs.Host.{answered, behind_answer, due_to, handed, is_beat_due, item_due};
 ghost use Rattle.hub_feed.specs.Mark.{mark_of};
 ghost use Rattle.hub_feed.specs.Next.{IsRowDue};
 ghost use Rattle.hub_feed.specs.Reach.{IsFirst};
+ghost use Rattle.hub_feed.specs.declared.next.Next.TheVariants.{Nothing};
 
 use crate::feed::FeedState;
+use crate::handed::Handed;
 use crate::host::FeedId;
 use crate::mark::Mark;
 use crate::next::Next;
+use crate::sink::{Pushes, Sink};
 use crate::source::Source;
-use hub_model::{place_near, place_of};
+use hub_model::{Item, place_near, place_of};
 use hub_params::FeedParams;
 use std::alloc::{AllocError, Global};
 use std::marker::Model;
@@ -28,7 +32,7 @@ pub struct Feeds {
     list: Vec<(u64, FeedState)>,
     /// The number of the next feed: only lower ones were given.
     next: u64,
-    /// Where the feed that was asked last for its next item stood. A feed is looked for there first.
+    /// Where the feed stood that was looked for last. A feed is looked for there first.
     near: usize,
 }
 
@@ -98,42 +102,50 @@ impl Feeds {
         Ok(FeedId { number })
     }
 
-    /// What a feed has to hand now, of the source that they all follow. An item is made and nothing
-    /// changes: `accept_marked` goes on. A feed that has nothing to hand goes to the source's length.
-    /// Only a row takes memory. It costs what `FeedState::next_item` does, and a binary search unless
-    /// the last call was for the same feed.
-    pub fn next_item<S: Source>(
-        &mut self,
-        source: &S,
-        feed: FeedId,
-    ) -> Result<Next<S::Row>, AllocError>
-        requires behind { AreBehind (S.length source.now) self.old.feeds }
-        ensures ok { IfOk result (λ next. next ≡ answered
-            (over (S.length source.now) (S.current source.now) (S.shown source.now) self.old) feed.number) }
-        ensures new { IfOk result (λ next. self.new ≡ feeds_of (behind_answer (over (S.length source.now)
-            (S.current source.now) (S.shown source.now) self.old) feed.number next)) }
-        ensures err { OnErr result ((self.new ≡ self.old) × IsRowDue (due_to
-            (over (S.length source.now) (S.current source.now) (S.shown source.now) self.old) feed.number)) }
-        ensures behind { AreBehind (S.length source.now) self.new.feeds }
+    /// Where a feed stands, if there is one of this number. A binary search, unless the last call was
+    /// for the same feed. The next call for it finds it in constant time.
+    pub fn place(&mut self, feed: FeedId) -> Option<usize>
+        ensures same { self.new ≡ self.old }
+        ensures at { result ≡ position (is_of feed.number) self.old.feeds }
     {
-        let Some(at) = place_near(self.list.as_slice(), self.near, feed.number) else {
-            return Ok(Next::Gone);
-        };
+        let at = place_near(self.list.as_slice(), self.near, feed.number)?;
         self.near = at;
-        let first = self.list[at].1.first_of_open(source);
-        self.next_item_at(source, feed, first)
+        Some(at)
     }
 
-    /// What `next_item` says, where the first row in reach of the feed is known, if it is there and
-    /// open: the row has this sequence, if there is one. It costs what `FeedState::next_item_at` does,
-    /// and a binary search unless the last call was for the same feed.
-    pub fn next_item_at<S: Source>(
+    /// The feed that stands here. Constant time.
+    pub fn state_at(&self, feed: FeedId, at: usize) -> &FeedState
+        requires placed { Some at ≡ position (is_of feed.number) self.now.feeds }
+        ensures found { entry_in feed.number self.now.feeds ≡ Some result.now }
+        ensures given { feed.number < self.now.next }
+    {
+        let state = &self.list[at];
+        &state.1
+    }
+
+    /// The sequence of the first row in reach of the feed that stands here, if it is open. It costs
+    /// what `FeedState::next_item` says.
+    pub fn first_at<S: Source>(&self, source: &S, feed: FeedId, at: usize) -> Option<u64>
+        requires placed { Some at ≡ position (is_of feed.number) self.now.feeds }
+        ensures { IsFirst result (S.current source.now) (entry_in feed.number self.now.feeds) }
+    {
+        let state = &self.list[at];
+        state.1.first_of_open(source)
+    }
+
+    /// What the feed that stands here has to hand now, of the source that they all follow, where the
+    /// first row in reach of the feed, if it is open, has this sequence. An item is made and nothing
+    /// changes: `accept_marked` goes on. A feed that has nothing to hand goes to the source's length.
+    /// Only a row takes memory. It costs what `FeedState::next_item_at` does.
+    pub fn next_at<S: Source>(
         &mut self,
         source: &S,
         feed: FeedId,
+        at: usize,
         first: Option<u64>,
     ) -> Result<Next<S::Row>, AllocError>
         requires behind { AreBehind (S.length source.now) self.old.feeds }
+        requires placed { Some at ≡ position (is_of feed.number) self.old.feeds }
         requires first { IsFirst first (S.current source.now) (entry_in feed.number self.old.feeds) }
         ensures ok { IfOk result (λ next. next ≡ answered
             (over (S.length source.now) (S.current source.now) (S.shown source.now) self.old) feed.number) }
@@ -143,39 +155,48 @@ impl Feeds {
             (over (S.length source.now) (S.current source.now) (S.shown source.now) self.old) feed.number)) }
         ensures behind { AreBehind (S.length source.now) self.new.feeds }
     {
-        let Some(at) = place_near(self.list.as_slice(), self.near, feed.number) else {
-            return Ok(Next::Gone);
-        };
-        self.near = at;
-        let feed = &mut self.list[at];
-        feed.1.next_item_at(source, first)
+        let state = &mut self.list[at];
+        state.1.next_item_at(source, first)
     }
 
-    /// Looks for a feed, so that the next call for it finds it in constant time. A binary search,
-    /// unless the last call was for the same feed.
-    pub fn seek(&mut self, feed: FeedId)
-        ensures { self.new ≡ self.old }
+    /// Hands what is due to the feed that stands here, whose first row in reach, if it is open, has
+    /// this sequence: the item is made, then `sink` takes it, and only then the feed goes on. Where
+    /// `sink` gives it back nothing changes. A feed that has nothing to hand goes to the source's
+    /// length. Only a row takes memory, and without it nothing changes. It costs what
+    /// `FeedState::hand` does: no feed is looked for.
+    pub fn hand_at<S: Source, K: Sink<Item<S::Row>>, H: Pushes<K, Item<S::Row>>>(
+        &mut self,
+        source: &S,
+        feed: FeedId,
+        at: usize,
+        first: Option<u64>,
+        handle: &H,
+        sink: &mut K,
+    ) -> Result<Handed, AllocError>
+        requires behind { AreBehind (S.length source.now) self.old.feeds }
+        requires placed { Some at ≡ position (is_of feed.number) self.old.feeds }
+        requires first { IsFirst first (S.current source.now) (entry_in feed.number self.old.feeds) }
+        requires may { IfSome (item_due
+            (over (S.length source.now) (S.current source.now) (S.shown source.now) self.old) feed.number)
+            (MayTake K.allows K.sent sink.old) }
+        ensures ok { IfOk result (λ did. HandsTo K.behind (H.refuses handle.now) self.old
+            (feeds_of (handed (over (S.length source.now) (S.current source.now) (S.shown source.now)
+            self.old) feed.number))
+            (feeds_of (behind_answer (over (S.length source.now) (S.current source.now)
+            (S.shown source.now) self.old) feed.number Nothing))
+            sink.old (answered (over (S.length source.now) (S.current source.now) (S.shown source.now)
+            self.old) feed.number)
+            did self.new sink.new) }
+        ensures err { OnErr result ((self.new ≡ self.old) × (sink.new ≡ sink.old) × IsRowDue (due_to
+            (over (S.length source.now) (S.current source.now) (S.shown source.now) self.old) feed.number)) }
+        ensures behind { AreBehind (S.length source.now) self.new.feeds }
     {
-        if let Some(at) = place_near(self.list.as_slice(), self.near, feed.number) {
-            self.near = at;
-        }
+        let state = &mut self.list[at];
+        state.1.hand(source, first, handle, sink)
     }
 
-    /// A feed, if there is one of this number. A binary search, unless the last call was for the same
-    /// feed.
-    pub fn state(&self, feed: FeedId) -> Option<&FeedState>
-        ensures found { option_map (λ f. f.now) result ≡ entry_in feed.number self.now.feeds }
-        ensures given { IfSome result (λ f. feed.number < self.now.next) }
-    {
-        let Some(at) = place_near(self.list.as_slice(), self.near, feed.number) else {
-            return None;
-        };
-        let feed = &self.list[at];
-        Some(&feed.1)
-    }
-
-    /// Goes on behind the item that `next_item` gives now, of which this is the mark. It takes no
-    /// memory, and constant time where the last item was made for this feed.
+    /// Goes on behind the item that `next_at` gives now, of which this is the mark. It takes no memory,
+    /// and constant time where the last item was made for this feed.
     pub fn accept_marked<S: Source>(&mut self, source: &S, feed: FeedId, mark: Mark)
         requires behind { AreBehind (S.length source.now) self.old.feeds }
         requires due { option_map (mark_of S.seq_of) (item_due
@@ -190,11 +211,6 @@ impl Feeds {
         };
         let feed = &mut self.list[at];
         feed.1.accept_marked(source, mark);
-    }
-
-    /// Where the feed stood that was asked last for its next item. Constant time.
-    pub fn near(&self) -> usize {
-        self.near
     }
 
     /// Whether a heartbeat may be handed to a feed now: one was asked for, and the feed is open and

@@ -1,23 +1,24 @@
 //! What keeps feeds.
 
 ghost use Rattle.std.specs.Prelude.{◌≡◌, ◌<◌, ◌≤◌, ◌++◌, ◌∷◌, [], ℕ, List, Bool, true, Some};
-ghost use Rattle.std.specs.Prelude.{None, Contains, option_map, IfOk, IfErr, OnOk, OnErr};
+ghost use Rattle.std.specs.Prelude.{None, Contains, IfOk, IfErr, IfSome, OnOk, OnErr};
 ghost use Rattle.std.specs.List.{AllPairs};
 ghost use Rattle.hub_model.specs.Current.{Current};
 ghost use Rattle.hub_model.specs.Entries.{entry_in};
 ghost use Rattle.hub_model.specs.Feed.{Feed, Params, DueNothing, after_nothing, begin, beat_due, due, expire};
-ghost use Rattle.hub_model.specs.declared.feeds.Item.{Item as Handed};
+ghost use Rattle.hub_model.specs.declared.feeds.Item.{Item as HandedItem};
 ghost use Rattle.hub_model.specs.declared.feeds.Item.TheVariants.{Beat};
 ghost use Rattle.hub_model.specs.declared.feeds.Style.{Style as Listing};
 ghost use Rattle.hub_params.specs.FeedModel.{params_of};
-ghost use Rattle.hub_feed.specs.Mark.{mark_of};
+ghost use Rattle.hub_feed.specs.Hand.{HandsTo, MayTake};
 ghost use Rattle.hub_feed.specs.Next.{IsRowDue};
 ghost use Rattle.hub_feed.specs.Host.{Hosted, with_feeds, refuses, opening_fault, opened};
 ghost use Rattle.hub_feed.specs.Host.{due_to, answered, item_for, item_due, behind_answer};
 ghost use Rattle.hub_feed.specs.Host.{behind_due, handed, is_beat_due, expired, finished};
+ghost use Rattle.hub_feed.specs.declared.next.Next.TheVariants.{Nothing};
 
-use crate::mark::Mark;
-use crate::next::Next;
+use crate::handed::Handed;
+use crate::sink::{Pushes, Sink};
 use hub_model::Item;
 use hub_params::FeedParams;
 use std::alloc::AllocError;
@@ -56,11 +57,11 @@ pub trait FeedHost {
     ghost seq_of: { Self.Row → ℕ };
 
     /// The lists of items that fit a feed while the host is so: what the feed has handed is one.
-    ghost fits: { Self → Feed → List (Handed Self.Row) → Type 0 };
+    ghost fits: { Self → Feed → List (HandedItem Self.Row) → Type 0 };
 
     /// The lists of items that a feed of these parameters, which shows what lies above this sequence,
     /// may have handed by some time.
-    ghost right: { Params → ℕ → List (Handed Self.Row) → Type 0 };
+    ghost right: { Params → ℕ → List (HandedItem Self.Row) → Type 0 };
 
     /// How many edits there are. A feed that begins behind them has handed nothing, which fits it. It
     /// takes no memory.
@@ -87,37 +88,24 @@ pub trait FeedHost {
             (self.new ≡ with_hosted self.old (opened (hosted self.old) (params_of params))) }
         ensures err { IfErr result (λ e. (self.new ≡ self.old) × (e ≡ opening_fault (hosted self.old))) };
 
-    /// What a feed has to hand now. An item is made and nothing changes: `accept_item` goes on. A
-    /// feed that has nothing to hand goes to the length of what it follows. Only a row takes memory.
-    fn next_item(&mut self, feed: FeedId) -> Result<Next<Self::Row>, AllocError>
-        ensures ok { IfOk result (λ next. next ≡ answered (hosted self.old) feed.number) }
-        ensures new { IfOk result
-            (λ next. self.new ≡ with_hosted self.old (behind_answer (hosted self.old) feed.number next)) }
-        ensures err { OnErr result
-            ((self.new ≡ self.old) × IsRowDue (due_to (hosted self.old) feed.number)) };
-
-    /// Where the feed that `next_item` was asked for last stands among the feeds, as far as is known:
-    /// feeds by their numbers stand so in other lists, too, and are found there sooner. Nothing else
-    /// rests on it. It takes no memory.
-    fn near(&self) -> usize;
-
-    /// The mark of an item. It takes no memory.
-    fn mark(item: &Item<Self::Row>) -> Mark
-        ensures { result ≡ mark_of seq_of item.now };
-
-    /// Goes on behind the item that `next_item` gives now, of which this is the mark: the item may be
-    /// away by then. It takes no memory.
-    fn accept_marked(&mut self, feed: FeedId, mark: Mark)
-        requires due { option_map (mark_of seq_of) (item_due (hosted self.old) feed.number) ≡ Some mark }
-        ensures { self.new ≡ with_hosted self.old (handed (hosted self.old) feed.number) };
-
-    /// Goes on behind the item that `next_item` gives now. It takes no memory.
-    fn accept_item(&mut self, feed: FeedId, item: &Item<Self::Row>)
-        requires due { item_due (hosted self.old) feed.number ≡ Some item.now }
-        ensures { self.new ≡ with_hosted self.old (handed (hosted self.old) feed.number) }
-    {
-        self.accept_marked(feed, Self::mark(item));
-    }
+    /// Hands what is due to a feed: the item is made, then `sink` takes it, and only then the feed goes
+    /// on. Where `sink` gives it back nothing changes, and the next hand makes it again. A feed that has
+    /// nothing to hand goes to the length of what it follows. Only a row takes memory, and without it
+    /// nothing changes.
+    fn hand<K: Sink<Item<Self::Row>>, H: Pushes<K, Item<Self::Row>>>(
+        &mut self,
+        feed: FeedId,
+        handle: &H,
+        sink: &mut K,
+    ) -> Result<Handed, AllocError>
+        requires may { IfSome (item_due (hosted self.old) feed.number)
+            (MayTake K.allows K.sent sink.old) }
+        ensures ok { IfOk result (λ did. HandsTo K.behind (H.refuses handle.now) self.old
+            (with_hosted self.old (handed (hosted self.old) feed.number))
+            (with_hosted self.old (behind_answer (hosted self.old) feed.number Nothing))
+            sink.old (answered (hosted self.old) feed.number) did self.new sink.new) }
+        ensures err { OnErr result ((self.new ≡ self.old) × (sink.new ≡ sink.old)
+            × IsRowDue (due_to (hosted self.old) feed.number)) };
 
     /// Whether a heartbeat may be handed to a feed now: one was asked for, and the feed is open and
     /// waits. It takes no memory.
@@ -150,28 +138,28 @@ pub trait FeedHost {
         → hosted (with_hosted s (with_feeds (hosted s) feeds next)) ≡ with_feeds (hosted s) feeds next };
 
     /// A list that fits a feed is right for it.
-    ghost rightly: { (s : Self) (f : Feed) (items : List (Handed Self.Row)) → fits s f items
+    ghost rightly: { (s : Self) (f : Feed) (items : List (HandedItem Self.Row)) → fits s f items
         → right f.params f.since items };
 
     /// It fits whatever other feeds there are.
-    ghost stays: { (s : Self) (h : Hosted Self.Row) (f : Feed) (items : List (Handed Self.Row))
+    ghost stays: { (s : Self) (h : Hosted Self.Row) (f : Feed) (items : List (HandedItem Self.Row))
         → fits s f items → fits (with_hosted s h) f items };
 
     /// With the item that is due it fits the feed that handed that.
-    ghost handed_fits: { (s : Self) (f : Feed) (items : List (Handed Self.Row)) (item : Handed Self.Row)
-        → item_for (hosted s) f ≡ Some item → fits s f items
+    ghost handed_fits: { (s : Self) (f : Feed) (items : List (HandedItem Self.Row))
+        → (item : HandedItem Self.Row) → item_for (hosted s) f ≡ Some item → fits s f items
         → fits s (behind_due (hosted s) f) (items ++ item ∷ []) };
 
     /// It fits the feed that was found to have nothing to hand.
-    ghost waiting_fits: { (s : Self) (f : Feed) (items : List (Handed Self.Row))
+    ghost waiting_fits: { (s : Self) (f : Feed) (items : List (HandedItem Self.Row))
         → due (hosted s).current f ≡ DueNothing → fits s f items
         → fits s (after_nothing f (hosted s).length) items };
 
     /// It fits with a heartbeat that may be handed.
-    ghost beat_fits: { (s : Self) (f : Feed) (items : List (Handed Self.Row)) → beat_due f ≡ true
+    ghost beat_fits: { (s : Self) (f : Feed) (items : List (HandedItem Self.Row)) → beat_due f ≡ true
         → fits s f items → fits s f (items ++ Beat ∷ []) };
 
     /// It fits the feed whose time is over.
-    ghost expired_fits: { (s : Self) (f : Feed) (items : List (Handed Self.Row)) → fits s f items
+    ghost expired_fits: { (s : Self) (f : Feed) (items : List (HandedItem Self.Row)) → fits s f items
         → fits s (expire f) items };
 }

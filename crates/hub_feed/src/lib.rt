@@ -4,16 +4,20 @@
 
 mod feed;
 mod feeds;
+mod handed;
 mod host;
 mod mark;
 mod next;
+mod sink;
 mod source;
 
 pub use feed::FeedState;
 pub use feeds::Feeds;
+pub use handed::Handed;
 pub use host::{FeedHost, FeedId, OpenFault};
 pub use hub_document::{ChangeRow, UpdateRow};
 pub use hub_model::{Item, UpdateKind};
 pub use mark::Mark;
 pub use next::Next;
+pub use sink::{Pushes, Sink};
 pub use source::{Source, is_ahead};

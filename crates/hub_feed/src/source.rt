@@ -24,7 +24,7 @@ pub fn is_ahead(place: u64, bound: Option<u64>, seq: u64) -> bool
 /// What a feed follows: edits, numbered from 1, of which each current one has a row.
 pub trait Source {
     /// A row as it is handed.
-    type Row;
+    type Row: Drop;
 
     /// How many edits there are.
     ghost length: { Self → ℕ };

@@ -1,9 +1,8 @@
 //! The log of updates as what keeps feeds.
 
-use crate::log::Log;
 use crate::state::UpdatesState;
 use hub_document::UpdateRow;
-use hub_feed::{FeedHost, FeedId, Mark, Next, OpenFault, Source};
+use hub_feed::{FeedHost, FeedId, Handed, OpenFault, Pushes, Sink, Source};
 use hub_model::Item;
 use hub_params::FeedParams;
 use std::alloc::AllocError;
@@ -84,24 +83,19 @@ impl FeedHost for UpdatesState {
         }
     }
 
-    /// It costs what `Feeds::next_item` does.
-    fn next_item(&mut self, feed: FeedId) -> Result<Next<UpdateRow>, AllocError> {
-        self.feeds.next_item(&self.log, feed)
-    }
-
-    /// Constant time.
-    fn near(&self) -> usize {
-        self.feeds.near()
-    }
-
-    /// Constant time.
-    fn mark(item: &Item<UpdateRow>) -> Mark {
-        Mark::of::<Log>(item)
-    }
-
-    /// Constant time, where the last item was made for this feed.
-    fn accept_marked(&mut self, feed: FeedId, mark: Mark) {
-        self.feeds.accept_marked(&self.log, feed, mark);
+    /// It costs what `Feeds::first_at` and `Feeds::hand_at` do, and a binary search among the feeds
+    /// unless the last hand was to the same feed.
+    fn hand<K: Sink<Item<UpdateRow>>, H: Pushes<K, Item<UpdateRow>>>(
+        &mut self,
+        feed: FeedId,
+        handle: &H,
+        sink: &mut K,
+    ) -> Result<Handed, AllocError> {
+        let Some(at) = self.feeds.place(feed) else {
+            return Ok(Handed::Gone);
+        };
+        let first = self.feeds.first_at(&self.log, feed, at);
+        self.feeds.hand_at(&self.log, feed, at, first, handle, sink)
     }
 
     /// It costs a binary search among the feeds.

@@ -1,7 +1,7 @@
 //! The rows of the log as feeds read them.
 
 ghost use Rattle.std.specs.Prelude.{◌≡◌};
-ghost use Rattle.hub_model.specs.Updates.{id_of, note_of};
+ghost use Rattle.hub_model.specs.Updates.{id_of, kind_of, note_of};
 
 use crate::log::{Log, number_of};
 use hub_document::UpdateRow;
@@ -10,22 +10,24 @@ use hub_index::SeqIndex;
 use hub_model::{Style, UpdateKind};
 use std::alloc::AllocError;
 
+// The kind of a letter.
+fn kind_of(letter: u8) -> UpdateKind
+    ensures { result ≡ kind_of letter }
+{
+    match letter {
+        b'c' => UpdateKind::Created,
+        b'u' => UpdateKind::Updated,
+        _ => UpdateKind::Deleted,
+    }
+}
+
 // What happened, and to the database of which name, by the id of a pair.
 fn read_id(id: &str) -> (UpdateKind, &str)
     requires { id_of (note_of id.now) ≡ id.now }
     ensures kind { result.0 ≡ (note_of id.now).kind }
     ensures name { result.1.now ≡ (note_of id.now).name }
 {
-    if let Some(name) = id.strip_prefix('c') {
-        return (UpdateKind::Created, name);
-    }
-    if let Some(name) = id.strip_prefix('u') {
-        return (UpdateKind::Updated, name);
-    }
-    match id.strip_prefix('d') {
-        Some(name) => (UpdateKind::Deleted, name),
-        None => unreachable!(),
-    }
+    (kind_of(id.as_bytes()[0]), &id[1..])
 }
 
 impl Source for Log {

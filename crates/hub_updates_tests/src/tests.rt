@@ -7,10 +7,11 @@
 
 mod surface;
 
-use crate::tests::Handed::{Beat, End, Gone, Nothing, Row};
+use crate::listed::{Listed, NoHandle};
+use crate::tests::Handed::{End, Full, Gone, Nothing, Row};
 use crate::tests::Step::{Beats, Expire, Finish, Hands, Length, Note, Open};
 use hub_document::{Limits, UpdateRow};
-use hub_feed::{FeedHost, FeedId, Next, OpenFault};
+use hub_feed::{FeedHost, FeedId, Handed as Did, OpenFault};
 use hub_model::Item;
 use hub_model::UpdateKind::{self, Created, Deleted, Updated};
 use hub_params::FeedParams;
@@ -41,14 +42,14 @@ enum Handed {
     /// A row: what happened, to the database of which name, its sequence, and how many notes there
     /// were.
     Row(UpdateKind, &'static str, u64, u64),
-    /// A beat.
-    Beat,
     /// Its end: the last sequence and how many rows are pending.
     End(u64, u64),
     /// Nothing now.
     Nothing,
     /// Nothing any more.
     Gone,
+    /// What is due, to a list that is full and does not take it.
+    Full,
 }
 
 // Feeds, by the order in which they are opened.
@@ -119,37 +120,38 @@ fn is_item(item: &Item<UpdateRow>, handed: &Handed) -> bool {
                 && row.seen == *seen
         }
         (Item::End { last_seq, pending }, End(last, rest)) => last_seq == last && pending == rest,
-        (Item::Beat, Beat) => true,
         _ => false,
     }
 }
 
-// Whether what a feed has to hand is this.
-fn is_handed(next: &Next<UpdateRow>, handed: &Handed) -> bool {
-    match next {
-        Next::Give(item) => is_item(item, handed),
-        Next::Nothing => matches!(handed, Nothing),
-        Next::Gone => matches!(handed, Gone),
+// Whether a hand that did this, to a list that has this first item now, handed so.
+fn is_hand(did: Did, item: Option<&Item<UpdateRow>>, handed: &Handed) -> bool {
+    match (did, item, handed) {
+        (Did::Row, Some(item), Row(_, _, _, _)) => is_item(item, handed),
+        (Did::End, Some(item), End(_, _)) => is_item(item, handed),
+        (Did::Full, None, Full) | (Did::Nothing, None, Nothing) | (Did::Gone, None, Gone) => true,
+        _ => false,
     }
 }
 
-// Whether a feed of a host hands this next.
+// Whether a feed of a host hands this next. The list has room for one item, or for none where it is to be
+// full.
 fn hands<H: FeedHost<Row = UpdateRow>>(
+    alloc: Global,
     host: &mut H,
     feed: FeedId,
     handed: &Handed,
 ) -> Result<bool, AllocError> {
-    let next = host.next_item(feed)?;
-    if let Next::Give(item) = &next {
-        host.accept_item(feed, item);
-    }
-    Ok(is_handed(&next, handed))
+    let room = if matches!(handed, Full) { 0 } else { 1 };
+    let mut list = Listed::new(alloc, room)?;
+    let did = host.hand(feed, &NoHandle, &mut list)?;
+    Ok(is_hand(did, list.items().first(), handed))
 }
 
 // Whether a feed hands these, one after the other.
-fn hands_all(state: &mut UpdatesState, feed: FeedId, all: &[Handed]) -> bool {
+fn hands_all(alloc: Global, state: &mut UpdatesState, feed: FeedId, all: &[Handed]) -> bool {
     for handed in all {
-        if !is_right(state, |state| hands(state, feed, handed)) {
+        if !is_right(state, |state| hands(alloc, state, feed, handed)) {
             return false;
         }
     }
@@ -180,7 +182,7 @@ fn holds(alloc: Global, state: &mut UpdatesState, step: &Step) -> bool {
         }
         Length(length) => state.update_seq() == *length && state.length() == *length,
         Open(query, answer) => is_right(state, |state| opens(alloc, state, query, *answer)),
-        Hands(feed, handed) => hands_all(state, *feed, handed),
+        Hands(feed, handed) => hands_all(alloc, state, *feed, handed),
         Beats(feed, answer) => state.beat_due(*feed) == *answer,
         Expire(feed) => {
             state.expire(*feed);
@@ -335,4 +337,44 @@ const LIMITED: &[Step] = &[
 #[test]
 fn feeds_are_limited(rt: HostRuntime) {
     assert_within(&rt, rt.alloc(), one_each(), LIMITED);
+}
+
+const REFUSED: &[Step] = &[
+    Note(Created, "d", Ok(())),
+    Open("feed=continuous&heartbeat=1000", Ok(FIRST)),
+    Hands(FIRST, &[Full, Full, Row(Created, "d", 1, 1), Nothing]),
+    Note(Updated, "d", Ok(())),
+    Hands(FIRST, &[Full, Row(Updated, "d", 2, 2), Nothing]),
+    Expire(FIRST),
+    Hands(FIRST, &[Full, End(2, 0), Gone]),
+];
+
+#[test]
+fn a_full_list_leaves_a_feed_as_it_was(rt: HostRuntime) {
+    assert_within(&rt, rt.alloc(), Limits::full(), REFUSED);
+}
+
+const TAKEN: &[Step] = &[
+    Note(Created, "d", Ok(())),
+    Note(Deleted, "e", Ok(())),
+    Open("", Ok(FIRST)),
+    Hands(FIRST, &[Row(Created, "d", 1, 2), Row(Deleted, "e", 2, 2)]),
+];
+
+#[test]
+fn a_list_has_the_row_that_it_took(rt: HostRuntime) {
+    assert_within(&rt, rt.alloc(), Limits::full(), TAKEN);
+}
+
+const ABSENT: &[Step] = &[
+    Note(Created, "d", Ok(())),
+    Hands(FIRST, &[Gone]),
+    Open("", Ok(FIRST)),
+    Hands(SECOND, &[Gone]),
+    Hands(FIRST, &[Row(Created, "d", 1, 1)]),
+];
+
+#[test]
+fn a_hand_to_no_feed_is_gone(rt: HostRuntime) {
+    assert_within(&rt, rt.alloc(), Limits::full(), ABSENT);
 }

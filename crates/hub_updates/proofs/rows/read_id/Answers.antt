@@ -1,29 +1,23 @@
-use Rattle.std.proofs.Common.{◌≡◌, ◌≢◌, ℕ, ◌<◌, List, ◌∷◌, ◌++◌, ap, lit<, sym, ◌∙◌}
-use Rattle.std.proofs.Math.Utf8.{encode}
-use Rattle.std.proofs.lemmas.Str.{encode_ascii}
-use Rattle.hub_model.specs.Updates.{id_of, letter_of, note_of}
+use Rattle.std.proofs.Common.{◌≡◌, ℕ, ◌<◌, List, length, get_or, lit<, subst, arith}
+use Rattle.std.proofs.lemmas.Str.{IsCharBoundary-after_ascii}
+use Rattle.hub_model.specs.Updates.{Note, id_of, letter_of}
 use Rattle.hub_model.specs.declared.updates.UpdateKind.{UpdateKind}
 use Rattle.hub_model.specs.declared.updates.UpdateKind.TheVariants.{Created, Updated, Deleted}
 use Rattle.hub_updates.proofs.rows.read_id.Goals as goal
 
--- an id begins with one of the letters
-no_letter : (id : List ℕ) → id_of (note_of id) ≡ id → ((rest : List ℕ) → id ≢ 99 ∷ rest)
-    → ((rest : List ℕ) → id ≢ 117 ∷ rest) → ((rest : List ℕ) → id ≢ 100 ∷ rest) → ⊥
-no_letter id e c u d = from (note_of id).kind (sym e)
-  where
-    from : (kind : UpdateKind) → id ≡ letter_of kind ∷ (note_of id).name → ⊥
-    from Created h = c (note_of id).name h
-    from Updated h = u (note_of id).name h
-    from Deleted h = d (note_of id).name h
+letter_low : (kind : UpdateKind) → letter_of kind < 128
+letter_low Created = lit< tt
+letter_low Updated = lit< tt
+letter_low Deleted = lit< tt
 
--- a character of one byte
-one_byte : (id : List ℕ) (letter : ℕ) → letter < 128 → ((rest : List ℕ) → id ≢ encode letter ++ rest)
-    → (rest : List ℕ) → id ≢ letter ∷ rest
-one_byte id letter low h rest e = h rest (e ∙ sym (ap (λ l. l ++ rest) (encode_ascii letter low)))
+-- an id begins with a letter, which is one byte
+begins_low : (note : Note) (id : List ℕ) → id_of note ≡ id → (0 < length id) × (get_or id 0 0 < 128)
+begins_low note id is =
+    let P : List ℕ → Type 0 = λ bytes. (0 < length bytes) × (get_or bytes 0 0 < 128) in
+    subst P is (omega arith, letter_low note.kind)
 
-pub unreachable-requires : goal.unreachable-requires
-unreachable-requires c =
+pub range_from-requires : goal.range_from-requires
+range_from-requires c =
     let id = c.args.id.now in
-    no_letter id c.requires (one_byte id 99 (lit< tt) c.in_default.ensures.cases)
-    (one_byte id 117 (lit< tt) c.in_default-strip_prefix.ensures.cases)
-    (one_byte id 100 (lit< tt) c.in-None.ensures.cases)
+    let first = begins_low _ id c.requires in
+    λ _. IsCharBoundary-after_ascii id 0 c.utf8.id first.0 first.1

@@ -19,12 +19,12 @@ returns-clause-first c =
     let first = c.first_between.result in
     let J = c.rows-rows.result.edits in
     let is =
-    first_is c.in_ok-state.state.now J
+    first_is c.state_at-state.result.now J
     (map string_bytes c.in_ok-ids.ids.now) c.place-2.result c.bound.result c.holds.new.self.rows.items
     first
     c.in_ok-ids.ensures c.place-2.ensures c.bound.ensures
     (c.if-not-holds.ensures.held refl) c.first_between.ensures in
-    let there = subst (IsFirst first (current J)) c.in_ok-state.ensures.found is in
+    let there = subst (IsFirst first (current J)) (sym c.state_at-state.ensures.found) is in
     let here = subst (λ (f : Followed). IsFirst first (current f.edits)
     (entry_in id c.self.inside.feeds.feeds)) c.rows-rows.ensures there in
     subst (λ (db : Database). IsFirst first (current db.journal) (entry_in id db.feeds)) c.self.view_is here

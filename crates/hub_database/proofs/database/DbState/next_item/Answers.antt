@@ -1,39 +1,53 @@
-use Rattle.std.proofs.Common.{length, subst, sym}
+-- What the feeds answer is what the database answers, and the rows that are kept stay so.
+use Rattle.std.proofs.Common.{◌≡◌, ◌∙◌, length, sym, subst, ap, refl, None}
 use Rattle.hub_model.specs.Current.{current}
+use Rattle.hub_model.specs.Entries.{entry_in}
 use Rattle.hub_model.specs.Row.{ChangeRow, row_of}
+use Rattle.hub_model.proofs.Entries.{no_entry}
 use Rattle.hub_feed.specs.Feeds.{AreBehind, FeedList}
+use Rattle.hub_feed.specs.Host.{answer_of}
+use Rattle.hub_feed.specs.declared.next.Next.{Next}
+use Rattle.hub_feed.specs.declared.next.Next.TheVariants.{Gone}
 use Rattle.hub_feed.proofs.FeedsLemmas.{ok_or_err}
-use Rattle.hub_database.specs.Database.{Followed}
+use Rattle.hub_database.specs.Database.{Database, Followed}
+use Rattle.hub_database.specs.Hosting.{hosted_of}
 use Rattle.hub_database.specs.Listing.{IsListing}
 use Rattle.hub_database.proofs.ListingLemmas.{answer_kept}
 use Rattle.hub_database.proofs.database.DbState.next_item.Goals as goal
 
-pub invariant_of-self-in-Some : goal.invariant_of-self-in-Some
-invariant_of-self-in-Some c =
-    let db = c.self-2.inside in
-    let new = c.next_item_at.new.self in
-    let J = c.rows-rows.result.edits in (
-      subst (λ (f : Followed). AreBehind (length f.edits) new.feeds) c.rows-rows.ensures
-          c.next_item_at.ensures.behind,
-      ok_or_err {P = IsListing db.contents.journal new.feeds new.next db.listing} c.next_item_at.result
-          (λ answer is. answer_kept {R = ChangeRow} db.contents.journal (length J) (current J)
-          (row_of J) db.feeds new c.args.feed.number answer db.listing is c.self-2.invariant.1)
-          (λ w. subst (λ (z : FeedList). IsListing db.contents.journal z.feeds z.next db.listing)
-          (sym w.0) c.self-2.invariant.1)
-          c.next_item_at.ensures.new c.next_item_at.ensures.err,
+pub returns-in_default-clause-ok : goal.returns-in_default-clause-ok
+returns-in_default-clause-ok c =
+    let id = c.args.feed.number in
+    let state = c.self.inside in
+    let whole : FeedList → Database = λ z. record {
+      journal = state.contents.journal;
+      deleted = state.deleted;
+      locals = state.contents.locals;
+      feeds = z.feeds;
+      next_feed = z.next;
+      limits = state.contents.limits;
+      life = state.contents.life;
+    } in
+    let db = c.args.self.now in
+    let none : entry_in id db.feeds ≡ None =
+    subst (λ (x : Database). entry_in id x.feeds ≡ None) c.self.view_is
+    (no_entry id state.feeds.feeds (sym c.in_default.ensures.at)) in
+    let gone : Next ChangeRow = Gone in (
+      subst (λ o. gone ≡ answer_of (hosted_of db) o) (sym none) refl,
+      ap whole c.place.ensures.same ∙ c.self.view_is,
     )
 
-pub invariant_of-self-in-None : goal.invariant_of-self-in-None
-invariant_of-self-in-None c =
+pub invariant_of-self-3 : goal.invariant_of-self-3
+invariant_of-self-3 c =
     let db = c.self-2.inside in
-    let new = c.next_item.new.self in
-    let J = c.rows-rows-in-None.result.edits in (
-      subst (λ (f : Followed). AreBehind (length f.edits) new.feeds) c.rows-rows-in-None.ensures
-          c.next_item.ensures.behind,
-      ok_or_err {P = IsListing db.contents.journal new.feeds new.next db.listing} c.next_item.result
+    let new = c.next_at.new.self in
+    let J = c.rows-rows.result.edits in (
+      subst (λ (f : Followed). AreBehind (length f.edits) new.feeds) c.rows-rows.ensures
+          c.next_at.ensures.behind,
+      ok_or_err {P = IsListing db.contents.journal new.feeds new.next db.listing} c.next_at.result
           (λ answer is. answer_kept {R = ChangeRow} db.contents.journal (length J) (current J)
           (row_of J) db.feeds new c.args.feed.number answer db.listing is c.self-2.invariant.1)
           (λ w. subst (λ (z : FeedList). IsListing db.contents.journal z.feeds z.next db.listing)
           (sym w.0) c.self-2.invariant.1)
-          c.next_item.ensures.new c.next_item.ensures.err,
+          c.next_at.ensures.new c.next_at.ensures.err,
     )

@@ -1,38 +1,27 @@
-use Rattle.std.proofs.Common.{◌≡◌, ◌∙◌, sym, subst, ap, refl, ℕ, List, Some, None, nat_eq}
+use Rattle.std.proofs.Common.{◌≡◌, sym, subst, ap, ℕ, List, Some}
 use Rattle.std.specs.Prelude.{position, slice_set}
+use Rattle.hub_model.specs.Entries.{entry_in, is_of}
 use Rattle.hub_model.specs.Feed.{Feed, due}
-use Rattle.hub_model.specs.Entries.{entry_in}
-use Rattle.hub_model.proofs.Entries.{changed_here, entry_here, no_entry, stays_here}
+use Rattle.hub_model.proofs.Entries.{changed_here, entry_here, stays_here}
 use Rattle.hub_feed.specs.Feeds.{AreBehind, AreNumbered, FeedList, feeds_of, over}
 use Rattle.hub_feed.specs.Host.{answered, behind_answer, due_of, due_to}
 use Rattle.hub_feed.specs.Next.{IsRowDue, after_next}
 use Rattle.hub_feed.specs.Reach.{IsFirst}
-use Rattle.hub_feed.specs.declared.next.Next.TheVariants.{Gone}
 use Rattle.hub_feed.proofs.FeedsLemmas.{behind_changed, behind_here, both_ok, err_then}
 use Rattle.hub_feed.proofs.FeedsLemmas.{looks_behind, numbered_changed, ok_or_err}
-use Rattle.hub_feed.proofs.feeds.Feeds.next_item_at.Goals as goal
-
-pub returns-in_default-clause-ok : goal.returns-in_default-clause-ok
-returns-in_default-clause-ok g c =
-    let none : position (λ (p : ℕ × Feed). nat_eq p.0 c.args.feed.number) c.self.inside.list.items ≡ None =
-    rw c.as_slice.ensures.value at (sym c.place_near.ensures ∙ c.in_default.is) in
-    subst (λ (z : FeedList). Gone ≡ answered (over (g.S.Source.length c.args.source.now)
-    (g.S.Source.current c.args.source.now) (g.S.Source.shown c.args.source.now) z) c.args.feed.number)
-    c.self.view_is
-    (rw (no_entry c.args.feed.number c.self.inside.list.items none) refl)
+use Rattle.hub_feed.proofs.feeds.Feeds.next_at.Goals as goal
 
 pub next_item_at-requires-clause-first : goal.next_item_at-requires-clause-first
 next_item_at-requires-clause-first g c =
     let id = c.args.feed.number in
     let feeds = c.self.inside.list.items in
     let rows = g.S.Source.current c.args.source.now in
-    let placed : Some c.in-Some.at ≡ position (λ (p : ℕ × Feed). nat_eq p.0 id) feeds =
-    rw c.as_slice.ensures.value at c.in-Some.ensures in
-    let asked =
-    subst (λ (z : FeedList). IsFirst c.args.first rows (entry_in id z.feeds))
+    let placed = subst (λ (z : FeedList). Some c.args.at ≡ position (is_of id) z.feeds) (sym c.self.view_is)
+    c.requires.placed in
+    let asked = subst (λ (z : FeedList). IsFirst c.args.first rows (entry_in id z.feeds))
     (sym c.self.view_is) c.requires.first in
     subst (IsFirst c.args.first rows)
-    (entry_here id feeds c.in-Some.at placed c.index_mut-feed.result.now c.index_mut-feed.ensures.value) asked
+    (entry_here id feeds c.args.at placed c.index_mut-state.result.now c.index_mut-state.ensures.value) asked
 
 pub invariant_of-self : goal.invariant_of-self
 invariant_of-self g c =
@@ -40,19 +29,19 @@ invariant_of-self g c =
     let feeds = c.self.inside.list.items in
     let len = g.S.Source.length c.args.source.now in
     let rows = g.S.Source.current c.args.source.now in
-    let placed : Some c.in-Some.at ≡ position (λ (p : ℕ × Feed). nat_eq p.0 id) feeds =
-    rw c.as_slice.ensures.value at c.in-Some.ensures in
-    let p = c.index_mut-feed.result.now in
-    let is = c.index_mut-feed.ensures.value in
+    let placed = subst (λ (z : FeedList). Some c.args.at ≡ position (is_of id) z.feeds) (sym c.self.view_is)
+    c.requires.placed in
+    let p = c.index_mut-state.result.now in
+    let is = c.index_mut-state.ensures.value in
     let change : Feed → Feed = λ f. after_next f (due rows f) len in
     ok_or_err {P = AreNumbered c.self.inside.next
-    (slice_set feeds c.in-Some.at (p.0, c.next_item_at.new.self))} c.next_item_at.result
+    (slice_set feeds c.args.at (p.0, c.next_item_at.new.self))} c.next_item_at.result
     (λ next new. subst (AreNumbered c.self.inside.next)
-    (sym (changed_here id feeds c.in-Some.at placed p is change c.next_item_at.new.self
+    (sym (changed_here id feeds c.args.at placed p is change c.next_item_at.new.self
     c.self.invariant.rising new))
     (numbered_changed id change c.self.inside.next feeds c.self.invariant))
     (λ w. subst (AreNumbered c.self.inside.next)
-    (sym (stays_here id feeds c.in-Some.at placed p is c.next_item_at.new.self w.0)) c.self.invariant)
+    (sym (stays_here id feeds c.args.at placed p is c.next_item_at.new.self w.0)) c.self.invariant)
     c.next_item_at.ensures.new c.next_item_at.ensures.err
 
 pub returns-clause-ok : goal.returns-clause-ok
@@ -61,14 +50,14 @@ returns-clause-ok g c =
     let feeds = c.self.inside.list.items in
     let len = g.S.Source.length c.args.source.now in
     let rows = g.S.Source.current c.args.source.now in
-    let placed : Some c.in-Some.at ≡ position (λ (p : ℕ × Feed). nat_eq p.0 id) feeds =
-    rw c.as_slice.ensures.value at c.in-Some.ensures in
-    let p = c.index_mut-feed.result.now in
-    let is = c.index_mut-feed.ensures.value in
+    let placed = subst (λ (z : FeedList). Some c.args.at ≡ position (is_of id) z.feeds) (sym c.self.view_is)
+    c.requires.placed in
+    let p = c.index_mut-state.result.now in
+    let is = c.index_mut-state.ensures.value in
     both_ok c.next_item_at.result
     (λ next same _.
     subst (λ (z : FeedList). next ≡ answered (over len rows (g.S.Source.shown c.args.source.now) z) id)
-    c.self.view_is (rw (entry_here id feeds c.in-Some.at placed p is) same))
+    c.self.view_is (rw (entry_here id feeds c.args.at placed p is) same))
     c.next_item_at.ensures.ok c.next_item_at.ensures.ok
 
 pub returns-clause-new : goal.returns-clause-new
@@ -77,20 +66,20 @@ returns-clause-new g c =
     let feeds = c.self.inside.list.items in
     let len = g.S.Source.length c.args.source.now in
     let rows = g.S.Source.current c.args.source.now in
-    let placed : Some c.in-Some.at ≡ position (λ (p : ℕ × Feed). nat_eq p.0 id) feeds =
-    rw c.as_slice.ensures.value at c.in-Some.ensures in
-    let p = c.index_mut-feed.result.now in
-    let is = c.index_mut-feed.ensures.value in
+    let placed = subst (λ (z : FeedList). Some c.args.at ≡ position (is_of id) z.feeds) (sym c.self.view_is)
+    c.requires.placed in
+    let p = c.index_mut-state.result.now in
+    let is = c.index_mut-state.ensures.value in
     both_ok c.next_item_at.result
     (λ next same new. subst (λ (z : FeedList). ◌≡◌ {A = FeedList}
     (record {
-      feeds = slice_set feeds c.in-Some.at (p.0, c.next_item_at.new.self);
+      feeds = slice_set feeds c.args.at (p.0, c.next_item_at.new.self);
       next = c.self.inside.next;
     })
     (feeds_of (behind_answer (over len rows (g.S.Source.shown c.args.source.now) z) id next)))
     c.self.view_is
     (ap (λ (fs : List (ℕ × Feed)). record { feeds = fs; next = c.self.inside.next })
-    (behind_here id feeds c.in-Some.at placed p is _ rows len c.next_item_at.new.self c.self.invariant.rising
+    (behind_here id feeds c.args.at placed p is _ rows len c.next_item_at.new.self c.self.invariant.rising
     (due rows p.1) next same new)))
     c.next_item_at.ensures.ok c.next_item_at.ensures.new
 
@@ -100,22 +89,22 @@ returns-clause-err g c =
     let feeds = c.self.inside.list.items in
     let len = g.S.Source.length c.args.source.now in
     let rows = g.S.Source.current c.args.source.now in
-    let placed : Some c.in-Some.at ≡ position (λ (p : ℕ × Feed). nat_eq p.0 id) feeds =
-    rw c.as_slice.ensures.value at c.in-Some.ensures in
-    let p = c.index_mut-feed.result.now in
-    let is = c.index_mut-feed.ensures.value in
+    let placed = subst (λ (z : FeedList). Some c.args.at ≡ position (is_of id) z.feeds) (sym c.self.view_is)
+    c.requires.placed in
+    let p = c.index_mut-state.result.now in
+    let is = c.index_mut-state.ensures.value in
     err_then c.next_item_at.result
     (λ w. (
       subst (λ (z : FeedList). ◌≡◌ {A = FeedList}
           (record {
-            feeds = slice_set feeds c.in-Some.at (p.0, c.next_item_at.new.self);
+            feeds = slice_set feeds c.args.at (p.0, c.next_item_at.new.self);
             next = c.self.inside.next;
           }) z) c.self.view_is
           (ap (λ (fs : List (ℕ × Feed)). record { feeds = fs; next = c.self.inside.next })
-          (stays_here id feeds c.in-Some.at placed p is c.next_item_at.new.self w.0)),
+          (stays_here id feeds c.args.at placed p is c.next_item_at.new.self w.0)),
       subst (λ (z : FeedList). IsRowDue (due_to (over len rows (g.S.Source.shown c.args.source.now) z) id))
           c.self.view_is
-          (subst IsRowDue (sym (ap (due_of rows) (entry_here id feeds c.in-Some.at placed p is))) w.1),
+          (subst IsRowDue (sym (ap (due_of rows) (entry_here id feeds c.args.at placed p is))) w.1),
     )) c.next_item_at.ensures.err
 
 pub returns-clause-behind : goal.returns-clause-behind
@@ -124,19 +113,19 @@ returns-clause-behind g c =
     let feeds = c.self.inside.list.items in
     let len = g.S.Source.length c.args.source.now in
     let rows = g.S.Source.current c.args.source.now in
-    let placed : Some c.in-Some.at ≡ position (λ (p : ℕ × Feed). nat_eq p.0 id) feeds =
-    rw c.as_slice.ensures.value at c.in-Some.ensures in
-    let p = c.index_mut-feed.result.now in
-    let is = c.index_mut-feed.ensures.value in
+    let placed = subst (λ (z : FeedList). Some c.args.at ≡ position (is_of id) z.feeds) (sym c.self.view_is)
+    c.requires.placed in
+    let p = c.index_mut-state.result.now in
+    let is = c.index_mut-state.ensures.value in
     let change : Feed → Feed = λ f. after_next f (due rows f) len in
     let behind : AreBehind len feeds =
     subst (λ (z : FeedList). AreBehind len z.feeds) (sym c.self.view_is) c.requires.behind in
-    ok_or_err {P = AreBehind len (slice_set feeds c.in-Some.at (p.0, c.next_item_at.new.self))}
+    ok_or_err {P = AreBehind len (slice_set feeds c.args.at (p.0, c.next_item_at.new.self))}
     c.next_item_at.result
     (λ next new. subst (AreBehind len)
-    (sym (changed_here id feeds c.in-Some.at placed p is change c.next_item_at.new.self
+    (sym (changed_here id feeds c.args.at placed p is change c.next_item_at.new.self
     c.self.invariant.rising new))
     (behind_changed id change len feeds (λ f. looks_behind len (due rows f) f) behind))
     (λ w. subst (AreBehind len)
-    (sym (stays_here id feeds c.in-Some.at placed p is c.next_item_at.new.self w.0)) behind)
+    (sym (stays_here id feeds c.args.at placed p is c.next_item_at.new.self w.0)) behind)
     c.next_item_at.ensures.new c.next_item_at.ensures.err

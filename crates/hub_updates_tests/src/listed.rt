@@ -1,0 +1,78 @@
+//! A list that takes what feeds hand.
+
+ghost use Rattle.std.specs.Prelude.{◌≡◌, [], IfOk};
+
+use hub_feed::{Pushes, Sink};
+use std::alloc::{AllocError, Global};
+use std::marker::Model;
+
+/// A list that takes so many items at most, and has the room for them from the first.
+#[derive(Drop)]
+pub(crate) struct Listed<I> {
+    items: Vec<I>,
+    limit: usize,
+}
+
+impl<I> Model for Listed<I> {
+    ghost use Rattle.std.specs.Prelude.{List, ℕ, ◌≤◌};
+    ghost use Rattle.std.specs.Vec.{vec_capacity};
+
+    ghost Value = { List I × ℕ };
+
+    ghost view = { λ a. (a.items.items, a.limit) };
+
+    ghost invariant = { λ a. a.limit ≤ vec_capacity a.items };
+}
+
+impl<I> Listed<I> {
+    /// A list with no item yet.
+    pub(crate) fn new(alloc: Global, limit: usize) -> Result<Listed<I>, AllocError>
+        ensures { IfOk result (λ list. list ≡ ([], limit)) }
+    {
+        Ok(Listed {
+            items: Vec::with_capacity(alloc, limit)?,
+            limit,
+        })
+    }
+
+    /// What it took, the first item first.
+    pub(crate) fn items(&self) -> &[I]
+        ensures { result.now ≡ self.now.0 }
+    {
+        self.items.as_slice()
+    }
+}
+
+impl<I> Sink<I> for Listed<I> {
+    ghost use Rattle.std.specs.Prelude.{⊤, ◌++◌, ◌∷◌, []};
+
+    ghost allows = { λ list items. ⊤ };
+
+    ghost sent = { λ list. list.0 };
+
+    ghost behind = { λ list item. (list.0 ++ item ∷ [], list.1) };
+}
+
+/// A list is given its items through nothing.
+#[derive(Drop)]
+pub(crate) struct NoHandle;
+
+/// An item is refused just where the list holds its limit.
+impl<I> Pushes<Listed<I>, I> for NoHandle {
+    ghost use Rattle.std.specs.Prelude.{◌≤◌, length};
+    ghost use Rattle.std.proofs.Common.{refl};
+
+    ghost refuses = { λ handle list item. list.1 ≤ length list.0 };
+
+    ghost sends = { λ list item. refl };
+
+    ghost keeps = { λ list item items allowed. allowed };
+
+    fn push(&self, sink: &mut Listed<I>, item: I) -> Result<(), I> {
+        if sink.limit <= sink.items.len() {
+            return Err(item);
+        }
+        sink.items.push_reserved(item);
+        Ok(())
+    }
+}
