@@ -1,7 +1,11 @@
 pub mod Serving
 pub mod Sending
+pub mod Handing
+pub mod Booking
 pub mod Storing
+pub mod Writing
 pub mod Auditing
 pub mod Finding
 pub mod Counting
 pub mod Outcomes
+pub mod Editing

@@ -33,7 +33,7 @@ use Rattle.hub_shared.specs.declared.receipt.Receipt.{Receipt}
 use Rattle.hub_shared.proofs.Serving.{stays_served}
 
 -- what a document that was answered so did to the journal
-abbrev StoredAs : List Edit → List ℕ → Outcome Revision → List Edit → Type 0
+abbrev pub StoredAs : List Edit → List ℕ → Outcome Revision → List Edit → Type 0
 StoredAs J id (Stored r) K = (e : Edit) × (K ≡ J ++ e ∷ []) × (e.id ≡ id) × (head_of e ≡ Some r)
 StoredAs J id Known K = K ≡ J
 StoredAs J id (Refused f) K = K ≡ J
@@ -69,7 +69,7 @@ merge_stored limit J e =
     (λ t. stored_if J e.id (is_acceptable J e) _ _
     (λ u. let h = history_head e.path (and_parts _ _ u).0 in adds_stored limit J e h.0 h.1) (λ u. refl))
 
-make_stored : (limit : ℕ) (J : List Edit) (d : Draft)
+pub make_stored : (limit : ℕ) (J : List Edit) (d : Draft)
     → StoredAs J d.id (makes limit J d).outcome (makes limit J d).journal
 make_stored limit J d = from (extended J d.id (leaves_of J d.id) d.rev)
   where
@@ -156,7 +156,7 @@ receipts_added new_edits gone limit J K docs os is n ids replies receipts e f g 
     (writes_added new_edits gone limit J K docs os is)
 
 -- as many
-as_many : (n : ℕ) (es : List Edit) (rs : List Receipt) → AreReceipts n es rs → length es ≡ length rs
+pub as_many : (n : ℕ) (es : List Edit) (rs : List Receipt) → AreReceipts n es rs → length es ≡ length rs
 as_many n [] [] a = refl
 as_many n [] (r ∷ rs) a = absurd a
 as_many n (e ∷ es) [] a = absurd a

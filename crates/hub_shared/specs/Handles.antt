@@ -1,12 +1,16 @@
 -- What a handle on a database knows of it (own).
-use Rattle.std.specs.Prelude.{◌≡◌, ℕ, ◌≤◌, ◌<◌, List, length, take, min, Bool, true, false, IsTrue}
+use Rattle.std.specs.Prelude.{◌≡◌, ℕ, ◌≤◌, ◌<◌, List, length, take, min, Bool, true, false, IsTrue, Result}
 use Rattle.hub_model.specs.Feed.{counted_in}
 use Rattle.hub_model.specs.Journal.{IsLegal}
+use Rattle.hub_model.specs.Revision.{Revision}
 use Rattle.hub_model.specs.declared.feeds.Since.{Since}
 use Rattle.hub_model.specs.declared.feeds.Since.TheVariants.{Now, Plain, Tagged}
 use Rattle.hub_document.specs.declared.doc.Doc.{Doc}
 use Rattle.hub_database.specs.Database.{Database}
 use Rattle.hub_database.specs.Edits.{StopsAt, writes}
+use Rattle.hub_database.specs.declared.batch.Batch.{Batch}
+use Rattle.hub_database.specs.declared.batch.DbFault.{DbFault}
+use Rattle.hub_shared.specs.Edits.{IsEditAnswer}
 use Rattle.hub_shared.specs.Label.{Label}
 use Rattle.hub_shared.specs.Receipts.{ids_of, receipts_from}
 use Rattle.hub_shared.specs.declared.write.Accepted.{Accepted}
@@ -35,19 +39,29 @@ module _ (counts : Bool) (all_parts : ℕ) (h : HandleState) where
     pub stands : db.deleted ≡ false
     pub answered : IsAnswer db question answer
 
-  -- What became of a write to some database that the handle may find: of each document, unless memory ran
-  -- out, and the receipts of those that were stored. A write stops only at a document that needed room.
-  pub record IsWrittenBy (new_edits : Bool) (docs : List Doc) (a : Accepted) : Type 0 where
+  -- What became of a batch that was stored in some database that the handle may find: of each document,
+  -- unless memory ran out. It stops only at a document that needed room.
+  pub record IsStoredBy (new_edits : Bool) (docs : List Doc) (batch : Batch) : Type 0 where
     pub db : Database
     pub found : IsFoundBy counts all_parts h db
-    pub replies : a.replies
-        ≡ (writes new_edits db.deleted db.limits.journal db.journal (take (length a.replies) docs)).outcomes
-    pub receipts : a.receipts.items ≡ receipts_from (length db.journal) (ids_of docs) a.replies
-    pub whole : a.stopped ≡ false → length a.replies ≡ length docs
-    pub stopped : IsTrue a.stopped → length a.replies < length docs
-    pub stops : IsTrue a.stopped → StopsAt new_edits db.deleted
-        (writes new_edits db.deleted db.limits.journal db.journal (take (length a.replies) docs)).journal
-        (length a.replies) docs
+    pub replies : batch.replies ≡ (writes new_edits db.deleted db.limits.journal db.journal
+        (take (length batch.replies) docs)).outcomes
+    pub whole : batch.stopped ≡ false → length batch.replies ≡ length docs
+    pub stopped : IsTrue batch.stopped → length batch.replies < length docs
+    pub stops : IsTrue batch.stopped → StopsAt new_edits db.deleted
+        (writes new_edits db.deleted db.limits.journal db.journal (take (length batch.replies) docs)).journal
+        (length batch.replies) docs
+
+  -- what became of a write: of its documents, and the receipts of those that were stored
+  pub record IsWrittenBy (new_edits : Bool) (docs : List Doc) (a : Accepted) : Type 0 where
+    pub stored : IsStoredBy new_edits docs (record { replies = a.replies; stopped = a.stopped })
+    pub receipts : a.receipts.items ≡ receipts_from (length stored.db.journal) (ids_of docs) a.replies
+
+  -- what one edit that is made here was answered by some database that the handle may find
+  pub record IsEditedBy (doc : Doc) (answer : Result Revision DbFault) : Type 0 where
+    pub db : Database
+    pub found : IsFoundBy counts all_parts h db
+    pub answered : IsEditAnswer db doc answer
 
 -- where a feed begins that was asked to begin at this sequence, by a handle that has counted so many edits:
 -- not above it, and not below it unless the journal is shorter

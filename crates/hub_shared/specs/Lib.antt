@@ -8,3 +8,6 @@ pub mod Times
 pub mod Answers
 pub mod Handles
 pub mod Locals
+pub mod Edits
+pub mod Stored
+pub mod Writes

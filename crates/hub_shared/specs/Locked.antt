@@ -1,19 +1,20 @@
 -- What lies under a lock: a host of feeds, and the sender of each of its feeds (own).
-use Rattle.std.specs.Prelude.{◌≡◌, ℕ, ◌<◌, List, All, Bool, true, false, Option, Some, None, ⊤}
+use Rattle.std.specs.Prelude.{◌≡◌, ℕ, ◌<◌, ◌≤◌, List, All, Bool, true, false, Option, Some, None, ⊤}
 use Rattle.hub_model.specs.Entries.{entry_in, AreRising}
 use Rattle.hub_model.specs.Feed.{Feed}
 use Rattle.hub_model.specs.declared.feeds.Item.{Item}
-use Rattle.hub_model.specs.declared.feeds.Item.TheVariants.{Row, Beat, End}
+use Rattle.hub_model.specs.declared.feeds.Item.TheVariants.{Beat}
 use Rattle.hub_params.specs.FeedModel.{params_in}
 use Rattle.hub_feed.specs.Host.{Hosted, behind_answer}
 use Rattle.hub_feed.specs.Host as host
+use Rattle.hub_feed.specs.Hand.{handed_as}
+use Rattle.hub_feed.specs.declared.handed.Handed.{Handed}
+use Rattle.hub_feed.specs.declared.handed.Handed.TheVariants as handed
 use Rattle.hub_feed.specs.declared.next.Next.{Next}
 use Rattle.hub_feed.specs.declared.next.Next.TheVariants as next
 use Rattle.hub_lane.specs.Ends.{SenderState}
 use Rattle.hub_shared.specs.Label.{Label}
 use Rattle.hub_shared.specs.Senders.{sends, IsRefused}
-use Rattle.hub_shared.specs.declared.locked.Handed.{Handed}
-use Rattle.hub_shared.specs.declared.locked.Handed.TheVariants as handed
 
 -- the sender of a feed of such rows, as it is seen
 abbrev pub FeedSender : Type 0 → Type 0
@@ -46,11 +47,11 @@ module _ {R : Type 0} (fits : Feed → List (Item R) → Type 0) where
     pub given : All (λ (p : ℕ × FeedSender R). p.0 < h.next_feed) senders
     pub each : (number : ℕ) → IsServed (entry_in number h.feeds) (entry_in number senders)
 
--- what a hand answers that sent this item
-abbrev pub handed_as : {R : Type 0} → Item R → Handed
-handed_as (Row row) = handed.Row
-handed_as Beat = handed.Row
-handed_as (End last_seq pending) = handed.End
+-- what the book of a host of so many edits has counted: no more than these, and where there is a count, just
+-- these
+-- a book that counts has counted 5 behind 5 edits, and one that counts nothing 0
+abbrev pub IsBookOf : (counts : Bool) → (total edits : ℕ) → Type 0
+IsBookOf counts total edits = (total ≤ edits) × (counts ≡ true → total ≡ edits)
 
 module _ {S R : Type 0} (hosted : S → Hosted R) (with_hosted : S → Hosted R → S) where
   -- a step of the feeds, with no sender

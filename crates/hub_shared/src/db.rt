@@ -3,16 +3,17 @@
 ghost use Rattle.std.specs.Prelude.{◌≡◌, true, IfOk};
 
 use crate::count::{Count, NoCount, Plain};
-use crate::guarded::Guarded;
 use crate::handle::Handle;
 use crate::host::Host;
+use crate::locked::Locked;
+use hub_database::DbState;
 use hub_document::Limits;
 use std::alloc::{AllocError, Global};
 
 /// A database that threads share. Each `Db` and each `Handle` keeps it; it goes with the last of them.
-pub type Db<C> = Host<Guarded<C>>;
+pub type Db<C> = Host<DbState, C>;
 
-impl<C: Count> Host<Guarded<C>> {
+impl<C: Count> Host<DbState, C> {
     /// An empty database, of the life of this number, and the handle that has every part of the count.
     pub fn new(
         alloc: Global,
@@ -24,13 +25,20 @@ impl<C: Count> Host<Guarded<C>> {
         ensures parts { IfOk result (λ made. C.counts ≡ true → made.1.parts ≡ C.all_parts) }
     {
         let (book, share) = count.open();
-        let db = Host::of(alloc, Guarded::new(alloc, limits, life, book))?;
+        let locked = Locked::new(
+            alloc,
+            DbState::new(alloc, limits, life),
+            limits.lane as usize,
+            limits.hold,
+            book,
+        );
+        let db = Host::of(alloc, locked)?;
         let handle = Handle::new(db.again()?, share);
         Ok((db, handle))
     }
 }
 
-impl Host<Guarded<Plain>> {
+impl Host<DbState> {
     /// A handle, which counts nothing.
     pub fn handle(&self) -> Result<Handle<Plain>, AllocError>
         ensures { IfOk result (λ handle. handle.count ≡ 0) }

@@ -5,20 +5,19 @@ ghost use Rattle.hub_lane.specs.Ends.{IsAllowedBeginning};
 ghost use Rattle.hub_params.specs.FeedModel.{params_in};
 ghost use Rattle.hub_shared.specs.Feeds.{behind_item, feed_of, receiver_of};
 
+use crate::count::{Count, Plain};
 use crate::gate::Gate;
-use crate::guarded::Guarded;
-use crate::host::{Host, Pumped};
+use crate::host::Host;
 use crate::label::FeedLabel;
-use crate::locked::Handed;
 use crate::pumping::{Turn, hold};
 use crate::signals::Signals;
 use hub_database::DbState;
 use hub_document::ChangeRow;
-use hub_feed::{FeedHost, FeedId};
+use hub_feed::{FeedHost, FeedId, Handed};
 use hub_lane::{Asks, Receiver};
 use hub_model::Item;
 use std::alloc::{AllocError, Global};
-use std::marker::{Model, PhantomData};
+use std::marker::Model;
 use std::sync::{Arc, Wait};
 
 /// The label of a feed of changes.
@@ -28,13 +27,13 @@ pub type ChangeLabel = FeedLabel<DbState>;
 pub type ChangeItem = Item<ChangeRow>;
 
 /// A feed of a database.
-pub type Feed<C> = HostFeed<DbState, Guarded<C>>;
+pub type Feed<C> = HostFeed<DbState, C>;
 
 /// A feed of what threads share, as the connection has it that shows it. It is finished by `finish`: one
 /// that is let go otherwise stays among the feeds of its host. Contracts see its number, its lane, its
 /// label, and all that was taken.
-pub struct HostFeed<S: FeedHost, G: Pumped<S>> {
-    pub(crate) host: Host<G>,
+pub struct HostFeed<S: FeedHost, C: Count = Plain> {
+    pub(crate) host: Host<S, C>,
     pub(crate) id: FeedId,
     pub(crate) receiver: Receiver<FeedLabel<S>, Item<S::Row>>,
     pub(crate) signals: Arc<Signals, Global>,
@@ -44,10 +43,9 @@ pub struct HostFeed<S: FeedHost, G: Pumped<S>> {
     pub(crate) idle_since: Option<u64>,
     /// The clock's reading at which a feed that waits is to be polled.
     pub(crate) due: u64,
-    of: PhantomData<S>,
 }
 
-impl<S: FeedHost, G: Pumped<S>> Drop for HostFeed<S, G> {
+impl<S: FeedHost + Drop, C: Count> Drop for HostFeed<S, C> {
     fn drop(self) {
         let Self {
             host,
@@ -57,12 +55,11 @@ impl<S: FeedHost, G: Pumped<S>> Drop for HostFeed<S, G> {
             is_behind,
             idle_since,
             due,
-            of,
         } = self;
     }
 }
 
-impl<S: FeedHost, G: Pumped<S>> Model for HostFeed<S, G> {
+impl<S: FeedHost, C: Count> Model for HostFeed<S, C> {
     ghost use Rattle.hub_shared.specs.Feeds.{FeedState, feed_of};
 
     ghost Value = { FeedState S.Row };
@@ -70,13 +67,13 @@ impl<S: FeedHost, G: Pumped<S>> Model for HostFeed<S, G> {
     ghost view = { λ a. feed_of a.id.number a.receiver };
 }
 
-impl<S: FeedHost, G: Pumped<S>> HostFeed<S, G> {
+impl<S: FeedHost, C: Count> HostFeed<S, C> {
     pub(crate) fn new(
-        host: Host<G>,
+        host: Host<S, C>,
         id: FeedId,
         receiver: Receiver<FeedLabel<S>, Item<S::Row>>,
         signals: Arc<Signals, Global>,
-    ) -> HostFeed<S, G>
+    ) -> HostFeed<S, C>
         ensures { result ≡ feed_of id.number receiver }
     {
         HostFeed {
@@ -87,7 +84,6 @@ impl<S: FeedHost, G: Pumped<S>> HostFeed<S, G> {
             is_behind: true,
             idle_since: None,
             due: 0,
-            of: PhantomData,
         }
     }
 
@@ -136,14 +132,16 @@ impl<S: FeedHost, G: Pumped<S>> HostFeed<S, G> {
     }
 
     /// Takes the lock once for this feed, as the free function `hold`.
-    pub fn hold<R, Gt>(&self, rt: &R, turn: Turn, gate: &Gt) -> Result<Handed, AllocError>
+    pub fn hold<R, G>(&self, rt: &R, turn: Turn, gate: &G) -> Result<Handed, AllocError>
     where
         R: Asks<FeedLabel<S>, Item<S::Row>>,
-        Gt: Gate,
+        G: Gate,
     {
         hold(rt, &self.host, self.id, turn, gate)
     }
+}
 
+impl<S: FeedHost + Drop, C: Count> HostFeed<S, C> {
     /// Takes the feed out of the lock, drops its sender, and hands the receiver back, from which what
     /// is left can be taken until None. A pump of the feed ends. It takes no memory.
     pub fn finish<R: Wait>(self, rt: &R) -> Receiver<FeedLabel<S>, Item<S::Row>>
@@ -157,9 +155,9 @@ impl<S: FeedHost, G: Pumped<S>> HostFeed<S, G> {
             is_behind: _,
             idle_since: _,
             due: _,
-            of: _,
         } = self;
-        host.guarded().lock(rt).finish(id);
+        let sender = host.locked().lock(rt).finish(id);
+        drop(sender);
         host.tell();
         signals.ring_room();
         receiver

@@ -1,7 +1,8 @@
 //! Handles on a database.
 
 ghost use Rattle.std.specs.Prelude.{◌≡◌, ◌⊎◌, ℕ, [], ◌+◌, ◌≤◌, ◌<◌, true, false, length};
-ghost use Rattle.std.specs.Prelude.{IfOk, IfErr, OnErr, vec_len};
+ghost use Rattle.std.specs.Prelude.{IfOk, IfErr, OnErr, OnOk, vec_len};
+ghost use Rattle.std.specs.Fn.{FnOnceReturnsAt};
 ghost use Rattle.hub_model.specs.declared.outcomes.Fault.TheVariants.{Deleted, SequenceFull};
 ghost use Rattle.hub_params.specs.FeedShown.{params_asked};
 ghost use Rattle.hub_database.specs.Database.{Database, GivesUp};
@@ -11,18 +12,20 @@ ghost use Rattle.hub_feed.specs.Host.{opening_fault};
 ghost use Rattle.hub_shared.specs.Feeds.{IsOpened};
 ghost use Rattle.hub_shared.specs.Receipts.{IsAudit};
 ghost use Rattle.hub_shared.specs.Answers.{TakesMemory};
-ghost use Rattle.hub_shared.specs.Handles.{IsBeginningFor, IsFoundBy, IsReadBy, IsWrittenBy};
+ghost use Rattle.hub_shared.specs.Handles.{IsBeginningFor, IsEditedBy, IsFoundBy, IsReadBy, IsStoredBy};
+ghost use Rattle.hub_shared.specs.Handles.{IsWrittenBy};
 ghost use Rattle.hub_shared.specs.Locals.{IsLocalFault};
+ghost use Rattle.hub_shared.specs.Stored.{stored_count};
 
 use crate::count::Count;
 use crate::db::Db;
 use crate::feed::{Feed, HostFeed};
-use crate::question::{Answer, Question};
+use crate::locked::OpenedFeed;
+use crate::question::{Answer, Question, answer_of};
 use crate::receipt::{AuditFault, Receipt, ReceiptRoom};
-use crate::served::OpenedFeed;
 use crate::write::Accepted;
-use hub_database::DbFault;
-use hub_document::{Doc, LocalDoc};
+use hub_database::{Batch, DbFault, DbState};
+use hub_document::{Doc, LocalDoc, RevId};
 use hub_feed::OpenFault;
 use hub_params::FeedParams;
 use std::alloc::AllocError;
@@ -102,12 +105,69 @@ impl<C: Count> Handle<C> {
         let room = ReceiptRoom::of(self.db.alloc, docs.as_slice())?;
         let (accepted, rise) = self
             .db
-            .guarded()
+            .locked()
             .lock(rt)
-            .write(&mut self.share, room, docs, new_edits)?;
+            .write_counted(&mut self.share, room, docs, new_edits)?;
         self.db.tell();
         self.count += rise;
         Ok(accepted)
+    }
+
+    /// Asks the database, as it is at one moment: `ask` is called once, under the lock, and is to wait for
+    /// nothing. It costs the wait for the lock, and what `ask` does.
+    pub fn look<T, R: Wait, F: FnOnce(&DbState) -> Result<T, DbFault>>(
+        &mut self,
+        rt: &R,
+        ask: F,
+    ) -> Result<T, DbFault>
+        requires { F.IsAlwaysCallable ask }
+        ensures asked { (db : Database) × IsFoundBy C.counts C.all_parts self.old db
+            × FnOnceReturnsAt F.FnOnce ask db result }
+        ensures same { self.new ≡ self.old }
+    {
+        self.db.locked().lock(rt).look(&mut self.share, ask)
+    }
+
+    /// Stores documents, as `write`, without receipts: their ids are not copied. It costs the wait for the
+    /// lock, and what `DbState::write_edits` does: of memory here nothing but the list of replies.
+    pub fn store<R: Wait>(
+        &mut self,
+        rt: &R,
+        docs: Vec<Doc>,
+        new_edits: bool,
+    ) -> Result<Batch, DbFault>
+        ensures stored { IfOk result (λ batch.
+            IsStoredBy C.counts C.all_parts self.old new_edits docs.items batch) }
+        ensures counted { IfOk result (λ batch. C.counts ≡ true
+            → self.new.count ≡ self.old.count + stored_count batch.replies) }
+        ensures parts { self.new.parts ≡ self.old.parts }
+        ensures err { IfErr result (λ e. (e ≡ DbFault.NoMemory) × (self.new ≡ self.old)) }
+        ensures memory { OnErr result (0 < length docs.items) }
+    {
+        let (batch, rise) = self
+            .db
+            .locked()
+            .lock(rt)
+            .store(&mut self.share, docs, new_edits)?;
+        self.db.tell();
+        self.count += rise;
+        Ok(batch)
+    }
+
+    /// Stores one edit whose revision is made here, as `DbState::write_one`, and says that revision. The
+    /// refusals and their order are those of that call; out of memory is told only of a document that has
+    /// a leaf to be an edit of. It costs the wait for the lock, and what `DbState::write_one` does, and
+    /// takes no memory beside that.
+    pub fn write_one<R: Wait>(&mut self, rt: &R, doc: Doc) -> Result<RevId, DbFault>
+        ensures edited { IsEditedBy C.counts C.all_parts self.old doc result }
+        ensures counted { OnOk result (C.counts ≡ true → self.new.count ≡ self.old.count + 1) }
+        ensures parts { self.new.parts ≡ self.old.parts }
+        ensures err { OnErr result (self.new ≡ self.old) }
+    {
+        let (rev, rise) = self.db.locked().lock(rt).write_one(&mut self.share, doc)?;
+        self.db.tell();
+        self.count += rise;
+        Ok(rev)
     }
 
     /// Answers a question. It costs the wait for the lock, and what `answer_of` does.
@@ -118,7 +178,8 @@ impl<C: Count> Handle<C> {
             × GivesUp db (TakesMemory db question) e) }
         ensures same { self.new ≡ self.old }
     {
-        self.db.guarded().lock(rt).read(&mut self.share, question)
+        let alloc = self.db.alloc;
+        self.look(rt, move |state| answer_of(alloc, state, question))
     }
 
     /// Stores a local document in place of the one of its id, and says how often it was written: once
@@ -133,7 +194,7 @@ impl<C: Count> Handle<C> {
             ⊎ (e ≡ DbFault.Refused SequenceFull))) }
         ensures same { self.new ≡ self.old }
     {
-        self.db.guarded().lock(rt).local_put(doc)
+        self.db.locked().lock(rt).local_put(doc)
     }
 
     /// Opens a feed, which stays until it is finished: its connection is to call `HostFeed::poll`, or
@@ -153,7 +214,7 @@ impl<C: Count> Handle<C> {
         ensures same { self.new ≡ self.old }
     {
         let Ok(db) = self.db.again() else {
-            return Err(self.db.guarded().lock(rt).opening_fault(&mut self.share));
+            return Err(self.db.locked().lock(rt).opening_fault(&mut self.share));
         };
         let OpenedFeed {
             id,
@@ -161,7 +222,7 @@ impl<C: Count> Handle<C> {
             signals,
         } = self
             .db
-            .guarded()
+            .locked()
             .lock(rt)
             .open_feed(&mut self.share, params)?;
         Ok(HostFeed::new(db, id, receiver, signals))
@@ -173,7 +234,7 @@ impl<C: Count> Handle<C> {
         ensures err { IfErr result (λ e. e ≡ DbFault.Refused Deleted) }
         ensures same { self.new ≡ self.old }
     {
-        let done = self.db.guarded().lock(rt).delete();
+        let done = self.db.locked().lock(rt).delete();
         self.db.tell();
         done
     }
@@ -185,7 +246,7 @@ impl<C: Count> Handle<C> {
             × IsAudit db.journal receipts.now result }
         ensures same { self.new ≡ self.old }
     {
-        self.db.guarded().lock(rt).audit(&mut self.share, receipts)
+        self.db.locked().lock(rt).audit(&mut self.share, receipts)
     }
 
     /// Cuts a handle off, with so many of the parts of this one. It has counted nothing yet. It takes
@@ -216,7 +277,7 @@ impl<C: Count> Handle<C> {
             count,
         } = other;
         C::merge(&mut self.share, share);
-        self.db.guarded().lock(rt).bound(&mut self.share);
+        self.db.locked().lock(rt).audit_share(&mut self.share);
         self.count += count;
     }
 }

@@ -1,26 +1,25 @@
-//! What threads share: a host of feeds with the senders of its feeds, where each step of a feed is one
+//! What threads share: a host of feeds with the subscribers of its feeds, where each step of a feed is one
 //! step of the host and of the feed's sender together; a database and the log of updates, each such a
 //! host behind its lock; handles that count what was accepted through them; feeds, and what fills their
 //! lanes.
 #![tactic(auto)]
 
 mod count;
+mod database;
 mod db;
 mod feed;
 mod gate;
-mod guarded;
 mod handle;
 mod host;
 mod label;
 mod locked;
-mod note;
 mod poll;
 mod pumping;
 mod question;
 mod receipt;
-mod senders;
-mod served;
 mod signals;
+mod store;
+mod subscriber;
 mod times;
 mod updates;
 mod watch;
@@ -30,15 +29,14 @@ pub use count::{Count, Counted, NoCount, Plain};
 pub use db::Db;
 pub use feed::{ChangeItem, ChangeLabel, Feed, HostFeed};
 pub use gate::{Clock, Gate, Point};
-pub use guarded::Guarded;
 pub use handle::Handle;
-pub use host::{Host, Pumped};
+pub use host::Host;
+pub use hub_feed::Handed;
 pub use label::FeedLabel;
-pub use locked::{Handed, Locked};
+pub use locked::{Locked, OpenedFeed};
 pub use pumping::{Turn, hold, pump};
-pub use question::{Answer, Question, answer_of};
+pub use question::{Answer, Question, answer_of, local_copy};
 pub use receipt::{AuditFault, Receipt, ReceiptRoom, audit_of};
-pub use served::Served;
 pub use updates::{Updates, UpdatesFeed};
 pub use watch::{Bell, Watch, Watchable};
 pub use write::Accepted;

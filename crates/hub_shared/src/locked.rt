@@ -1,41 +1,29 @@
-//! A host of feeds and the senders of its feeds, as they lie under a lock.
+//! A host of feeds and the subscribers of its feeds, as they lie under a lock.
 
 ghost use Rattle.std.specs.Prelude.{◌≡◌, ◌<◌, [], true, Some, IfErr, IfOk, IfSome, OnErr};
 ghost use Rattle.hub_model.specs.Entries.{entry_in, without};
 ghost use Rattle.hub_model.specs.Feed.{Feed, Params, begin};
-ghost use Rattle.hub_feed.specs.Host.{answered, due_to, expired, finished, is_beat_due, item_due};
+ghost use Rattle.hub_feed.specs.Host.{answered, due_to, expired, finished, is_beat_due};
 ghost use Rattle.hub_feed.specs.Host.{opening_fault};
 ghost use Rattle.hub_feed.specs.Next.{IsRowDue};
-ghost use Rattle.hub_feed.specs.declared.next.Next.TheVariants.{Give};
 ghost use Rattle.hub_lane.specs.Ends.{new_receiver, new_sender};
 ghost use Rattle.hub_params.specs.FeedShown.{params_asked};
 ghost use Rattle.hub_shared.specs.Label.{label_of};
-ghost use Rattle.hub_shared.specs.Locked.{AreSendersOf, Beats, Hands, IsSenderOf, handed_as, stepped};
+ghost use Rattle.hub_shared.specs.Locked.{AreSendersOf, Beats, Hands, IsSenderOf, stepped};
 ghost use Rattle.hub_shared.specs.Opening.{Begins};
 
+use crate::count::{Count, Plain};
 use crate::label::FeedLabel;
-use crate::senders::{remove, send};
-use hub_feed::{FeedHost, FeedId, Next, OpenFault};
-use hub_lane::{Asks, Full, Lane, Receiver, Sender};
-use hub_model::Item;
+use crate::signals::Signals;
+use crate::subscriber::{Subscriber, Through, remove, send, watch};
+use crate::watch::Watch;
+use hub_feed::{FeedHost, FeedId, Handed, OpenFault};
+use hub_lane::{Asks, Lane, Receiver, Sender};
+use hub_model::{Item, place_near, place_of};
 use hub_params::FeedParams;
 use std::alloc::{AllocError, Global};
 use std::marker::Model;
-
-/// What a hand did.
-#[derive(Clone, Copy, Debug, PartialEq, Eq)]
-pub enum Handed {
-    /// It sent a row.
-    Row,
-    /// It sent the end.
-    End,
-    /// The feed's lane was full, and nothing changed.
-    Full,
-    /// There was nothing to send.
-    Nothing,
-    /// The feed will send nothing more, or there is no such feed.
-    Gone,
-}
+use std::sync::Arc;
 
 /// The two ends of a feed's lane.
 pub(crate) type Ends<S> = (
@@ -43,61 +31,83 @@ pub(crate) type Ends<S> = (
     Receiver<FeedLabel<S>, Item<<S as FeedHost>::Row>>,
 );
 
-/// A host of feeds, and the sender of each feed that is not finished. Whenever it is got from a
-/// lock, what each of these has sent fits its feed as the host is then (`state`).
-pub struct Locked<S: FeedHost> {
+/// A feed that was opened.
+#[derive(Drop)]
+pub struct OpenedFeed<S: FeedHost> {
+    /// The number under which its host keeps it.
+    pub id: FeedId,
+    /// The end of its lane that takes.
+    pub receiver: Receiver<FeedLabel<S>, Item<S::Row>>,
+    /// What its connection shares with a pump of it.
+    pub signals: Arc<Signals, Global>,
+}
+
+/// A host of feeds, with the subscriber of each feed that is not finished, and a book that counts its edits.
+/// Whenever it is got from a lock, what each subscriber's sender has sent fits its feed as the host is then
+/// (`state`), and where there is a count, the book's total is how many edits the host has. Contracts see the
+/// host, the senders and how many items a lane holds.
+pub struct Locked<S: FeedHost, C: Count = Plain> {
     pub(crate) state: S,
-    /// The senders of the feeds that are not finished, by the numbers of the feeds, which rise.
-    senders: Vec<(u64, Sender<FeedLabel<S>, Item<S::Row>>)>,
+    /// The subscribers of the feeds that are not finished, by the numbers of the feeds, which rise.
+    subscribers: Vec<(u64, Subscriber<S>)>,
+    /// Where the subscriber stood that was handed to last. One is looked for there first.
+    near: usize,
     /// How many items a feed's lane holds at most.
     lane: usize,
+    /// How many items a feed is handed in one holding at most.
+    hold: u64,
+    /// Another number after each change that a pump may wait for, and each end of a feed.
+    news: u64,
+    pub(crate) book: C::Book,
     pub(crate) alloc: Global,
 }
 
-impl<S: FeedHost + Drop> Drop for Locked<S> {
+impl<S: FeedHost + Drop, C: Count> Drop for Locked<S, C> {
     fn drop(self) {
         let Self {
             state,
-            senders,
+            subscribers,
+            near,
             lane,
+            hold,
+            news,
+            book,
             alloc,
         } = self;
     }
 }
 
-impl<S: FeedHost> Model for Locked<S> {
+impl<S: FeedHost, C: Count> Model for Locked<S, C> {
     ghost use Rattle.std.specs.Prelude.{◌<◌};
-    ghost use Rattle.hub_shared.specs.Locked.{LockedState, AreSendersOf};
+    ghost use Rattle.hub_shared.specs.Locked.{LockedState, AreSendersOf, IsBookOf};
 
     ghost Value = { LockedState S S.Row };
 
-    ghost view = { λ a. record { state = a.state; senders = a.senders.items; lane = a.lane } };
+    ghost view = { λ a. record { state = a.state; senders = a.subscribers.items; lane = a.lane } };
 
     ghost invariant = { λ a. (0 < a.lane)
-        × AreSendersOf (S.fits a.state) (S.hosted a.state) a.senders.items };
+        × AreSendersOf (S.fits a.state) (S.hosted a.state) a.subscribers.items
+        × IsBookOf C.counts (C.total a.book) (S.hosted a.state).length };
 }
 
-// What a hand answers that sent this item.
-fn handed_as<T>(item: &Item<T>) -> Handed
-    ensures { result ≡ handed_as item.now }
-{
-    match item {
-        Item::End { .. } => Handed::End,
-        Item::Row(_) | Item::Beat => Handed::Row,
-    }
-}
-
-impl<S: FeedHost> Locked<S> {
-    /// A host that has no feed, and lanes that are to hold `lane` items each. It takes no memory.
-    pub fn new(alloc: Global, state: S, lane: usize) -> Locked<S>
+impl<S: FeedHost, C: Count> Locked<S, C> {
+    /// A host that has no feed, lanes that are to hold `lane` items each, holdings of `hold` items at most,
+    /// and a book that has counted nothing. It takes no memory.
+    pub fn new(alloc: Global, state: S, lane: usize, hold: u64, book: C::Book) -> Locked<S, C>
         requires room { 0 < lane }
         requires no_feed { (S.hosted state).feeds ≡ [] }
+        requires nothing_counted { C.total book ≡ 0 }
+        requires no_edit { C.counts ≡ true → (S.hosted state).length ≡ 0 }
         ensures { result ≡ record { state = state; senders = []; lane = lane } }
     {
         Locked {
             state,
-            senders: Vec::new(alloc),
+            subscribers: Vec::new(alloc),
+            near: 0,
             lane,
+            hold,
+            news: 0,
+            book,
             alloc,
         }
     }
@@ -109,6 +119,44 @@ impl<S: FeedHost> Locked<S> {
         ensures senders { AreSendersOf (S.fits self.now.state) (S.hosted self.now.state) self.now.senders }
     {
         &self.state
+    }
+
+    /// Another number after each change that a pump may wait for, and each end of a feed.
+    pub(crate) fn news(&self) -> u64 {
+        self.news
+    }
+
+    /// How many items a feed is handed in one holding at most.
+    pub(crate) fn most(&self) -> u64 {
+        self.hold
+    }
+
+    /// The signals of a feed, if there is one of this number. A binary search.
+    pub(crate) fn signals(&self, feed: FeedId) -> Result<Option<Arc<Signals, Global>>, AllocError> {
+        let Some(at) = place_of(self.subscribers.as_slice(), feed.number) else {
+            return Ok(None);
+        };
+        let entry = &self.subscribers[at];
+        Ok(Some(entry.1.signals()?))
+    }
+
+    /// From here on this watch has news of each change that a feed may wait for, while there is a feed of
+    /// this number. A binary search.
+    pub(crate) fn watch(&mut self, feed: FeedId, news: Arc<Watch, Global>)
+        ensures { self.new ≡ self.old }
+    {
+        watch(&mut self.subscribers, feed.number, news);
+    }
+
+    /// There is something that feeds may wait for: pumps find another number, and watches have news. It costs
+    /// a look at each feed.
+    pub(crate) fn tell(&mut self)
+        ensures { self.new ≡ self.old }
+    {
+        self.news = self.news.wrapping_add(1);
+        for entry in &self.subscribers {
+            entry.1.tell();
+        }
     }
 
     // The ends of a lane for a feed of these parameters that begins now.
@@ -126,16 +174,13 @@ impl<S: FeedHost> Locked<S> {
         Lane::new(self.alloc, self.lane, label)
     }
 
-    /// Opens a feed at the host, under a number that no feed had before, and gives the receiver of
-    /// the lane whose sender it keeps. `descending` is not looked at. Out of memory is told only where
-    /// the host refuses nothing, and any error leaves all as it was. It costs a copy of the
-    /// parameters, a lane, and what `open_feed` does.
-    pub fn begin(
-        &mut self,
-        params: FeedParams,
-    ) -> Result<(FeedId, Receiver<FeedLabel<S>, Item<S::Row>>), OpenFault>
-        ensures ok { IfOk result (λ opened.
-            Begins S.hosted S.with_hosted params self.old opened.0.number opened.1 self.new) }
+    /// Opens a feed at the host, under a number that no feed had before, and gives the receiver of the
+    /// lane whose sender it keeps, and the signals that it keeps. `descending` is not looked at. Out of
+    /// memory is told only where the host refuses nothing, and any error leaves all as it was. It costs a
+    /// copy of the parameters, a lane, and what `open_feed` does.
+    pub fn begin(&mut self, params: FeedParams) -> Result<OpenedFeed<S>, OpenFault>
+        ensures ok { IfOk result (λ opened. Begins S.hosted S.with_hosted
+            params self.old opened.id.number opened.receiver self.new) }
         ensures err { IfErr result (λ e. (self.new ≡ self.old)
             × (e ≡ opening_fault (S.hosted self.old.state))) }
     {
@@ -145,38 +190,23 @@ impl<S: FeedHost> Locked<S> {
         let Ok((sender, receiver)) = self.ends_for(&params) else {
             return Err(OpenFault::NoMemory);
         };
-        if let Err(AllocError) = self.senders.try_reserve(1) {
+        let Ok((own, signals)) = Signals::shared(self.alloc, &params) else {
+            return Err(OpenFault::NoMemory);
+        };
+        if let Err(AllocError) = self.subscribers.try_reserve(1) {
             return Err(OpenFault::NoMemory);
         }
         match self.state.open_feed(params) {
-            Ok(feed) => {
-                self.senders.push_reserved((feed.number, sender));
-                Ok((feed, receiver))
+            Ok(id) => {
+                self.subscribers
+                    .push_reserved((id.number, Subscriber::new(sender, own)));
+                Ok(OpenedFeed {
+                    id,
+                    receiver,
+                    signals,
+                })
             }
             Err(fault) => Err(fault),
-        }
-    }
-
-    // The item that is due to a feed is sent, and only then the feed goes on.
-    fn give<R: Asks<FeedLabel<S>, Item<S::Row>>>(
-        &mut self,
-        rt: &R,
-        feed: FeedId,
-        item: Item<S::Row>,
-    ) -> Handed
-        requires due { item_due (S.hosted self.old.state) feed.number ≡ Some item }
-        ensures { Hands S.hosted S.with_hosted (R.refuses rt.now) (Give item)
-            self.old feed.number result self.new }
-    {
-        let handed = handed_as(&item);
-        let mark = S::mark(&item);
-        let near = self.state.near();
-        match send(rt, &mut self.senders, near, feed.number, item) {
-            Ok(()) => {
-                self.state.accept_marked(feed, mark);
-                handed
-            }
-            Err(Full(_)) => Handed::Full,
         }
     }
 
@@ -184,7 +214,8 @@ impl<S: FeedHost> Locked<S> {
     /// `Full` is answered only where the lane was full at a moment of the call; then nothing
     /// changes, and the next hand makes the item again. A feed that has nothing to hand goes to the
     /// length of what it follows. Only a row takes memory, and without it nothing changes. It costs
-    /// what `next_item` and `accept_marked` do, and a push: one search for the feed's number in all.
+    /// what the host's `hand` does, and a push; the subscriber is found in constant time where the last
+    /// hand was for the same feed.
     pub fn hand<R: Asks<FeedLabel<S>, Item<S::Row>>>(
         &mut self,
         rt: &R,
@@ -195,11 +226,12 @@ impl<S: FeedHost> Locked<S> {
         ensures err { OnErr result ((self.new ≡ self.old)
             × IsRowDue (due_to (S.hosted self.old.state) feed.number)) }
     {
-        match self.state.next_item(feed)? {
-            Next::Give(item) => Ok(self.give(rt, feed, item)),
-            Next::Nothing => Ok(Handed::Nothing),
-            Next::Gone => Ok(Handed::Gone),
-        }
+        let Some(at) = place_near(self.subscribers.as_slice(), self.near, feed.number) else {
+            return Ok(Handed::Gone);
+        };
+        self.near = at;
+        let entry = &mut self.subscribers[at];
+        self.state.hand(feed, &Through(rt), &mut entry.1)
     }
 
     // Sends a heartbeat that is due.
@@ -207,8 +239,13 @@ impl<S: FeedHost> Locked<S> {
         requires due { is_beat_due (entry_in feed.number (S.hosted self.old.state).feeds) ≡ true }
         ensures { Beats (R.refuses rt.now) true self.old feed.number result self.new }
     {
-        let near = self.state.near();
-        match send(rt, &mut self.senders, near, feed.number, Item::Beat) {
+        match send(
+            rt,
+            &mut self.subscribers,
+            self.near,
+            feed.number,
+            Item::Beat,
+        ) {
             Ok(()) => Handed::Nothing,
             Err(_) => Handed::Full,
         }
@@ -216,7 +253,7 @@ impl<S: FeedHost> Locked<S> {
 
     /// Sends a heartbeat where one is due, and the feed stays where it is: `Nothing`, also where it
     /// was sent, or `Full`, only where the lane was full at a moment of the call. It takes no memory,
-    /// and costs what `beat_due` does, a search among the senders, and a push.
+    /// and costs what `beat_due` does, a search among the subscribers, and a push.
     pub fn beat<R: Asks<FeedLabel<S>, Item<S::Row>>>(&mut self, rt: &R, feed: FeedId) -> Handed
         ensures { Beats (R.refuses rt.now)
             (is_beat_due (entry_in feed.number (S.hosted self.old.state).feeds))
@@ -236,9 +273,10 @@ impl<S: FeedHost> Locked<S> {
         self.state.expire(feed);
     }
 
-    /// Forgets a feed, if there is one of this number, and hands its sender out: no later hand sends
-    /// for it. What it sent fits the feed that was, as the host was. It takes no memory, and costs
-    /// what the host's `finish` does, a search among the senders, and a move of those behind it.
+    /// Forgets a feed with its subscriber, if there is one of this number, and hands its sender out: no
+    /// later hand sends for it. What it sent fits the feed that was, as the host was. It takes no memory,
+    /// and costs what the host's `finish` does, a search among the subscribers, and a move of those behind
+    /// it.
     pub fn finish(&mut self, feed: FeedId) -> Option<Sender<FeedLabel<S>, Item<S::Row>>>
         ensures sender { result ≡ entry_in feed.number self.old.senders }
         ensures fits { IfSome result (λ s. (f : Feed)
@@ -250,6 +288,7 @@ impl<S: FeedHost> Locked<S> {
             } }
     {
         self.state.finish(feed);
-        remove(&mut self.senders, feed.number)
+        self.news = self.news.wrapping_add(1);
+        remove(&mut self.subscribers, feed.number)
     }
 }

@@ -5,21 +5,20 @@ ghost use Rattle.hub_lane.specs.Ends.{IsAllowedBeginning};
 ghost use Rattle.hub_params.specs.FeedModel.{params_in};
 ghost use Rattle.hub_shared.specs.Feeds.{behind_item, receiver_of};
 
+use crate::count::Count;
 use crate::feed::HostFeed;
 use crate::gate::{Clock, Gate};
-use crate::host::Pumped;
 use crate::label::FeedLabel;
-use crate::locked::Handed;
 use crate::pumping::Turn;
 use crate::times::Due;
 use crate::watch::Watch;
-use hub_feed::FeedHost;
+use hub_feed::{FeedHost, Handed};
 use hub_lane::Asks;
 use hub_model::Item;
 use std::alloc::Global;
 use std::sync::{Arc, Wait};
 
-impl<S: FeedHost, H: Pumped<S>> HostFeed<S, H> {
+impl<S: FeedHost, C: Count> HostFeed<S, C> {
     // One holding of the lock for this feed. It is over without memory for a row, and behind its end.
     fn hold_own<R, G>(&mut self, rt: &R, turn: Turn, gate: &G)
     where
@@ -127,6 +126,6 @@ impl<S: FeedHost, H: Pumped<S>> HostFeed<S, H> {
     /// is finished. Who calls this polls the feed once more after it: what was written before gave no news.
     /// It costs the wait for the lock, and a binary search.
     pub fn watch<R: Wait>(&self, rt: &R, watch: Arc<Watch, Global>) {
-        self.host.guarded().lock(rt).watch(self.id, watch);
+        self.host.locked().lock(rt).watch(self.id, watch);
     }
 }

@@ -1,16 +1,16 @@
 //! The pumps of feeds.
 
+use crate::count::Count;
 use crate::gate::{Clock, Gate, Point};
-use crate::host::{Host, Pumped};
+use crate::host::Host;
 use crate::label::FeedLabel;
-use crate::locked::Handed;
+use crate::locked::Locked;
 use crate::signals::Signals;
 use crate::times::Due;
-use hub_feed::{FeedHost, FeedId};
+use hub_feed::{FeedHost, FeedId, Handed};
 use hub_lane::Asks;
 use hub_model::Item;
 use std::alloc::{AllocError, Global};
-use std::marker::PhantomData;
 use std::sync::{Arc, Wait};
 use std::time;
 
@@ -38,19 +38,19 @@ pub(crate) struct Holding {
 
 /// Hands until an answer is not a row, or so many items were sent: the last answer, and how many items
 /// were sent.
-pub(crate) fn hand_on<S, H, R>(
-    guarded: &mut H,
+pub(crate) fn hand_on<S, C, R>(
+    locked: &mut Locked<S, C>,
     rt: &R,
     feed: FeedId,
     most: u64,
 ) -> Result<(Handed, u64), AllocError>
 where
     S: FeedHost,
-    H: Pumped<S>,
+    C: Count,
     R: Asks<FeedLabel<S>, Item<S::Row>>,
 {
     for sent in 0..most {
-        match guarded.hand(rt, feed)? {
+        match locked.hand(rt, feed)? {
             Handed::Row => {}
             Handed::End => return Ok((Handed::End, sent + 1)),
             last => return Ok((last, sent)),
@@ -59,9 +59,9 @@ where
     Ok((Handed::Row, most))
 }
 
-impl<H: Drop> Host<H> {
+impl<S: FeedHost, C: Count> Host<S, C> {
     /// One holding of the lock.
-    pub(crate) fn hold_once<S, R, G>(
+    pub(crate) fn hold_once<R, G>(
         &self,
         rt: &R,
         feed: FeedId,
@@ -69,41 +69,33 @@ impl<H: Drop> Host<H> {
         gate: &G,
     ) -> Result<Holding, AllocError>
     where
-        S: FeedHost,
-        H: Pumped<S>,
         R: Asks<FeedLabel<S>, Item<S::Row>>,
         G: Gate,
     {
-        let mut guarded = self.guarded().lock(rt);
+        let mut locked = self.locked().lock(rt);
         gate.pass(Point::PumpHolding);
-        let most = guarded.most();
+        let most = locked.most();
         let (last, sent) = match turn {
-            Turn::Hand => hand_on(&mut *guarded, rt, feed, most)?,
-            Turn::Beat => (guarded.beat(rt, feed), 0),
+            Turn::Hand => hand_on(&mut *locked, rt, feed, most)?,
+            Turn::Beat => (locked.beat(rt, feed), 0),
             Turn::Expire => {
-                guarded.expire(feed);
+                locked.expire(feed);
                 (Handed::Nothing, 0)
             }
         };
         Ok(Holding {
             last,
             sent,
-            news: guarded.news(),
+            news: locked.news(),
         })
     }
 
     // The signals of a feed, unless it is finished.
-    fn signals<S, R>(
-        &self,
-        rt: &R,
-        feed: FeedId,
-    ) -> Result<Option<Arc<Signals, Global>>, AllocError>
+    fn signals<R>(&self, rt: &R, feed: FeedId) -> Result<Option<Arc<Signals, Global>>, AllocError>
     where
-        S: FeedHost,
-        H: Pumped<S>,
         R: Wait,
     {
-        self.guarded().lock(rt).signals(feed)
+        self.locked().lock(rt).signals(feed)
     }
 }
 
@@ -111,16 +103,16 @@ impl<H: Drop> Host<H> {
 /// as one holding may, and answers the last; without memory for a row what was handed before it
 /// stays handed. The other turns make one step: both answer `Nothing`, also where there is nothing to
 /// do, and `Turn::Beat` answers `Full` where the lane was full.
-pub fn hold<S, H, R, G>(
+pub fn hold<S, C, R, G>(
     rt: &R,
-    host: &Host<H>,
+    host: &Host<S, C>,
     feed: FeedId,
     turn: Turn,
     gate: &G,
 ) -> Result<Handed, AllocError>
 where
     S: FeedHost,
-    H: Pumped<S>,
+    C: Count,
     R: Asks<FeedLabel<S>, Item<S::Row>>,
     G: Gate,
 {
@@ -130,17 +122,16 @@ where
 
 // What a pump knows between two holdings.
 #[derive(Drop)]
-struct PumpState<'a, S: FeedHost, H: Pumped<S>, K: Clock> {
-    host: &'a Host<H>,
+struct PumpState<'a, S: FeedHost, C: Count, K: Clock> {
+    host: &'a Host<S, C>,
     feed: FeedId,
     signals: &'a Signals,
     clock: &'a K,
     /// The clock's reading at the last item, or at the beginning.
     last_item: u64,
-    of: PhantomData<S>,
 }
 
-impl<'a, S: FeedHost, H: Pumped<S>, K: Clock> PumpState<'a, S, H, K> {
+impl<'a, S: FeedHost, C: Count, K: Clock> PumpState<'a, S, C, K> {
     // What comes after a turn that found nothing to do: behind a heartbeat or the end of its time the
     // feed is asked again; a feed that had nothing to hand gets one of these, or waits for news.
     fn after_nothing<R: Wait + time::Clock>(&mut self, rt: &R, turn: Turn, news: u64) -> Turn {
@@ -199,16 +190,16 @@ impl<'a, S: FeedHost, H: Pumped<S>, K: Clock> PumpState<'a, S, H, K> {
 /// is. It takes the lock for at most as many items as one holding may hand. Where the lane is full it
 /// sleeps until `Feed::take` finds it empty; where there is nothing to hand it sleeps until a write, a
 /// deletion or the end of a feed, and at most until a heartbeat is due, or the feed's time is over.
-pub fn pump<S, H, R, G, K>(
+pub fn pump<S, C, R, G, K>(
     rt: &R,
-    host: &Host<H>,
+    host: &Host<S, C>,
     feed: FeedId,
     gate: &G,
     clock: &K,
 ) -> Result<(), AllocError>
 where
     S: FeedHost,
-    H: Pumped<S>,
+    C: Count,
     R: Asks<FeedLabel<S>, Item<S::Row>> + time::Clock,
     G: Gate,
     K: Clock,
@@ -222,7 +213,6 @@ where
         signals: &signals,
         clock,
         last_item: clock.now_ms(),
-        of: PhantomData,
     };
     let done = state.run(rt, gate);
     signals.end();

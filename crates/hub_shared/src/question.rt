@@ -1,10 +1,9 @@
 //! Questions to a database, and their answers.
 
-ghost use Rattle.std.specs.Prelude.{◌≡◌, false, Option, option_map, IfOk, IfErr, IsSome};
+ghost use Rattle.std.specs.Prelude.{◌≡◌, false, option_map, IfOk, IfErr, IsSome};
 ghost use Rattle.hub_database.specs.Database.{GivesUp};
 ghost use Rattle.hub_shared.specs.Answers.{IsAnswer, TakesMemory, local_named};
 ghost use Rattle.hub_database.specs.Locals.{local_of};
-ghost use Rattle.hub_database.specs.declared.local.Local.{Local as Kept};
 
 use hub_database::{DbFault, DbState, Descending, Diff, Info, Local, Lookup, OpenRev};
 use hub_document::{Asked, OpenRevs};
@@ -65,15 +64,16 @@ fn copied(alloc: Global, local: &Local) -> Result<Local, AllocError>
     })
 }
 
-// What is answered of a local document.
-fn local_answer(alloc: Global, state: &DbState, id: &str) -> Result<Answer, DbFault>
-    ensures ok { IfOk result (λ a. (state.now.deleted ≡ false) × ((l : Option Kept) × (a ≡ Answer.Local l)
-        × (option_map (local_named id.now) l ≡ local_of state.now.locals id.now))) }
+/// A copy of the local document of this id. It costs a look in the map of local documents, and the copy.
+/// Out of memory is told only where there is such a document.
+pub fn local_copy(alloc: Global, state: &DbState, id: &str) -> Result<Option<Local>, DbFault>
+    ensures ok { IfOk result (λ found. (state.now.deleted ≡ false)
+        × (option_map (local_named id.now) found ≡ local_of state.now.locals id.now)) }
     ensures err { IfErr result (λ e. GivesUp state.now (IsSome (local_of state.now.locals id.now)) e) }
 {
     match state.local_get(id)? {
-        Some(local) => Ok(Answer::Local(Some(copied(alloc, local)?))),
-        None => Ok(Answer::Local(None)),
+        Some(local) => Ok(Some(copied(alloc, local)?)),
+        None => Ok(None),
     }
 }
 
@@ -94,6 +94,6 @@ pub fn answer_of(alloc: Global, state: &DbState, question: Question) -> Result<A
         )?)),
         Question::RevsDiff(asked) => Ok(Answer::RevsDiff(state.revs_diff(asked)?)),
         Question::Descending(params) => Ok(Answer::Descending(state.changes_descending(&params)?)),
-        Question::Local { id } => local_answer(alloc, state, id.as_str()),
+        Question::Local { id } => Ok(Answer::Local(local_copy(alloc, state, id.as_str())?)),
     }
 }

@@ -1,6 +1,6 @@
 //! The log of updates that threads share.
 
-ghost use Rattle.std.specs.Prelude.{◌≡◌, ◌⊎◌, [], IfOk, IfErr, OnOk};
+ghost use Rattle.std.specs.Prelude.{◌≡◌, ◌⊎◌, ◌≤◌, ◌<◌, ◌++◌, ◌∷◌, [], length, IfOk, IfErr, OnOk};
 ghost use Rattle.hub_feed.specs.Host.{Hosted};
 ghost use Rattle.hub_model.specs.Updates.{UpdateRow};
 ghost use Rattle.hub_params.specs.FeedShown.{params_asked};
@@ -8,9 +8,10 @@ ghost use Rattle.hub_shared.specs.Feeds.{IsOpened};
 ghost use Rattle.hub_shared.specs.Handles.{IsBeginningFor};
 ghost use Rattle.hub_updates.specs.Asked.{updates_asked};
 
+use crate::count::NoCount;
 use crate::feed::HostFeed;
 use crate::host::Host;
-use crate::served::{OpenedFeed, Served};
+use crate::locked::{Locked, OpenedFeed};
 use hub_document::Limits;
 use hub_feed::OpenFault;
 use hub_params::FeedParams;
@@ -19,31 +20,40 @@ use std::alloc::{AllocError, Global};
 use std::sync::Wait;
 
 /// The log of updates, which threads share. Each `Updates` keeps it; it goes with the last of them.
-pub type Updates = Host<Served<UpdatesState>>;
+pub type Updates = Host<UpdatesState>;
 
 /// A feed of the log of updates.
-pub type UpdatesFeed = HostFeed<UpdatesState, Served<UpdatesState>>;
+pub type UpdatesFeed = HostFeed<UpdatesState>;
 
-impl Served<UpdatesState> {
-    // Adds a notice at the end of the log, or hands it back, as `Locked::note`.
-    fn note(&mut self, notice: Notice) -> Result<(), (Notice, NoteFault)>
-        ensures err { IfErr result (λ e. e.0 ≡ notice) }
+impl Locked<UpdatesState> {
+    /// Adds a notice at the end of the log, or hands it back, as `UpdatesState::note`, and gives news of
+    /// it: what its feeds have sent goes on fitting them.
+    pub fn note(&mut self, notice: Notice) -> Result<(), (Notice, NoteFault)>
+        ensures room { OnOk result (length self.old.state.notes < self.old.state.limits.journal) }
+        ensures ok { OnOk result (self.new ≡ record self.old {
+          state = record self.old.state { notes = self.old.state.notes ++ notice ∷ [] };
+        }) }
+        ensures err { IfErr result (λ e. (e.0 ≡ notice) × (self.new ≡ self.old)
+            × (((e.1 ≡ NoteFault.NoMemory) × (length self.old.state.notes < self.old.state.limits.journal))
+            ⊎ ((e.1 ≡ NoteFault.SequenceFull)
+            × (self.old.state.limits.journal ≤ length self.old.state.notes)))) }
     {
         self.tell();
-        self.locked.note(notice)
+        self.state.note(notice)
     }
 }
 
-impl Host<Served<UpdatesState>> {
+impl Host<UpdatesState> {
     /// A log of nothing. Its life is 0, which no database has.
     pub fn of_updates(alloc: Global, limits: Limits) -> Result<Updates, AllocError> {
-        let served = Served::new(
+        let locked = Locked::new(
             alloc,
             UpdatesState::new(alloc, limits, 0),
             limits.lane as usize,
             limits.hold,
+            NoCount,
         );
-        Host::of(alloc, served)
+        Host::of(alloc, locked)
     }
 
     /// Adds a notice at the end of the log, or hands it back, as `UpdatesState::note`, and tells the
@@ -51,7 +61,7 @@ impl Host<Served<UpdatesState>> {
     pub fn note<R: Wait>(&self, rt: &R, notice: Notice) -> Result<(), (Notice, NoteFault)>
         ensures err { IfErr result (λ e. e.0 ≡ notice) }
     {
-        let noted = self.guarded().lock(rt).note(notice);
+        let noted = self.locked().lock(rt).note(notice);
         self.tell();
         noted
     }
@@ -75,7 +85,7 @@ impl Host<Served<UpdatesState>> {
             receiver,
             signals,
         } = self
-            .guarded()
+            .locked()
             .lock(rt)
             .begin(UpdatesState::effective(params))?;
         Ok(HostFeed::new(host, id, receiver, signals))

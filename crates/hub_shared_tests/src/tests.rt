@@ -14,7 +14,7 @@ use hub_lane::Receiver;
 use hub_model::{Fault, Item};
 use hub_params::FeedParams;
 use hub_shared::{
-    AuditFault, ChangeItem, ChangeLabel, Handed, Locked, Receipt, ReceiptRoom, audit_of,
+    AuditFault, ChangeItem, ChangeLabel, Handed, Locked, NoCount, Receipt, ReceiptRoom, audit_of,
 };
 use std::alloc::{AllocError, Global};
 use std::sync::Wait;
@@ -61,7 +61,7 @@ fn holds<F: FnOnce(Global, &mut Database) -> Result<bool, Fail>>(
 {
     let mut limits = Limits::full();
     limits.feeds = 1;
-    let mut database = Locked::new(alloc, DbState::new(alloc, limits, LIFE), 2);
+    let mut database = Database::new(alloc, DbState::new(alloc, limits, LIFE), 2, 64, NoCount);
     case(alloc, &mut database)
 }
 
@@ -179,8 +179,9 @@ fn try_begin(
         return Err(AllocError);
     };
     match database.begin(params) {
+        Ok(opened) => Ok(Ok((opened.id, opened.receiver))),
         Err(OpenFault::NoMemory) => Err(AllocError),
-        opened => Ok(opened),
+        Err(fault) => Ok(Err(fault)),
     }
 }
 

@@ -11,6 +11,7 @@ mod feeds;
 mod holding;
 mod limits;
 mod lives;
+mod looks;
 mod polls;
 mod readers;
 mod stopped;

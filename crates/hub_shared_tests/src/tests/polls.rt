@@ -6,7 +6,7 @@ use hub_document::Limits;
 use hub_feed::FeedHost;
 use hub_lane::Asks;
 use hub_model::Item;
-use hub_shared::{Bell, Clock, Db, Feed, FeedLabel, HostFeed, Plain, Pumped, Watch};
+use hub_shared::{Bell, Clock, Count, Db, Feed, FeedLabel, HostFeed, Plain, Watch};
 use std::alloc::{AllocError, Global};
 use std::sync::{Arc, Wait};
 use std::test::Fail;
@@ -23,11 +23,11 @@ impl Clock for Still {
 
 // The next item that a poll gives of a feed of any host; an error where there is none since the feed found no
 // memory, or is at its end.
-fn polled<R, S, H>(rt: &R, feed: &mut HostFeed<S, H>) -> Result<Option<Item<S::Row>>, AllocError>
+fn polled<R, S, C>(rt: &R, feed: &mut HostFeed<S, C>) -> Result<Option<Item<S::Row>>, AllocError>
 where
     R: Asks<FeedLabel<S>, Item<S::Row>>,
     S: FeedHost,
-    H: Pumped<S>,
+    C: Count,
 {
     match feed.poll(rt, &Open, &Still) {
         None if feed.is_over() => Err(AllocError),
@@ -36,26 +36,26 @@ where
 }
 
 // Whether a feed of any host gets just one row, and waits then for a minute.
-fn gets_one_row<R, S, H>(rt: &R, feed: &mut HostFeed<S, H>) -> Result<bool, AllocError>
+fn gets_one_row<R, S, C>(rt: &R, feed: &mut HostFeed<S, C>) -> Result<bool, AllocError>
 where
     R: Asks<FeedLabel<S>, Item<S::Row>>,
     S: FeedHost,
-    H: Pumped<S>,
+    C: Count,
 {
     let is_row = matches!(polled(rt, feed)?, Some(Item::Row(_)));
     Ok(is_row && polled(rt, feed)?.is_none() && feed.due() == 60_007)
 }
 
 // A bell, and a watch that rings it and has news of this feed.
-fn watched<R, S, H>(
+fn watched<R, S, C>(
     rt: &R,
     alloc: Global,
-    feed: &HostFeed<S, H>,
+    feed: &HostFeed<S, C>,
 ) -> Result<(Arc<Bell, Global>, Arc<Watch, Global>), AllocError>
 where
     R: Wait,
     S: FeedHost,
-    H: Pumped<S>,
+    C: Count,
 {
     let bell = Arc::new(alloc, Bell::new())?;
     let watch = Arc::new(alloc, Watch::new(Arc::try_clone(&bell)?))?;

@@ -8,8 +8,8 @@ use hub_lane::Asks;
 use hub_model::{Fault, Item, UpdateKind};
 use hub_params::FeedParams;
 use hub_shared::{
-    Answer, Db, Feed, FeedLabel, Gate, Handed, Host, HostFeed, Locked, Plain, Point, Pumped,
-    Question, Turn, Updates, UpdatesFeed, answer_of, hold,
+    Answer, Count, Db, Feed, FeedLabel, Gate, Handed, Host, HostFeed, Locked, NoCount, Plain,
+    Point, Question, Turn, Updates, UpdatesFeed, answer_of, hold,
 };
 use hub_updates::{Notice, UpdatesState};
 use std::alloc::{AllocError, Global};
@@ -69,9 +69,10 @@ fn hands_a_note<R: Wait>(
         notice.lapse();
         return Err(AllocError);
     }
-    let Ok((feed, mut taker)) = log.begin(params(alloc, "")?) else {
+    let Ok(opened) = log.begin(params(alloc, "")?) else {
         return Err(AllocError);
     };
+    let (feed, mut taker) = (opened.id, opened.receiver);
     let handed = (log.hand(rt, feed)?, log.hand(rt, feed)?) == (Handed::Row, Handed::End);
     let row = match taker.take(rt) {
         Some(Item::Row(row)) => {
@@ -91,7 +92,8 @@ fn hands_a_note<R: Wait>(
 
 // The same of a new log.
 fn a_log_hands_a_note<R: Wait>(rt: &R, alloc: Global) -> Result<bool, AllocError> {
-    let mut log = Locked::new(alloc, UpdatesState::new(alloc, Limits::full(), 0), 2);
+    let log = UpdatesState::new(alloc, Limits::full(), 0);
+    let mut log = Locked::new(alloc, log, 2, 64, NoCount);
     hands_a_note(rt, alloc, &mut log)
 }
 
@@ -149,16 +151,16 @@ pub(crate) fn of_log<R: Wait>(
 }
 
 // Whether one holding of the lock of a host hands so many rows of a feed, and its end.
-fn hands<R, S, H>(
+fn hands<R, S, C>(
     rt: &R,
-    host: &Host<H>,
-    feed: &mut HostFeed<S, H>,
+    host: &Host<S, C>,
+    feed: &mut HostFeed<S, C>,
     rows: u64,
 ) -> Result<bool, AllocError>
 where
     R: Asks<FeedLabel<S>, Item<S::Row>>,
     S: FeedHost,
-    H: Pumped<S>,
+    C: Count,
 {
     if hold(rt, host, feed.id(), Turn::Hand, &Open)? != Handed::End {
         return Ok(false);

@@ -20,9 +20,9 @@ returns-clause-once g c =
 pub returns-clause-faults : goal.returns-clause-faults
 returns-clause-faults g c =
     let db : Database = c.deref_mut.result.now.state in
-    err_by c.local_put.result (λ e is. one_of_three db c.args.doc e is) c.local_put.ensures.err
+    err_by c.local_put.result (λ e is. one_of_three db c.args.doc e is.1) c.local_put.ensures.err
 
 pub returns-clause-err : goal.returns-clause-err
 returns-clause-err g c =
     let db : Database = c.deref_mut.result.now.state in
-    err_by c.local_put.result (λ e is. (db, is)) c.local_put.ensures.err
+    err_by c.local_put.result (λ e is. (db, is.1)) c.local_put.ensures.err

@@ -1,30 +1,25 @@
-use Rattle.std.proofs.Common.{◌≡◌, ◌∙◌, ap, subst, ℕ}
-use Rattle.std.specs.Prelude.{Result, Ok, Err, IfErr}
-use Rattle.hub_database.specs.Database.{Database}
-use Rattle.hub_database.specs.declared.batch.DbFault.{DbFault}
-use Rattle.hub_shared.specs.Handles.{HandleState, IsFoundBy}
-use Rattle.hub_shared.specs.declared.question.Answer.{Answer}
+use Rattle.std.proofs.Common.{◌≡◌, false, rules, subst}
+use Rattle.std.specs.Prelude.{IfOk, IfErr}
+use Rattle.hub_database.specs.Database.{Database, GivesUp}
+use Rattle.hub_shared.specs.Answers.{IsAnswer, TakesMemory}
+use Rattle.hub_shared.proofs.Outcomes.{ok_by, err_by}
 use Rattle.hub_shared.proofs.handle.Handle.read.Goals as goal
+
+pub returns-clause-ok : goal.returns-clause-ok
+returns-clause-ok g c =
+    let asked = c.look.ensures.asked in
+    let told : IfOk c.look.result (λ a.
+    (asked.2.0.now.deleted ≡ false) × IsAnswer asked.2.0.now c.args.question a) = search rules in
+    ok_by c.look.result
+    (λ a is. record { db = asked.0; found = asked.1; stands = is.0; answered = is.1 })
+    (subst (λ (db : Database). IfOk c.look.result (λ a. (db.deleted ≡ false) × IsAnswer db c.args.question a))
+    asked.2.2 told)
 
 pub returns-clause-err : goal.returns-clause-err
 returns-clause-err g c =
-    let db : Database = c.deref_mut.result.now.state in
-    let counted : record {
-      parts = g.C.Count.parts c.self.inside.share;
-      count = g.C.Count.amount c.self.inside.share;
-    }
-    ≡ c.args.self.now =
-    ap (λ (n : ℕ). record { parts = g.C.Count.parts c.self.inside.share; count = n }) c.self.invariant.1
-    ∙ c.self.view_is in
-    told_by c.read.result
-    (λ e gives. (
-      db,
-      subst (λ (h : HandleState). IsFoundBy g.C.Count.counts g.C.Count.all_parts h db)
-          counted c.read.ensures.found,
-      gives,
-    )) c.read.ensures.err
-  where
-    told_by : {P Q : DbFault → Type 0} (r : Result Answer DbFault) → ((e : DbFault) → P e → Q e) → IfErr r P
-        → IfErr r Q
-    told_by (Ok a) f p = p
-    told_by (Err e) f p = f e p
+    let asked = c.look.ensures.asked in
+    let told : IfErr c.look.result (λ e.
+    GivesUp asked.2.0.now (TakesMemory asked.2.0.now c.args.question) e) = search rules in
+    err_by c.look.result (λ e is. (asked.0, asked.1, is))
+    (subst (λ (db : Database). IfErr c.look.result (λ e. GivesUp db (TakesMemory db c.args.question) e))
+    asked.2.2 told)

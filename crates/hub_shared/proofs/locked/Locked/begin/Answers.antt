@@ -1,11 +1,14 @@
 use Rattle.std.proofs.Common.{◌≡◌, ◌∙◌, ap, sym, subst, ◌∷◌, [], ◌++◌, None}
 use Rattle.hub_model.specs.Entries.{entry_in}
+use Rattle.hub_feed.specs.Host.{opened}
 use Rattle.hub_model.specs.Feed.{Params, begin}
 use Rattle.hub_lane.specs.Ends.{ReceiverState, new_receiver, new_sender}
+use Rattle.hub_params.specs.FeedModel.{params_of}
 use Rattle.hub_params.specs.FeedShown.{params_asked}
 use Rattle.hub_shared.specs.Label.{label_of}
 use Rattle.hub_shared.specs.Locked.{AreSendersOf}
 use Rattle.hub_shared.specs.Opening.{Begins}
+use Rattle.hub_shared.proofs.Booking.{book_kept}
 use Rattle.hub_shared.proofs.Sending.{comes}
 use Rattle.hub_shared.proofs.locked.Locked.begin.Goals as goal
 
@@ -15,7 +18,7 @@ invariant_of-self-in-Ok-open_feed g c =
     let laws = g.met.S.FeedHost in
     let s = c.self.inside.state in
     let new = c.open_feed.new.self in
-    let old = c.self.inside.senders.items in
+    let old = c.self.inside.subscribers.items in
     let own = c.in-Ok-open_feed.ensures in
     let next = (h.hosted s).next_feed in
     let id = c.in-Ok.receiver.lane_id in
@@ -28,7 +31,8 @@ invariant_of-self-in-Ok-open_feed g c =
     c.in-Ok.sender ≡ new_sender id (label_of (params_asked c.args.params) (h.hosted l.state)) l.lane)
     (sym c.self.view_is) c.in-Ok.ensures.sender in
     let items : c.push_reserved.new.self.items ≡ senders =
-    c.push_reserved.ensures.items ∙ (λ k. c.try_reserve.ensures.items k ++ (own.number k, sender k) ∷ []) in
+    c.push_reserved.ensures.items
+    ∙ (λ k. c.try_reserve.ensures.items k ++ (own.number k, (c.new.ensures ∙ sender) k) ∷ []) in
     let begins =
     subst (λ l. (p : Params) → h.fits l.state (begin p (h.hosted l.state).length (h.hosted l.state).life) [])
     (sym c.self.view_is) c.ends_for.ensures.begins in
@@ -39,6 +43,8 @@ invariant_of-self-in-Ok-open_feed g c =
           (subst (λ z. AreSendersOf (h.fits z) (h.hosted z) senders) (sym own.ok)
           (comes h.hosted h.with_hosted h.fits h.right laws.hosts laws.rightly laws.stays s c.args.params
           id c.self.inside.lane old begins fresh c.self.invariant.1)),
+      book_kept h.hosted h.with_hosted laws.hosts g.C.Count.counts (g.C.Count.total c.self.inside.book)
+          s new (opened (h.hosted s) (params_of c.args.params)) own.ok c.self.invariant.2,
     )
 
 pub returns-in-Ok-open_feed-clause-ok : goal.returns-in-Ok-open_feed-clause-ok
@@ -48,7 +54,7 @@ returns-in-Ok-open_feed-clause-ok g c =
     let own = c.in-Ok-open_feed.ensures in
     let id = c.in-Ok.receiver.lane_id in
     let senders =
-    c.self.inside.senders.items
+    c.self.inside.subscribers.items
     ++ (
       (h.hosted s).next_feed,
       new_sender id (label_of (params_asked c.args.params) (h.hosted s)) c.self.inside.lane,
@@ -59,12 +65,13 @@ returns-in-Ok-open_feed-clause-ok g c =
     c.in-Ok.sender ≡ new_sender id (label_of (params_asked c.args.params) (h.hosted l.state)) l.lane)
     (sym c.self.view_is) c.in-Ok.ensures.sender in
     let items : c.push_reserved.new.self.items ≡ senders =
-    c.push_reserved.ensures.items ∙ (λ k. c.try_reserve.ensures.items k ++ (own.number k, sender k) ∷ []) in
+    c.push_reserved.ensures.items
+    ∙ (λ k. c.try_reserve.ensures.items k ++ (own.number k, (c.new.ensures ∙ sender) k) ∷ []) in
     let receives =
     subst (λ l. c.in-Ok.receiver
     ≡ new_receiver c.in-Ok.sender.lane_id (label_of (params_asked c.args.params) (h.hosted l.state)))
     (sym c.self.view_is) c.in-Ok.ensures.receiver in
-    subst (λ l. Begins h.hosted h.with_hosted c.args.params l c.in-Ok-open_feed.feed.number c.in-Ok.receiver
+    subst (λ l. Begins h.hosted h.with_hosted c.args.params l c.in-Ok-open_feed.id.number c.in-Ok.receiver
     (record {
       state = c.open_feed.new.self;
       senders = c.push_reserved.new.self.items;

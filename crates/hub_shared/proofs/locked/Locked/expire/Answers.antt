@@ -1,5 +1,7 @@
 use Rattle.std.proofs.Common.{sym, subst}
+use Rattle.hub_feed.specs.Host.{expired}
 use Rattle.hub_shared.specs.Locked.{AreSendersOf}
+use Rattle.hub_shared.proofs.Booking.{book_kept}
 use Rattle.hub_shared.proofs.Sending.{expires}
 use Rattle.hub_shared.proofs.locked.Locked.expire.Goals as goal
 
@@ -7,9 +9,13 @@ pub invariant_of-self : goal.invariant_of-self
 invariant_of-self g c =
     let h = g.S.FeedHost in
     let laws = g.met.S.FeedHost in
-    let senders = c.self.inside.senders.items in (
+    let s = c.self.inside.state in
+    let id = c.args.feed.number in
+    let senders = c.self.inside.subscribers.items in (
       c.self.invariant.0,
       subst (λ s. AreSendersOf (h.fits s) (h.hosted s) senders) (sym c.expire.ensures)
           (expires h.hosted h.with_hosted h.fits h.right laws.hosts laws.rightly laws.stays
-          c.self.inside.state c.args.feed.number senders c.self.invariant.1 laws.expired_fits),
+          s id senders c.self.invariant.1 laws.expired_fits),
+      book_kept h.hosted h.with_hosted laws.hosts g.C.Count.counts (g.C.Count.total c.self.inside.book)
+          s c.expire.new.self (expired (h.hosted s) id) c.expire.ensures c.self.invariant.2,
     )

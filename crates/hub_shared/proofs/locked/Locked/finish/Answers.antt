@@ -1,6 +1,8 @@
 use Rattle.std.proofs.Common.{sym, subst}
+use Rattle.hub_feed.specs.Host.{finished}
 use Rattle.hub_model.specs.Entries.{without}
 use Rattle.hub_shared.specs.Locked.{AreSendersOf}
+use Rattle.hub_shared.proofs.Booking.{book_kept}
 use Rattle.hub_shared.proofs.Sending.{finishes}
 use Rattle.hub_shared.proofs.locked.Locked.finish.Goals as goal
 
@@ -8,12 +10,15 @@ pub invariant_of-self : goal.invariant_of-self
 invariant_of-self g c =
     let h = g.S.FeedHost in
     let laws = g.met.S.FeedHost in
-    let senders = c.self.inside.senders.items in
+    let s = c.self.inside.state in
+    let new = c.finish.new.self in
+    let senders = c.self.inside.subscribers.items in
     let id = c.args.feed.number in (
       c.self.invariant.0,
-      subst (λ xs. AreSendersOf (h.fits c.finish.new.self) (h.hosted c.finish.new.self) xs)
-          (sym c.remove.ensures.senders)
+      subst (λ xs. AreSendersOf (h.fits new) (h.hosted new) xs) (sym c.remove.ensures.senders)
           (subst (λ s. AreSendersOf (h.fits s) (h.hosted s) (without id senders)) (sym c.finish.ensures)
           (finishes h.hosted h.with_hosted h.fits h.right laws.hosts laws.rightly laws.stays
-          c.self.inside.state id senders c.self.invariant.1)),
+          s id senders c.self.invariant.1)),
+      book_kept h.hosted h.with_hosted laws.hosts g.C.Count.counts (g.C.Count.total c.self.inside.book)
+          s new (finished (h.hosted s) id) c.finish.ensures c.self.invariant.2,
     )

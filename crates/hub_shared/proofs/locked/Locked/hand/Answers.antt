@@ -1,23 +1,139 @@
-use Rattle.std.proofs.Common.{◌≡◌, ◌∙◌, ap, sym, subst}
-use Rattle.hub_feed.specs.Host.{answered, behind_answer}
+-- A hand of the host to a sender that stands in the list is a hand of the host with its senders.
+use Rattle.std.proofs.Common.{◌≡◌, ◌∙◌, sym, subst, refl, Some, None}
+use Rattle.std.specs.Prelude.{position, slice_set}
+use Rattle.hub_model.specs.Entries.{is_of}
+use Rattle.hub_model.proofs.Entries.{entry_here, no_entry, stays_here}
+use Rattle.hub_feed.specs.Host.{answered, behind_answer, due_to, handed}
+use Rattle.hub_feed.specs.Next.{IsRowDue}
+use Rattle.hub_feed.specs.declared.handed.Handed.TheVariants.{Gone}
 use Rattle.hub_feed.specs.declared.next.Next.TheVariants.{Nothing}
-use Rattle.hub_shared.specs.Locked.{AreSendersOf}
-use Rattle.hub_shared.proofs.Sending.{rests}
+use Rattle.hub_feed.proofs.FeedsLemmas.{both_ok, err_then, ok_or_err}
+use Rattle.hub_feed.proofs.HandLemmas.{hands_keeps}
+use Rattle.hub_lane.specs.Ends.{behind_push}
+use Rattle.hub_shared.specs.Locked.{LockedState, AreSendersOf, Hands, IsBookOf}
+use Rattle.hub_shared.proofs.Booking.{book_kept}
+use Rattle.hub_shared.proofs.Handing.{may_take, no_feed, serves_hand, hand_in}
 use Rattle.hub_shared.proofs.locked.Locked.hand.Goals as goal
 
-pub invariant_of-self-in-Nothing : goal.invariant_of-self-in-Nothing
-invariant_of-self-in-Nothing g c =
+pub returns-in_default-clause-ok : goal.returns-in_default-clause-ok
+returns-in_default-clause-ok g c =
     let h = g.S.FeedHost in
     let laws = g.met.S.FeedHost in
     let s = c.self.inside.state in
     let id = c.args.feed.number in
-    let senders = c.self.inside.senders.items in
-    let item = c.in_ok-item.ensures in
-    let nothing : Nothing ≡ answered (h.hosted s) id = sym c.in-Nothing.is ∙ item.ok in
-    let new : c.next_item.new.self ≡ h.with_hosted s (behind_answer (h.hosted s) id Nothing) =
-    item.new ∙ ap (λ n. h.with_hosted s (behind_answer (h.hosted s) id n)) c.in-Nothing.is in (
+    let senders = c.self.inside.subscribers.items in
+    let whole : LockedState _ _ = record { state = s; senders = senders; lane = c.self.inside.lane } in
+    let refuses = g.R.Asks.refuses c.args.rt.now in
+    let none : position (is_of id) senders ≡ None =
+    rw c.as_slice.ensures.value at (sym c.place_near.ensures ∙ c.in_default.is) in
+    let gone =
+    no_feed h.hosted h.with_hosted h.fits h.right laws.hosts laws.rightly laws.stays laws.handed_fits s id
+    senders c.self.invariant.1 (no_entry id senders none) in
+    subst (λ (l : LockedState _ _).
+    Hands h.hosted h.with_hosted refuses (answered (h.hosted l.state) id) l id Gone l) c.self.view_is
+    (subst (λ a. Hands h.hosted h.with_hosted refuses a whole id Gone whole) gone (refl, refl))
+
+pub hand-requires : goal.hand-requires
+hand-requires g c =
+    let h = g.S.FeedHost in
+    let laws = g.met.S.FeedHost in
+    let s = c.self.inside.state in
+    let id = c.args.feed.number in
+    let senders = c.self.inside.subscribers.items in
+    let at = c.in-Some.at in
+    let placed : Some at ≡ position (is_of id) senders = rw c.as_slice.ensures.value at c.in-Some.ensures in
+    let p = c.index_mut-entry.result.now in
+    record {
+      may =
+          may_take h.hosted h.with_hosted h.fits h.right laws.hosts laws.rightly laws.stays laws.handed_fits s
+          id senders c.self.invariant.1 p.1
+          (entry_here id senders at placed p c.index_mut-entry.ensures.value);
+    }
+
+pub invariant_of-self : goal.invariant_of-self
+invariant_of-self g c =
+    let h = g.S.FeedHost in
+    let laws = g.met.S.FeedHost in
+    let s = c.self.inside.state in
+    let id = c.args.feed.number in
+    let senders = c.self.inside.subscribers.items in
+    let at = c.in-Some.at in
+    let placed : Some at ≡ position (is_of id) senders = rw c.as_slice.ensures.value at c.in-Some.ensures in
+    let p = c.index_mut-entry.result.now in
+    let is = c.index_mut-entry.ensures.value in
+    let new = c.hand.new.self in
+    let sender = c.hand.new.sink in
+    let refuses = g.R.Asks.refuses c.args.rt.now in
+    let given = h.with_hosted s (handed (h.hosted s) id) in
+    let looked = h.with_hosted s (behind_answer (h.hosted s) id Nothing) in
+    let book = c.self.invariant.2 in
+    let counts = g.C.Count.counts in
+    let total = g.C.Count.total c.self.inside.book in (
       c.self.invariant.0,
-      subst (λ z. AreSendersOf (h.fits z) (h.hosted z) senders) (sym new)
-          (rests h.hosted h.with_hosted h.fits h.right laws.hosts laws.rightly laws.stays s id senders
-          c.self.invariant.1 laws.waiting_fits nothing),
+      ok_or_err {P = AreSendersOf (h.fits new) (h.hosted new) (slice_set senders at (p.0, sender))}
+          c.hand.result
+          (λ answer hands. serves_hand h.hosted h.with_hosted h.fits h.right laws.hosts laws.rightly
+          laws.stays laws.handed_fits s id senders c.self.invariant.1 laws.waiting_fits refuses at p placed
+          is new sender (answered (h.hosted s) id) refl answer hands)
+          (λ err. subst (λ z. AreSendersOf (h.fits z) (h.hosted z) (slice_set senders at (p.0, sender)))
+          (sym err.0) (subst (AreSendersOf (h.fits s) (h.hosted s))
+          (sym (stays_here id senders at placed p is sender err.1)) c.self.invariant.1))
+          c.hand.ensures.ok c.hand.ensures.err,
+      ok_or_err {P = IsBookOf counts total (h.hosted new).length} c.hand.result
+          (λ answer hands. hands_keeps behind_push refuses p.1
+          (λ z. IsBookOf counts total (h.hosted z).length) s given looked new book
+          (book_kept h.hosted h.with_hosted laws.hosts counts total s given (handed (h.hosted s) id) refl
+          book)
+          (book_kept h.hosted h.with_hosted laws.hosts counts total s looked
+          (behind_answer (h.hosted s) id Nothing) refl book)
+          (answered (h.hosted s) id) answer sender hands)
+          (λ err. subst (λ z. IsBookOf counts total (h.hosted z).length) (sym err.0) book)
+          c.hand.ensures.ok c.hand.ensures.err,
     )
+
+pub returns-clause-ok : goal.returns-clause-ok
+returns-clause-ok g c =
+    let h = g.S.FeedHost in
+    let laws = g.met.S.FeedHost in
+    let s = c.self.inside.state in
+    let id = c.args.feed.number in
+    let senders = c.self.inside.subscribers.items in
+    let at = c.in-Some.at in
+    let placed : Some at ≡ position (is_of id) senders = rw c.as_slice.ensures.value at c.in-Some.ensures in
+    let p = c.index_mut-entry.result.now in
+    let new = c.hand.new.self in
+    let sender = c.hand.new.sink in
+    let lane = c.self.inside.lane in
+    let refuses = g.R.Asks.refuses c.args.rt.now in
+    both_ok c.hand.result
+    (λ answer hands _. subst (λ (l : LockedState _ _).
+    Hands h.hosted h.with_hosted refuses (answered (h.hosted l.state) id) l id answer
+    (record { state = new; senders = slice_set senders at (p.0, sender); lane = lane })) c.self.view_is
+    (hand_in h.hosted h.with_hosted h.fits h.right laws.hosts laws.rightly laws.stays laws.handed_fits s id
+    senders c.self.invariant.1 laws.waiting_fits refuses at p placed c.index_mut-entry.ensures.value new
+    sender lane (answered (h.hosted s) id) answer hands))
+    c.hand.ensures.ok c.hand.ensures.ok
+
+pub returns-clause-err : goal.returns-clause-err
+returns-clause-err g c =
+    let h = g.S.FeedHost in
+    let id = c.args.feed.number in
+    let senders = c.self.inside.subscribers.items in
+    let at = c.in-Some.at in
+    let placed : Some at ≡ position (is_of id) senders = rw c.as_slice.ensures.value at c.in-Some.ensures in
+    let p = c.index_mut-entry.result.now in
+    let is = c.index_mut-entry.ensures.value in
+    let lane = c.self.inside.lane in
+    let sender = c.hand.new.sink in
+    err_then c.hand.result
+    (λ err. subst (λ (l : LockedState _ _). ◌≡◌ {A = LockedState _ _}
+    (record { state = c.hand.new.self; senders = slice_set senders at (p.0, sender); lane = lane }) l
+    × IsRowDue (due_to (h.hosted l.state) id)) c.self.view_is (
+      (λ k. record {
+        state = err.0 k;
+        senders = stays_here id senders at placed p is sender err.1 k;
+        lane = lane;
+      }),
+      err.2,
+    ))
+    c.hand.ensures.err

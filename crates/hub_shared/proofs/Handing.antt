@@ -1,0 +1,153 @@
+-- What one hand does to a host and the senders of its feeds.
+use Rattle.std.proofs.Common.{◌≡◌, ◌∙◌, ℕ, List, [], ◌∷◌, ◌++◌, refl, sym, subst, Option, Some, None}
+use Rattle.std.specs.Prelude.{IfSome, option_and_then, position, get_or, slice_set}
+use Rattle.std.proofs.lemmas.Option.{same_Some}
+use Rattle.hub_model.specs.Current.{Current}
+use Rattle.hub_model.specs.Entries.{entry_in, is_of}
+use Rattle.hub_model.specs.Feed.{Feed, Params, Due, DueRow, DueEnd, DueNothing, DueGone, due, after_nothing}
+use Rattle.hub_model.specs.Hand.{item_of}
+use Rattle.hub_model.specs.declared.feeds.Item.{Item}
+use Rattle.hub_model.proofs.Entries.{changed_here, entry_here, stays_here}
+use Rattle.hub_params.specs.FeedModel.{params_in}
+use Rattle.hub_feed.specs.Hand.{HandsTo, MayTake}
+use Rattle.hub_feed.specs.Host.{Hosted, with_feeds, answer_of, answered, behind_answer, behind_due, handed}
+use Rattle.hub_feed.specs.Host.{item_due, item_for}
+use Rattle.hub_feed.specs.Next.{next_of}
+use Rattle.hub_feed.specs.declared.handed.Handed.{Handed}
+use Rattle.hub_feed.specs.declared.handed.Handed.TheVariants as did
+use Rattle.hub_feed.specs.declared.next.Next.{Next}
+use Rattle.hub_feed.specs.declared.next.Next.TheVariants.{Give, Nothing, Gone}
+use Rattle.hub_lane.specs.Ends.{behind_push}
+use Rattle.hub_shared.specs.Locked.{FeedSender, IsServed, AreSendersOf, Hands, LockedState}
+use Rattle.hub_shared.specs.Senders.{sends, MaySend}
+use Rattle.hub_shared.proofs.Sending.{Allows, Serves, may_give, gives, rests}
+
+-- what a feed gives is due to it
+given_due : {R : Type 0} (show : Current → R) (rows : List Current) (due : Due) (item : Item R)
+    → Give item ≡ next_of show rows due → item_of show rows due ≡ Some item
+given_due show rows (DueRow row) item gives = cc
+given_due show rows (DueEnd last_seq) item gives = cc
+given_due show rows DueNothing item gives = absurd (cc)
+given_due show rows DueGone item gives = absurd (cc)
+
+given_by : {R : Type 0} (host : Hosted R) (feed : Option Feed) (item : Item R)
+    → Give item ≡ answer_of host feed → option_and_then (item_for host) feed ≡ Some item
+given_by host None item gives = absurd (cc)
+given_by host (Some feed) item gives = given_due _ host.current (due host.current feed) item gives
+
+module _ {S R : Type 0} (hosted : S → Hosted R) (with_hosted : S → Hosted R → S)
+    (fits : S → Feed → List (Item R) → Type 0) (right : Params → ℕ → List (Item R) → Type 0)
+    (hosts : (s : S) (feeds : List (ℕ × Feed)) (next : ℕ)
+    → hosted (with_hosted s (with_feeds (hosted s) feeds next)) ≡ with_feeds (hosted s) feeds next)
+    (rightly : (s : S) (f : Feed) (items : List (Item R)) → fits s f items → right f.params f.since items)
+    (stays : (s : S) (h : Hosted R) (f : Feed) (items : List (Item R)) → fits s f items
+    → fits (with_hosted s h) f items)
+    (handed_fits : (s : S) (f : Feed) (items : List (Item R)) (item : Item R)
+    → item_for (hosted s) f ≡ Some item → fits s f items
+    → fits s (behind_due (hosted s) f) (items ++ item ∷ []))
+    (state : S) (id : ℕ) (senders : List (ℕ × FeedSender R))
+    (serve : AreSendersOf (fits state) (hosted state) senders) where
+  -- what a sender's label allows
+  abbrev Sends : FeedSender R → List (Item R) → Type 0
+  Sends sender items = right (params_in sender.label.asked) sender.label.since items
+
+  abbrev Takes : FeedSender R → Item R → Type 0
+  Takes sender item = MayTake Sends (λ sender. sender.sent) sender item
+
+  -- what is due may be sent
+  pub may_take : (sender : FeedSender R) → entry_in id senders ≡ Some sender
+      → IfSome (item_due (hosted state) id) (Takes sender)
+  may_take sender is = from (item_due (hosted state) id) refl
+    where
+      one : (item : Item R)
+          → MaySend (Allows hosted with_hosted fits right hosts rightly stays) senders id item
+          → Takes sender item
+      one item may =
+          subst (λ (own : FeedSender R). Sends own (own.sent ++ item ∷ []))
+          (same_Some may.0 sender (sym may.1 ∙ is)) may.2
+
+      from : (due : Option (Item R)) → item_due (hosted state) id ≡ due → IfSome due (Takes sender)
+      from None none = tt
+      from (Some item) some =
+          one item
+          (may_give hosted with_hosted fits right hosts rightly stays handed_fits state id senders item serve
+          some)
+
+  -- where there is no sender there is no feed
+  pub no_feed : entry_in id senders ≡ None → Gone ≡ answered (hosted state) id
+  no_feed none =
+      from (entry_in id (hosted state).feeds)
+      (subst (IsServed (fits state) (entry_in id (hosted state).feeds)) none (serve.each id))
+    where
+      from : (feed : Option Feed) → IsServed (fits state) feed None → Gone ≡ answer_of (hosted state) feed
+      from None served = refl
+      from (Some feed) served = absurd served
+
+  abbrev given : S
+  given = with_hosted state (handed (hosted state) id)
+
+  abbrev looked : S
+  looked = with_hosted state (behind_answer (hosted state) id Nothing)
+
+  -- of the sender that stands here, after a hand of the host to it
+  module _ (waiting_fits : (s : S) (f : Feed) (items : List (Item R)) → due (hosted s).current f ≡ DueNothing
+      → fits s f items → fits s (after_nothing f (hosted s).length) items)
+      (refuses : FeedSender R → Item R → Type 0) (at : ℕ) (entry : ℕ × FeedSender R)
+      (placed : Some at ≡ position (is_of id) senders) (is : entry ≡ get_or senders at entry) (new : S)
+      (sender : FeedSender R) where
+    abbrev after : List (ℕ × FeedSender R)
+    after = slice_set senders at (entry.0, sender)
+
+    same : sender ≡ entry.1 → after ≡ senders
+    same kept = stays_here id senders at placed entry is sender kept
+
+    sent : (item : Item R) → sender ≡ behind_push entry.1 item → after ≡ sends id item senders
+    sent item pushed =
+        changed_here id senders at placed entry is (λ own. behind_push own item) sender serve.rising pushed
+
+    abbrev Serve : S → List (ℕ × FeedSender R) → Type 0
+    Serve host own = Serves hosted with_hosted fits right hosts rightly stays host own
+
+    moved_to : (host : S) (own : List (ℕ × FeedSender R)) → new ≡ host → after ≡ own → Serve host own
+        → Serve new after
+    moved_to host own moves sends serve =
+        subst (λ z. Serve z after) (sym moves) (subst (λ z. Serve host z) (sym sends) serve)
+
+    taken : (item : Item R) → Give item ≡ answered (hosted state) id → new ≡ given
+        → sender ≡ behind_push entry.1 item → Serve new after
+    taken item now moves pushed =
+        moved_to given (sends id item senders) moves (sent item pushed)
+        (gives hosted with_hosted fits right hosts rightly stays handed_fits state id senders item serve
+        (given_by (hosted state) (entry_in id (hosted state).feeds) item now))
+
+    -- the senders are again those of the feeds
+    pub serves_hand : (answer : Next R) → answer ≡ answered (hosted state) id → (answers : Handed)
+        → HandsTo behind_push refuses state given looked entry.1 answer answers new sender → Serve new after
+    serves_hand (Give item) now did.Row hands = taken item now hands.1 hands.2
+    serves_hand (Give item) now did.End hands = taken item now hands.1 hands.2
+    serves_hand (Give item) now did.Full hands = moved_to state senders hands.1 (same hands.2) serve
+    serves_hand (Give item) now did.Nothing hands = absurd hands
+    serves_hand (Give item) now did.Gone hands = absurd hands
+    serves_hand Nothing now answers hands =
+        moved_to looked senders hands.1 (same hands.2)
+        (rests hosted with_hosted fits right hosts rightly stays state id senders serve waiting_fits now)
+    serves_hand Gone now answers hands = moved_to state senders hands.1 (same hands.2) serve
+
+    abbrev locked : S → List (ℕ × FeedSender R) → ℕ → LockedState S R
+    locked host own lane = record { state = host; senders = own; lane = lane }
+
+    -- and the hand of the host is one of the host with its senders
+    pub hand_in : (lane : ℕ) (answer : Next R) (answers : Handed)
+        → HandsTo behind_push refuses state given looked entry.1 answer answers new sender
+        → Hands hosted with_hosted refuses answer (locked state senders lane) id answers
+        (locked new after lane)
+    hand_in lane (Give item) did.Row hands = (hands.0, λ k. locked (hands.1 k) (sent item hands.2 k) lane)
+    hand_in lane (Give item) did.End hands = (hands.0, λ k. locked (hands.1 k) (sent item hands.2 k) lane)
+    hand_in lane (Give item) did.Full hands = (
+      (entry.1, entry_here id senders at placed entry is, hands.0),
+      λ k. locked (hands.1 k) (same hands.2 k) lane,
+    )
+    hand_in lane (Give item) did.Nothing hands = absurd hands
+    hand_in lane (Give item) did.Gone hands = absurd hands
+    hand_in lane Nothing answers hands = (hands.0, λ k. locked (hands.1 k) (same hands.2 k) lane)
+    hand_in lane Gone answers hands = (hands.0, λ k. locked (hands.1 k) (same hands.2 k) lane)

@@ -1,0 +1,48 @@
+use Rattle.std.proofs.Common.{arith}
+use Rattle.hub_shared.specs.Stored.{Adds, stored_count}
+use Rattle.hub_shared.proofs.Editing.{batch_added, longer_by}
+use Rattle.hub_shared.proofs.store.store_batch.Goals as goal
+
+pub overflow_sub-edits : goal.overflow_sub-edits
+overflow_sub-edits c =
+    let batch = c.in_ok-batch.batch in
+    let done = c.in_ok-batch.ensures in
+    let old = c.args.state.now in
+    let new = c.write_edits.new.self in
+    let adds : Adds (stored_count batch.replies) old new =
+    batch_added c.args.new_edits c.args.docs.items old new batch done.ok done.whole done.stopped
+    c.update_seq.ensures.legal done.rest in
+    omega (
+      arith,
+      c.update_seq-before.ensures.value,
+      c.update_seq.ensures.value,
+      longer_by (stored_count batch.replies) old new adds,
+    )
+
+pub returns-clause-ok : goal.returns-clause-ok
+returns-clause-ok c =
+    let done = c.in_ok-batch.ensures in record {
+      replies = done.ok;
+      whole = done.whole;
+      stopped = done.stopped;
+      stops = done.stops;
+      adds =
+          batch_added c.args.new_edits c.args.docs.items c.args.state.now c.write_edits.new.self
+          c.in_ok-batch.batch done.ok done.whole done.stopped c.update_seq.ensures.legal done.rest;
+    }
+
+pub returns-clause-more : goal.returns-clause-more
+returns-clause-more c =
+    let batch = c.in_ok-batch.batch in
+    let done = c.in_ok-batch.ensures in
+    let old = c.args.state.now in
+    let new = c.write_edits.new.self in
+    let adds : Adds (stored_count batch.replies) old new =
+    batch_added c.args.new_edits c.args.docs.items old new batch done.ok done.whole done.stopped
+    c.update_seq.ensures.legal done.rest in
+    omega (
+      arith,
+      c.update_seq-before.ensures.value,
+      c.update_seq.ensures.value,
+      longer_by (stored_count batch.replies) old new adds,
+    )

@@ -1,0 +1,20 @@
+-- What one edit is answered whose revision is made here (CouchDB API reference, PUT and DELETE of a
+-- document).
+use Rattle.std.specs.Prelude.{◌≡◌, true, false, Result, Ok, Err}
+use Rattle.hub_document.specs.declared.doc.Doc.{Doc}
+use Rattle.hub_model.specs.Revision.{Revision}
+use Rattle.hub_model.specs.declared.outcomes.Outcome.TheVariants as outcome
+use Rattle.hub_database.specs.Database.{Database}
+use Rattle.hub_database.specs.Edits.{NeedsRoom, makes_one}
+use Rattle.hub_database.specs.declared.batch.DbFault.{DbFault}
+use Rattle.hub_database.specs.declared.batch.DbFault.TheVariants.{NoMemory, Refused}
+
+-- The revision that the database makes, or why it refuses the document. Out of memory is told only by one
+-- that stands, of a document that has a leaf and a generation left: a put of 1-b where the leaf is 1-a is
+-- always answered as a conflict.
+abbrev pub IsEditAnswer : Database → Doc → Result Revision DbFault → Type 0
+IsEditAnswer db doc (Ok rev) =
+    (makes_one db.deleted db.limits.journal db.journal doc).outcome ≡ outcome.Stored rev
+IsEditAnswer db doc (Err (Refused fault)) =
+    (makes_one db.deleted db.limits.journal db.journal doc).outcome ≡ outcome.Refused fault
+IsEditAnswer db doc (Err NoMemory) = (db.deleted ≡ false) × NeedsRoom true db.journal doc

@@ -1,0 +1,52 @@
+-- What storing documents does to a database, and which of them were stored (CouchDB API reference,
+-- _bulk_docs, PUT and DELETE of a document).
+use Rattle.std.specs.Prelude.{◌≡◌, ℕ, ◌<◌, ◌++◌, List, Bool, true, false, IsTrue, Contains, count_by, length}
+use Rattle.std.specs.Prelude.{take}
+use Rattle.hub_model.specs.Journal.{Edit, IsLegal}
+use Rattle.hub_model.specs.Revision.{Revision}
+use Rattle.hub_model.specs.declared.outcomes.Outcome.{Outcome}
+use Rattle.hub_model.specs.declared.outcomes.Outcome.TheVariants.{Stored, Known, Refused}
+use Rattle.hub_document.specs.declared.doc.Doc.{Doc}
+use Rattle.hub_database.specs.Database.{Database}
+use Rattle.hub_database.specs.Edits.{StopsAt, writes}
+use Rattle.hub_database.specs.declared.batch.Batch.{Batch}
+
+-- whether a document was stored that was answered so
+abbrev pub is_stored : Outcome Revision → Bool
+is_stored (Stored rev) = true
+is_stored Known = false
+is_stored (Refused fault) = false
+
+-- how many documents were stored. Of a stored, a known, a stored and a refused one they are 2.
+abbrev pub stored_count : List (Outcome Revision) → ℕ
+stored_count replies = count_by is_stored replies
+
+-- one of the documents was stored
+abbrev pub HasStored : List (Outcome Revision) → Type 0
+HasStored replies = (rev : Revision) × Contains replies (Stored rev)
+
+-- so many edits were added to the journal, which is legal, and nothing else changed
+pub record Adds (count : ℕ) (old new : Database) : Type 0 where
+  pub edits : List Edit
+  pub behind : new.journal ≡ old.journal ++ edits
+  pub many : length edits ≡ count
+  pub legal : IsLegal new.journal
+  pub rest : new ≡ record old { journal = new.journal }
+
+-- Of the documents of a batch those before its stop were stored one after the other, and nothing else
+-- changed. Where a, b and c are given behind 5 edits, and b is refused, there are 7 edits then; where memory
+-- runs out at b there are 6, and one reply.
+pub record StoresBatch (new_edits : Bool) (docs : List Doc) (old : Database) (batch : Batch)
+    (new : Database) : Type 0 where
+  -- each reply is what becomes of its document behind those before it, and the journal has what was stored
+  pub replies : writes new_edits old.deleted old.limits.journal old.journal (take (length batch.replies) docs)
+      ≡ record { outcomes = batch.replies; journal = new.journal }
+  -- without a stop each document has its reply
+  pub whole : batch.stopped ≡ false → length batch.replies ≡ length docs
+  -- a stop is at one of the documents
+  pub stopped : IsTrue batch.stopped → length batch.replies < length docs
+  -- and that document needed room
+  pub stops : IsTrue batch.stopped
+      → StopsAt new_edits old.deleted new.journal (length batch.replies) docs
+  -- there is an edit more for each document that was stored
+  pub adds : Adds (stored_count batch.replies) old new

@@ -1,0 +1,27 @@
+-- What a write does to a database (CouchDB API reference, _bulk_docs; receipts are own).
+use Rattle.std.specs.Prelude.{◌≡◌, ◌+◌, List, All, length, Bool}
+use Rattle.hub_document.specs.declared.doc.Doc.{Doc}
+use Rattle.hub_database.specs.Database.{Database}
+use Rattle.hub_shared.specs.Receipts.{AreAdded, AreRising, HasEdit, ids_of, receipts_from}
+use Rattle.hub_shared.specs.Stored.{StoresBatch}
+use Rattle.hub_shared.specs.declared.write.Accepted.{Accepted}
+
+-- Of the documents that were given, those before the stop were stored one after the other, and nothing else
+-- changed. Where a, b and c are given behind 5 edits, and b is refused, there are 7 edits then, with the
+-- receipts (6, a, ..) and (7, c, ..); where memory runs out at b there are 6, and one reply.
+pub record Stores (new_edits : Bool) (docs : List Doc) (old : Database) (accepted : Accepted)
+    (new : Database) : Type 0 where
+  -- the documents were stored, as a batch without receipts
+  pub batch : StoresBatch new_edits docs old
+      (record { replies = accepted.replies; stopped = accepted.stopped }) new
+  -- each document that was stored has its receipt, in order
+  pub receipts : accepted.receipts.items
+      ≡ receipts_from (length old.journal) (ids_of docs) accepted.replies
+  -- there are as many edits more as receipts
+  pub longer : length new.journal ≡ length old.journal + length accepted.receipts.items
+  -- what was added is just what the receipts tell of
+  pub added : AreAdded old.journal new.journal accepted.receipts.items
+  -- the journal has the edit of each receipt, at its number
+  pub stand : All (λ r. HasEdit new.journal r) accepted.receipts.items
+  -- the receipts' numbers rise, from behind the edits that were there
+  pub rise : AreRising (length old.journal) accepted.receipts.items
