@@ -1,5 +1,5 @@
 pub mod Table
 pub mod Paths
-pub mod Services
+pub mod Methods
 pub mod Routes
 pub mod RouteRefusals

@@ -2,11 +2,11 @@
 #![tactic(auto)]
 
 mod kind;
+mod method;
 mod path;
 mod route;
 mod routes;
 mod samples;
-mod service;
 
 pub use route::{Call, Route, RouteFault};
 pub use routes::Routes;

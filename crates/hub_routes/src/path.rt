@@ -1,17 +1,18 @@
 //! The parts of a target (RFC 3986, sections 2.1 and 3).
 
-ghost use Rattle.std.specs.Prelude.{◌≡◌, ◌==◌, ◌⊎◌, position, Some, None, IfOk, IfErr, OnOk, codes};
+ghost use Rattle.std.specs.Prelude.{◌≡◌, ◌==◌, position, IfOk, OnErr};
+ghost use Rattle.std.specs.Prelude.{Some, None, IfSome, IfNone, OnSome, codes};
 ghost use Rattle.std.specs.List.{before_first, after_first};
-ghost use Rattle.std.specs.Cow.{cow_str_bytes};
+ghost use Rattle.std.specs.Cow.{cow_str_bytes, cow_slice_items};
 ghost use Rattle.std.specs.Str.{IsUtf8};
 ghost use Rattle.percent_encoding.specs.Percent.{percent_decode};
 ghost use Rattle.hub_document.specs.Ids.{is_id};
 ghost use Rattle.hub_routes.specs.Paths.{name_part, id_part, is_local, HasPercent};
 
-use crate::route::RouteFault;
-use percent_encoding::{DecodeError, percent_decode};
-use std::alloc::Global;
-use std::borrow::CowStr;
+use percent_encoding::percent_decode;
+use std::alloc::{AllocError, Global};
+use std::borrow::{CowSlice, CowStr};
+use std::str;
 
 fn index_of(bytes: &[u8], at: u8) -> Option<usize>
     ensures { result ≡ position (λ b. b == at) bytes.now }
@@ -41,22 +42,30 @@ pub fn parts(path: &[u8]) -> (&[u8], &[u8])
     }
 }
 
-/// The text that a part is once its escapes are read; the fault where it is none. A part without
-/// escapes is lent, and takes no memory.
-pub fn decoded<'p>(
-    alloc: Global,
-    part: &'p [u8],
-    fault: RouteFault,
-) -> Result<CowStr<'p>, RouteFault>
-    ensures value { IfOk result (λ s. cow_str_bytes s ≡ percent_decode part.now) }
-    ensures text { OnOk result (IsUtf8 (percent_decode part.now)) }
-    ensures none { IfErr result (λ e. ((e ≡ RouteFault.NoMemory) × HasPercent part.now)
-        ⊎ ((e ≡ fault) × ¬ IsUtf8 (percent_decode part.now))) }
+/// The bytes that a part is once its escapes are read. A part without escapes is lent, and takes no
+/// memory; else the bytes are one allocation.
+pub fn decoded<'p>(alloc: Global, part: &'p [u8]) -> Result<CowSlice<'p, u8>, AllocError>
+    ensures value { IfOk result (λ bytes. cow_slice_items bytes ≡ percent_decode part.now) }
+    ensures memory { OnErr result (HasPercent part.now) }
 {
-    match percent_decode(part).decode_utf8(alloc) {
-        Ok(text) => Ok(text),
-        Err(DecodeError::Utf8(_)) => Err(fault),
-        Err(DecodeError::OutOfMemory) => Err(RouteFault::NoMemory),
+    percent_decode(part).into_cow(alloc)
+}
+
+/// The text that these bytes are; none where they are no UTF-8. It takes no memory.
+pub fn text_of<'p>(bytes: CowSlice<'p, u8>) -> Option<CowStr<'p>>
+    ensures value { IfSome result (λ s. cow_str_bytes s ≡ cow_slice_items bytes.entry) }
+    ensures text { OnSome result (IsUtf8 (cow_slice_items bytes.entry)) }
+    ensures none { IfNone result (¬ IsUtf8 (cow_slice_items bytes.entry)) }
+{
+    match bytes {
+        CowSlice::Borrowed(bytes) => match str::from_utf8(bytes) {
+            Ok(text) => Some(CowStr::Borrowed(text)),
+            Err(_) => None,
+        },
+        CowSlice::Owned(bytes) => match String::from_utf8(bytes) {
+            Ok(text) => Some(CowStr::Owned(text)),
+            Err(_) => None,
+        },
     }
 }
 

@@ -4,12 +4,14 @@ ghost use Rattle.std.specs.Prelude.{◌≡◌};
 
 use hub_http::Refusal;
 use std::alloc::AllocError;
+use std::borrow::CowStr;
 
 /// Where a request goes. Names and ids are parts of the path with their escapes read (an id may
 /// have any length), and are still to be looked up. A query is what stands behind the first `?`
-/// of the target, as it was sent; empty where there is none.
+/// of the target, as it was sent; empty where there is none. All of them are lent by the request:
+/// a name or an id is a text of its own only where an escape was read in it.
 #[derive(Debug, Drop)]
-pub enum Route {
+pub enum Route<'r> {
     /// `GET /`
     Welcome,
     /// `GET /_all_dbs`
@@ -17,30 +19,30 @@ pub enum Route {
     /// `GET /_db_updates`
     DbUpdates {
         /// The query.
-        query: Vec<u8>,
+        query: &'r [u8],
     },
     /// `PUT /{db}`
     PutDatabase {
         /// The name of the database.
-        db: String,
+        db: CowStr<'r>,
     },
     /// `DELETE /{db}`
     DeleteDatabase {
         /// The name of the database.
-        db: String,
+        db: CowStr<'r>,
     },
     /// A call on a database.
     Database {
         /// The name of the database.
-        db: String,
+        db: CowStr<'r>,
         /// What is asked of it.
-        call: Call,
+        call: Call<'r>,
     },
 }
 
-/// What a request asks of a database.
+/// What a request asks of a database, with ids and queries that the request lends.
 #[derive(Debug, Drop)]
-pub enum Call {
+pub enum Call<'r> {
     /// `GET /{db}`, `HEAD /{db}`
     Info,
     /// `POST /{db}/_bulk_docs`
@@ -48,7 +50,7 @@ pub enum Call {
     /// `GET /{db}/_changes`, `POST /{db}/_changes`
     Changes {
         /// The query.
-        query: Vec<u8>,
+        query: &'r [u8],
     },
     /// `POST /{db}/_revs_diff`
     RevsDiff,
@@ -57,34 +59,45 @@ pub enum Call {
     /// `GET /{db}/{id}`, `GET /{db}/_design/{name}`
     GetDocument {
         /// The document's id, with `_design/` where it has that.
-        id: String,
+        id: CowStr<'r>,
         /// The query.
-        query: Vec<u8>,
+        query: &'r [u8],
     },
     /// `PUT /{db}/{id}`, `PUT /{db}/_design/{name}`
     PutDocument {
         /// The document's id, with `_design/` where it has that.
-        id: String,
+        id: CowStr<'r>,
         /// The query.
-        query: Vec<u8>,
+        query: &'r [u8],
     },
     /// `DELETE /{db}/{id}`, `DELETE /{db}/_design/{name}`
     DeleteDocument {
         /// The document's id, with `_design/` where it has that.
-        id: String,
+        id: CowStr<'r>,
         /// The query.
-        query: Vec<u8>,
+        query: &'r [u8],
     },
     /// `GET /{db}/_local/{name}`
     GetLocal {
         /// The document's id, with `_local/`.
-        id: String,
+        id: CowStr<'r>,
     },
     /// `PUT /{db}/_local/{name}`
     PutLocal {
         /// The document's id, with `_local/`.
-        id: String,
+        id: CowStr<'r>,
     },
+}
+
+/// What a request lends to its route. Where its kind asks for no document, the id is empty.
+#[derive(Drop)]
+pub struct Parts<'r> {
+    /// The name of the database.
+    pub db: CowStr<'r>,
+    /// The id of the document.
+    pub id: CowStr<'r>,
+    /// The query.
+    pub query: &'r [u8],
 }
 
 /// Why a request has no route.

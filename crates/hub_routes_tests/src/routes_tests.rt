@@ -1,11 +1,13 @@
 //! Where requests go, a line a request.
 //!
 //! Any one growth of a request or its route may be refused. The call that met it says so, and made again it
-//! has the answer that it has with ample memory.
+//! has the answer that it has with ample memory. A request whose path is ASCII without an escape is asked
+//! once: its route takes no memory, so no growth of it can be refused.
 
 use hub_http::{Refusal, Request};
 use hub_routes::{Call, Route, RouteFault, Routes};
 use std::alloc::{AllocError, Global};
+use std::borrow::CowStr;
 use std::process::Abort;
 use std::str;
 use std::test::Fail;
@@ -261,34 +263,28 @@ fn text(bytes: &[u8]) -> &str {
     str::from_utf8(bytes).unwrap_or("no text")
 }
 
-fn called(alloc: Global, db: &str, call: &Call) -> Result<String, AllocError> {
+fn called(alloc: Global, db: &str, call: &Call<'_>) -> Result<String, AllocError> {
     match call {
         Call::Info => format!(in alloc; "get {db}"),
         Call::BulkDocs => format!(in alloc; "bulk {db}"),
-        Call::Changes { query } => format!(in alloc; "changes {db} ?{}", text(query.as_slice())),
+        Call::Changes { query } => format!(in alloc; "changes {db} ?{}", text(query)),
         Call::RevsDiff => format!(in alloc; "diff {db}"),
         Call::FullCommit => format!(in alloc; "commit {db}"),
-        Call::GetDocument { id, query } => {
-            format!(in alloc; "get {db} {id} ?{}", text(query.as_slice()))
-        }
-        Call::PutDocument { id, query } => {
-            format!(in alloc; "put {db} {id} ?{}", text(query.as_slice()))
-        }
+        Call::GetDocument { id, query } => { format!(in alloc; "get {db} {id} ?{}", text(query)) }
+        Call::PutDocument { id, query } => { format!(in alloc; "put {db} {id} ?{}", text(query)) }
         Call::DeleteDocument { id, query } => {
-            format!(in alloc; "delete {db} {id} ?{}", text(query.as_slice()))
+            format!(in alloc; "delete {db} {id} ?{}", text(query))
         }
         Call::GetLocal { id } => format!(in alloc; "get local {db} {id}"),
         Call::PutLocal { id } => format!(in alloc; "put local {db} {id}"),
     }
 }
 
-fn shown(alloc: Global, answer: &Result<Route, RouteFault>) -> Result<String, AllocError> {
+fn shown(alloc: Global, answer: &Result<Route<'_>, RouteFault>) -> Result<String, AllocError> {
     match answer {
         Ok(Route::Welcome) => format!(in alloc; "welcome"),
         Ok(Route::AllDbs) => format!(in alloc; "list"),
-        Ok(Route::DbUpdates { query }) => {
-            format!(in alloc; "updates ?{}", text(query.as_slice()))
-        }
+        Ok(Route::DbUpdates { query }) => { format!(in alloc; "updates ?{}", text(query)) }
         Ok(Route::PutDatabase { db }) => format!(in alloc; "put {db}"),
         Ok(Route::DeleteDatabase { db }) => format!(in alloc; "delete {db}"),
         Ok(Route::Database { db, call }) => called(alloc, db.as_str(), call),
@@ -319,11 +315,25 @@ fn asked(
     }
 }
 
-// Where a request goes, asked again where no memory is found; the answer of a route that never finds any is
-// the fault.
-fn routed(alloc: Global, routes: &Routes, request: &Request) -> Result<Route, RouteFault> {
+// Whether the path of a target is ASCII without an escape.
+fn is_plain(target: &[u8]) -> bool {
+    target
+        .iter()
+        .take_while(|b| **b != b'?')
+        .all(|b| b.is_ascii() && *b != b'%')
+}
+
+// Where a request goes. One that is not plain is asked again where no memory is found; the answer of a route
+// that never finds any is the fault.
+fn routed<'r>(
+    alloc: Global,
+    routes: &Routes,
+    request: &'r Request,
+) -> Result<Route<'r>, RouteFault> {
     match routes.route(alloc, request) {
-        Err(RouteFault::NoMemory) => routes.route(alloc, request),
+        Err(RouteFault::NoMemory) if !is_plain(request.target.as_slice()) => {
+            routes.route(alloc, request)
+        }
         answer => answer,
     }
 }
@@ -362,4 +372,92 @@ fn of_local_documents(rt: HostRuntime) -> Result<(), Fail> {
 #[test]
 fn of_ids(rt: HostRuntime) -> Result<(), Fail> {
     go(&rt, rt.alloc(), &IDS)
+}
+
+const PLAIN: [(&str, &[u8], bool); 12] = [
+    ("GET", b"/_db_updates?since=%30", NO_LENGTH),
+    ("PUT", b"/d", NO_LENGTH),
+    ("DELETE", b"/d?x=%ff", NO_LENGTH),
+    ("HEAD", b"/d/", NO_LENGTH),
+    ("POST", b"/d/_bulk_docs", WITH_LENGTH),
+    ("GET", b"/d/_changes?since=%30", NO_LENGTH),
+    ("GET", b"/d/a?rev=1-a", NO_LENGTH),
+    ("PUT", b"/d/_design/a", NO_LENGTH),
+    ("PUT", b"/d/_design/a+b", NO_LENGTH),
+    ("DELETE", b"/d/a", NO_LENGTH),
+    ("GET", b"/d/_local/a", NO_LENGTH),
+    ("PUT", b"/d/_local/a?x=%20", NO_LENGTH),
+];
+
+const ESCAPED: [(&str, &[u8], bool, bool); 8] = [
+    ("PUT", b"/%64", OWNED, LENT),
+    ("DELETE", b"/a%2Fb", OWNED, LENT),
+    ("GET", b"/a%2fb/_changes", OWNED, LENT),
+    ("GET", b"/%64/a", OWNED, LENT),
+    ("GET", b"/d/%61", LENT, OWNED),
+    ("DELETE", b"/d/_design%2Fa", LENT, OWNED),
+    ("PUT", b"/d/_local/%61", LENT, OWNED),
+    ("GET", b"/%64/_local%2Fa", OWNED, OWNED),
+];
+
+const LENT: bool = false;
+
+const OWNED: bool = true;
+
+fn is_owned(text: &CowStr<'_>) -> bool {
+    matches!(text, CowStr::Owned(_))
+}
+
+fn has_own_id(call: &Call<'_>) -> bool {
+    match call {
+        Call::Info
+        | Call::BulkDocs
+        | Call::Changes { query: _ }
+        | Call::RevsDiff
+        | Call::FullCommit => false,
+        Call::GetDocument { id, query: _ }
+        | Call::PutDocument { id, query: _ }
+        | Call::DeleteDocument { id, query: _ }
+        | Call::GetLocal { id }
+        | Call::PutLocal { id } => is_owned(id),
+    }
+}
+
+// Whether a route has a name of its own, and whether it has an id of its own.
+fn own_texts(route: &Route<'_>) -> (bool, bool) {
+    match route {
+        Route::Welcome | Route::AllDbs | Route::DbUpdates { query: _ } => (false, false),
+        Route::PutDatabase { db } | Route::DeleteDatabase { db } => (is_owned(db), false),
+        Route::Database { db, call } => (is_owned(db), has_own_id(call)),
+    }
+}
+
+#[test]
+fn plain_requests_take_no_memory(rt: HostRuntime) -> Result<(), Fail> {
+    let routes = again(|| Routes::new(rt.alloc()))?;
+    for (method, target, has_length) in &PLAIN {
+        let request = asked(rt.alloc(), method, target, *has_length)?;
+        let route = routes.route(rt.alloc(), &request);
+        assert!(rt;
+            route
+                .as_ref()
+                .is_ok_and(|route| own_texts(route) == (LENT, LENT))
+        );
+    }
+    Ok(())
+}
+
+#[test]
+fn each_escaped_part_takes_memory(rt: HostRuntime) -> Result<(), Fail> {
+    let routes = again(|| Routes::new(rt.alloc()))?;
+    for (method, target, name, id) in &ESCAPED {
+        let request = asked(rt.alloc(), method, target, NO_LENGTH)?;
+        let route = routed(rt.alloc(), &routes, &request);
+        assert!(rt;
+            route
+                .as_ref()
+                .is_ok_and(|route| own_texts(route) == (*name, *id))
+        );
+    }
+    Ok(())
 }
