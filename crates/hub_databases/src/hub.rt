@@ -1,42 +1,34 @@
 //! A hub of databases behind locks.
 
-ghost use Rattle.std.specs.Prelude.{◌≡◌, ◌⊎◌, ◌<◌, ◌-◌, ◌^◌, [], true, false, Err, length, map};
+ghost use Rattle.std.specs.Prelude.{◌≡◌, ◌⊎◌, ◌<◌, ◌-◌, ◌^◌, [], true, false, Ok, Err, length, map};
 ghost use Rattle.std.specs.Prelude.{string_bytes, Contains, IfErr, IfOk, IsSome, OnErr, OnOk};
 ghost use Rattle.std.specs.Arc.{arc_value};
 ghost use Rattle.hub_databases.specs.Kept.{AreNames, most_databases, with_made, with_name, without_name};
 ghost use Rattle.hub_databases.specs.Names.{is_name as is_database_name};
 ghost use Rattle.hub_databases.specs.Refusals.{IsCreationFault, IsRemovalFault};
 ghost use Rattle.hub_params.specs.FeedShown.{params_asked};
-ghost use Rattle.hub_shared.specs.Handles.{IsBeginningFor, IsWrittenBy};
+ghost use Rattle.hub_shared.specs.Handles.{IsBeginningFor, IsEditedBy, IsStoredBy};
+ghost use Rattle.hub_shared.specs.Stored.{HasStored};
 ghost use Rattle.hub_updates.specs.Asked.{updates_asked};
 
 use crate::fault::HubFault;
 use crate::hub_db::{HubDb, Named};
 use crate::name::is_name;
 use crate::names::Names;
-use hub_database::DbFault;
+use crate::written::{Edited, Written, has_stored};
+use hub_database::{Batch, DbFault};
 use hub_document::{Doc, Limits, UpdateRow};
 use hub_feed::{FeedId, OpenFault};
 use hub_lane::Asks;
 use hub_model::{Item, UpdateKind};
 use hub_params::FeedParams;
 use hub_shared::{
-    Accepted, Clock, Db, FeedLabel, Gate, Handed, Handle, Plain, Turn, Updates, UpdatesFeed, hold,
-    pump,
+    Clock, Db, FeedLabel, Gate, Handed, Handle, Plain, Turn, Updates, UpdatesFeed, hold, pump,
 };
 use hub_updates::{NoteFault, Notice, UpdatesState};
 use std::alloc::{AllocError, Global};
 use std::sync::{Arc, RwLock, Wait};
 use std::time;
-
-/// What a write did.
-#[derive(Debug, Drop)]
-pub struct Written {
-    /// What became of the documents, with the receipts of those that were stored.
-    pub accepted: Accepted,
-    /// Why the log of updates has no note of it, though edits were stored. They stand.
-    pub lapsed: Option<NoteFault>,
-}
 
 /// The databases of a hub by their names, and the log of what happens to them. Threads share it, by
 /// reference or by an `Arc`.
@@ -233,23 +225,52 @@ impl Hub {
         self.names.read(rt).texts(self.alloc)
     }
 
-    // Notes that a database was written to, where documents were stored, or lets the notice lapse.
-    fn note_written<R: Wait>(&self, rt: &R, notice: Notice, accepted: Accepted) -> Written
-        ensures accepted { result.accepted ≡ accepted }
-        ensures lapsed { IsSome result.lapsed → ¬ (accepted.receipts.items ≡ []) }
+    /// Stores one edit whose revision is made here, as `Handle::write_one`, and once the database is free
+    /// again notes that it was updated. Where the log is full, or finds no memory, the edit stands without
+    /// a note. A database that was removed refuses it. The notice is made before the edit: out of memory
+    /// is told where nothing was stored. It costs the notice, which is one allocation, the wait for the
+    /// database and for the log, and what `DbState::write_one` and `Updates::note` do.
+    pub fn write_one<R: Wait>(&self, rt: &R, db: &HubDb, doc: Doc) -> Result<Edited, DbFault>
+        ensures edited { IfOk result (λ e.
+            IsEditedBy false 0 (record { parts = 0; count = 0 }) doc (Ok e.rev)) }
+        ensures err { IfErr result (λ e. (e ≡ DbFault.NoMemory)
+            ⊎ IsEditedBy false 0 (record { parts = 0; count = 0 }) doc (Err e)) }
     {
-        let lapsed = if accepted.receipts.is_empty() {
-            notice.lapse();
-            None
-        } else {
-            self.note(rt, notice).err()
-        };
-        Written { accepted, lapsed }
+        let mut handle = db.handle()?;
+        let notice = Notice::new(self.alloc, UpdateKind::Updated, db.name())?;
+        match handle.write_one(rt, doc) {
+            Ok(rev) => {
+                let lapsed = self.note(rt, notice).err();
+                Ok(Edited { rev, lapsed })
+            }
+            Err(fault) => {
+                notice.lapse();
+                Err(fault)
+            }
+        }
     }
 
-    /// Stores documents, as `Handle::write`, and once the database is free again notes that it was
+    // Notes that a database was written to, where documents were stored, or lets the notice lapse.
+    fn note_batch<R: Wait>(&self, rt: &R, notice: Notice, batch: Batch) -> Written
+        ensures batch { result.batch ≡ batch }
+        ensures lapsed { IsSome result.lapsed → HasStored batch.replies }
+    {
+        if has_stored(batch.replies.as_slice()) {
+            let lapsed = self.note(rt, notice).err();
+            return Written { batch, lapsed };
+        }
+        notice.lapse();
+        Written {
+            batch,
+            lapsed: None,
+        }
+    }
+
+    /// Stores documents, as `Handle::store`, and once the database is free again notes that it was
     /// updated, where at least one of them was stored. Where the log is full, or finds no memory, the
-    /// edits stand without a note. A database that was removed refuses each document.
+    /// edits stand without a note. A database that was removed refuses each document. It costs the
+    /// notice, which is one allocation, the wait for the database and for the log, a step for each reply,
+    /// and what `DbState::write_edits` and `Updates::note` do.
     pub fn write<R: Wait>(
         &self,
         rt: &R,
@@ -257,15 +278,15 @@ impl Hub {
         docs: Vec<Doc>,
         new_edits: bool,
     ) -> Result<Written, DbFault>
-        ensures accepted { IfOk result (λ w. IsWrittenBy false 0 (record { parts = 0; count = 0 })
-            new_edits docs.items w.accepted) }
-        ensures lapsed { IfOk result (λ w. IsSome w.lapsed → ¬ (w.accepted.receipts.items ≡ [])) }
+        ensures stored { IfOk result (λ w. IsStoredBy false 0 (record { parts = 0; count = 0 })
+            new_edits docs.items w.batch) }
+        ensures lapsed { IfOk result (λ w. IsSome w.lapsed → HasStored w.batch.replies) }
         ensures err { IfErr result (λ e. e ≡ DbFault.NoMemory) }
     {
         let mut handle = db.handle()?;
         let notice = Notice::new(self.alloc, UpdateKind::Updated, db.name())?;
-        match handle.write(rt, docs, new_edits) {
-            Ok(accepted) => Ok(self.note_written(rt, notice, accepted)),
+        match handle.store(rt, docs, new_edits) {
+            Ok(batch) => Ok(self.note_batch(rt, notice, batch)),
             Err(fault) => {
                 notice.lapse();
                 Err(fault)

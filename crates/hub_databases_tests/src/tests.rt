@@ -8,11 +8,13 @@
 mod locks;
 mod names;
 mod rows;
+mod single_edits;
 mod watches;
 
 use hub_database::Info;
 use hub_databases::{Hub, HubDb, HubFault, Written};
 use hub_document::{Doc, Limits};
+use hub_model::Outcome;
 use hub_params::FeedParams;
 use hub_shared::{Answer, Gate, Point, Question};
 use std::alloc::{AllocError, Global};
@@ -99,6 +101,20 @@ fn shown<R: Wait>(rt: &R, db: &HubDb) -> Option<Info> {
     }
 }
 
+// How many edits a database has.
+fn edits<R: Wait>(rt: &R, db: &HubDb) -> Option<u64> {
+    Some(shown(rt, db)?.update_seq)
+}
+
+// How many documents of a batch were stored.
+fn stored(written: &Written) -> usize {
+    let replies = written.batch.replies.as_slice();
+    replies
+        .iter()
+        .filter(|reply| matches!(reply, Outcome::Stored(_)))
+        .count()
+}
+
 // The document that the text is; an error where it finds no memory, and each time where it is none.
 fn docs(alloc: Global, text: &str) -> Result<Vec<Doc>, AllocError> {
     match Doc::read(alloc, text.as_bytes(), false) {
@@ -117,7 +133,7 @@ fn try_write<R: Wait>(
     text: &str,
 ) -> Result<Written, AllocError> {
     match hub.write(rt, db, docs(alloc, text)?, false) {
-        Ok(written) if !written.accepted.stopped => Ok(written),
+        Ok(written) if !written.batch.stopped => Ok(written),
         _ => Err(AllocError),
     }
 }

@@ -1,5 +1,5 @@
 -- How a session does not begin.
-use Rattle.std.proofs.Common.{◌≡◌, ◌⊎◌, inl, inr, Result, Ok, Err}
+use Rattle.std.proofs.Common.{inl, inr, Result, Ok, Err}
 use Rattle.std.specs.Prelude.{IfErr}
 use Rattle.hub_follower.specs.Peers.{Gives, Fails, Standing, Breaks, BeginsNot}
 use Rattle.hub_follower.specs.declared.fault.FollowFault.{FollowFault}

@@ -1,6 +1,6 @@
 -- What is decided of items is whether they are an answer to a follower that asks for changes.
-use Rattle.std.proofs.Common.{◌≡◌, ◌∙◌, ℕ, zero, suc, ◌+◌, ◌<◌, ◌≤◌, List, [], ◌∷◌, ◌++◌, length}
-use Rattle.std.proofs.Common.{drop, map, take, get_or, Contains, ◌⊎◌, inl, inr, ⊎_elim, Bool}
+use Rattle.std.proofs.Common.{◌≡◌, ◌∙◌, ℕ, zero, suc, ◌+◌, ◌<◌, ◌≤◌, List, [], ◌∷◌, length}
+use Rattle.std.proofs.Common.{drop, map, take, get_or, Contains, inl, inr, ⊎_elim, Bool}
 use Rattle.std.proofs.Common.{true, false, refl, sym, ap, subst, arith, Option, Some, None}
 use Rattle.std.proofs.lemmas.Bool.{and_parts, and_from, or_cases, or_left, or_right, ltb-true, leb-true}
 use Rattle.std.proofs.lemmas.Bool.{lt-ltb, le-leb, eqb-true, eq-eqb, cases_lt, cases_Bool, both_ways}
@@ -9,7 +9,7 @@ use Rattle.std.proofs.lemmas.List.Elements.{All-weaker, All-contains, Contains-g
 use Rattle.std.proofs.lemmas.List.Kept.{AllPairs-cons}
 use Rattle.std.proofs.lemmas.Option.{same_Some, none-some}
 use Rattle.std.proofs.lemmas.Slice.Eq.{bytes_eq-Decides}
-use Rattle.std.specs.List.{list_all, list_any}
+use Rattle.std.specs.List.{list_all}
 use Rattle.std.specs.Prelude.{All, AllPairs, IfSome, OnErr, Result, Ok, Err, IsTrue, is_some, slice_get}
 use Rattle.std.specs.Prelude.{option_and_then, ◌&&◌, ◌||◌, ◌↔◌, if◌then◌else◌, nat_eq, nat_le, nat_lt}
 use Rattle.std.specs.Str.{bytes_eq}
@@ -22,7 +22,6 @@ use Rattle.hub_model.specs.Revision.{Revision, is_same}
 use Rattle.hub_model.specs.RightlyHanded.{ChangeItem, rows_of, IsAsked, IsRowOf, Follows, EndsAt}
 use Rattle.hub_model.specs.Row.{ChangeRow, row_of}
 use Rattle.hub_model.specs.RowKind.{change_rows}
-use Rattle.hub_model.proofs.Lists.{contains_none, contains_here, contains_there, contains_cases}
 use Rattle.hub_model.proofs.Rows.{current_within}
 use Rattle.hub_model.proofs.Tests.{any_at, at_any, all_at, at_all, filter_in, in_filter, same_is, same_self}
 use Rattle.hub_follow_model.specs.ChangesFeed.{ended_feed, items_of, IsChangesAnswer}

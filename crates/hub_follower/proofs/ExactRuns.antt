@@ -1,6 +1,6 @@
 -- A follower over two peers that answer exactly is a run of its world.
 use Rattle.std.proofs.Common.{◌≡◌, ◌∙◌, ◌⊎◌, inl, inr, ℕ, List, [], ◌∷◌, ◌++◌}
-use Rattle.std.proofs.Common.{take, sym, ap, subst, Option, Some, MatchOption}
+use Rattle.std.proofs.Common.{sym, ap, subst, Option, Some, MatchOption}
 use Rattle.hub_follow_model.specs.Follower as follow
 use Rattle.hub_follow_model.specs.World.{World, Event, Reply, LossBefore, LossAfter, PartialMerge}
 use Rattle.hub_follow_model.specs.World.{Run, Step, IsAnswered, IsPartialMerge, empty_world}
@@ -9,10 +9,9 @@ use Rattle.hub_follow_model.proofs.Theorem.{faithful}
 use Rattle.hub_follower.specs.Exact.{Held, IsExact, IsExactLoss, IsStoredInPart, world_at}
 use Rattle.hub_follower.specs.Exact.{HasRun, ExactWalksRun, ExactBreaksRun, ExactPeersCopy}
 use Rattle.hub_follower.specs.Peers.{Standing, standing_of, side_of, Serves, ServesAt}
-use Rattle.hub_follower.specs.Peers.{Loses, LosesAt, Drops, FailsSo, Steps, Walks}
+use Rattle.hub_follower.specs.Peers.{LosesAt, FailsSo, Steps, Walks}
 use Rattle.hub_follower.specs.declared.fault.FollowFault.{FollowFault}
 use Rattle.hub_follower.proofs.Happening.{run_more}
-use Rattle.hub_model.specs.Outcome.{merges_all}
 
 -- one run behind another
 run_on : (events more : List Event) (w mid new : World) → Run w events mid → Run mid more new

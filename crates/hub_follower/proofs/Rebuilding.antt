@@ -1,6 +1,6 @@
 -- A legal journal that is stored edit by edit is rebuilt.
 use Rattle.std.proofs.Common.{◌≡◌, ◌∙◌, ℕ, zero, suc, ◌+◌, ◌<◌, ◌≤◌, List, [], ◌∷◌, ◌++◌}
-use Rattle.std.proofs.Common.{length, map, take, Bool, true, false, refl, sym, ap, subst, arith}
+use Rattle.std.proofs.Common.{length, take, Bool, true, false, refl, sym, ap, subst, arith}
 use Rattle.std.proofs.Common.{append_assoc, append-nil, length-append, Option, Some, None}
 use Rattle.std.proofs.lemmas.Bool.{and_parts, lt-leb}
 use Rattle.std.proofs.lemmas.List.{take_all}
@@ -14,7 +14,7 @@ use Rattle.hub_model.specs.Path.{is_history}
 use Rattle.hub_model.proofs.Tests.{not_true, is_acceptable_from}
 use Rattle.hub_database.specs.Database.{Database}
 use Rattle.hub_database.specs.Edits.{edit_of}
-use Rattle.hub_database.specs.Reads.{doc_shown, entry_at, entry_doc_of}
+use Rattle.hub_database.specs.Reads.{doc_shown, entry_doc_of}
 use Rattle.hub_document.specs.declared.doc.Doc.{Doc}
 use Rattle.hub_document.specs.declared.limits.Limits.{Limits}
 use Rattle.hub_document.specs.Profile.{IsProfile}

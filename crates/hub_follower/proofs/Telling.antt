@@ -1,17 +1,11 @@
 -- How a fault goes on to be told.
-use Rattle.std.proofs.Common.{◌≡◌, ◌∙◌, ◌≤◌, ◌<◌, ◌⊎◌, inl, inr, ⊎_elim, arith, ℕ, List}
-use Rattle.std.proofs.Common.{ap, sym, refl, subst, Option, Some, Result, Ok, Err}
-use Rattle.hub_model.specs.Journal.{Edit}
-use Rattle.hub_model.specs.Missing.{Asked}
+use Rattle.std.proofs.Common.{Result, Ok, Err}
 use Rattle.std.specs.Prelude.{IfErr}
 use Rattle.hub_follow_model.specs.Follower as follow
 use Rattle.hub_follow_model.proofs.Fitting.{fitting_is_taken}
 use Rattle.hub_follower.specs.declared.fault.FollowFault.{FollowFault}
 use Rattle.hub_follower.specs.declared.fault.FollowFault.TheVariants.{NoMemory, BadLogId, Peer, Refused, Lost}
-use Rattle.hub_follower.specs.Peers.{IsOwnFault, IsCountedOf, IsCountedOfBoth}
-use Rattle.hub_follower.specs.Peers.{IsCountedFault, IsCallFault, Rose}
-use Rattle.hub_follower.specs.declared.peer.CallFault.{CallFault}
-use Rattle.hub_follower.specs.declared.peer.CallFault.TheVariants as call_fault
+use Rattle.hub_follower.specs.Peers.{IsOwnFault}
 use Rattle.hub_follower.specs.Views.{IsFaultOf}
 
 -- an answer to the call that was made is no peer's fault

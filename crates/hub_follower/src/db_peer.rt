@@ -4,7 +4,7 @@ ghost use Rattle.std.specs.Prelude.{◌≡◌, ◌≤◌, true, map, length, All
 ghost use Rattle.hub_follow_model.specs.Follower as follow;
 ghost use Rattle.hub_database.specs.Edits.{edit_of};
 ghost use Rattle.hub_follower.specs.Peers.{IsCountedFault};
-ghost use Rattle.hub_follower.specs.Shared.{IsShared, IsQuestionFor};
+ghost use Rattle.hub_follower.specs.Shared.{IsShared};
 ghost use Rattle.hub_follower.specs.Views.{found_edit, FoundHasPath};
 
 use crate::copies::{copy_asked, copy_docs};
@@ -17,7 +17,7 @@ use hub_filter::Filter;
 use hub_follow_model::Seq;
 use hub_model::{Item, Mode, Since, Style};
 use hub_params::FeedParams;
-use hub_shared::{Answer, Feed, Gate, Handle, Plain, Point, Question, Turn};
+use hub_shared::{Feed, Gate, Handle, Plain, Point, Turn, local_copy};
 use std::alloc::{AllocError, Global};
 use std::sync::Wait;
 
@@ -130,23 +130,10 @@ fn diffs_of<R: Wait>(
     let Ok(asked) = copy_asked(alloc, asked) else {
         return Err(CallFault::NoMemory);
     };
-    match handle.read(rt, Question::RevsDiff(asked)) {
-        Ok(Answer::RevsDiff(diffs)) => Ok(diffs),
-        Ok(_) => Err(CallFault::Peer),
+    match handle.look(rt, move |state| state.revs_diff(asked)) {
+        Ok(diffs) => Ok(diffs),
         Err(fault) => Err(CallFault::from(fault)),
     }
-}
-
-// The question for these revisions of a document, with their histories.
-fn question_of(alloc: Global, asked: &Asked) -> Result<Question, AllocError>
-    ensures { IfOk result (λ question. IsQuestionFor asked.now question) }
-{
-    let Asked { id, revs } = asked.copy(alloc)?;
-    Ok(Question::OpenRevs {
-        id,
-        which: OpenRevs::Listed(revs),
-        revs: true,
-    })
 }
 
 // These revisions of a document, with their histories.
@@ -161,12 +148,13 @@ fn documents_of<R: Wait>(
     ensures many { IfOk result (λ found. length found.items ≡ length asked.now.revs) }
     ensures paths { IfOk result (λ found. All FoundHasPath found.items) }
 {
-    let Ok(question) = question_of(alloc, asked) else {
+    let Ok(revs) = asked.revs.copy(alloc) else {
         return Err(CallFault::NoMemory);
     };
-    match handle.read(rt, question) {
-        Ok(Answer::OpenRevs(found)) => Ok(found),
-        Ok(_) => Err(CallFault::Peer),
+    let id = asked.id.as_str();
+    let which = OpenRevs::Listed(revs);
+    match handle.look(rt, |state| state.open_revs(id, &which, true)) {
+        Ok(found) => Ok(found),
         Err(fault) => Err(CallFault::from(fault)),
     }
 }
@@ -185,8 +173,8 @@ fn store_all<R: Wait>(
     let Ok(copies) = copy_docs(alloc, docs) else {
         return Err(CallFault::NoMemory);
     };
-    match handle.write(rt, copies, false) {
-        Ok(accepted) if !accepted.stopped => Ok(accepted.replies),
+    match handle.store(rt, copies, false) {
+        Ok(batch) if !batch.stopped => Ok(batch.replies),
         _ => Err(CallFault::NoMemory),
     }
 }
@@ -198,12 +186,8 @@ fn log_of<R: Wait>(
     handle: &mut Handle<Plain>,
     log_id: &str,
 ) -> Result<Option<Log>, CallFault> {
-    let Ok(id) = String::from_str(alloc, log_id) else {
-        return Err(CallFault::NoMemory);
-    };
-    let found = match handle.read(rt, Question::Local { id }) {
-        Ok(Answer::Local(found)) => found,
-        Ok(_) => return Err(CallFault::Peer),
+    let found = match handle.look(rt, |state| local_copy(alloc, state, log_id)) {
+        Ok(found) => found,
         Err(fault) => return Err(CallFault::from(fault)),
     };
     let Some(local) = found else {

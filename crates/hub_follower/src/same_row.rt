@@ -14,11 +14,8 @@ fn same_revs(revs: &Changes, others: &Changes) -> bool
         return false;
     }
     for at in 0..revs.len() {
-        let Some(rev) = revs.get(at) else {
-            unreachable!()
-        };
-        let Some(other) = others.get(at) else {
-            unreachable!()
+        let (Some(rev), Some(other)) = (revs.get(at), others.get(at)) else {
+            return false;
         };
         if !rev.is_same(&other) {
             return false;

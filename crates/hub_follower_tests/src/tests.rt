@@ -22,7 +22,7 @@ mod worlds;
 use hub_database::OpenRev;
 use hub_document::{Doc, Limits, OpenRevs};
 use hub_follower::{CallFault, DbPeer, FailedStart, FollowFault, Follower, Peer, Round, Seq};
-use hub_shared::{Answer, Db, Handle, Plain, Question};
+use hub_shared::{Db, Plain};
 use std::alloc::{AllocError, Global};
 use std::sync::Wait;
 use std::test::Fail;
@@ -113,21 +113,18 @@ fn write<R: Wait>(rt: &R, alloc: Global, db: &Db<Plain>, texts: &[&str]) -> Resu
 
 // How many edits a database accepted.
 fn edits<R: Wait>(rt: &R, db: &Db<Plain>) -> Result<u64, Fail> {
-    match db.handle()?.read(rt, Question::Info)? {
-        Answer::Info(info) => Ok(info.update_seq),
-        _ => Err(Fail::new("no info")),
-    }
+    let info = db.handle()?.look(rt, |state| state.info())?;
+    Ok(info.update_seq)
 }
 
 // The texts of a document's leaves, best first, with their histories; an error where they find no memory, and
 // each time where the database refuses to tell them.
 fn leaves<R: Wait>(rt: &R, alloc: Global, db: &Db<Plain>, id: &str) -> Result<Vec<u8>, AllocError> {
-    let question = Question::OpenRevs {
-        id: String::from_str(alloc, id)?,
-        which: OpenRevs::All,
-        revs: true,
-    };
-    let Ok(Answer::OpenRevs(found)) = db.handle()?.read(rt, question) else {
+    let which = OpenRevs::All;
+    let Ok(found) = db
+        .handle()?
+        .look(rt, |state| state.open_revs(id, &which, true))
+    else {
         return Err(AllocError);
     };
     let mut texts = Vec::new(alloc);

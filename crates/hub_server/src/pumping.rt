@@ -3,7 +3,7 @@
 use hub_feed::FeedHost;
 use hub_model::Item;
 use hub_service::Pumping;
-use hub_shared::{Clock, Gate, HostFeed, Point, Pumped};
+use hub_shared::{Clock, Gate, HostFeed, Point};
 use std::sync::Wait;
 
 /// By workers: the worker that steps a connection hands its feed on too. Nobody waits for a feed: one that
@@ -36,14 +36,11 @@ impl<'h, R: Wait, G: Gate, K: Clock> Pumping for ByWorkers<'h, R, G, K> {
         self.gate.pass(Point::Request(self.number));
     }
 
-    fn next_item<S: FeedHost, H: Pumped<S>>(
-        &self,
-        feed: &mut HostFeed<S, H>,
-    ) -> Option<Item<S::Row>> {
+    fn next_item<S: FeedHost>(&self, feed: &mut HostFeed<S>) -> Option<Item<S::Row>> {
         feed.poll(self.rt, self.gate, self.clock)
     }
 
-    fn waits<S: FeedHost, H: Pumped<S>>(&self, feed: &HostFeed<S, H>) -> bool {
+    fn waits<S: FeedHost>(&self, feed: &HostFeed<S>) -> bool {
         !feed.is_over()
     }
 }

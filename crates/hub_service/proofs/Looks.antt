@@ -1,25 +1,29 @@
 -- What one look at a database is answered.
-use Rattle.std.proofs.Common.{◌≡◌, ◌≤◌, ◌<◌, ◌^◌, ℕ, zero, suc, List, [], ◌∷◌, Bool, true, false}
+use Rattle.std.proofs.Common.{◌≡◌, ◌<◌, ◌^◌, ℕ, zero, suc, List, [], ◌∷◌, Bool, true, false}
 use Rattle.std.proofs.Common.{◌⊎◌, inl, inr, refl, sym, ap, ◌∙◌, subst, length, take, arith}
 use Rattle.std.specs.Prelude.{Option, Some, None, Result, Ok, Err, IfOk, IfErr}
 use Rattle.std.specs.Prelude.{OnErr, IsSome, Contains, if◌then◌else◌, nat_le}
+use Rattle.std.specs.Borrow.{Bor}
 use Rattle.std.proofs.lemmas.Bool.{le-leb, lt-leb}
 use Rattle.hub_model.specs.Journal.{Edit}
 use Rattle.hub_model.specs.Outcome.{Stores, stores_all}
 use Rattle.hub_model.specs.Revision.{Revision}
 use Rattle.hub_model.specs.declared.outcomes.Fault.TheVariants as fault
 use Rattle.hub_model.specs.declared.outcomes.Outcome.{Outcome}
-use Rattle.hub_model.specs.declared.outcomes.Outcome.TheVariants.{Stored, Known, Refused}
+use Rattle.hub_model.specs.declared.outcomes.Outcome.TheVariants.{Stored, Refused}
 use Rattle.hub_document.specs.Read.{json_of}
 use Rattle.hub_document.specs.declared.doc.Doc.{Doc}
 use Rattle.hub_document.specs.declared.limits.Limits.{Limits}
 use Rattle.hub_document.specs.declared.local_doc.LocalDoc.{LocalDoc}
 use Rattle.hub_database.specs.Database.{Database, GivesUp}
-use Rattle.hub_database.specs.Edits.{makes_one, stores_doc, writes}
+use Rattle.hub_database.specs.Edits.{stores_doc, writes}
 use Rattle.hub_database.specs.Hosting.{hosted_of}
 use Rattle.hub_database.specs.Locals.{written}
+use Rattle.hub_database.specs.declared.batch.Batch.{Batch}
 use Rattle.hub_database.specs.declared.batch.DbFault.{DbFault}
-use Rattle.hub_databases.specs.declared.hub.Written.{Written}
+use Rattle.hub_database.specs.declared.batch.DbFault.TheVariants as db_fault
+use Rattle.hub_databases.specs.declared.written.Edited.{Edited}
+use Rattle.hub_databases.specs.declared.written.Written.{Written}
 use Rattle.hub_feed.specs.Host.{opening_fault}
 use Rattle.hub_feed.specs.declared.host.OpenFault.{OpenFault}
 use Rattle.hub_feed.specs.declared.host.OpenFault.TheVariants as open_fault
@@ -28,29 +32,27 @@ use Rattle.hub_params.specs.declared.feed_fault.ParamFault.{ParamFault}
 use Rattle.hub_params.specs.declared.feed_fault.ParamFault.TheVariants as param
 use Rattle.hub_http.specs.declared.refusal.Refusal.{Refusal}
 use Rattle.hub_http.specs.declared.refusal.Refusal.TheVariants.{NoMemory, Deleted, SequenceFull}
-use Rattle.hub_shared.specs.Receipts.{ids_of, receipts_from}
-use Rattle.hub_shared.specs.declared.write.Accepted.{Accepted}
-use Rattle.hub_shared.specs.Answers.{IsAnswer, TakesMemory}
 use Rattle.hub_shared.specs.Locals.{IsLocalFault}
-use Rattle.hub_shared.specs.Handles.{HandleState, IsFoundBy, IsReadBy, IsWrittenBy}
-use Rattle.hub_shared.specs.declared.question.Answer.{Answer}
-use Rattle.hub_shared.specs.declared.question.Question.{Question}
+use Rattle.hub_shared.specs.Handles.{HandleState, IsEditedBy, IsFoundBy, IsStoredBy}
+use Rattle.hub_shared.specs.Stored.{HasStored}
 use Rattle.hub_updates.specs.declared.state.NoteFault.{NoteFault}
 use Rattle.hub_updates.specs.declared.state.NoteFault.TheVariants as note_fault
 use Rattle.hub_http.specs.Refusals.{of_doc_fault}
 use Rattle.hub_document.specs.declared.doc.DocFault.{DocFault}
 use Rattle.hub_document.specs.declared.doc.DocFault.TheVariants as doc_fault
 use Rattle.serde_json.specs.Data.{Data, Items}
-use Rattle.hub_replies.specs.Bodies.{local_edit_body}
+use Rattle.hub_replies.specs.Bodies.{edit_body, local_edit_body}
 use Rattle.hub_replies.specs.Bulk.{batch_body}
-use Rattle.hub_service.specs.Bulk.{Batch, batch_if, batch_in, batch_of}
+use Rattle.hub_service.specs.Bulk.{batch_if, batch_in, batch_of}
+use Rattle.hub_service.specs.Bulk as bulk
 use Rattle.hub_service.specs.Bulk.{faults_of, read_docs, readings, replies_of}
 use Rattle.hub_service.specs.Calls.{edits, keeps, puts_doc, says_batch}
-use Rattle.hub_service.specs.Calls.{says_edit, says_first, says_noted, stores}
+use Rattle.hub_service.specs.Calls.{says_edit, says_noted, stores}
 use Rattle.hub_service.specs.Feeds.{BeginsRead, IsUnopened}
-use Rattle.hub_service.specs.Moments.{HasDatabase, IsFound, IsKept, IsRead, IsStored, IsWritten, stands}
+use Rattle.hub_service.specs.Moments.{HasDatabase, IsEdited, IsFound, IsKept, IsLooked, IsRead, with_refusal}
+use Rattle.hub_service.specs.Moments.{IsStored, IsWritten, stands}
 use Rattle.hub_service.specs.Refusals.{of_db_fault, of_note_fault, of_open_fault, of_param_fault}
-use Rattle.hub_service.specs.Said.{Said, Body, Refusing, IsSaid, IsWant, Says, Writing, HasStored}
+use Rattle.hub_service.specs.Said.{Said, Body, Refusing, IsSaid, IsWant, Says, Writing}
 use Rattle.hub_service.specs.declared.response.Response.{Response}
 use Rattle.hub_service.specs.declared.response.Response.TheVariants as response
 
@@ -153,112 +155,99 @@ unfound_read found says e (inr is) =
     ap (λ b. if b then Refusing Deleted else says is.1.db) is.1.held in
     inl (record { db = is.1.db; legal = is.1.legal; held = subst (Says (Err e)) (sym gone) is.0 })
 
--- the answer to a question is what was found
-pub found_answer : {counts : Bool} {all_parts : ℕ} {h : HandleState} (q : Question) (a : Answer)
-    → IsReadBy counts all_parts h q a → IsFound (λ db a. IsAnswer db q a) (Ok a)
-found_answer q a is = record { db = is.db; legal = is.found.legal; held = (is.stands, is.answered) }
+-- a look finds what a closure gives of each database that stands, and of one that was deleted it tells that
+pub looked_found : {A : Type 0} (gives : Bor Database → Result A DbFault → Type 0)
+    (found : Database → A → Type 0) (needs : Database → Type 0) (r : Result A Refusal)
+    → IsLooked (λ db given. (lent : Bor Database) × gives lent given × (lent.now ≡ db)) r
+    → ((lent : Bor Database) (given : Result A DbFault) → gives lent given
+    → IfOk given (λ a. (lent.now.deleted ≡ false) × found lent.now a))
+    → ((lent : Bor Database) (given : Result A DbFault) → gives lent given
+    → IfErr given (λ e. GivesUp lent.now (needs lent.now) e))
+    → IsFound found r
+looked_found gives found needs r (inl want) finds fails = subst (IsFound found) (sym want) (inl refl)
+looked_found {A} gives found needs r (inr is) finds fails =
+    subst (IsFound found) (sym is.held.2)
+    (by is.held.0
+    (subst (λ db. IfOk is.held.0 (λ a. (db.deleted ≡ false) × found db a)) is.held.1.2
+    (finds is.held.1.0 is.held.0 is.held.1.1))
+    (subst (λ db. IfErr is.held.0 (λ e. GivesUp db (needs db) e)) is.held.1.2
+    (fails is.held.1.0 is.held.0 is.held.1.1)))
+  where
+    gone : (fault : DbFault) → GivesUp is.db (needs is.db) fault → IsFound found (Err (of_db_fault fault))
+    gone fault (inl deleted) =
+        inr (ap of_db_fault deleted.1, record { db = is.db; legal = is.legal; held = deleted.0 })
+    gone fault (inr want) = inl (ap of_db_fault want.1)
 
--- and its fault why nothing was
-pub unfound_answer : {counts : Bool} {all_parts : ℕ} {h : HandleState} (q : Question) (e : DbFault)
-    → (db : Database) × IsFoundBy counts all_parts h db × GivesUp db (TakesMemory db q) e
-    → IsFound (λ db a. IsAnswer db q a) (Err (of_db_fault e))
-unfound_answer q e (db, is, inl gone) =
-    inr (ap of_db_fault gone.1, record { db = db; legal = is.legal; held = gone.0 })
-unfound_answer q e (db, is, inr want) = inl (ap of_db_fault want.1)
+    by : (given : Result A DbFault) → IfOk given (λ a. (is.db.deleted ≡ false) × found is.db a)
+        → IfErr given (λ e. GivesUp is.db (needs is.db) e) → IsFound found (with_refusal given)
+    by (Ok a) stands fault = record { db = is.db; legal = is.legal; held = stands }
+    by (Err e) stands fault = gone e fault
 
 -- ---- writing
 
--- of one document there is one outcome at most
-one_outcome : (db : Database) (doc : Doc) (o : Outcome Revision) (os : List (Outcome Revision))
-    → o ∷ os ≡ (writes true db.deleted db.limits.journal db.journal
-    (take (length (o ∷ os)) (doc ∷ []))).outcomes
-    → o ≡ (makes_one db.deleted db.limits.journal db.journal doc).outcome
-one_outcome db doc o os is = by db.deleted is
-  where
-    by : (deleted : Bool)
-        → o ∷ os ≡ (writes true deleted db.limits.journal db.journal
-        (take (length (o ∷ os)) (doc ∷ []))).outcomes
-        → o ≡ (makes_one deleted db.limits.journal db.journal doc).outcome
-    by true is = cc
-    by false is = cc
+-- an edit that some database stored
+pub edited_by : {counts : Bool} {all_parts : ℕ} {h : HandleState} (doc : Doc) (edited : Edited)
+    → IsEditedBy counts all_parts h doc (Ok edited.rev) → IsEdited doc (Ok edited)
+edited_by doc edited is = record { db = is.db; legal = is.found.legal; held = is.answered }
 
--- what was written is what some database says, which has it then
-edit_written : (status : ℕ) (doc : Doc) (a : Accepted) (o : Outcome Revision) (os : List (Outcome Revision))
-    (r : Result Response Refusal)
-    → IsWrittenBy false 0 (record { parts = 0; count = 0 }) true (doc ∷ []) a → a.replies ≡ o ∷ os
-    → IsSaid (says_edit status doc.id o) r → IsWritten (λ db. edits status db doc) r
-edit_written status doc a o os r w replies is = by (said_or_want (says_edit status doc.id o) r is)
-  where
-    by : Says r (says_edit status doc.id o) ⊎ IsWant r → IsWritten (λ db. edits status db doc) r
-    by (inr want) = inr (inl want)
-    by (inl is) =
-        let outcome =
-        one_outcome w.db doc o os
-        (subst (λ l.
-        l ≡ (writes true w.db.deleted w.db.limits.journal w.db.journal (take (length l) (doc ∷ []))).outcomes)
-        replies w.replies) in
-        inl (record {
-          db = w.db;
-          legal = w.found.legal;
-          held = subst (λ o. Says r (says_edit status doc.id o)) outcome is;
-        })
+-- and one that it did not
+pub unedited_by : {counts : Bool} {all_parts : ℕ} {h : HandleState} (doc : Doc) (e : DbFault)
+    → (e ≡ db_fault.NoMemory) ⊎ IsEditedBy counts all_parts h doc (Err e)
+    → IsEdited doc (Err (of_db_fault e))
+unedited_by doc e (inl want) = inl (ap of_db_fault want)
+unedited_by doc db_fault.NoMemory (inr is) = inl refl
+unedited_by doc (db_fault.Refused fault) (inr is) =
+    inr (record { db = is.db; legal = is.found.legal; held = (fault, refl, is.answered) })
 
--- of one document there is a receipt only where it was stored
-stored_if : (n : ℕ) (id : List ℕ) (replies : List (Outcome Revision))
-    → (receipts_from n (id ∷ []) replies ≡ [] → ⊥)
-    → (rev : Revision) × (os : List (Outcome Revision)) × (replies ≡ Stored rev ∷ os)
-stored_if n id [] some = absurd (some refl)
-stored_if n id (Stored rev ∷ os) some = (rev, os, refl)
-stored_if n id (Known ∷ os) some = absurd (some refl)
-stored_if n id (Refused fault ∷ os) some = absurd (some refl)
+-- an edit that was refused is answered as that
+pub edit_refused : (status : ℕ) (doc : Doc) (refusal : Refusal) → IsEdited doc (Err refusal)
+    → IsWritten (λ db. edits status db doc) (Err refusal)
+edit_refused status doc refusal (inl want) = inr (inl (ap Err want))
+edit_refused status doc refusal (inr is) =
+    inl (record {
+      db = is.db;
+      legal = is.legal;
+      held = subst (λ o. Says (Err refusal) (says_edit status doc.id o)) (sym is.held.2) is.held.1;
+    })
 
--- a write whose notice lapsed was stored
-edit_lapsed : (status : ℕ) (doc : Doc) (a : Accepted) (fault : NoteFault)
-    → IsWrittenBy false 0 (record { parts = 0; count = 0 }) true (doc ∷ []) a → (a.receipts.items ≡ [] → ⊥)
+-- what was stored is what some database says, which has it then
+edit_made : (status : ℕ) (doc : Doc) (edited : Edited) (r : Result Response Refusal)
+    → IsEdited doc (Ok edited) → IsSaid (Body status (edit_body doc.id edited.rev)) r
+    → IsWritten (λ db. edits status db doc) r
+edit_made status doc edited r is (inr want) = inr (inl want)
+edit_made status doc edited r is (inl said) =
+    inl (record {
+      db = is.db;
+      legal = is.legal;
+      held = subst (λ o. Says r (says_edit status doc.id o)) (sym is.held) said;
+    })
+
+-- an edit whose notice lapsed was stored
+edit_lapsed : (status : ℕ) (doc : Doc) (edited : Edited) (fault : NoteFault) → IsEdited doc (Ok edited)
     → IsWritten (λ db. edits status db doc) (Err (of_note_fault fault))
-edit_lapsed status doc a note_fault.NoMemory w some = inr (inl refl)
-edit_lapsed status doc a note_fault.SequenceFull w some =
-    let stored = stored_if (length w.db.journal) doc.id a.replies (λ none. some (w.receipts ∙ none)) in
-    let outcome =
-    one_outcome w.db doc (Stored stored.0) stored.1
-    (subst (λ l.
-    l ≡ (writes true w.db.deleted w.db.limits.journal w.db.journal (take (length l) (doc ∷ []))).outcomes)
-    stored.2 w.replies) in
+edit_lapsed status doc edited note_fault.NoMemory is = inr (inl refl)
+edit_lapsed status doc edited note_fault.SequenceFull is =
     inr (inr (
       refl,
-      record {
-        db = w.db;
-        legal = w.found.legal;
-        held = (stored.0, (0, omega arith, sym outcome));
-      },
+      record { db = is.db; legal = is.legal; held = (edited.rev, (0, omega arith, is.held)) },
     ))
 
--- an edit that was answered by its first outcome
-edit_first : (status : ℕ) (doc : Doc) (a : Accepted) (os : List (Outcome Revision))
-    (r : Result Response Refusal)
-    → IsWrittenBy false 0 (record { parts = 0; count = 0 }) true (doc ∷ []) a → a.replies ≡ os
-    → IsSaid (says_first status doc.id os) r → IsWritten (λ db. edits status db doc) r
-edit_first status doc a [] r w replies is = inr (inl (is_refused r NoMemory is))
-edit_first status doc a (o ∷ os) r w replies is = edit_written status doc a o os r w replies is
-
 -- an edit that was answered by whether it was noted
-edit_noted : (status : ℕ) (doc : Doc) (a : Accepted) (lapsed : Option NoteFault) (r : Result Response Refusal)
-    → IsWrittenBy false 0 (record { parts = 0; count = 0 }) true (doc ∷ []) a
-    → (IsSome lapsed → a.receipts.items ≡ [] → ⊥)
-    → IsSaid (says_noted lapsed (says_first status doc.id a.replies)) r
+edit_noted : (status : ℕ) (doc : Doc) (edited : Edited) (lapsed : Option NoteFault)
+    (r : Result Response Refusal) → IsEdited doc (Ok edited)
+    → IsSaid (says_noted lapsed (Body status (edit_body doc.id edited.rev))) r
     → IsWritten (λ db. edits status db doc) r
-edit_noted status doc a None r w some is = edit_first status doc a a.replies r w refl is
-edit_noted status doc a (Some fault) r w some is =
-    subst (IsWritten (λ db. edits status db doc)) (sym (is_refused r (of_note_fault fault) is))
-    (edit_lapsed status doc a fault w (some cc))
+edit_noted status doc edited None r is said = edit_made status doc edited r is said
+edit_noted status doc edited (Some fault) r is said =
+    subst (IsWritten (λ db. edits status db doc)) (sym (is_refused r (of_note_fault fault) said))
+    (edit_lapsed status doc edited fault is)
 
--- an edit is answered by what the write did
-pub edit_said : (status : ℕ) (doc : Doc) (w : Written) (r : Result Response Refusal)
-    → IsStored true (doc ∷ []) w
-    → IsSaid (says_noted w.lapsed (says_first status doc.id w.accepted.replies)) r
+-- an edit that was stored is answered by what the write did
+pub edit_said : (status : ℕ) (doc : Doc) (edited : Edited) (r : Result Response Refusal)
+    → IsEdited doc (Ok edited)
+    → IsSaid (says_noted edited.lapsed (Body status (edit_body doc.id edited.rev))) r
     → IsWritten (λ db. edits status db doc) r
-edit_said status doc w r stored is =
-    edit_noted status doc w.accepted w.lapsed r stored.accepted stored.lapsed is
+edit_said status doc edited r is said = edit_noted status doc edited edited.lapsed r is said
 
 -- ---- local documents
 
@@ -364,29 +353,31 @@ told_of is_such told (Ok x) one such all = all one such
 told_of is_such told (Err e) one such all = tt
 
 -- what became of each document of a batch that did not stop
-batch_outcomes : (new_edits : Bool) (docs : List Doc) (a : Accepted)
-    → (w : IsWrittenBy false 0 (record { parts = 0; count = 0 }) new_edits docs a) → a.stopped ≡ false
-    → a.replies ≡ (writes new_edits w.db.deleted w.db.limits.journal w.db.journal docs).outcomes
-batch_outcomes new_edits docs a w goes =
+batch_outcomes : (new_edits : Bool) (docs : List Doc) (batch : Batch)
+    → (w : IsStoredBy false 0 (record { parts = 0; count = 0 }) new_edits docs batch)
+    → batch.stopped ≡ false
+    → batch.replies ≡ (writes new_edits w.db.deleted w.db.limits.journal w.db.journal docs).outcomes
+batch_outcomes new_edits docs batch w goes =
     w.replies ∙ ap (λ l. (writes new_edits w.db.deleted w.db.limits.journal w.db.journal l).outcomes)
     (ap (λ n. take n docs) (w.whole goes) ∙ take_whole docs)
 
 -- a batch that was written is what some database says
-batch_written : (new_edits : Bool) (items : Items) (a : Accepted) (r : Result Response Refusal)
-    → IsWrittenBy false 0 (record { parts = 0; count = 0 }) new_edits (read_docs (readings new_edits items)) a
-    → a.stopped ≡ false
+batch_written : (new_edits : Bool) (items : Items) (batch : Batch) (r : Result Response Refusal)
+    → IsStoredBy false 0 (record { parts = 0; count = 0 }) new_edits (read_docs (readings new_edits items))
+    batch
+    → batch.stopped ≡ false
     → IsSaid (Body 201
-    (batch_body items (replies_of new_edits (faults_of (readings new_edits items)) a.replies))) r
+    (batch_body items (replies_of new_edits (faults_of (readings new_edits items)) batch.replies))) r
     → IsWritten (λ db. stores db (Ok (record { docs = items; new_edits = new_edits }))) r
-batch_written new_edits items a r w goes (inr want) = inr (inl want)
-batch_written new_edits items a r w goes (inl is) =
+batch_written new_edits items batch r w goes (inr want) = inr (inl want)
+batch_written new_edits items batch r w goes (inl is) =
     inl (record {
       db = w.db;
       legal = w.found.legal;
       held =
           subst (λ l. Says r
           (Body 201 (batch_body items (replies_of new_edits (faults_of (readings new_edits items)) l))))
-          (batch_outcomes new_edits _ a w goes) is;
+          (batch_outcomes new_edits _ batch w goes) is;
     })
 
 -- what stands in a list stands in a longer one
@@ -401,19 +392,6 @@ stored_behind rev o os ps more (suc k, few, is) =
 -- nothing stands in an empty list
 none_stored : {A : Type 0} (rev : Revision) → Contains [] (Stored rev) → A
 none_stored rev (k, few, is) = absurd (omega (arith, few))
-
--- a receipt is of a document that was stored
-stored_of_receipt : (n : ℕ) (ids : List (List ℕ)) (replies : List (Outcome Revision))
-    → (receipts_from n ids replies ≡ [] → ⊥) → HasStored replies
-stored_of_receipt n [] replies some = absurd (some refl)
-stored_of_receipt n (id ∷ ids) [] some = absurd (some refl)
-stored_of_receipt n (id ∷ ids) (Stored rev ∷ os) some = (rev, (0, omega arith, refl))
-stored_of_receipt n (id ∷ ids) (Known ∷ os) some =
-    let there = stored_of_receipt n ids os some in
-    (there.0, (suc there.1.0, omega (arith, there.1.1), there.1.2))
-stored_of_receipt n (id ∷ ids) (Refused fault ∷ os) some =
-    let there = stored_of_receipt n ids os some in
-    (there.0, (suc there.1.0, omega (arith, there.1.1), there.1.2))
 
 -- what is stored of a front of documents is stored of them all
 stored_of_front : (store : List Edit → Doc → Stores) (deleted : Bool) (J : List Edit) (n : ℕ)
@@ -433,73 +411,76 @@ stored_of_front store false J (suc n) (doc ∷ docs) rev has =
     (stored_of_front store false K n docs rev) has
 
 -- a batch whose notice lapsed has a document that was stored, where it was written whole as where it stopped
-batch_lapsed : (new_edits : Bool) (items : Items) (a : Accepted) (fault : NoteFault)
-    → IsWrittenBy false 0 (record { parts = 0; count = 0 }) new_edits (read_docs (readings new_edits items)) a
-    → (a.receipts.items ≡ [] → ⊥)
+batch_lapsed : (new_edits : Bool) (items : Items) (batch : Batch) (fault : NoteFault)
+    → IsStoredBy false 0 (record { parts = 0; count = 0 }) new_edits (read_docs (readings new_edits items))
+    batch
+    → HasStored batch.replies
     → IsWritten (λ db. stores db (Ok (record { docs = items; new_edits = new_edits })))
     (Err (of_note_fault fault))
-batch_lapsed new_edits items a note_fault.NoMemory w some = inr (inl refl)
-batch_lapsed new_edits items a note_fault.SequenceFull w some =
+batch_lapsed new_edits items batch note_fault.NoMemory w some = inr (inl refl)
+batch_lapsed new_edits items batch note_fault.SequenceFull w some =
     let docs = read_docs (readings new_edits items) in
-    let stored =
-    stored_of_receipt (length w.db.journal) (ids_of docs) a.replies (λ none. some (w.receipts ∙ none)) in
-    let front = subst (λ (l : List (Outcome Revision)). Contains l (Stored stored.0)) w.replies stored.1 in
+    let front = subst (λ (l : List (Outcome Revision)). Contains l (Stored some.0)) w.replies some.1 in
     inr (inr (
       refl,
       record {
         db = w.db;
         legal = w.found.legal;
         held = (
-          stored.0,
+          some.0,
           stored_of_front (stores_doc new_edits w.db.limits.journal) w.db.deleted w.db.journal
-              (length a.replies) docs stored.0 front,
+              (length batch.replies) docs some.0 front,
         );
       },
     ))
 
 -- a batch that was answered by whether it stopped
-batch_stopped : (new_edits : Bool) (items : Items) (a : Accepted) (stopped : Bool)
+batch_stopped : (new_edits : Bool) (items : Items) (batch : Batch) (stopped : Bool)
     (r : Result Response Refusal)
-    → IsWrittenBy false 0 (record { parts = 0; count = 0 }) new_edits (read_docs (readings new_edits items)) a
-    → a.stopped ≡ stopped
+    → IsStoredBy false 0 (record { parts = 0; count = 0 }) new_edits (read_docs (readings new_edits items))
+    batch
+    → batch.stopped ≡ stopped
     → IsSaid (says_batch (record { docs = items; new_edits = new_edits })
-    (faults_of (readings new_edits items)) stopped a.replies) r
+    (faults_of (readings new_edits items)) stopped batch.replies) r
     → IsWritten (λ db. stores db (Ok (record { docs = items; new_edits = new_edits }))) r
-batch_stopped new_edits items a true r w is said = inr (inl (is_refused r NoMemory said))
-batch_stopped new_edits items a false r w is said = batch_written new_edits items a r w is said
+batch_stopped new_edits items batch true r w is said = inr (inl (is_refused r NoMemory said))
+batch_stopped new_edits items batch false r w is said = batch_written new_edits items batch r w is said
 
 -- a batch that was answered by whether it was noted
-batch_noted : (new_edits : Bool) (items : Items) (a : Accepted) (lapsed : Option NoteFault)
+batch_noted : (new_edits : Bool) (items : Items) (batch : Batch) (lapsed : Option NoteFault)
     (r : Result Response Refusal)
-    → IsWrittenBy false 0 (record { parts = 0; count = 0 }) new_edits (read_docs (readings new_edits items)) a
-    → (IsSome lapsed → a.receipts.items ≡ [] → ⊥)
+    → IsStoredBy false 0 (record { parts = 0; count = 0 }) new_edits (read_docs (readings new_edits items))
+    batch
+    → (IsSome lapsed → HasStored batch.replies)
     → IsSaid (says_noted lapsed
     (says_batch (record { docs = items; new_edits = new_edits })
-    (faults_of (readings new_edits items)) a.stopped a.replies)) r
+    (faults_of (readings new_edits items)) batch.stopped batch.replies)) r
     → IsWritten (λ db. stores db (Ok (record { docs = items; new_edits = new_edits }))) r
-batch_noted new_edits items a None r w some is = batch_stopped new_edits items a a.stopped r w refl is
-batch_noted new_edits items a (Some fault) r w some is =
+batch_noted new_edits items batch None r w some is =
+    batch_stopped new_edits items batch batch.stopped r w refl is
+batch_noted new_edits items batch (Some fault) r w some is =
     subst (IsWritten (λ db. stores db (Ok (record { docs = items; new_edits = new_edits }))))
     (sym (is_refused r (of_note_fault fault) is))
-    (batch_lapsed new_edits items a fault w (some cc))
+    (batch_lapsed new_edits items batch fault w (some cc))
 
 -- a batch is answered by what the write did
 pub batch_said : (new_edits : Bool) (items : Items) (w : Written) (r : Result Response Refusal)
     → IsStored new_edits (read_docs (readings new_edits items)) w
     → IsSaid (says_noted w.lapsed
     (says_batch (record { docs = items; new_edits = new_edits })
-    (faults_of (readings new_edits items)) w.accepted.stopped w.accepted.replies)) r
+    (faults_of (readings new_edits items)) w.batch.stopped w.batch.replies)) r
     → IsWritten (λ db. stores db (Ok (record { docs = items; new_edits = new_edits }))) r
 batch_said new_edits items w r stored is =
-    batch_noted new_edits items w.accepted w.lapsed r stored.accepted stored.lapsed is
+    batch_noted new_edits items w.batch w.lapsed r stored.stored stored.lapsed is
 
 -- a batch that was read is stored
-pub stored_as : (b : Result Batch Refusal) (batch : Batch) (r : Result Response Refusal) → b ≡ Ok batch
+pub stored_as : (b : Result bulk.Batch Refusal) (batch : bulk.Batch) (r : Result Response Refusal)
+    → b ≡ Ok batch
     → IsWritten (λ db. stores db (Ok batch)) r → IsWritten (λ db. stores db b) r
 stored_as b batch r is w = subst (λ b. IsWritten (λ db. stores db b) r) (sym is) w
 
 -- and its refusal is told without a look
-pub store_refused : (b : Result Batch Refusal) (e : Refusal) → b ≡ Err e
+pub store_refused : (b : Result bulk.Batch Refusal) (e : Refusal) → b ≡ Err e
     → IsWritten (λ db. stores db b) (Err e)
 store_refused b e is =
     written_anyway (λ db. stores db b) (Refusing e) (Err e) refl (λ db. sym (ap (λ b. (stores db b).said) is))

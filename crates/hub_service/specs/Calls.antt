@@ -88,11 +88,6 @@ says_edit status id (Stored rev) = Body status (edit_body id rev)
 says_edit status id Known = Refusing Conflict
 says_edit status id (Refused fault) = Refusing (of_fault fault)
 
--- what came of storing one edit; where memory ran out there is no outcome
-abbrev pub says_first : ℕ → List ℕ → List (Outcome Revision) → Said
-says_first status id [] = Refusing NoMemory
-says_first status id (o ∷ os) = says_edit status id o
-
 -- What a write is answered whose notice may have lapsed. That a notice lapsed is told before
 -- anything else: the stored edits stand, and have no note. A batch that stopped for memory behind a
 -- stored document, with a full log, is answered sequence_full.

@@ -1,16 +1,24 @@
 -- What is found behind locks: each call looks at a database once, as it was at some moment (own).
-use Rattle.std.specs.Prelude.{◌≡◌, ◌⊎◌, ◌≤◌, ◌^◌, ℕ, List, [], Bool, true, false, Result, Ok, Err, IsSome}
+use Rattle.std.specs.Prelude.{◌≡◌, ◌⊎◌, ◌≤◌, ◌^◌, ℕ, List, Bool, true, false, Result, Ok, Err, IsSome}
 use Rattle.std.specs.Prelude.{if◌then◌else◌}
 use Rattle.hub_document.specs.declared.doc.Doc.{Doc}
 use Rattle.hub_document.specs.declared.local_doc.LocalDoc.{LocalDoc}
 use Rattle.hub_model.specs.Journal.{IsLegal}
+use Rattle.hub_model.specs.declared.outcomes.Fault.{Fault}
+use Rattle.hub_model.specs.declared.outcomes.Outcome.TheVariants.{Stored, Refused}
 use Rattle.hub_database.specs.Database.{Database}
+use Rattle.hub_database.specs.Edits.{makes_one}
 use Rattle.hub_database.specs.Locals.{written}
-use Rattle.hub_databases.specs.declared.hub.Written.{Written}
+use Rattle.hub_database.specs.declared.batch.DbFault.{DbFault}
+use Rattle.hub_databases.specs.declared.written.Edited.{Edited}
+use Rattle.hub_databases.specs.declared.written.Written.{Written}
+use Rattle.hub_http.specs.Refusals.{of_fault}
 use Rattle.hub_http.specs.declared.refusal.Refusal.{Refusal}
 use Rattle.hub_http.specs.declared.refusal.Refusal.TheVariants.{NoMemory, Deleted, SequenceFull}
-use Rattle.hub_shared.specs.Handles.{IsWrittenBy}
-use Rattle.hub_service.specs.Said.{Said, Refusing, Says, IsWant, Writing, HasStored}
+use Rattle.hub_shared.specs.Handles.{IsStoredBy}
+use Rattle.hub_shared.specs.Stored.{HasStored}
+use Rattle.hub_service.specs.Refusals.{of_db_fault}
+use Rattle.hub_service.specs.Said.{Said, Refusing, Says, IsWant, Writing}
 use Rattle.hub_service.specs.declared.response.Response.{Response}
 
 -- this holds of some database, as one may lie under its lock
@@ -30,6 +38,17 @@ abbrev pub IsFound : {A : Type 0} → (Database → A → Type 0) → Result A R
 IsFound found (Ok a) = HasDatabase (λ db. (db.deleted ≡ false) × found db a)
 IsFound found (Err e) = (e ≡ NoMemory) ⊎ ((e ≡ Deleted) × HasDatabase (λ db. db.deleted ≡ true))
 
+-- what a call on a database gave, with a fault as the refusal that it is
+abbrev pub with_refusal : {A : Type 0} → Result A DbFault → Result A Refusal
+with_refusal (Ok a) = Ok a
+with_refusal (Err fault) = Err (of_db_fault fault)
+
+-- What one look is told: what some database gave, where `gives` says what each gives. Or memory was missing
+-- for the look.
+abbrev pub IsLooked : {A : Type 0} → (Database → Result A DbFault → Type 0) → Result A Refusal → Type 0
+IsLooked {A} gives r = (r ≡ Err NoMemory)
+    ⊎ HasDatabase (λ db. (given : Result A DbFault) × gives db given × (r ≡ with_refusal given))
+
 -- a call that reads was answered as some database says it, or memory was missing
 abbrev pub IsRead : (Database → Said) → Result Response Refusal → Type 0
 IsRead says r = HasDatabase (λ db. Says r (stands db (says db))) ⊎ IsWant r
@@ -43,11 +62,20 @@ abbrev pub IsWritten : (Database → Writing) → Result Response Refusal → Ty
 IsWritten does r = HasDatabase (λ db. Says r (does db).said)
     ⊎ (IsWant r ⊎ ((r ≡ Err SequenceFull) × HasDatabase (λ db. HasStored (does db).outcomes)))
 
--- What became of a write to some database: the log of updates may have no note of it only where edits were
--- stored. So for a batch of known documents alone no note is missing.
+-- What became of one edit that is made here: some database makes it, and gives it this revision; or some
+-- database refuses it, or memory was missing.
+abbrev pub IsEdited : Doc → Result Edited Refusal → Type 0
+IsEdited doc (Ok edited) = HasDatabase (λ db.
+    (makes_one db.deleted db.limits.journal db.journal doc).outcome ≡ Stored edited.rev)
+IsEdited doc (Err refusal) = (refusal ≡ NoMemory) ⊎ HasDatabase (λ db.
+    (fault : Fault) × (refusal ≡ of_fault fault)
+    × ((makes_one db.deleted db.limits.journal db.journal doc).outcome ≡ Refused fault))
+
+-- What became of a batch that was stored in some database: the log of updates may have no note of it only
+-- where edits were stored. So for a batch of known documents alone no note is missing.
 pub record IsStored (new_edits : Bool) (docs : List Doc) (w : Written) : Type 0 where
-  pub accepted : IsWrittenBy false 0 (record { parts = 0; count = 0 }) new_edits docs w.accepted
-  pub lapsed : IsSome w.lapsed → ¬ (w.accepted.receipts.items ≡ [])
+  pub stored : IsStoredBy false 0 (record { parts = 0; count = 0 }) new_edits docs w.batch
+  pub lapsed : IsSome w.lapsed → HasStored w.batch.replies
 
 -- some database, whose journal is not looked at, has kept a local document, and says how often it was
 -- written; or it was deleted, or can't count on, or memory was missing. A document that was written twice

@@ -2,7 +2,7 @@
 -- each call on one; own for the order of refusals). Each call looks at a database under its lock,
 -- and is answered as the database says it that lies there then.
 use Rattle.std.specs.Prelude.{◌≡◌, ◌⊎◌, ℕ, List, true, false, Option, Some, Result, Ok, Err}
-use Rattle.std.specs.Prelude.{string_bytes}
+use Rattle.std.specs.Cow.{cow_str_bytes}
 use Rattle.hub_document.specs.Local.{local_in}
 use Rattle.hub_document.specs.Put.{put_in}
 use Rattle.hub_database.specs.Locals.{local_of}
@@ -40,20 +40,20 @@ use Rattle.hub_service.specs.declared.sent.Sent.{Sent}
 abbrev pub AnswersCall : Call → List ℕ → List ℕ → Result Response Refusal → Type 0
 AnswersCall call.Info name body r = IsRead (λ db. says_info name db) r
 AnswersCall call.BulkDocs name body r = IsWritten (λ db. stores db (batch_in body)) r
-AnswersCall (call.Changes query) name body r = Begins BeginsChanges query.items body r
+AnswersCall (call.Changes query) name body r = Begins BeginsChanges query.now body r
 AnswersCall call.RevsDiff name body r = IsRead (λ db. says_diffs db.journal (asked_by body)) r
 AnswersCall call.FullCommit name body r = IsSaid says_commit r
 AnswersCall (call.GetDocument id query) name body r =
-    IsRead (λ db. gets_doc db.journal (string_bytes id) (doc_asked query.items)) r
+    IsRead (λ db. gets_doc db.journal (cow_str_bytes id) (doc_asked query.now)) r
 AnswersCall (call.PutDocument id query) name body r =
-    let asked = doc_asked query.items in
-    IsWritten (λ db. puts_doc db (put_in (string_bytes id) asked.rev asked.new_edits body)) r
+    let asked = doc_asked query.now in
+    IsWritten (λ db. puts_doc db (put_in (cow_str_bytes id) asked.rev asked.new_edits body)) r
 AnswersCall (call.DeleteDocument id query) name body r =
-    IsDeletion (string_bytes id) query.items r
+    IsDeletion (cow_str_bytes id) query.now r
 AnswersCall (call.GetLocal id) name body r =
-    IsRead (λ db. says_local (local_of db.locals (string_bytes id))) r
+    IsRead (λ db. says_local (local_of db.locals (cow_str_bytes id))) r
 AnswersCall (call.PutLocal id) name body r =
-    IsRead (λ db. puts_local db (local_in (string_bytes id) body)) r
+    IsRead (λ db. puts_local db (local_in (cow_str_bytes id) body)) r
 
 -- a bad name is refused as that, and nothing else is
 abbrev pub AtName : List ℕ → (Result Response Refusal → Type 0) → Result Response Refusal → Type 0
@@ -82,12 +82,12 @@ IsCalled c name body r = AnswersCall c name body r ⊎ ((r ≡ Err Absent) ⊎ I
 abbrev pub Responds : List ℕ → Result Route RouteFault → Result Response Refusal → Type 0
 Responds body (Err fault) r = r ≡ Err (of_route_fault fault)
 Responds body (Ok route.Welcome) r = IsSaid (Body 200 welcome_body) r
-Responds body (Ok (route.PutDatabase name)) r = AtName (string_bytes name) IsMade r
-Responds body (Ok (route.DeleteDatabase name)) r = AtName (string_bytes name) IsRemoved r
+Responds body (Ok (route.PutDatabase name)) r = AtName (cow_str_bytes name) IsMade r
+Responds body (Ok (route.DeleteDatabase name)) r = AtName (cow_str_bytes name) IsRemoved r
 Responds body (Ok route.AllDbs) r = IsListed r
-Responds body (Ok (route.DbUpdates query)) r = Begins BeginsUpdates query.items body r
+Responds body (Ok (route.DbUpdates query)) r = Begins BeginsUpdates query.now body r
 Responds body (Ok (route.Database name c)) r =
-    AtName (string_bytes name) (λ r. IsCalled c (string_bytes name) body r) r
+    AtName (cow_str_bytes name) (λ r. IsCalled c (cow_str_bytes name) body r) r
 
 -- the response is sent so, and what is being sent is then this: a feed that is begun takes the place of none
 abbrev pub IsSent : Result Response Refusal → Answer → Option Sent → Option Sent → Type 0

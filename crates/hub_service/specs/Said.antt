@@ -1,10 +1,9 @@
 -- What a call is answered (own; CouchDB API reference, HTTP status codes).
-use Rattle.std.specs.Prelude.{◌≡◌, ◌⊎◌, ℕ, List, [], Result, Ok, Err, Contains}
+use Rattle.std.specs.Prelude.{◌≡◌, ◌⊎◌, ℕ, List, [], Result, Ok, Err}
 use Rattle.hub_http.specs.declared.refusal.Refusal.{Refusal}
 use Rattle.hub_http.specs.declared.refusal.Refusal.TheVariants.{NoMemory}
 use Rattle.hub_model.specs.Revision.{Revision}
 use Rattle.hub_model.specs.declared.outcomes.Outcome.{Outcome}
-use Rattle.hub_model.specs.declared.outcomes.Outcome.TheVariants.{Stored}
 use Rattle.hub_service.specs.declared.response.Response.{Response}
 use Rattle.hub_service.specs.declared.response.Response.TheVariants as response
 
@@ -39,7 +38,3 @@ pub record Writing : Type 0 where
 -- a write that is refused as a whole
 abbrev pub refuses_all : Refusal → Writing
 refuses_all refusal = record { said = Refusing refusal; outcomes = [] }
-
--- one of the documents was stored
-abbrev pub HasStored : List (Outcome Revision) → Type 0
-HasStored outcomes = (rev : Revision) × Contains outcomes (Stored rev)

@@ -147,15 +147,15 @@ fn say_batch(
 ) -> Result<Response, Refusal>
     ensures { let w = written.now in IsSaid (says_noted w.lapsed (says_batch
         (record { docs = items_view elements.now; new_edits = new_edits })
-        faults.now w.accepted.stopped w.accepted.replies)) result }
+        faults.now w.batch.stopped w.batch.replies)) result }
 {
     if let Some(fault) = written.lapsed {
         return Err(unnoted(fault));
     }
-    if written.accepted.stopped {
+    if written.batch.stopped {
         return Err(Refusal::NoMemory);
     }
-    let outcomes = written.accepted.replies.as_slice();
+    let outcomes = written.batch.replies.as_slice();
     created(answer_text(alloc, elements, new_edits, faults, outcomes))
 }
 

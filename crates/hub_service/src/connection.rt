@@ -109,8 +109,8 @@ impl<'h, N: Wait, P: Pumping> Connection<'h, N, P> {
     }
 
     // A call on the database of a name.
-    fn call(&self, name: &str, call: Call, body: &[u8]) -> Result<Response, Refusal>
-        ensures { AtName name.now (λ r. IsCalled call name.now body.now r) result }
+    fn call(&self, name: &str, call: Call<'_>, body: &[u8]) -> Result<Response, Refusal>
+        ensures { AtName name.now (λ r. IsCalled call.entry name.now body.now r) result }
     {
         match self.hub.find(self.rt, name) {
             Ok(db) => answer(
@@ -124,8 +124,8 @@ impl<'h, N: Wait, P: Pumping> Connection<'h, N, P> {
     }
 
     // The answer to a request that goes there.
-    fn go(&self, route: Route, body: &[u8]) -> Result<Response, Refusal>
-        ensures { Responds body.now (Ok route) result }
+    fn go(&self, route: Route<'_>, body: &[u8]) -> Result<Response, Refusal>
+        ensures { Responds body.now (Ok route.entry) result }
     {
         match route {
             Route::Welcome => ok(Vec::from_slice(self.alloc, welcome_body())),
@@ -133,7 +133,7 @@ impl<'h, N: Wait, P: Pumping> Connection<'h, N, P> {
             Route::DeleteDatabase { db } => self.remove(db.as_str()),
             Route::AllDbs => self.list(),
             Route::DbUpdates { query } => {
-                begin_updates(self.rt, self.alloc, self.hub, query.as_slice(), body)
+                begin_updates(self.rt, self.alloc, self.hub, query, body)
             }
             Route::Database { db, call } => self.call(db.as_str(), call, body),
         }

@@ -25,23 +25,21 @@ fn info<N: Wait>(target: &Target<'_, N>, name: &str) -> Result<Response, Refusal
 pub(crate) fn answer<N: Wait>(
     target: &Target<'_, N>,
     name: &str,
-    call: Call,
+    call: Call<'_>,
     body: &[u8],
 ) -> Result<Response, Refusal>
-    ensures { AnswersCall call name.now body.now result }
+    ensures { AnswersCall call.entry name.now body.now result }
 {
     match call {
         Call::Info => info(target, name),
         Call::BulkDocs => bulk::store(target, body),
-        Call::Changes { query } => feeds::begin(target, query.as_slice(), body),
+        Call::Changes { query } => feeds::begin(target, query, body),
         Call::RevsDiff => diff::revs_diff(target, body),
         Call::FullCommit => created(Vec::from_slice(target.alloc, commit_body())),
-        Call::GetDocument { id, query } => documents::get(target, id, query.as_slice()),
-        Call::PutDocument { id, query } => {
-            documents::put(target, id.as_str(), query.as_slice(), body)
-        }
-        Call::DeleteDocument { id, query } => documents::delete(target, id, query.as_slice()),
-        Call::GetLocal { id } => locals::get(target, id),
+        Call::GetDocument { id, query } => documents::get(target, id.as_str(), query),
+        Call::PutDocument { id, query } => documents::put(target, id.as_str(), query, body),
+        Call::DeleteDocument { id, query } => documents::delete(target, id.as_str(), query),
+        Call::GetLocal { id } => locals::get(target, id.as_str()),
         Call::PutLocal { id } => locals::put(target, id.as_str(), body),
     }
 }

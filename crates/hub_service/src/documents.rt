@@ -1,13 +1,14 @@
 //! Documents by their ids (CouchDB API reference, `/{db}/{docid}`).
 
-ghost use Rattle.std.specs.Prelude.{◌≡◌, ◌⊎◌, ◌∷◌, [], Err, IfErr, IfOk, List, Ok, string_bytes, ℕ};
+ghost use Rattle.std.specs.Prelude.{◌≡◌, ◌⊎◌, Err, IfErr, IfOk, List, Ok, ℕ};
 ghost use Rattle.hub_document.specs.Ids.{short_id};
 ghost use Rattle.hub_document.specs.Put.{put_in};
 ghost use Rattle.hub_params.specs.DocParams.{doc_asked};
 ghost use Rattle.hub_database.specs.Reads.{lookup};
+ghost use Rattle.hub_model.specs.declared.outcomes.Outcome.TheVariants.{Stored};
 ghost use Rattle.hub_replies.specs.Bodies.{edit_front};
 ghost use Rattle.hub_service.specs.Calls.{edits, gets_doc, gets_revs, is_all, puts_doc, says_edit};
-ghost use Rattle.hub_service.specs.Calls.{says_first, says_found, says_noted, says_revs, winner_in};
+ghost use Rattle.hub_service.specs.Calls.{says_found, says_noted, says_revs, winner_in};
 ghost use Rattle.hub_service.specs.Deletions.{DeletesLeaf, IsDeletion, refuses_unnamed};
 ghost use Rattle.hub_service.specs.Moments.{IsRead, IsWritten};
 ghost use Rattle.hub_service.specs.Said.{IsSaid, Refusing};
@@ -17,14 +18,13 @@ use crate::response::{Response, ok};
 use crate::target::Target;
 use http::StatusCode;
 use hub_database::{Lookup, OpenRev};
-use hub_databases::Written;
+use hub_databases::Edited;
 use hub_document::{Body, Doc, DocFault, DocId, OpenRevs, RevId};
 use hub_http::Refusal;
-use hub_model::Outcome;
 use hub_params::DocParams;
 use hub_replies::{doc_body, edit_body, edit_front, open_revs_body};
 use hub_revtree::Winner;
-use std::alloc::{AllocError, Global};
+use std::alloc::Global;
 use std::sync::Wait;
 
 // The answer to a document that was asked for.
@@ -58,23 +58,22 @@ fn say_revs(alloc: Global, all: bool, revs: &[OpenRev]) -> Result<Response, Refu
 // The revisions of a document that a value of `open_revs` asks for.
 fn get_revs<N: Wait>(
     target: &Target<'_, N>,
-    id: String,
+    id: &str,
     revs: bool,
     asked: Option<OpenRevs>,
 ) -> Result<Response, Refusal>
-    ensures { IsRead (λ db. gets_revs db.journal (string_bytes id) revs asked) result }
+    ensures { IsRead (λ db. gets_revs db.journal id.now revs asked) result }
 {
     let Some(which) = asked else {
         return Err(Refusal::BadRev);
     };
-    let all = is_all(&which);
-    let found = target.revisions(id, which, revs)?;
-    say_revs(target.alloc, all, found.as_slice())
+    let found = target.revisions(id, &which, revs)?;
+    say_revs(target.alloc, is_all(&which), found.as_slice())
 }
 
 // A document.
-fn get_found<N: Wait>(target: &Target<'_, N>, id: String, revs: bool) -> Result<Response, Refusal>
-    ensures { IsRead (λ db. says_found (lookup db.journal (string_bytes id) revs)) result }
+fn get_found<N: Wait>(target: &Target<'_, N>, id: &str, revs: bool) -> Result<Response, Refusal>
+    ensures { IsRead (λ db. says_found (lookup db.journal id.now revs)) result }
 {
     let found = target.found(id, revs)?;
     say_found(target.alloc, &found)
@@ -84,10 +83,10 @@ fn get_found<N: Wait>(target: &Target<'_, N>, id: String, revs: bool) -> Result<
 /// database, what `DbState::get` or `DbState::open_revs` does, and the length of the answer.
 pub(crate) fn get<N: Wait>(
     target: &Target<'_, N>,
-    id: String,
+    id: &str,
     query: &[u8],
 ) -> Result<Response, Refusal>
-    ensures { IsRead (λ db. gets_doc db.journal (string_bytes id) (doc_asked query.now)) result }
+    ensures { IsRead (λ db. gets_doc db.journal id.now (doc_asked query.now)) result }
 {
     let DocParams {
         rev,
@@ -105,41 +104,15 @@ pub(crate) fn get<N: Wait>(
     get_found(target, id, revs)
 }
 
-// What came of storing an edit, with this status where it was stored, and this front of the answer.
-fn say_edit(
-    status: StatusCode,
-    front: Vec<u8>,
-    outcome: &Outcome<RevId>,
-) -> Result<Response, Refusal>
-    ensures { (id : List ℕ) → front.items ≡ edit_front id → IsSaid (says_edit status id outcome.now) result }
+// The answer to an edit that was stored, with this status, and this front of the answer.
+fn say_edited(status: StatusCode, front: Vec<u8>, edited: &Edited) -> Result<Response, Refusal>
+    ensures { let e = edited.now in (id : List ℕ) → front.items ≡ edit_front id
+        → IsSaid (says_noted e.lapsed (says_edit status id (Stored e.rev))) result }
 {
-    match outcome {
-        Outcome::Stored(rev) => Ok(Response::Body(status, edit_body(front, rev)?)),
-        Outcome::Known => Err(Refusal::Conflict),
-        Outcome::Refused(fault) => Err(Refusal::from(*fault)),
-    }
-}
-
-// The answer to an edit that was written so, with this status where it was stored, and this front of the
-// answer.
-fn say_written(status: StatusCode, front: Vec<u8>, written: &Written) -> Result<Response, Refusal>
-    ensures { let w = written.now in (id : List ℕ) → front.items ≡ edit_front id
-        → IsSaid (says_noted w.lapsed (says_first status id w.accepted.replies)) result }
-{
-    if let Some(fault) = written.lapsed {
+    if let Some(fault) = edited.lapsed {
         return Err(unnoted(fault));
     }
-    match written.accepted.replies.as_slice() {
-        [outcome, ..] => say_edit(status, front, outcome),
-        [] => Err(Refusal::NoMemory),
-    }
-}
-
-// A list of one document.
-fn listed(alloc: Global, doc: Doc) -> Result<Vec<Doc>, AllocError>
-    ensures { IfOk result (λ docs. docs.items ≡ doc ∷ []) }
-{
-    Ok(vec![in alloc; doc]?)
+    Ok(Response::Body(status, edit_body(front, &edited.rev)?))
 }
 
 // Stores an edit whose revision is made here, and says so with this status. The answer is begun first, so
@@ -148,8 +121,8 @@ fn edit<N: Wait>(target: &Target<'_, N>, status: StatusCode, doc: Doc) -> Result
     ensures { IsWritten (λ db. edits status db doc) result }
 {
     let front = edit_front(target.alloc, doc.id.as_str())?;
-    let written = target.write(listed(target.alloc, doc)?, true)?;
-    say_written(status, front, &written)
+    let edited = target.write_one(doc)?;
+    say_edited(status, front, &edited)
 }
 
 // The document that a body is, which a query may name a leaf of.
@@ -165,7 +138,9 @@ fn read_put(alloc: Global, id: &str, query: &[u8], body: &[u8]) -> Result<Doc, D
 }
 
 /// Puts a document: an edit of the leaf that the query or the body names. It costs the body's length,
-/// and what `Hub::write` does. Where memory is missing, no edit stands but one that could not be noted.
+/// and what `Hub::write_one` does. Beside the document that is read, and what the database and the log
+/// keep of it, it takes memory twice: for the answer, and for the notice. Where memory is missing, no
+/// edit stands but one that could not be noted.
 pub(crate) fn put<N: Wait>(
     target: &Target<'_, N>,
     id: &str,
@@ -198,18 +173,18 @@ fn refuse_unnamed(winner: Option<Winner>) -> Refusal
 }
 
 // Refuses to delete a document of which no leaf is named.
-fn delete_unnamed<N: Wait>(target: &Target<'_, N>, id: String) -> Result<Response, Refusal>
-    ensures { IsRead (λ db. Refusing (refuses_unnamed (winner_in db (string_bytes id)))) result }
+fn delete_unnamed<N: Wait>(target: &Target<'_, N>, id: &str) -> Result<Response, Refusal>
+    ensures { IsRead (λ db. Refusing (refuses_unnamed (winner_in db id.now))) result }
 {
     let winner = target.winner(id)?;
     Err(refuse_unnamed(winner))
 }
 
 // Deletes the leaf of this revision.
-fn delete_leaf<N: Wait>(target: &Target<'_, N>, id: String, rev: RevId) -> Result<Response, Refusal>
-    ensures { DeletesLeaf (string_bytes id) (short_id (string_bytes id)) rev result }
+fn delete_leaf<N: Wait>(target: &Target<'_, N>, id: &str, rev: RevId) -> Result<Response, Refusal>
+    ensures { DeletesLeaf id.now (short_id id.now) rev result }
 {
-    let Some(known) = DocId::read(target.alloc, id.as_str())? else {
+    let Some(known) = DocId::read(target.alloc, id)? else {
         return Err(Refusal::Missing);
     };
     let Some(_) = target.winner(id)? else {
@@ -227,13 +202,13 @@ fn delete_leaf<N: Wait>(target: &Target<'_, N>, id: String, rev: RevId) -> Resul
 }
 
 /// Deletes a document: an edit of the leaf that the query names. It costs a look for the document, and
-/// what `Hub::write` does. Where memory is missing, no edit stands but one that could not be noted.
+/// what `Hub::write_one` does. Where memory is missing, no edit stands but one that could not be noted.
 pub(crate) fn delete<N: Wait>(
     target: &Target<'_, N>,
-    id: String,
+    id: &str,
     query: &[u8],
 ) -> Result<Response, Refusal>
-    ensures { IsDeletion (string_bytes id) query.now result }
+    ensures { IsDeletion id.now query.now result }
 {
     let DocParams { rev, .. } = DocParams::read(target.alloc, query)?;
     let Some(text) = rev else {

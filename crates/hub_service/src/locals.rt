@@ -1,6 +1,6 @@
 //! Local documents by their ids (CouchDB API reference, `/{db}/_local/{docid}`).
 
-ghost use Rattle.std.specs.Prelude.{◌≡◌, option_map, string_bytes};
+ghost use Rattle.std.specs.Prelude.{◌≡◌, option_map};
 ghost use Rattle.hub_database.specs.Locals.{local_of, written};
 ghost use Rattle.hub_document.specs.Local.{local_in};
 ghost use Rattle.hub_shared.specs.Answers.{local_named};
@@ -29,12 +29,11 @@ fn say_local(alloc: Global, id: &str, found: &Option<Local>) -> Result<Response,
 
 /// A local document. It costs the wait for the database, a look in the map of local documents, and the
 /// length of the answer.
-pub(crate) fn get<N: Wait>(target: &Target<'_, N>, id: String) -> Result<Response, Refusal>
-    ensures { IsRead (λ db. says_local (local_of db.locals (string_bytes id))) result }
+pub(crate) fn get<N: Wait>(target: &Target<'_, N>, id: &str) -> Result<Response, Refusal>
+    ensures { IsRead (λ db. says_local (local_of db.locals id.now)) result }
 {
-    let asked = id.as_str().to_string(target.alloc)?;
-    let found = target.local(asked)?;
-    say_local(target.alloc, id.as_str(), &found)
+    let found = target.local(id)?;
+    say_local(target.alloc, id, &found)
 }
 
 // Keeps a local document. The answer is begun first, so that none is kept that is not answered.

@@ -7,7 +7,7 @@ ghost use Rattle.hub_shared.specs.Feeds.{behind_item, receiver_of};
 
 use hub_feed::FeedHost;
 use hub_model::Item;
-use hub_shared::{Gate, HostFeed, Point, Pumped, Turn};
+use hub_shared::{Gate, HostFeed, Point, Turn};
 use std::sync::Wait;
 
 /// What hands feeds their items while a connection sends them.
@@ -17,17 +17,14 @@ pub trait Pumping: Drop {
 
     /// The next item of a feed. There is none where nothing hands it further, as out of memory, and where
     /// the feed waits.
-    fn next_item<S: FeedHost, H: Pumped<S>>(
-        &self,
-        feed: &mut HostFeed<S, H>,
-    ) -> Option<Item<S::Row>>
+    fn next_item<S: FeedHost>(&self, feed: &mut HostFeed<S>) -> Option<Item<S::Row>>
         ensures taken { IfSome result (λ item. feed.new ≡ behind_item feed.old item) }
         ensures same { IfNone result (feed.new ≡ feed.old) }
         ensures allowed { IsAllowedBeginning
             (λ l items. S.right (params_in l.asked) l.since items) (receiver_of feed.new) };
 
     /// Whether a feed of which `next_item` gave none waits, and may give one later.
-    fn waits<S: FeedHost, H: Pumped<S>>(&self, feed: &HostFeed<S, H>) -> bool;
+    fn waits<S: FeedHost>(&self, feed: &HostFeed<S>) -> bool;
 }
 
 // A gate that holds nobody.
@@ -55,10 +52,7 @@ impl<'h, N: Wait> ByTurns<'h, N> {
 impl<'h, N: Wait> Pumping for ByTurns<'h, N> {
     fn pass_request(&self) {}
 
-    fn next_item<S: FeedHost, H: Pumped<S>>(
-        &self,
-        feed: &mut HostFeed<S, H>,
-    ) -> Option<Item<S::Row>> {
+    fn next_item<S: FeedHost>(&self, feed: &mut HostFeed<S>) -> Option<Item<S::Row>> {
         if let Some(item) = feed.take(self.rt) {
             return Some(item);
         }
@@ -71,7 +65,7 @@ impl<'h, N: Wait> Pumping for ByTurns<'h, N> {
         feed.take(self.rt)
     }
 
-    fn waits<S: FeedHost, H: Pumped<S>>(&self, _feed: &HostFeed<S, H>) -> bool {
+    fn waits<S: FeedHost>(&self, _feed: &HostFeed<S>) -> bool {
         false
     }
 }

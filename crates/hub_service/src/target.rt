@@ -1,6 +1,7 @@
 //! A database as a connection calls it.
 
-ghost use Rattle.std.specs.Prelude.{◌≡◌, ◌⊎◌, ℕ, false, length, option_map, IfErr, IfOk, OnErr, string_bytes};
+ghost use Rattle.std.specs.Prelude.{◌≡◌, ◌⊎◌, option_map, IfErr, IfOk};
+ghost use Rattle.std.specs.Fn.{FnOnceReturnsAt};
 ghost use Rattle.hub_model.specs.Descending.{descending};
 ghost use Rattle.hub_model.specs.Missing.{diffs};
 ghost use Rattle.hub_database.specs.Hosting.{hosted_of};
@@ -9,20 +10,20 @@ ghost use Rattle.hub_database.specs.Reads.{info_of, lookup, open_revs};
 ghost use Rattle.hub_feed.specs.Host.{opening_fault};
 ghost use Rattle.hub_params.specs.FeedModel.{params_of};
 ghost use Rattle.hub_params.specs.FeedShown.{params_asked};
-ghost use Rattle.hub_shared.specs.Answers.{IsAnswer, local_named};
+ghost use Rattle.hub_shared.specs.Answers.{local_named};
 ghost use Rattle.hub_service.specs.Calls.{winner_in};
 ghost use Rattle.hub_service.specs.Feeds.{IsNew};
-ghost use Rattle.hub_service.specs.Moments.{HasDatabase, IsFound, IsKept, IsStored};
+ghost use Rattle.hub_service.specs.Moments.{HasDatabase, IsEdited, IsFound, IsKept, IsLooked, IsStored};
 
 use crate::refusal::refusal_of;
-use hub_database::{Descending, Diff, Info, Local, Lookup, OpenRev};
-use hub_databases::{Hub, HubDb, Written};
+use hub_database::{DbFault, DbState, Descending, Diff, Info, Local, Lookup, OpenRev};
+use hub_databases::{Edited, Hub, HubDb, Written};
 use hub_document::{Asked, Doc, LocalDoc, OpenRevs};
 use hub_feed::OpenFault;
 use hub_http::Refusal;
 use hub_params::FeedParams;
 use hub_revtree::Winner;
-use hub_shared::{Answer, Feed, Plain, Question};
+use hub_shared::{Feed, Plain, local_copy};
 use std::alloc::Global;
 use std::sync::Wait;
 
@@ -40,13 +41,14 @@ impl<'a, N: Wait> Target<'a, N> {
         Target { rt, alloc, hub, db }
     }
 
-    // The answer to a question.
-    fn ask(&self, question: Question) -> Result<Answer, Refusal>
-        ensures { IsFound (λ db a. IsAnswer db question a) result }
+    // What one look at the database is told.
+    fn look<T, F: FnOnce(&DbState) -> Result<T, DbFault>>(&self, ask: F) -> Result<T, Refusal>
+        requires { F.IsAlwaysCallable ask }
+        ensures { IsLooked (λ db r. FnOnceReturnsAt F.FnOnce ask db r) result }
     {
         let mut handle = self.db.handle()?;
-        match handle.read(self.rt, question) {
-            Ok(answer) => Ok(answer),
+        match handle.look(self.rt, ask) {
+            Ok(found) => Ok(found),
             Err(fault) => Err(refusal_of(fault)),
         }
     }
@@ -55,77 +57,57 @@ impl<'a, N: Wait> Target<'a, N> {
     pub(crate) fn info(&self) -> Result<Info, Refusal>
         ensures { IsFound (λ db info. info ≡ info_of db.journal db.life) result }
     {
-        match self.ask(Question::Info)? {
-            Answer::Info(info) => Ok(info),
-            _ => unreachable!(),
-        }
+        self.look(|state| state.info())
     }
 
     /// A document, with its history where `revs` asks for it.
-    pub(crate) fn found(&self, id: String, revs: bool) -> Result<Lookup, Refusal>
-        ensures { IsFound (λ db found. found ≡ lookup db.journal (string_bytes id) revs) result }
+    pub(crate) fn found(&self, id: &str, revs: bool) -> Result<Lookup, Refusal>
+        ensures { IsFound (λ db found. found ≡ lookup db.journal id.now revs) result }
     {
-        match self.ask(Question::Get { id, revs })? {
-            Answer::Get(found) => Ok(found),
-            _ => unreachable!(),
-        }
+        self.look(|state| state.get(id, revs))
     }
 
     /// Revisions of a document.
     pub(crate) fn revisions(
         &self,
-        id: String,
-        which: OpenRevs,
+        id: &str,
+        which: &OpenRevs,
         revs: bool,
     ) -> Result<Vec<OpenRev>, Refusal>
-        ensures { IsFound (λ db found.
-            found.items ≡ open_revs db.journal (string_bytes id) which revs) result }
+        ensures { IsFound (λ db found. found.items ≡ open_revs db.journal id.now which.now revs) result }
     {
-        match self.ask(Question::OpenRevs { id, which, revs })? {
-            Answer::OpenRevs(found) => Ok(found),
-            _ => unreachable!(),
-        }
+        self.look(|state| state.open_revs(id, which, revs))
     }
 
     /// Which of these revisions are missing.
     pub(crate) fn missing(&self, asked: Vec<Asked>) -> Result<Vec<Diff>, Refusal>
         ensures { IsFound (λ db found. found.items ≡ diffs db.journal asked.items) result }
     {
-        match self.ask(Question::RevsDiff(asked))? {
-            Answer::RevsDiff(found) => Ok(found),
-            _ => unreachable!(),
-        }
+        self.look(move |state| state.revs_diff(asked))
     }
 
     /// The answer to a feed that goes downwards.
-    pub(crate) fn descending(&self, params: FeedParams) -> Result<Descending, Refusal>
-        ensures { IsFound (λ db found. found ≡ descending db.journal db.life (params_of params)) result }
+    pub(crate) fn descending(&self, params: &FeedParams) -> Result<Descending, Refusal>
+        ensures { IsFound (λ db found.
+            found ≡ descending db.journal db.life (params_of params.now)) result }
     {
-        match self.ask(Question::Descending(params))? {
-            Answer::Descending(found) => Ok(found),
-            _ => unreachable!(),
-        }
+        self.look(|state| state.changes_descending(params))
     }
 
     /// The winner of a document.
-    pub(crate) fn winner(&self, id: String) -> Result<Option<Winner>, Refusal>
-        ensures { IsFound (λ db found. found ≡ winner_in db (string_bytes id)) result }
+    pub(crate) fn winner(&self, id: &str) -> Result<Option<Winner>, Refusal>
+        ensures { IsFound (λ db found. found ≡ winner_in db id.now) result }
     {
-        match self.ask(Question::Winner { id })? {
-            Answer::Winner(found) => Ok(found),
-            _ => unreachable!(),
-        }
+        self.look(|state| Ok(state.standing()?.winner(id)))
     }
 
-    /// A local document.
-    pub(crate) fn local(&self, id: String) -> Result<Option<Local>, Refusal>
+    /// A copy of a local document.
+    pub(crate) fn local(&self, id: &str) -> Result<Option<Local>, Refusal>
         ensures { IsFound (λ db found.
-            option_map (local_named (string_bytes id)) found ≡ local_of db.locals (string_bytes id)) result }
+            option_map (local_named id.now) found ≡ local_of db.locals id.now) result }
     {
-        match self.ask(Question::Local { id })? {
-            Answer::Local(found) => Ok(found),
-            _ => unreachable!(),
-        }
+        let alloc = self.alloc;
+        self.look(|state| local_copy(alloc, state, id))
     }
 
     /// Stores a local document in place of the one of its id, and says how often it was written.
@@ -149,6 +131,16 @@ impl<'a, N: Wait> Target<'a, N> {
             return Err(OpenFault::NoMemory);
         };
         handle.open_feed(self.rt, params)
+    }
+
+    /// Stores one edit whose revision is made here, and notes that in the log of updates.
+    pub(crate) fn write_one(&self, doc: Doc) -> Result<Edited, Refusal>
+        ensures { IsEdited doc result }
+    {
+        match self.hub.write_one(self.rt, self.db, doc) {
+            Ok(edited) => Ok(edited),
+            Err(fault) => Err(refusal_of(fault)),
+        }
     }
 
     /// Stores documents, and notes that in the log of updates.

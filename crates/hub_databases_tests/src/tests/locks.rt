@@ -1,6 +1,6 @@
 //! A held database holds no other call, also while a write waits for it.
 
-use crate::tests::{FIRST, created, docs, hub, params};
+use crate::tests::{FIRST, created, docs, hub, params, stored};
 use hub_databases::{Hub, HubDb};
 use hub_document::Doc;
 use hub_shared::{Clock, Gate, Point, pump};
@@ -67,7 +67,7 @@ fn answers<R: Wait>(rt: &R, hub: &Hub, docs: Vec<Doc>) -> bool {
     let Ok(written) = hub.write(rt, &db, docs, false) else {
         return false;
     };
-    let is_noted = written.accepted.receipts.len() == 1 && written.lapsed.is_none();
+    let is_noted = stored(&written) == 1 && written.lapsed.is_none();
     is_noted
         && hub.create(rt, "c").is_ok()
         && hub.remove(rt, "c").is_ok()
@@ -96,7 +96,7 @@ fn write_held<R: Wait, K: time::Clock>(
     wait_for(rt, &gate.is_reached);
     gate.is_writing.store(true, Ordering::SeqCst);
     match hub.write(rt, db, docs, false) {
-        Ok(written) => written.accepted.receipts.len() == 1,
+        Ok(written) => stored(&written) == 1,
         Err(_) => false,
     }
 }

@@ -1,7 +1,9 @@
 //! Which names have databases, and what the calls on them refuse.
 
 use crate::tests::names::Call::{Create, Find, List, Remove};
-use crate::tests::{FIRST, again, create, created, found, hub, hub_within, remove, shown, write};
+use crate::tests::{
+    FIRST, again, create, created, edits, found, hub, hub_within, remove, shown, stored, write,
+};
 use hub_databases::{Hub, HubDb, HubFault, is_name};
 use hub_document::Limits;
 use hub_model::{Fault, Outcome};
@@ -104,11 +106,6 @@ const ONE: &[Call] = &[
     List(&["a"]),
 ];
 
-// How many edits a database has.
-fn edits<R: Wait>(rt: &R, db: &HubDb) -> Option<u64> {
-    Some(shown(rt, db)?.update_seq)
-}
-
 // Where the log is full, what it has no note of is not done; but an edit stands.
 #[test]
 fn a_full_log_refuses_what_it_would_note(rt: HostRuntime) -> Result<(), Fail> {
@@ -119,9 +116,7 @@ fn a_full_log_refuses_what_it_would_note(rt: HostRuntime) -> Result<(), Fail> {
     let db = found(&rt, &hub, "a")?;
     let written = write(&rt, rt.alloc(), &hub, &db, FIRST)?;
     assert_eq!(rt; written.lapsed, Some(NoteFault::SequenceFull));
-    let receipts = written.accepted.receipts.as_slice();
-    assert_eq!(rt; receipts.len(), 1);
-    assert_eq!(rt; receipts.first().map(|receipt| receipt.seq), Some(1));
+    assert_eq!(rt; stored(&written), 1);
     assert_eq!(rt; edits(&rt, &db), Some(1));
     Ok(())
 }
@@ -203,13 +198,13 @@ fn a_removed_database_refuses_writes(rt: HostRuntime) -> Result<(), Fail> {
     assert_eq!(rt; remove(&rt, &hub, "a")?, Ok(()));
     let new = created(&rt, &hub, "a")?;
     let written = write(&rt, rt.alloc(), &hub, &old, FIRST)?;
-    let replies = written.accepted.replies.as_slice();
+    let replies = written.batch.replies.as_slice();
     assert_eq!(rt; replies.len(), 1);
     assert_eq!(rt;
         replies.first().copied(),
         Some(Outcome::Refused(Fault::Deleted))
     );
-    assert!(rt; written.accepted.receipts.is_empty() && written.lapsed.is_none());
+    assert!(rt; written.lapsed.is_none());
     assert_eq!(rt; edits(&rt, &new), Some(0));
     Ok(())
 }

@@ -3,7 +3,7 @@
 
 use crate::tests::locks::Still;
 use crate::tests::rows::Told::{End, Row};
-use crate::tests::{FIRST, Open, again, created, found, hub, params, remove, write};
+use crate::tests::{FIRST, Open, again, created, found, hub, params, remove, stored, write};
 use hub_databases::{Hub, HubDb};
 use hub_document::UpdateRow;
 use hub_model::Item;
@@ -13,9 +13,9 @@ use std::alloc::{AllocError, Global};
 use std::sync::Wait;
 use std::test::Fail;
 
-// What an item of a feed of the log is.
+/// What an item of a feed of the log is.
 #[derive(Clone, Copy, Debug, PartialEq, Eq)]
-enum Told {
+pub(crate) enum Told {
     // What happened to a database, and the sequence of the note.
     Row(UpdateKind, &'static str, u64),
     End(u64, u64),
@@ -67,8 +67,8 @@ fn has_handed<R: Wait>(rt: &R, mut feed: UpdatesFeed, told: &[Told]) -> bool {
     feed.finish(rt).take(rt).is_none()
 }
 
-// Whether a normal feed that the query opens shows just these.
-fn shows<R: Wait>(
+/// Whether a normal feed that the query opens shows just these.
+pub(crate) fn shows<R: Wait>(
     rt: &R,
     alloc: Global,
     hub: &Hub,
@@ -146,7 +146,7 @@ fn known_documents_are_not_noted(rt: HostRuntime) -> Result<(), Fail> {
     let alloc = rt.alloc();
     let hub = noted(&rt, alloc)?;
     let written = write(&rt, alloc, &hub, &found(&rt, &hub, "d")?, FIRST)?;
-    assert!(rt; written.accepted.receipts.is_empty() && written.lapsed.is_none());
+    assert!(rt; stored(&written) == 0 && written.lapsed.is_none());
     let told = [Row(Created, "d", 1), Row(Updated, "d", 2), End(2, 0)];
     assert!(rt; shows(&rt, alloc, &hub, "", &told)?);
     Ok(())

@@ -10,7 +10,7 @@ use crate::tests::{
 use hub_databases::{Hub, HubDb, HubFault};
 use hub_document::{Limits, LocalDoc};
 use hub_follower::{CallFault, DbPeer, FollowFault, Follower, Peer, Round, Seq};
-use hub_shared::{Answer, Db, Plain, Question};
+use hub_shared::{Db, Plain, local_copy};
 use std::alloc::{AllocError, Global};
 use std::sync::Wait;
 use std::test::Fail;
@@ -268,9 +268,8 @@ fn put_log<R: Wait>(rt: &R, alloc: Global, db: &Db<Plain>, seq: &str) -> Result<
 // Whether the log that a database keeps has this text; an error where it finds no memory, and each time where
 // there is none.
 fn keeps<R: Wait>(rt: &R, alloc: Global, db: &Db<Plain>, text: &str) -> Result<bool, AllocError> {
-    let id = String::from_str(alloc, LOG)?;
-    match db.handle()?.read(rt, Question::Local { id }) {
-        Ok(Answer::Local(Some(local))) => Ok(local.body.as_bytes() == text.as_bytes()),
+    match db.handle()?.look(rt, |state| local_copy(alloc, state, LOG)) {
+        Ok(Some(local)) => Ok(local.body.as_bytes() == text.as_bytes()),
         _ => Err(AllocError),
     }
 }

@@ -1,4 +1,4 @@
-use Rattle.std.proofs.Common.{◌≡◌, ◌∙◌, ◌<◌, List, ap, sym, subst, length, Some}
+use Rattle.std.proofs.Common.{◌∙◌, ◌<◌, List, ap, sym, subst, length}
 use Rattle.hub_model.specs.Journal.{Edit}
 use Rattle.hub_model.specs.RightlyHanded.{rows_of}
 use Rattle.hub_follower.specs.Handed.{numbered_end, are_listed}

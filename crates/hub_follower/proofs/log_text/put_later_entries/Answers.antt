@@ -1,4 +1,4 @@
-use Rattle.std.proofs.Common.{◌≡◌, ◌∙◌, ◌++◌, ◌∷◌, ◌+◌, ℕ, List, [], ap, sym, drop, codes, append_assoc}
+use Rattle.std.proofs.Common.{◌≡◌, ◌∙◌, ◌++◌, ◌∷◌, ◌+◌, ℕ, List, ap, sym, drop, codes, append_assoc}
 use Rattle.std.proofs.lemmas.List.{drop_more}
 use Rattle.hub_follow_model.specs.ReplicationLog.{HistoryEntry}
 use Rattle.hub_follower.specs.LogText.{entry_text, later_entries_text}

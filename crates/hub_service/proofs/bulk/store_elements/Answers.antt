@@ -17,5 +17,5 @@ returns g c =
     batch_said c.args.new_edits items w c.say_batch.result stored
     (subst (λ f. IsSaid (says_noted w.lapsed
     (says_batch (record { docs = items; new_edits = c.args.new_edits })
-    f w.accepted.stopped w.accepted.replies)) c.say_batch.result)
+    f w.batch.stopped w.batch.replies)) c.say_batch.result)
     (c.as_slice.ensures.value ∙ c.in_ok-docs.ensures.faults) c.say_batch.ensures)

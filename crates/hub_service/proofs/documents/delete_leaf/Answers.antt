@@ -1,5 +1,5 @@
 use Rattle.std.proofs.Common.{◌≡◌, ℕ, List, true, Option, Some, None, Result, Ok}
-use Rattle.std.proofs.Common.{Err, string_bytes, refl, inl, inr, sym, subst, ◌∙◌}
+use Rattle.std.proofs.Common.{Err, refl, inl, inr, sym, subst, ◌∙◌}
 use Rattle.std.specs.Prelude.{T, IsSome}
 use Rattle.hub_document.specs.Ids.{short_id}
 use Rattle.hub_database.specs.Database.{Database}
@@ -46,19 +46,15 @@ leaf_written id short known rev w won r is has some written =
 
 pub returns-in_default-2 : goal.returns-in_default-2
 returns-in_default-2 g c =
-    let id = string_bytes c.args.id in
-    let short : short_id id ≡ Some c.in-Some.known =
-    subst (λ (text : List ℕ). short_id text ≡ Some c.in-Some.known) c.as_str.ensures.value
-    (sym c.in_ok-known.ensures.value ∙ c.in-Some.is) in
+    let id = c.args.id.now in
+    let short : short_id id ≡ Some c.in-Some.known = sym c.in_ok-known.ensures.value ∙ c.in-Some.is in
     leaf_missed id (short_id id) c.in-Some.known c.args.rev c.in_ok-winner.field-0
     short c.in_ok-winner.ensures c.in_default-2.is
 
 pub returns : goal.returns
 returns g c =
-    let id = string_bytes c.args.id in
-    let short : short_id id ≡ Some c.in-Some.known =
-    subst (λ (text : List ℕ). short_id text ≡ Some c.in-Some.known) c.as_str.ensures.value
-    (sym c.in_ok-known.ensures.value ∙ c.in-Some.is) in
+    let id = c.args.id.now in
+    let short : short_id id ≡ Some c.in-Some.known = sym c.in_ok-known.ensures.value ∙ c.in-Some.is in
     leaf_written id (short_id id) c.in-Some.known c.args.rev c.in_ok-winner.field-0 c.in-Some-2.field-0
     c.edit.result short c.in_ok-winner.ensures c.in-Some-2.is
     (subst (λ (body : List ℕ). IsWritten (λ db. edits 200 db

@@ -45,7 +45,7 @@ none_asked id revs f (Some rev) leaves r none without read = absurd (subst T wit
 
 pub returns-in-Some : goal.returns-in-Some
 returns-in-Some g c =
-    let id = string_bytes c.args.id in
+    let id = c.args.id.now in
     let asks : DocAsked → Type 0 = λ a. IsRead (λ db. gets_doc db.journal id a) c.get_revs.result in
     let p = c.rev.inside in
     subst asks (c.rev.view_is ∙ c.in_ok-rev.ensures.asked)
@@ -56,7 +56,7 @@ returns-in-Some g c =
 
 pub returns-then-is_some : goal.returns-then-is_some
 returns-then-is_some g c =
-    let id = string_bytes c.args.id in
+    let id = c.args.id.now in
     let asks : DocAsked → Type 0 = λ a. IsRead (λ db. gets_doc db.journal id a) (Err BadRev) in
     let p = c.rev.inside in
     subst asks (c.rev.view_is ∙ c.in_ok-rev.ensures.asked)
@@ -65,7 +65,7 @@ returns-then-is_some g c =
 
 pub returns : goal.returns
 returns g c =
-    let id = string_bytes c.args.id in
+    let id = c.args.id.now in
     let asks : DocAsked → Type 0 = λ a. IsRead (λ db. gets_doc db.journal id a) c.get_found.result in
     let p = c.rev.inside in
     subst asks (c.rev.view_is ∙ c.in_ok-rev.ensures.asked)

@@ -1,4 +1,4 @@
-use Rattle.std.proofs.Common.{◌≡◌, ℕ, List, Bool, Err, string_bytes, rules, refl, sym, subst, ap, ◌∙◌}
+use Rattle.std.proofs.Common.{◌≡◌, ℕ, List, Bool, Err, rules, refl, sym, subst, ap, ◌∙◌}
 use Rattle.std.specs.Prelude.{Vec}
 use Rattle.std.specs.declared.alloc.Global.{Global}
 use Rattle.hub_database.specs.Database.{Database}
@@ -18,26 +18,26 @@ are_revs id which revs db found = found.items ≡ open_revs db.journal id which 
 
 pub returns-in_default : goal.returns-in_default
 returns-in_default g c =
-    read_anyway (λ db. gets_revs db.journal (string_bytes c.args.id) c.args.revs c.args.asked)
+    read_anyway (λ db. gets_revs db.journal c.args.id.now c.args.revs c.args.asked)
     (Refusing BadRev) (Err BadRev) refl
-    (λ db. sym (ap (gets_revs db.journal (string_bytes c.args.id) c.args.revs) c.in_default.is))
+    (λ db. sym (ap (gets_revs db.journal c.args.id.now c.args.revs) c.in_default.is))
 
 pub returns-in_err-found : goal.returns-in_err-found
 returns-in_err-found g c =
     let same : c.from_residual.result ≡ Err c.in_err-found.field-0.0 = search rules in
-    subst (IsRead (λ db. gets_revs db.journal (string_bytes c.args.id) c.args.revs c.args.asked)) (sym same)
-    (unfound_read (are_revs (string_bytes c.args.id) c.in-Some.which c.args.revs)
-    (λ db. gets_revs db.journal (string_bytes c.args.id) c.args.revs c.args.asked)
+    subst (IsRead (λ db. gets_revs db.journal c.args.id.now c.args.revs c.args.asked)) (sym same)
+    (unfound_read (are_revs c.args.id.now c.in-Some.which c.args.revs)
+    (λ db. gets_revs db.journal c.args.id.now c.args.revs c.args.asked)
     c.in_err-found.field-0.0 c.in_err-found.ensures)
 
 pub returns : goal.returns
 returns g c =
-    let id = string_bytes c.args.id in
+    let id = c.args.id.now in
     let which = c.in-Some.which in
     let revs = c.as_slice.result.now in
     found_read (are_revs id which c.args.revs)
     (λ db. gets_revs db.journal id c.args.revs c.args.asked) c.in_ok-found.found
-    (says_revs c.is_all-all.result revs) c.say_revs.result c.in_ok-found.ensures c.say_revs.ensures
-    (λ db is. ap (λ all. says_revs all revs) c.is_all-all.ensures
+    (says_revs c.is_all.result revs) c.say_revs.result c.in_ok-found.ensures c.say_revs.ensures
+    (λ db is. ap (λ all. says_revs all revs) c.is_all.ensures
     ∙ (ap (says_revs (is_all which)) (c.as_slice.ensures.value ∙ is)
     ∙ sym (ap (gets_revs db.journal id c.args.revs) c.in-Some.is)))

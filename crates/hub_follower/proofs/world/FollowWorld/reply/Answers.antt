@@ -1,4 +1,4 @@
-use Rattle.std.proofs.Common.{◌≡◌, ◌∙◌, ap, sym, subst}
+use Rattle.std.proofs.Common.{◌∙◌, ap, sym, subst}
 use Rattle.hub_follow_model.specs.Follower as follow
 use Rattle.hub_follow_model.specs.World as world
 use Rattle.hub_follower.specs.Views.{answer_of}

@@ -1,8 +1,7 @@
-use Rattle.std.proofs.Common.{◌≡◌, ◌∙◌, ◌++◌, ◌∷◌, [], ap, sym, subst, List, map, append_assoc, append-nil}
+use Rattle.std.proofs.Common.{◌∙◌, ◌++◌, ◌∷◌, [], ap, sym, subst, List, map, append_assoc, append-nil}
 use Rattle.hub_follow_model.specs.World as world
 use Rattle.hub_follow_model.proofs.Theorem.{faithful}
 use Rattle.hub_follower.specs.Worlds.{event_of}
-use Rattle.hub_follower.specs.declared.world.FollowEvent.{FollowEvent}
 use Rattle.hub_follower.proofs.Happening.{run_more, place_within}
 use Rattle.hub_follower.proofs.Opening.{map_push, none_left}
 use Rattle.hub_follower.proofs.world.FollowWorld.run.Goals as goal

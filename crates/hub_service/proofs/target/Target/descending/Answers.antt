@@ -1,10 +1,13 @@
-use Rattle.std.proofs.Common.{◌≡◌, false, subst}
-use Rattle.hub_shared.specs.Answers.{IsAnswer}
-use Rattle.hub_shared.specs.declared.question.Question.TheVariants as asks
-use Rattle.hub_service.specs.Moments.{HasDatabase}
+use Rattle.std.proofs.Common.{◌≡◌, [], rules}
+use Rattle.hub_database.specs.Database.{Database}
+use Rattle.hub_model.specs.Descending.{descending}
+use Rattle.hub_params.specs.FeedModel.{params_of}
+use Rattle.hub_service.proofs.Looks.{looked_found}
 use Rattle.hub_service.proofs.target.Target.descending.Goals as goal
 
 pub returns : goal.returns
 returns g c =
-    subst (λ a. HasDatabase (λ db. (db.deleted ≡ false) × IsAnswer db (asks.Descending c.args.params) a))
-    c.in-Descending.is c.in_ok-found.ensures
+    looked_found _ (λ (db : Database) found.
+    found ≡ descending db.journal db.life (params_of c.args.params.now))
+    (λ db. ¬ ((descending db.journal db.life (params_of c.args.params.now)).rows ≡ []))
+    c.look.result c.look.ensures (λ lent given is. search rules) (λ lent given is. search rules)

@@ -1,10 +1,11 @@
-use Rattle.std.proofs.Common.{◌≡◌, false, subst}
-use Rattle.hub_shared.specs.Answers.{IsAnswer}
-use Rattle.hub_shared.specs.declared.question.Question.TheVariants as asks
-use Rattle.hub_service.specs.Moments.{HasDatabase}
+use Rattle.std.proofs.Common.{◌≡◌, rules}
+use Rattle.hub_database.specs.Database.{Database}
+use Rattle.hub_database.specs.Reads.{info_of}
+use Rattle.hub_service.proofs.Looks.{looked_found}
 use Rattle.hub_service.proofs.target.Target.info.Goals as goal
 
 pub returns : goal.returns
 returns g c =
-    subst (λ a. HasDatabase (λ db. (db.deleted ≡ false) × IsAnswer db asks.Info a))
-    c.in-Info.is c.in_ok-info.ensures
+    looked_found _ (λ (db : Database) info. info ≡ info_of db.journal db.life)
+    (λ db. ⊥)
+    c.look.result c.look.ensures (λ lent given is. search rules) (λ lent given is. search rules)

@@ -1,10 +1,14 @@
-use Rattle.std.proofs.Common.{◌≡◌, false, subst}
-use Rattle.hub_shared.specs.Answers.{IsAnswer}
-use Rattle.hub_shared.specs.declared.question.Question.TheVariants as asks
-use Rattle.hub_service.specs.Moments.{HasDatabase}
+use Rattle.std.proofs.Common.{◌≡◌, option_map, rules}
+use Rattle.std.specs.Prelude.{IsSome}
+use Rattle.hub_database.specs.Database.{Database}
+use Rattle.hub_database.specs.Locals.{local_of}
+use Rattle.hub_shared.specs.Answers.{local_named}
+use Rattle.hub_service.proofs.Looks.{looked_found}
 use Rattle.hub_service.proofs.target.Target.local.Goals as goal
 
 pub returns : goal.returns
 returns g c =
-    subst (λ a. HasDatabase (λ db. (db.deleted ≡ false) × IsAnswer db (asks.Local c.args.id) a))
-    c.in-Local.is c.in_ok-found.ensures
+    looked_found _ (λ (db : Database) found.
+    option_map (local_named c.args.id.now) found ≡ local_of db.locals c.args.id.now)
+    (λ db. IsSome (local_of db.locals c.args.id.now))
+    c.look.result c.look.ensures (λ lent given is. search rules) (λ lent given is. search rules)

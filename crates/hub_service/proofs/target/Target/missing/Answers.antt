@@ -1,10 +1,11 @@
-use Rattle.std.proofs.Common.{◌≡◌, false, subst}
-use Rattle.hub_shared.specs.Answers.{IsAnswer}
-use Rattle.hub_shared.specs.declared.question.Question.TheVariants as asks
-use Rattle.hub_service.specs.Moments.{HasDatabase}
+use Rattle.std.proofs.Common.{◌≡◌, [], rules}
+use Rattle.hub_database.specs.Database.{Database}
+use Rattle.hub_model.specs.Missing.{diffs}
+use Rattle.hub_service.proofs.Looks.{looked_found}
 use Rattle.hub_service.proofs.target.Target.missing.Goals as goal
 
 pub returns : goal.returns
 returns g c =
-    subst (λ a. HasDatabase (λ db. (db.deleted ≡ false) × IsAnswer db (asks.RevsDiff c.args.asked) a))
-    c.in-RevsDiff.is c.in_ok-found.ensures
+    looked_found _ (λ (db : Database) found. found.items ≡ diffs db.journal c.args.asked.items)
+    (λ db. ¬ (diffs db.journal c.args.asked.items ≡ []))
+    c.look.result c.look.ensures (λ lent given is. search rules) (λ lent given is. search rules)

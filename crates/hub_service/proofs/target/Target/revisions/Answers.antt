@@ -1,11 +1,12 @@
-use Rattle.std.proofs.Common.{◌≡◌, false, subst}
-use Rattle.hub_shared.specs.Answers.{IsAnswer}
-use Rattle.hub_shared.specs.declared.question.Question.TheVariants as asks
-use Rattle.hub_service.specs.Moments.{HasDatabase}
+use Rattle.std.proofs.Common.{◌≡◌, [], rules}
+use Rattle.hub_database.specs.Database.{Database}
+use Rattle.hub_database.specs.Reads.{open_revs}
+use Rattle.hub_service.proofs.Looks.{looked_found}
 use Rattle.hub_service.proofs.target.Target.revisions.Goals as goal
 
 pub returns : goal.returns
 returns g c =
-    subst (λ a. HasDatabase (λ db.
-    (db.deleted ≡ false) × IsAnswer db (asks.OpenRevs c.args.id c.args.which c.args.revs) a))
-    c.in-OpenRevs.is c.in_ok-found.ensures
+    looked_found _ (λ (db : Database) found.
+    found.items ≡ open_revs db.journal c.args.id.now c.args.which.now c.args.revs)
+    (λ db. ¬ (open_revs db.journal c.args.id.now c.args.which.now c.args.revs ≡ []))
+    c.look.result c.look.ensures (λ lent given is. search rules) (λ lent given is. search rules)
