@@ -1,7 +1,7 @@
--- Each feed is faithful to its connection, over every list of events.
-use Rattle.std.proofs.Common.{◌≡◌, ℕ, ◌≤◌, List, [], ◌∷◌, ◌++◌, length, map, take, drop, Bool, true}
-use Rattle.std.proofs.Common.{false, inl, inr, sym, ◌∙◌, ap, subst, refl, append_assoc, arith}
-use Rattle.std.specs.Prelude.{All, Contains, IsTrue, Option, Some, slice_get, ◌==◌, if◌then◌else◌}
+-- The replies of a run are faithful to each of its feeds.
+use Rattle.std.proofs.Common.{◌≡◌, ℕ, zero, suc, ◌≤◌, List, [], ◌∷◌, ◌++◌, length, map, take, drop, Bool}
+use Rattle.std.proofs.Common.{true, false, inl, inr, sym, ◌∙◌, ap, subst, refl, append_assoc, arith}
+use Rattle.std.specs.Prelude.{All, Contains, IsTrue, Option, Some, ◌==◌, if◌then◌else◌}
 use Rattle.std.proofs.Math.Seq.{take-append_seam}
 use Rattle.std.proofs.lemmas.List.{take-append-drop}
 use Rattle.std.proofs.lemmas.List.Elements.{All-contains, All-weaker}
@@ -16,18 +16,20 @@ use Rattle.hub_model.specs.Row.{ChangeRow, IsRow, row_of}
 use Rattle.hub_model.specs.RightlyHanded.{ChangeItem, rows_of, EndsAt, IsRowOf, RightlyHanded}
 use Rattle.hub_model.specs.RowKind.{change_rows}
 use Rattle.hub_model.specs.declared.feeds.Item.TheVariants.{Row, Beat, End}
-use Rattle.hub_world.specs.World.{Limits, World, Subscription, empty}
-use Rattle.hub_world.specs.Event.{Event, Hand, Heartbeat, Reply, Pushed}
-use Rattle.hub_world.specs.Step.{Step}
-use Rattle.hub_world.specs.Answer.{answer, replies_to, after}
-use Rattle.hub_world.specs.Handed.{handed, handed_by}
+use Rattle.hub_world.specs.World.{Limits, World, Subscription, subscription, empty}
+use Rattle.hub_world.specs.Step.{Step, Run, journal_at}
+use Rattle.hub_world.specs.Handed.{IsStepAt, handed, handed_by}
 use Rattle.hub_world.specs.Laws.{IsRight}
-use Rattle.hub_world.specs.Headline.{reached, Headline}
+use Rattle.hub_world.specs.Headline.{IsFaithful, AreRight, Headline}
+use Rattle.hub_world.specs.declared.event.Event.{Event}
+use Rattle.hub_world.specs.declared.event.Event.TheVariants.{Hand, Heartbeat}
+use Rattle.hub_world.specs.declared.reply.Reply.{Reply}
+use Rattle.hub_world.specs.declared.reply.Reply.TheVariants.{Pushed}
 use Rattle.hub_model.proofs.Items.{rows_of-append}
 use Rattle.hub_model.proofs.Lists.{contains_none, contains_here, contains_there, contains_cases, same_split}
 use Rattle.hub_model.proofs.Shown.{current_is}
 use Rattle.hub_model.proofs.Sorted.{all_from}
-use Rattle.hub_world.proofs.Answering.{is_answered, runs}
+use Rattle.hub_world.proofs.Answering.{only_run}
 use Rattle.hub_world.proofs.Journals.{run_adds}
 use Rattle.hub_world.proofs.Lanes.{takes_in_order, hands_rightly}
 
@@ -113,99 +115,113 @@ beat_rows false row c = contains_none row c
 step_seen : (old : World) (event : Event) (reply : Reply) (new : World) (f : ℕ) (row : ChangeRow)
     → Step old event reply new → Contains (rows_of (handed_by f event reply)) row
     → row.seen ≡ length old.journal
-step_seen old (Hand g) (Pushed item) new f row m c = item_seen old.journal m.0.feed item row (g == f) m.2 c
-step_seen old (Heartbeat g) (Pushed item) new f row m c =
-    absurd (beat_rows (g == f) row
-    (subst (λ (x : ChangeItem). Contains (rows_of (if g == f then x ∷ [] else [])) row) m.3 c))
+step_seen old (Hand feed) (Pushed item) new f row m c =
+    item_seen old.journal m.0.feed item row (feed.number == f) m.2 c
+step_seen old (Heartbeat feed) (Pushed item) new f row m c =
+    absurd (beat_rows (feed.number == f) row
+    (subst (λ (x : ChangeItem). Contains (rows_of (if feed.number == f then x ∷ [] else [])) row) m.3 c))
 step_seen old _ _ new f row m c = absurd (contains_none row c)
 
--- events one after the other
-pub after-append : (w : World) (before rest : List Event)
-    → after w (before ++ rest) ≡ after (after w before) rest
-after-append w [] rest = refl
-after-append w (event ∷ before) rest = after-append (answer w event).world before rest
-
-handed-append : (f : ℕ) (w : World) (before rest : List Event)
-    → handed f (before ++ rest) (replies_to w (before ++ rest))
-    ≡ handed f before (replies_to w before) ++ handed f rest (replies_to (after w before) rest)
-handed-append f w [] rest = refl
-handed-append f w (event ∷ before) rest =
-    ap (λ (xs : List ChangeItem). handed_by f event (answer w event).reply ++ xs)
-    (handed-append f (answer w event).world before rest)
-    ∙ sym (append_assoc (handed_by f event (answer w event).reply) _ _)
-
 -- what a step hands is handed
-rows_in : (limits : Limits) (before later : List Event) (event : Event) (f : ℕ) (row : ChangeRow)
-    → Contains (rows_of (handed_by f event (answer (reached limits before) event).reply)) row →
-    Contains (rows_of (handed f (before ++ event ∷ later)
-    (replies_to (empty limits) (before ++ event ∷ later)))) row
-rows_in limits before later event f row c =
-    let old = reached limits before in
-    let front = handed f before (replies_to (empty limits) before) in
-    let here = handed_by f event (answer old event).reply in
-    let rest = handed f later (replies_to (answer old event).world later) in
-    subst (λ (xs : List ChangeItem). Contains (rows_of xs) row)
-    (sym (handed-append f (empty limits) before (event ∷ later)))
-    (subst (λ (rs : List ChangeRow). Contains rs row) (sym (rows_of-append front (here ++ rest)))
-    (Contains-append_right (rows_of front) (rows_of (here ++ rest)) row
-    (subst (λ (rs : List ChangeRow). Contains rs row) (sym (rows_of-append here rest))
-    (Contains-append_left (rows_of here) (rows_of rest) row c))))
+rows_in : (f place : ℕ) (events : List Event) (replies : List Reply) (event : Event) (reply : Reply)
+    (row : ChangeRow)
+    → IsStepAt events replies place event reply → Contains (rows_of (handed_by f event reply)) row
+    → Contains (rows_of (handed f events replies)) row
+rows_in f place [] replies event reply row at c = absurd (none-some _ at.0)
+rows_in f place (e ∷ events) [] event reply row at c = absurd (none-some _ at.1)
+rows_in f zero (e ∷ events) (r ∷ replies) event reply row at c =
+    let here : handed_by f event reply ≡ handed_by f e r =
+    ap (λ (x : Event). handed_by f x reply) (sym (same_Some _ _ at.0))
+    ∙ ap (handed_by f e) (sym (same_Some _ _ at.1)) in
+    subst (λ (rows : List ChangeRow). Contains rows row)
+    (sym (rows_of-append (handed_by f e r) (handed f events replies)))
+    (Contains-append_left (rows_of (handed_by f e r)) (rows_of (handed f events replies)) row
+    (subst (λ (xs : List ChangeItem). Contains (rows_of xs) row) here c))
+rows_in f (suc place) (e ∷ events) (r ∷ replies) event reply row at c =
+    subst (λ (rows : List ChangeRow). Contains rows row)
+    (sym (rows_of-append (handed_by f e r) (handed f events replies)))
+    (Contains-append_right (rows_of (handed_by f e r)) (rows_of (handed f events replies)) row
+    (rows_in f place events replies event reply row at c))
+
+-- The step at a place of a run: the world before it has the journal of that place, and the run adds to that.
+record HasStepAt (J : List Edit) (event : Event) (reply : Reply) (new : World) : Type 0 where
+  before : World
+  behind : World
+  journal : before.journal ≡ J
+  step : Step before event reply behind
+  added : List Edit
+  adds : new.journal ≡ J ++ added
+
+step_at : (place : ℕ) (old : World) (events : List Event) (replies : List Reply) (new : World)
+    (run : Run old events replies new) (event : Event) (reply : Reply)
+    → IsStepAt events replies place event reply
+    → HasStepAt (journal_at old events replies new run place) event reply new
+step_at place old [] replies new run event reply at = absurd (none-some _ at.0)
+step_at place old (e ∷ events) [] new run event reply at = absurd (none-some _ at.1)
+step_at zero old (e ∷ events) (r ∷ replies) new run event reply at =
+    let more = run_adds old (e ∷ events) (r ∷ replies) new run in
+    record {
+      before = old;
+      behind = run.0;
+      journal = refl;
+      step = subst (λ (x : Event). Step old x reply run.0) (same_Some _ _ at.0)
+          (subst (λ (x : Reply). Step old e x run.0) (same_Some _ _ at.1) run.1);
+      added = more.0;
+      adds = more.1;
+    }
+step_at (suc place) old (e ∷ events) (r ∷ replies) new run event reply at =
+    step_at place run.0 events replies new run.2 event reply at
+
+-- the journal behind the last event is that of the world which the run leaves
+journal_left : (old : World) (events : List Event) (replies : List Reply) (new : World)
+    (run : Run old events replies new)
+    → journal_at old events replies new run (length events) ≡ new.journal
+journal_left old [] [] new run = ap (λ (w : World). w.journal) (sym run)
+journal_left old [] (reply ∷ replies) new run = absurd run
+journal_left old (event ∷ events) [] new run = absurd run
+journal_left old (event ∷ events) (reply ∷ replies) new run =
+    journal_left run.0 events replies new run.2
 
 -- each row is current at its step
-current_at : (limits : Limits) (before later : List Event) (event : Event) (f : ℕ) (feed : Feed) →
-    RightlyHanded change_rows (reached limits (before ++ event ∷ later)).journal feed
-    (handed f (before ++ event ∷ later) (replies_to (empty limits) (before ++ event ∷ later))) →
-    All (IsRow (reached limits before).journal feed.params.style feed.params.include_docs)
-    (rows_of (handed_by f event (answer (reached limits before) event).reply))
-current_at limits before later event f feed right = all_from _ _ (λ row c.
-    let old = reached limits before in
-    let new = reached limits (before ++ event ∷ later) in
+current_at : (old : World) (events : List Event) (replies : List Reply) (new : World)
+    (run : Run old events replies new) (f : ℕ) (feed : Feed)
+    → RightlyHanded change_rows new.journal feed (handed f events replies)
+    → (place : ℕ) (event : Event) (reply : Reply) → IsStepAt events replies place event reply
+    → All (IsRow (journal_at old events replies new run place) feed.params.style feed.params.include_docs)
+    (rows_of (handed_by f event reply))
+current_at old events replies new run f feed right place event reply at = all_from _ _ (λ row c.
+    let J = journal_at old events replies new run place in
+    let here = step_at place old events replies new run event reply at in
     let of : IsRowOf change_rows new.journal feed row =
     All-contains (IsRowOf change_rows new.journal feed) _ row right.rows
-    (rows_in limits before later event f row c) in
-    let more =
-    run_adds old (event ∷ later) (replies_to old (event ∷ later)) (after old (event ∷ later))
-    (runs old (event ∷ later)) in
-    let seen : row.seen ≡ length old.journal = step_seen old event _ _ f row (is_answered old event) c in
-    let journal : new.journal ≡ old.journal ++ more.0 =
-    ap (λ (w : World). w.journal) (after-append (empty limits) before (event ∷ later)) ∙ more.1 in
-    let front : take row.seen new.journal ≡ old.journal =
+    (rows_in f place events replies event reply row at c) in
+    let seen : row.seen ≡ length J =
+    step_seen here.before event reply here.behind f row here.step c ∙ ap length here.journal in
+    let front : take row.seen new.journal ≡ J =
     ap (λ (n : ℕ). take n new.journal) seen
-    ∙ (ap (take (length old.journal)) journal ∙ take-append_seam old.journal more.0) in
-    subst (λ (J : List Edit). IsRow J feed.params.style feed.params.include_docs row) front
+    ∙ (ap (take (length J)) here.adds ∙ take-append_seam J here.added) in
+    subst (λ (K : List Edit). IsRow K feed.params.style feed.params.include_docs row) front
     (of.shown.0, of.shown.1, of.shown.2))
 
--- the reply at the place of an event is its answer
-reply_at : (w : World) (before later : List Event) (event : Event)
-    → slice_get (replies_to w (before ++ event ∷ later)) (length before)
-    ≡ Some (answer (after w before) event).reply
-reply_at w [] later event = refl
-reply_at w (first ∷ before) later event = reply_at (answer w first).world before later event
+-- what a run handed is rightly handed
+rightly : (limits : Limits) (events : List Event) (replies : List Reply) (world : World)
+    → Run (empty limits) events replies world → (f : ℕ) (s : Subscription) → subscription world f ≡ Some s
+    → RightlyHanded change_rows world.journal s.feed (handed f events replies)
+rightly limits events replies world run f s e =
+    subst (λ (o : Option Subscription). IsRight world.journal o (handed f events replies)) e
+    (hands_rightly limits events replies world f run)
 
-pub faithful : Headline
-faithful limits events f s e =
-    let run = runs (empty limits) events in
-    let w = reached limits events in
-    let replies = replies_to (empty limits) events in
+-- the replies of a run are faithful by its own journals
+own_faithful : (limits : Limits) (events : List Event) (replies : List Reply) (w : World)
+    (run : Run (empty limits) events replies w) (f : ℕ) (s : Subscription) → subscription w f ≡ Some s
+    → IsFaithful (journal_at (empty limits) events replies w run) events replies f s.feed
+own_faithful limits events replies w run f s e =
     let items = handed f events replies in
-    let right : RightlyHanded change_rows w.journal s.feed items =
-    subst (λ (o : Option Subscription). IsRight w.journal o items) e
-    (hands_rightly limits events _ w f run) in
+    let right = rightly limits events replies w run f s e in
     record {
-      prefix = takes_in_order limits events _ w f run;
+      prefix = takes_in_order limits events replies w f run;
       rising = λ i k d a b. (right.rising i k d a b).rises;
-      at_step = λ before later event reply same there.
-          let right_of =
-          subst (λ (es : List Event). RightlyHanded change_rows (reached limits es).journal s.feed
-          (handed f es (replies_to (empty limits) es))) same right in
-          let answered : Some reply ≡ Some (answer (reached limits before) event).reply =
-          sym there
-          ∙ (ap (λ (es : List Event). slice_get (replies_to (empty limits) es) (length before)) same
-          ∙ reply_at (empty limits) before later event) in
-          subst (λ (r : Reply).
-          All (IsRow (reached limits before).journal s.feed.params.style s.feed.params.include_docs)
-          (rows_of (handed_by f event r)))
-          (sym (same_Some _ _ answered)) (current_at limits before later event f s.feed right_of);
+      at_step = current_at (empty limits) events replies w run f s.feed right;
       passing =
           All-weaker (IsRowOf change_rows w.journal s.feed) _
           (λ row r.
@@ -218,13 +234,32 @@ faithful limits events f s e =
       last = λ before later last n same.
           ends_last s.feed.place before later last n (subst (EndsAt s.feed.place) same right.ends);
       whole = λ c in_rows q a z.
-          let found = row_at (rows_of items) c.seq (right.whole c in_rows q a z) in (
+          let here : Contains (current w.journal) c =
+          subst (λ (J : List Edit). Contains (current J) c)
+          (journal_left (empty limits) events replies w run) in_rows in
+          let found = row_at (rows_of items) c.seq (right.whole c here q a z) in (
             found.0,
             found.1,
             found.2,
             row_document w.journal s.feed found.0 c
-                (All-contains (IsRowOf change_rows w.journal s.feed) _ found.0 right.rows found.1) in_rows
+                (All-contains (IsRowOf change_rows w.journal s.feed) _ found.0 right.rows found.1) here
                 found.2,
           );
-      right = right;
     }
+
+pub faithful : Headline
+faithful limits events replies world run own own_world own_run f s e =
+    let same =
+    (only_run (empty limits) own_world world events own replies own_run run).0 in
+    subst (λ (told : List Reply).
+    IsFaithful (journal_at (empty limits) events own own_world own_run) events told f s.feed) (sym same)
+    (own_faithful limits events own own_world own_run f s e)
+
+-- and right
+pub handed_right : (limits : Limits) (events : List Event) (replies : List Reply) (world : World)
+    → Run (empty limits) events replies world → AreRight limits events replies
+handed_right limits events replies world run own own_world own_run f s e =
+    let same =
+    (only_run (empty limits) own_world world events own replies own_run run).0 in
+    subst (λ (told : List Reply). RightlyHanded change_rows own_world.journal s.feed (handed f events told))
+    (sym same) (rightly limits events own own_world own_run f s e)

@@ -4,21 +4,24 @@ use Rattle.std.specs.Prelude.{Option, Some, None}
 use Rattle.std.proofs.lemmas.Option.{none-some}
 use Rattle.hub_feed.specs.Host as feeds
 use Rattle.hub_feed.specs.Next.{IsRowDue}
+use Rattle.hub_feed.specs.declared.host.FeedId.{FeedId}
 use Rattle.hub_feed.specs.declared.host.OpenFault.TheVariants.{TooManyFeeds}
 use Rattle.hub_database.specs.Database.{Database}
 use Rattle.hub_database.specs.Hosting.{hosted_of}
 use Rattle.hub_model.specs.Current.{Current, current}
 use Rattle.hub_model.specs.Entries.{entry_in}
-use Rattle.hub_model.specs.Feed.{Feed, Params, Due, DueRow, DueEnd, DueNothing, DueGone}
+use Rattle.hub_model.specs.Feed.{Feed, Due, DueRow, DueEnd, DueNothing, DueGone}
 use Rattle.hub_model.specs.Hand.{due_in, item_of}
 use Rattle.hub_model.specs.Journal.{Edit}
 use Rattle.hub_model.specs.RightlyHanded.{ChangeItem}
 use Rattle.hub_model.specs.Row.{ChangeRow, row_of}
 use Rattle.hub_model.specs.declared.feeds.Item.TheVariants.{Beat}
+use Rattle.hub_params.specs.declared.feed_params.FeedParams.{FeedParams}
 use Rattle.hub_world.specs.Core.{Core, Shows}
-use Rattle.hub_world.specs.Event.{Begin, Hand, Heartbeat, Pushed}
 use Rattle.hub_world.specs.Growth.{IsMade, NeedsMemory, MayFail}
-use Rattle.hub_world.specs.declared.event.Event as program
+use Rattle.hub_world.specs.declared.event.Event.{Event}
+use Rattle.hub_world.specs.declared.event.Event.TheVariants.{Begin, Hand, Heartbeat}
+use Rattle.hub_world.specs.declared.reply.Reply.TheVariants.{Pushed}
 use Rattle.hub_world.specs.Lane.{has_room}
 use Rattle.hub_world.specs.Step.{Step}
 use Rattle.hub_world.specs.World.{World}
@@ -42,25 +45,27 @@ item_made limit lane show rows item DueNothing is room = absurd (none-some item 
 item_made limit lane show rows item DueGone is room = absurd (none-some item is)
 
 -- a row is due
-pub row_grows : (c : Core) (f : ℕ) → IsRowDue (feeds.due_to (hosted_of c.db) f) → (w : World) → Shows c w
-    → NeedsMemory w (Hand f)
-row_grows c f due w h = from (entry_in f c.db.feeds) refl due
+pub row_grows : (c : Core) (id : FeedId) → IsRowDue (feeds.due_to (hosted_of c.db) id.number)
+    → (w : World) → Shows c w → NeedsMemory w (Hand id)
+row_grows c id due w h = from (entry_in id.number c.db.feeds) refl due
   where
-    from : (o : Option Feed) → entry_in f c.db.feeds ≡ o → IsRowDue (feeds.due_of (current c.db.journal) o)
-        → NeedsMemory w (Hand f)
+    from : (o : Option Feed) → entry_in id.number c.db.feeds ≡ o
+        → IsRowDue (feeds.due_of (current c.db.journal) o)
+        → NeedsMemory w (Hand id)
     from None is due = absurd due
     from (Some feed) is due =
-        let s = feed_found c w f feed h is in
+        let s = feed_found c w id.number feed h is in
         let same : due_in w.journal s.0.feed ≡ due_in c.db.journal feed =
         ap (λ (J : List Edit). due_in J s.0.feed) h.journal ∙ ap (due_in c.db.journal) s.2 in
         rw s.1 (row_made w.limits.lane s.0.lane (due_in w.journal s.0.feed) (subst IsRowDue (sym same) due))
 
 -- an item is due, and its lane has room
-pub item_grows : (c : Core) (f : ℕ) (item : ChangeItem) → feeds.item_due (hosted_of c.db) f ≡ Some item
-    → has_room c.db.limits.lane f c.lanes ≡ true → (w : World) → Shows c w → NeedsMemory w (Hand f)
-item_grows c f item due room w h = from (hand_pushed c f item due room w h).1
+pub item_grows : (c : Core) (id : FeedId) (item : ChangeItem)
+    → feeds.item_due (hosted_of c.db) id.number ≡ Some item
+    → has_room c.db.limits.lane id.number c.lanes ≡ true → (w : World) → Shows c w → NeedsMemory w (Hand id)
+item_grows c id item due room w h = from (hand_pushed c id item due room w h).1
   where
-    from : {new : World} → Step w (Hand f) (Pushed item) new → NeedsMemory w (Hand f)
+    from : {new : World} → Step w (Hand id) (Pushed item) new → NeedsMemory w (Hand id)
     from m =
         rw m.1
         (item_made w.limits.lane m.0.lane
@@ -68,17 +73,19 @@ item_grows c f item due room w h = from (hand_pushed c f item due room w h).1
         (due_in w.journal m.0.feed) m.2 m.3.0)
 
 -- a heartbeat is due, and its lane has room
-pub beat_grows : (c : Core) (f : ℕ) → feeds.is_beat_due (entry_in f c.db.feeds) ≡ true
-    → has_room c.db.limits.lane f c.lanes ≡ true → (w : World) → Shows c w → NeedsMemory w (Heartbeat f)
-beat_grows c f due room w h = from (beat_pushed c f due room w h).1
+pub beat_grows : (c : Core) (id : FeedId) → feeds.is_beat_due (entry_in id.number c.db.feeds) ≡ true
+    → has_room c.db.limits.lane id.number c.lanes ≡ true → (w : World) → Shows c w
+    → NeedsMemory w (Heartbeat id)
+beat_grows c id due room w h = from (beat_pushed c id due room w h).1
   where
-    from : {new : World} → Step w (Heartbeat f) (Pushed Beat) new → NeedsMemory w (Heartbeat f)
+    from : {new : World} → Step w (Heartbeat id) (Pushed Beat) new → NeedsMemory w (Heartbeat id)
     from m = rw m.1 (m.2, m.4.0)
 
 -- a feed is opened
-pub begin_grows : (c : Core) (params : Params) → feeds.refuses (hosted_of c.db) ≡ None → (w : World)
+pub begin_grows : (c : Core) (params : FeedParams) → feeds.refuses (hosted_of c.db) ≡ None → (w : World)
     → Shows c w → NeedsMemory w (Begin params)
-begin_grows c params free w h = let m = (begin_leads c params free w h).1 in (m.0, m.1)
+begin_grows c params free w h =
+    let m = (begin_leads c params (record { number = c.db.next_feed }) refl free w h).1 in (m.0, m.1)
 
 -- as where the database is neither deleted nor full
 pub unrefused : (db : Database) → db.deleted ≡ false → feeds.is_full (hosted_of db) ≡ false
@@ -91,5 +98,5 @@ pub refused_full : (db : Database) → db.deleted ≡ false → feeds.is_full (h
 refused_full db stands full = rw (stands, full) refl
 
 -- the same of the core of a program's world, as it is seen
-pub fails_as : (c seen : Core) (event : program.Event) → c ≡ seen → MayFail c event → MayFail seen event
+pub fails_as : (c seen : Core) (event : Event) → c ≡ seen → MayFail c event → MayFail seen event
 fails_as c seen event same fails = subst (λ (z : Core). MayFail z event) same fails

@@ -7,6 +7,8 @@ use Rattle.std.proofs.lemmas.Bool.{cases_eq, eq-eqb, ne_eqb}
 use Rattle.std.proofs.lemmas.Option.{slice_get-map}
 use Rattle.std.proofs.lemmas.List.{append-nil}
 use Rattle.hub_model.proofs.Adds.{merge_adds, make_adds, all_add}
+use Rattle.hub_database.specs.Edits.{edit_of, draft_of}
+use Rattle.hub_feed.specs.declared.host.FeedId.{FeedId}
 use Rattle.hub_model.specs.Draft.{makes}
 use Rattle.hub_model.specs.Feed.{Params, DueNothing, begin, after_due}
 use Rattle.hub_model.specs.Feed.{after_nothing, beat_due, expire, finish}
@@ -15,11 +17,15 @@ use Rattle.hub_model.specs.declared.feeds.Item.TheVariants.{Beat}
 use Rattle.hub_model.specs.Journal.{Edit}
 use Rattle.hub_model.specs.Outcome.{merges}
 use Rattle.hub_model.specs.RightlyHanded.{ChangeItem}
+use Rattle.hub_params.specs.FeedModel.{params_of}
 use Rattle.hub_world.specs.World.{World, Subscription, subscription, lane_of, merged}
 use Rattle.hub_world.specs.World.{drafted, pushed, expired, took, finished, ended}
-use Rattle.hub_world.specs.Event.{Event, Write, Interactive, Begin, Hand, Heartbeat, Expire}
-use Rattle.hub_world.specs.Event.{Take, Finish, Delete, Reply, Outcomes, Opened, TooManyFeeds}
-use Rattle.hub_world.specs.Event.{DatabaseDeleted, Pushed, Full, Nothing, Gone, Took, Left}
+use Rattle.hub_world.specs.declared.event.Event.{Event}
+use Rattle.hub_world.specs.declared.event.Event.TheVariants.{Write, Interactive, Begin, Hand, Heartbeat}
+use Rattle.hub_world.specs.declared.event.Event.TheVariants.{Expire, Take, Finish, Delete}
+use Rattle.hub_world.specs.declared.reply.Reply.{Reply}
+use Rattle.hub_world.specs.declared.reply.Reply.TheVariants.{Outcomes, Opened, TooManyFeeds, DatabaseDeleted}
+use Rattle.hub_world.specs.declared.reply.Reply.TheVariants.{Pushed, Full, Nothing, Gone, Took, Left}
 use Rattle.hub_world.specs.Step.{Step, Run}
 use Rattle.hub_world.specs.Handed.{handed_by, taken_by, handed, taken}
 
@@ -159,33 +165,34 @@ module _ (Q : List Edit → Subscription → List ChangeItem → List ChangeItem
       turns w.journal w.feeds f g s (record { feed = finish s.feed; lane = [] }) h t e
       (k.finishes w.journal s h t) i
 
-  takes_from : (w : World) (f g : ℕ) (s : Subscription) (lane : List ChangeItem) (h t : List ChangeItem)
-      → s.lane ≡ lane → subscription w f ≡ Some s → In Q w.journal (subscription w g) h t →
-      In Q w.journal (slice_get (slice_set w.feeds f (record s { lane = drop 1 lane })) g) (h ++ [])
-      (t ++ taken_by g (Take f) (Took (slice_get lane 0)))
-  takes_from w f g s [] h t l e i =
-      turns w.journal w.feeds f g s (record s { lane = [] }) h t e
+  takes_from : (w : World) (feed : FeedId) (g : ℕ) (s : Subscription) (lane : List ChangeItem)
+      (h t : List ChangeItem)
+      → s.lane ≡ lane → subscription w feed.number ≡ Some s → In Q w.journal (subscription w g) h t →
+      In Q w.journal (slice_get (slice_set w.feeds feed.number (record s { lane = drop 1 lane })) g) (h ++ [])
+      (t ++ taken_by g (Take feed) (Took (slice_get lane 0)))
+  takes_from w feed g s [] h t l e i =
+      turns w.journal w.feeds feed.number g s (record s { lane = [] }) h t e
       (λ q. subst (λ (x : List ChangeItem). Q w.journal (record s { lane = x }) h t) l q) i
-  takes_from w f g s (item ∷ items) h t l e i =
-      elim (cases_eq f g) [
+  takes_from w feed g s (item ∷ items) h t l e i =
+      elim (cases_eq feed.number g) [
         | inl same ↦
             let c =
-            changes w.journal w.feeds f g s (record s { lane = items }) h t [] (item ∷ []) e
+            changes w.journal w.feeds feed.number g s (record s { lane = items }) h t [] (item ∷ []) e
             (λ q. simp append-nil (k.takes w.journal s h t item items l q)) i in
-            rw (eq-eqb f g same) (rw (eq-eqb f g same) at c)
+            rw (eq-eqb feed.number g same) (rw (eq-eqb feed.number g same) at c)
         | inr other ↦
             let c =
-            changes w.journal w.feeds f g s (record s { lane = items }) h t [] (item ∷ []) e
+            changes w.journal w.feeds feed.number g s (record s { lane = items }) h t [] (item ∷ []) e
             (λ q. simp append-nil (k.takes w.journal s h t item items l q)) i in
-            rw (ne_eqb f g other) (rw (ne_eqb f g other) at c)
+            rw (ne_eqb feed.number g other) (rw (ne_eqb feed.number g other) at c)
       ]
 
-  takes_at : (w : World) (f g : ℕ) (o : Option Subscription) (h t : List ChangeItem) → subscription w f ≡ o
-      → In Q w.journal (subscription w g) h t →
-      In Q (took o f w).journal (subscription (took o f w) g) (h ++ [])
-      (t ++ taken_by g (Take f) (Took (slice_get (lane_of o) 0)))
-  takes_at w f g None h t e i = stays w.journal (subscription w g) h t i
-  takes_at w f g (Some s) h t e i = takes_from w f g s s.lane h t refl e i
+  takes_at : (w : World) (feed : FeedId) (g : ℕ) (o : Option Subscription) (h t : List ChangeItem)
+      → subscription w feed.number ≡ o → In Q w.journal (subscription w g) h t →
+      In Q (took o feed.number w).journal (subscription (took o feed.number w) g) (h ++ [])
+      (t ++ taken_by g (Take feed) (Took (slice_get (lane_of o) 0)))
+  takes_at w feed g None h t e i = stays w.journal (subscription w g) h t i
+  takes_at w feed g (Some s) h t e i = takes_from w feed g s s.lane h t refl e i
 
   hands_at : (w : World) (f g : ℕ) (s s' : Subscription) (item : ChangeItem) (h t : List ChangeItem)
       → subscription w f ≡ Some s → (Q w.journal s h t → Q w.journal s' (h ++ item ∷ []) t)
@@ -203,43 +210,48 @@ module _ (Q : List Edit → Subscription → List ChangeItem → List ChangeItem
   pub step_keeps : (old : World) (event : Event) (reply : Reply) (new : World) (g : ℕ) (h t : List ChangeItem)
       → Step old event reply new → In Q old.journal (subscription old g) h t →
       In Q new.journal (subscription new g) (h ++ handed_by g event reply) (t ++ taken_by g event reply)
-  step_keeps old (Write edits) (Outcomes outcomes) new g h t m i =
+  step_keeps old (Write docs) (Outcomes batch) new g h t m i =
+      let edits = map edit_of docs in
       rw m.1
       (more_edits old.journal (merged old edits).journal (subscription old g) h t
       (all_add (merges old.limits.journal) (merge_adds old.limits.journal) old.deleted old.journal edits) i)
-  step_keeps old (Write edits) _ new g h t m i = absurd m
-  step_keeps old (Interactive drafts) (Outcomes outcomes) new g h t m i =
+  step_keeps old (Write docs) _ new g h t m i = absurd m
+  step_keeps old (Interactive docs) (Outcomes batch) new g h t m i =
+      let drafts = map draft_of docs in
       rw m.1
       (more_edits old.journal (drafted old drafts).journal (subscription old g) h t
       (all_add (makes old.limits.journal) (make_adds old.limits.journal) old.deleted old.journal drafts) i)
-  step_keeps old (Interactive drafts) _ new g h t m i = absurd m
+  step_keeps old (Interactive docs) _ new g h t m i = absurd m
   step_keeps old (Begin params) (Opened f) new g h t m i =
-      rw m.3 (opens old.journal old.feeds params old.life g h t i)
+      rw m.3 (opens old.journal old.feeds (params_of params) old.life g h t i)
   step_keeps old (Begin params) DatabaseDeleted new g h t m i =
       rw m.1 (stays old.journal (subscription old g) h t i)
   step_keeps old (Begin params) TooManyFeeds new g h t m i =
       rw m.2 (stays old.journal (subscription old g) h t i)
   step_keeps old (Begin params) _ new g h t m i = absurd m
-  step_keeps old (Hand f) (Pushed item) new g h t m i =
-      rw m.3.1 (hands_at old f g m.0 _ item h t m.1 (k.hands old.journal m.0 h t item m.2) i)
-  step_keeps old (Hand f) Full new g h t m i = rw m.4 (stays old.journal (subscription old g) h t i)
-  step_keeps old (Hand f) Nothing new g h t m i =
-      rw m.3 (turns old.journal old.feeds f g m.0 _ h t m.1 (k.waits old.journal m.0 h t m.2) i)
-  step_keeps old (Hand f) Gone new g h t m i = rw m.1 (stays old.journal (subscription old g) h t i)
-  step_keeps old (Hand f) _ new g h t m i = absurd m
-  step_keeps old (Heartbeat f) (Pushed item) new g h t m i =
-      rw m.4.1 (hands_at old f g m.0 _ item h t m.1 (λ q. rw m.3 (k.beats old.journal m.0 h t m.2 q)) i)
-  step_keeps old (Heartbeat f) Full new g h t m i = rw m.4 (stays old.journal (subscription old g) h t i)
-  step_keeps old (Heartbeat f) Nothing new g h t m i = rw m.1 (stays old.journal (subscription old g) h t i)
-  step_keeps old (Heartbeat f) _ new g h t m i = absurd m
-  step_keeps old (Expire f) Nothing new g h t m i = rw m (expires_at old f g (subscription old f) h t refl i)
-  step_keeps old (Expire f) _ new g h t m i = absurd m
-  step_keeps old (Take f) (Took item) new g h t m i =
-      rw (m.1, m.0) (takes_at old f g (subscription old f) h t refl i)
-  step_keeps old (Take f) _ new g h t m i = absurd m
-  step_keeps old (Finish f) (Left items) new g h t m i =
-      rw m.1 (finishes_at old f g (subscription old f) h t refl i)
-  step_keeps old (Finish f) _ new g h t m i = absurd m
+  step_keeps old (Hand feed) (Pushed item) new g h t m i =
+      rw m.3.1 (hands_at old feed.number g m.0 _ item h t m.1 (k.hands old.journal m.0 h t item m.2) i)
+  step_keeps old (Hand feed) Full new g h t m i = rw m.4 (stays old.journal (subscription old g) h t i)
+  step_keeps old (Hand feed) Nothing new g h t m i =
+      rw m.3 (turns old.journal old.feeds feed.number g m.0 _ h t m.1 (k.waits old.journal m.0 h t m.2) i)
+  step_keeps old (Hand feed) Gone new g h t m i = rw m.1 (stays old.journal (subscription old g) h t i)
+  step_keeps old (Hand feed) _ new g h t m i = absurd m
+  step_keeps old (Heartbeat feed) (Pushed item) new g h t m i =
+      rw m.4.1
+      (hands_at old feed.number g m.0 _ item h t m.1 (λ q. rw m.3 (k.beats old.journal m.0 h t m.2 q)) i)
+  step_keeps old (Heartbeat feed) Full new g h t m i = rw m.4 (stays old.journal (subscription old g) h t i)
+  step_keeps old (Heartbeat feed) Nothing new g h t m i =
+      rw m.1 (stays old.journal (subscription old g) h t i)
+  step_keeps old (Heartbeat feed) _ new g h t m i = absurd m
+  step_keeps old (Expire feed) Nothing new g h t m i =
+      rw m (expires_at old feed.number g (subscription old feed.number) h t refl i)
+  step_keeps old (Expire feed) _ new g h t m i = absurd m
+  step_keeps old (Take feed) (Took item) new g h t m i =
+      rw (m.1, m.0) (takes_at old feed g (subscription old feed.number) h t refl i)
+  step_keeps old (Take feed) _ new g h t m i = absurd m
+  step_keeps old (Finish feed) (Left items) new g h t m i =
+      rw m.1 (finishes_at old feed.number g (subscription old feed.number) h t refl i)
+  step_keeps old (Finish feed) _ new g h t m i = absurd m
   step_keeps old Delete Nothing new g h t m i = rw m.1 (closes old.journal old.feeds g h t i)
   step_keeps old Delete DatabaseDeleted new g h t m i = rw m.1 (stays old.journal (subscription old g) h t i)
   step_keeps old Delete _ new g h t m i = absurd m

@@ -7,11 +7,15 @@ use Rattle.std.proofs.lemmas.Option.{same_Some, none-some, slice_get-map}
 use Rattle.std.proofs.lemmas.List.{length_push, length-drop}
 use Rattle.hub_model.specs.Feed.{Feed, begin, expire, finish}
 use Rattle.hub_model.specs.RightlyHanded.{ChangeItem}
+use Rattle.hub_params.specs.FeedModel.{params_of}
 use Rattle.hub_world.specs.World.{World, Subscription, subscription, with_subscription}
 use Rattle.hub_world.specs.World.{empty, pushed, expired, took, finished, ended}
-use Rattle.hub_world.specs.Event.{Event, Write, Interactive, Begin, Hand, Heartbeat, Expire}
-use Rattle.hub_world.specs.Event.{Take, Finish, Delete, Reply, Outcomes, Opened, TooManyFeeds}
-use Rattle.hub_world.specs.Event.{DatabaseDeleted, Pushed, Full, Nothing, Gone, Took, Left}
+use Rattle.hub_world.specs.declared.event.Event.{Event}
+use Rattle.hub_world.specs.declared.event.Event.TheVariants.{Write, Interactive, Begin, Hand, Heartbeat}
+use Rattle.hub_world.specs.declared.event.Event.TheVariants.{Expire, Take, Finish, Delete}
+use Rattle.hub_world.specs.declared.reply.Reply.{Reply}
+use Rattle.hub_world.specs.declared.reply.Reply.TheVariants.{Outcomes, Opened, TooManyFeeds, DatabaseDeleted}
+use Rattle.hub_world.specs.declared.reply.Reply.TheVariants.{Pushed, Full, Nothing, Gone, Took, Left}
 use Rattle.hub_world.specs.Step.{Step, Run}
 use Rattle.hub_world.specs.Laws.{LanesAreLimited}
 use Rattle.hub_world.proofs.Kept.{get_set_same, get_set_other, get_push}
@@ -98,41 +102,46 @@ pushed_limited n f w s feed item is room h =
 
 step_limited : (n : ℕ) (old : World) (event : Event) (reply : Reply) (new : World) → Step old event reply new
     → HasLimit n old → HasLimit n new
-step_limited n old (Write edits) (Outcomes outcomes) new m h =
+step_limited n old (Write docs) (Outcomes batch) new m h =
     rw m.1 (record { limit = h.limit; lanes = h.lanes })
-step_limited n old (Write edits) _ new m h = absurd m
-step_limited n old (Interactive drafts) (Outcomes outcomes) new m h =
+step_limited n old (Write docs) _ new m h = absurd m
+step_limited n old (Interactive docs) (Outcomes batch) new m h =
     rw m.1 (record { limit = h.limit; lanes = h.lanes })
-step_limited n old (Interactive drafts) _ new m h = absurd m
+step_limited n old (Interactive docs) _ new m h = absurd m
 step_limited n old (Begin params) (Opened f) new m h =
     rw m.3
     (record {
       limit = h.limit;
-      lanes = opened_limited n old.feeds (begin params (length old.journal) old.life) h.lanes;
+      lanes = opened_limited n old.feeds (begin (params_of params) (length old.journal) old.life) h.lanes;
     })
 step_limited n old (Begin params) DatabaseDeleted new m h = rw m.1 h
 step_limited n old (Begin params) TooManyFeeds new m h = rw m.2 h
 step_limited n old (Begin params) _ new m h = absurd m
-step_limited n old (Hand f) (Pushed item) new m h =
-    rw m.3.1 (pushed_limited n f old m.0 _ item m.1 (omega (arith, m.3.0)) h)
-step_limited n old (Hand f) Full new m h = rw m.4 h
-step_limited n old (Hand f) Nothing new m h =
+step_limited n old (Hand feed) (Pushed item) new m h =
+    rw m.3.1 (pushed_limited n feed.number old m.0 _ item m.1 (omega (arith, m.3.0)) h)
+step_limited n old (Hand feed) Full new m h = rw m.4 h
+step_limited n old (Hand feed) Nothing new m h =
     rw m.3
-    (record { limit = h.limit; lanes = changed_limited n old.feeds f m.0 _ m.1 (h.lanes f m.0 m.1) h.lanes })
-step_limited n old (Hand f) Gone new m h = rw m.1 h
-step_limited n old (Hand f) _ new m h = absurd m
-step_limited n old (Heartbeat f) (Pushed item) new m h =
-    rw m.4.1 (pushed_limited n f old m.0 _ item m.1 (omega (arith, m.4.0)) h)
-step_limited n old (Heartbeat f) Full new m h = rw m.4 h
-step_limited n old (Heartbeat f) Nothing new m h = rw m.1 h
-step_limited n old (Heartbeat f) _ new m h = absurd m
-step_limited n old (Expire f) Nothing new m h = rw m (expired_limited n f old (subscription old f) refl h)
-step_limited n old (Expire f) _ new m h = absurd m
-step_limited n old (Take f) (Took item) new m h = rw m.1 (taken_limited n f old (subscription old f) refl h)
-step_limited n old (Take f) _ new m h = absurd m
-step_limited n old (Finish f) (Left items) new m h =
-    rw m.1 (finished_limited n f old (subscription old f) refl h)
-step_limited n old (Finish f) _ new m h = absurd m
+    (record {
+      limit = h.limit;
+      lanes = changed_limited n old.feeds feed.number m.0 _ m.1 (h.lanes feed.number m.0 m.1) h.lanes;
+    })
+step_limited n old (Hand feed) Gone new m h = rw m.1 h
+step_limited n old (Hand feed) _ new m h = absurd m
+step_limited n old (Heartbeat feed) (Pushed item) new m h =
+    rw m.4.1 (pushed_limited n feed.number old m.0 _ item m.1 (omega (arith, m.4.0)) h)
+step_limited n old (Heartbeat feed) Full new m h = rw m.4 h
+step_limited n old (Heartbeat feed) Nothing new m h = rw m.1 h
+step_limited n old (Heartbeat feed) _ new m h = absurd m
+step_limited n old (Expire feed) Nothing new m h =
+    rw m (expired_limited n feed.number old (subscription old feed.number) refl h)
+step_limited n old (Expire feed) _ new m h = absurd m
+step_limited n old (Take feed) (Took item) new m h =
+    rw m.1 (taken_limited n feed.number old (subscription old feed.number) refl h)
+step_limited n old (Take feed) _ new m h = absurd m
+step_limited n old (Finish feed) (Left items) new m h =
+    rw m.1 (finished_limited n feed.number old (subscription old feed.number) refl h)
+step_limited n old (Finish feed) _ new m h = absurd m
 step_limited n old Delete Nothing new m h =
     rw m.1 (record { limit = h.limit; lanes = ended_limited n old.feeds h.lanes })
 step_limited n old Delete DatabaseDeleted new m h = rw m.1 h

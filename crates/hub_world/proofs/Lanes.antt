@@ -13,7 +13,8 @@ use Rattle.hub_model.specs.RightlyHanded.{ChangeItem, Fits}
 use Rattle.hub_model.specs.RowKind.{change_rows}
 use Rattle.hub_world.specs.Laws.{IsRight, FitsIn, TakesInOrder, HoldsTheRest, HandsRightly, KeepsFitting}
 use Rattle.hub_world.specs.World.{Limits, World, Subscription, subscription, empty, is_finished}
-use Rattle.hub_world.specs.Event.{Event, Reply}
+use Rattle.hub_world.specs.declared.event.Event.{Event}
+use Rattle.hub_world.specs.declared.reply.Reply.{Reply}
 use Rattle.hub_world.specs.Step.{Run}
 use Rattle.hub_world.specs.Handed.{handed, taken, IsPrefixOf}
 use Rattle.hub_model.proofs.Fitting.{fits_grows, fits_begin, fits_handed, fits_beat}

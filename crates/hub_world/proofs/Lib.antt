@@ -1,3 +1,4 @@
+pub mod Answer
 pub mod Answering
 pub mod Journals
 pub mod Kept

@@ -6,7 +6,7 @@ use Rattle.std.specs.Prelude.{drop, unwrap_or, option_and_then, if◌then◌else
 use Rattle.std.proofs.lemmas.Bool.{ltb-true, ltb-false}
 use Rattle.std.proofs.lemmas.Option.{none-some}
 use Rattle.hub_model.specs.Current.{Current, current}
-use Rattle.hub_model.specs.Feed.{Feed, Params, Status, Open, Ending, Ended, Finished, Due}
+use Rattle.hub_model.specs.Feed.{Feed, Status, Open, Ending, Ended, Finished, Due}
 use Rattle.hub_model.specs.Feed.{DueRow, DueEnd, DueNothing, DueGone, due_at, after_due}
 use Rattle.hub_model.specs.Feed.{after_nothing, status_after, is_open, waits, expire, beat_due}
 use Rattle.hub_model.specs.Hand.{change_due, due_in}
@@ -23,29 +23,35 @@ use Rattle.hub_model.specs.declared.outcomes.Fault.TheVariants as fault
 use Rattle.hub_document.specs.declared.doc.Doc.{Doc}
 use Rattle.hub_feed.specs.Host as feeds
 use Rattle.hub_feed.specs.Next.{next_of}
+use Rattle.hub_feed.specs.declared.host.FeedId.{FeedId}
 use Rattle.hub_feed.specs.declared.next.Next.{Next}
 use Rattle.hub_feed.specs.declared.next.Next.TheVariants as next
 use Rattle.hub_feed.specs.declared.host.OpenFault.TheVariants as open_fault
 use Rattle.hub_database.specs.Edits.{edit_of, draft_of, writes}
 use Rattle.hub_database.specs.Feeds.{deleted}
 use Rattle.hub_database.specs.Hosting.{hosted_of, with_hosted}
+use Rattle.hub_params.specs.FeedModel.{params_of}
+use Rattle.hub_params.specs.declared.feed_params.FeedParams.{FeedParams}
+use Rattle.hub_world.specs.Applied.{CoreStep}
 use Rattle.hub_world.specs.Core.{Core, Shows}
 use Rattle.hub_model.specs.Entries.{entry_in, changed, without}
-use Rattle.hub_world.specs.Event.{Event, Write, Interactive, Begin, Hand, Heartbeat}
-use Rattle.hub_world.specs.Event.{Expire, Take, Finish, Delete, Reply, Outcomes, Opened}
-use Rattle.hub_world.specs.Event.{TooManyFeeds, Pushed, Full, Nothing, Gone, Took, Left}
+use Rattle.hub_world.specs.declared.event.Event.{Event}
+use Rattle.hub_world.specs.declared.event.Event.TheVariants.{Write, Interactive, Begin, Hand, Heartbeat}
+use Rattle.hub_world.specs.declared.event.Event.TheVariants.{Expire, Take, Finish, Delete}
+use Rattle.hub_world.specs.declared.reply.Reply.{Reply}
+use Rattle.hub_world.specs.declared.reply.Reply.TheVariants.{Outcomes, Opened, TooManyFeeds}
+use Rattle.hub_world.specs.declared.reply.Reply.TheVariants.{Pushed, Full, Nothing, Gone, Took, Left}
 use Rattle.hub_world.specs.Lane.{has_room, takes_more, front, without_front, held}
 use Rattle.hub_world.specs.Lane as lane
-use Rattle.hub_world.specs.Step.{Step}
+use Rattle.hub_world.specs.Step.{Step, whole_batch}
 use Rattle.hub_world.specs.World.{World, Limits, Subscription, subscription, with_subscription}
 use Rattle.hub_world.specs.World.{is_finished, feed_of, lane_of, merged, drafted, pushed, expired, took}
 use Rattle.hub_world.proofs.Standing.{IsGone, feed_found, feed_gone, entry_changed, changed_same}
 use Rattle.hub_world.proofs.Standing.{changed_absent, feed_finished, feed_opened, room_shown}
 use Rattle.hub_world.proofs.Standing.{feeds_deleted, journal_changed, gone_expires, gone_takes}
 
--- from each world that the core shows the event leads so to one that the other shows
 abbrev pub Leads : Core → Event → Reply → Core → Type 0
-Leads c event reply d = (w : World) → Shows c w → (new : World) × Step w event reply new × Shows d new
+Leads c event reply d = CoreStep c event reply d
 
 -- ---- writes
 
@@ -63,14 +69,14 @@ stores_map store f false J (x ∷ xs) =
 pub write_leads : (c : Core) (docs : List Doc) (outcomes : List (Outcome Revision)) (J : List Edit)
     → writes false c.db.deleted c.db.limits.journal c.db.journal docs
     ≡ record { outcomes = outcomes; journal = J }
-    → Leads c (Write (map edit_of docs)) (Outcomes outcomes) (record c { db = record c.db { journal = J } })
+    → Leads c (Write docs) (Outcomes (whole_batch outcomes)) (record c { db = record c.db { journal = J } })
 write_leads c docs outcomes J e w h =
     let same : merged w (map edit_of docs) ≡ record { outcomes = outcomes; journal = J } =
     rw (h.limits, h.journal, h.deleted)
     (sym (stores_map (merges c.db.limits.journal) edit_of c.db.deleted c.db.journal docs) ∙ e) in (
       record w { journal = J },
       (
-        ap (λ (s : StoresAll). s.outcomes) (sym same),
+        ap (λ (s : StoresAll). whole_batch s.outcomes) (sym same),
         ap (λ (s : StoresAll). record w { journal = s.journal }) (sym same),
       ),
       journal_changed c w J h,
@@ -79,7 +85,7 @@ write_leads c docs outcomes J e w h =
 pub make_leads : (c : Core) (docs : List Doc) (outcomes : List (Outcome Revision)) (J : List Edit)
     → writes true c.db.deleted c.db.limits.journal c.db.journal docs
     ≡ record { outcomes = outcomes; journal = J }
-    → Leads c (Interactive (map draft_of docs)) (Outcomes outcomes)
+    → Leads c (Interactive docs) (Outcomes (whole_batch outcomes))
     (record c { db = record c.db { journal = J } })
 make_leads c docs outcomes J e w h =
     let same : drafted w (map draft_of docs) ≡ record { outcomes = outcomes; journal = J } =
@@ -87,7 +93,7 @@ make_leads c docs outcomes J e w h =
     (sym (stores_map (makes c.db.limits.journal) draft_of c.db.deleted c.db.journal docs) ∙ e) in (
       record w { journal = J },
       (
-        ap (λ (s : StoresAll). s.outcomes) (sym same),
+        ap (λ (s : StoresAll). whole_batch s.outcomes) (sym same),
         ap (λ (s : StoresAll). record w { journal = s.journal }) (sym same),
       ),
       journal_changed c w J h,
@@ -103,15 +109,19 @@ refused true full e = absurd (none-some _ (sym e))
 refused false true e = absurd (none-some _ (sym e))
 refused false false e = (refl, refl)
 
-pub begin_leads : (c : Core) (params : Params) → feeds.refuses (hosted_of c.db) ≡ None
-    → Leads c (Begin params) (Opened c.db.next_feed)
+pub begin_leads : (c : Core) (params : FeedParams) (id : FeedId) → id.number ≡ c.db.next_feed
+    → feeds.refuses (hosted_of c.db) ≡ None
+    → Leads c (Begin params) (Opened id)
     (record {
-      db = with_hosted c.db (feeds.opened (hosted_of c.db) params);
+      db = with_hosted c.db (feeds.opened (hosted_of c.db) (params_of params));
       lanes = c.lanes ++ (c.db.next_feed, []) ∷ [];
     })
-begin_leads c params e w h =
-    let free = refused c.db.deleted (feeds.is_full (hosted_of c.db)) e in
-    (_, (h.deleted ∙ free.0, sym (room_shown c w h) ∙ free.1, sym h.given, refl), feed_opened c w params h)
+begin_leads c params id named e w h =
+    let free = refused c.db.deleted (feeds.is_full (hosted_of c.db)) e in (
+      _,
+      (h.deleted ∙ free.0, sym (room_shown c w h) ∙ free.1, named ∙ sym h.given, refl),
+      feed_opened c w (params_of params) h,
+    )
 
 told_full : (deleted full : Bool)
     → (if deleted then Some open_fault.Deleted else if full then Some open_fault.TooManyFeeds else None)
@@ -121,23 +131,29 @@ told_full true full e = absurd (cc)
 told_full false true e = (refl, refl)
 told_full false false e = absurd (none-some _ e)
 
-pub begin_full : (c : Core) (params : Params) → feeds.refuses (hosted_of c.db) ≡ Some open_fault.TooManyFeeds
+pub begin_full : (c : Core) (params : FeedParams)
+    → feeds.refuses (hosted_of c.db) ≡ Some open_fault.TooManyFeeds
     → Leads c (Begin params) TooManyFeeds c
 begin_full c params e w h =
     let t = told_full c.db.deleted (feeds.is_full (hosted_of c.db)) e in
     (w, (h.deleted ∙ t.0, sym (room_shown c w h) ∙ t.1, refl), h)
 
-pub finish_leads : (c : Core) (f : ℕ)
-    → Leads c (Finish f) (Left (held f c.lanes))
-    (record { db = with_hosted c.db (feeds.finished (hosted_of c.db) f); lanes = without f c.lanes })
-finish_leads c f w h = (_, (held_lane (entry_in f c.db.feeds) refl, refl), feed_finished c w f h)
+pub finish_leads : (c : Core) (id : FeedId)
+    → Leads c (Finish id) (Left (held id.number c.lanes))
+    (record {
+      db = with_hosted c.db (feeds.finished (hosted_of c.db) id.number);
+      lanes = without id.number c.lanes;
+    })
+finish_leads c id w h =
+    (_, (held_lane (entry_in id.number c.db.feeds) refl, refl), feed_finished c w id.number h)
   where
-    held_lane : (o : Option Feed) → entry_in f c.db.feeds ≡ o → held f c.lanes ≡ lane_of (subscription w f)
+    held_lane : (o : Option Feed) → entry_in id.number c.db.feeds ≡ o
+        → held id.number c.lanes ≡ lane_of (subscription w id.number)
     held_lane None e =
-        let g = feed_gone c w f h e in
-        ap (λ (x : Option (List ChangeItem)). unwrap_or x []) g.1 ∙ sym (gone_takes c w f h g.0).0
+        let g = feed_gone c w id.number h e in
+        ap (λ (x : Option (List ChangeItem)). unwrap_or x []) g.1 ∙ sym (gone_takes c w id.number h g.0).0
     held_lane (Some feed) e =
-        let s = feed_found c w f feed h e in
+        let s = feed_found c w id.number feed h e in
         ap (λ (x : Option (List ChangeItem)). unwrap_or x []) s.4 ∙ ap lane_of (sym s.1)
 
 pub delete_leads : (c : Core) → c.db.deleted ≡ false → Leads c Delete Nothing (record c { db = deleted c.db })
@@ -186,30 +202,38 @@ module _ (c : Core) (f : ℕ) (item : ChangeItem) (ready : feeds.item_due (hoste
 lane_limit : (c : Core) (w : World) → Shows c w → w.limits.lane ≡ c.db.limits.lane
 lane_limit c w h = ap (λ (l : Limits). l.lane) h.limits
 
-pub hand_pushed : (c : Core) (f : ℕ) (item : ChangeItem) → feeds.item_due (hosted_of c.db) f ≡ Some item
-    → has_room c.db.limits.lane f c.lanes ≡ true
-    → Leads c (Hand f) (Pushed item)
+pub hand_pushed : (c : Core) (id : FeedId) (item : ChangeItem)
+    → feeds.item_due (hosted_of c.db) id.number ≡ Some item
+    → has_room c.db.limits.lane id.number c.lanes ≡ true
+    → Leads c (Hand id) (Pushed item)
     (record {
-      db = with_hosted c.db (feeds.handed (hosted_of c.db) f);
-      lanes = lane.pushed_into c.db.limits.lane f item c.lanes;
+      db = with_hosted c.db (feeds.handed (hosted_of c.db) id.number);
+      lanes = lane.pushed_into c.db.limits.lane id.number item c.lanes;
     })
-hand_pushed c f item ready room w h =
-    let s = at c f item ready w h in
-    let free = ltb-true (length s.0.lane) c.db.limits.lane (room_here c f item ready w h ∙ room) in
+hand_pushed c id item ready room w h =
+    let s = at c id.number item ready w h in
+    let free = ltb-true (length s.0.lane) c.db.limits.lane (room_here c id.number item ready w h ∙ room) in
     let shown =
-    entry_changed c w f
+    entry_changed c w id.number
     (λ g. after_due g (due_in c.db.journal g) (length c.db.journal)) (λ items. items ++ item ∷ []) s.0
     (pushed s.0 (after_due s.0.feed (due_in w.journal s.0.feed) (length w.journal)) item) h s.1 s.3
     (goes_on s.0.feed (due_in w.journal s.0.feed) (length w.journal) s.3)
-    (ap (λ (J : List Edit). after_due s.0.feed (due_in J s.0.feed) (length J)) (sym h.journal)) refl in
-    (_, (s.0, s.1, due_here c f item ready w h, (omega (arith, free, lane_limit c w h), refl)), rw room shown)
+    (ap (λ (J : List Edit). after_due s.0.feed (due_in J s.0.feed) (length J)) (sym h.journal)) refl in (
+      _,
+      (s.0, s.1, due_here c id.number item ready w h, (omega (arith, free, lane_limit c w h), refl)),
+      rw room shown,
+    )
 
-pub hand_full : (c : Core) (f : ℕ) (item : ChangeItem) → feeds.item_due (hosted_of c.db) f ≡ Some item
-    → has_room c.db.limits.lane f c.lanes ≡ false → Leads c (Hand f) Full c
-hand_full c f item ready room w h =
-    let s = at c f item ready w h in
-    let full = ltb-false (length s.0.lane) c.db.limits.lane (room_here c f item ready w h ∙ room) in
-    (w, (s.0, s.1, (item, due_here c f item ready w h), omega (arith, full, lane_limit c w h), refl), h)
+pub hand_full : (c : Core) (id : FeedId) (item : ChangeItem)
+    → feeds.item_due (hosted_of c.db) id.number ≡ Some item
+    → has_room c.db.limits.lane id.number c.lanes ≡ false → Leads c (Hand id) Full c
+hand_full c id item ready room w h =
+    let s = at c id.number item ready w h in
+    let full = ltb-false (length s.0.lane) c.db.limits.lane (room_here c id.number item ready w h ∙ room) in (
+      w,
+      (s.0, s.1, (item, due_here c id.number item ready w h), omega (arith, full, lane_limit c w h), refl),
+      h,
+    )
 
 -- what answers Nothing has nothing due
 due_nothing : (show : Current → ChangeRow) (rows : List Current) (d : Due)
@@ -226,37 +250,39 @@ due_gone show rows (DueEnd last_seq) e = absurd (cc)
 due_gone show rows DueNothing e = absurd (cc)
 due_gone show rows DueGone e = refl
 
-pub hand_nothing : (c : Core) (f : ℕ) → next.Nothing ≡ feeds.answered (hosted_of c.db) f
-    → Leads c (Hand f) Nothing
-    (record c { db = with_hosted c.db (feeds.behind_answer (hosted_of c.db) f next.Nothing) })
-hand_nothing c f e w h = from (entry_in f c.db.feeds) refl
+pub hand_nothing : (c : Core) (id : FeedId) → next.Nothing ≡ feeds.answered (hosted_of c.db) id.number
+    → Leads c (Hand id) Nothing
+    (record c { db = with_hosted c.db (feeds.behind_answer (hosted_of c.db) id.number next.Nothing) })
+hand_nothing c id e w h = from (entry_in id.number c.db.feeds) refl
   where
-    from : (o : Option Feed) → entry_in f c.db.feeds ≡ o
-        → (new : World) × Step w (Hand f) Nothing new
-        × Shows (record c { db = with_hosted c.db (feeds.behind_answer (hosted_of c.db) f next.Nothing) }) new
+    from : (o : Option Feed) → entry_in id.number c.db.feeds ≡ o
+        → (new : World) × Step w (Hand id) Nothing new
+        × Shows
+        (record c { db = with_hosted c.db (feeds.behind_answer (hosted_of c.db) id.number next.Nothing) }) new
     from None q = absurd (nothing_gone (e ∙ ap (feeds.answer_of (hosted_of c.db)) q))
       where
         nothing_gone : ◌≡◌ {A = Next ChangeRow} next.Nothing next.Gone → ⊥
         nothing_gone x = cc
     from (Some feed) q =
-        let s = feed_found c w f feed h q in
+        let s = feed_found c w id.number feed h q in
         let none : due_in c.db.journal feed ≡ DueNothing =
         due_nothing (row_of c.db.journal feed.params.style feed.params.include_docs) (current c.db.journal)
         (due_in c.db.journal feed) (sym (e ∙ ap (feeds.answer_of (hosted_of c.db)) q)) in
         let here : due_in w.journal s.0.feed ≡ DueNothing =
         ap (λ (J : List Edit). due_in J s.0.feed) h.journal ∙ (ap (due_in c.db.journal) s.2 ∙ none) in
         let shown =
-        entry_changed c w f (λ g. after_nothing g (length c.db.journal))
+        entry_changed c w id.number (λ g. after_nothing g (length c.db.journal))
         (λ items. items) s.0 (record s.0 { feed = after_nothing s.0.feed (length w.journal) }) h s.1 s.3 s.3
         (ap (λ (J : List Edit). after_nothing s.0.feed (length J)) (sym h.journal)) refl in (
           _,
           (s.0, s.1, here, refl),
           subst (λ ls. Shows (record {
-            db = with_hosted c.db (feeds.behind_answer (hosted_of c.db) f next.Nothing);
+            db = with_hosted c.db (feeds.behind_answer (hosted_of c.db) id.number next.Nothing);
             lanes = ls;
           })
-              (with_subscription w f (record s.0 { feed = after_nothing s.0.feed (length w.journal) })))
-              (changed_same f c.lanes) shown,
+              (with_subscription w id.number
+              (record s.0 { feed = after_nothing s.0.feed (length w.journal) })))
+              (changed_same id.number c.lanes) shown,
         )
 
 -- to a feed that is gone nothing is due, and no heartbeat
@@ -281,14 +307,15 @@ gone_still (Some s) g = from s.feed.status refl g
     from Ended q u = absurd (cc)
     from Finished q u = rw q refl
 
-pub hand_gone : (c : Core) (f : ℕ) → next.Gone ≡ feeds.answered (hosted_of c.db) f → Leads c (Hand f) Gone c
-hand_gone c f e w h = from (entry_in f c.db.feeds) refl
+pub hand_gone : (c : Core) (id : FeedId) → next.Gone ≡ feeds.answered (hosted_of c.db) id.number
+    → Leads c (Hand id) Gone c
+hand_gone c id e w h = from (entry_in id.number c.db.feeds) refl
   where
-    from : (o : Option Feed) → entry_in f c.db.feeds ≡ o
-        → (new : World) × Step w (Hand f) Gone new × Shows c new
-    from None q = (w, (gone_due w (subscription w f) (feed_gone c w f h q).0, refl), h)
+    from : (o : Option Feed) → entry_in id.number c.db.feeds ≡ o
+        → (new : World) × Step w (Hand id) Gone new × Shows c new
+    from None q = (w, (gone_due w (subscription w id.number) (feed_gone c w id.number h q).0, refl), h)
     from (Some feed) q =
-        let s = feed_found c w f feed h q in
+        let s = feed_found c w id.number feed h q in
         let gone : due_in c.db.journal feed ≡ DueGone =
         due_gone (row_of c.db.journal feed.params.style feed.params.include_docs) (current c.db.journal)
         (due_in c.db.journal feed) (sym (e ∙ ap (feeds.answer_of (hosted_of c.db)) q)) in (
@@ -308,47 +335,47 @@ beating : (o : Option Feed) → feeds.is_beat_due o ≡ true → (f : Feed) × (
 beating None e = absurd (cc)
 beating (Some f) e = (f, refl, e)
 
-pub beat_pushed : (c : Core) (f : ℕ) → feeds.is_beat_due (entry_in f c.db.feeds) ≡ true
-    → has_room c.db.limits.lane f c.lanes ≡ true
-    → Leads c (Heartbeat f) (Pushed Beat)
-    (record c { lanes = lane.pushed_into c.db.limits.lane f Beat c.lanes })
-beat_pushed c f beats room w h =
-    let b = beating (entry_in f c.db.feeds) beats in
-    let s = feed_found c w f b.0 h b.1 in
+pub beat_pushed : (c : Core) (id : FeedId) → feeds.is_beat_due (entry_in id.number c.db.feeds) ≡ true
+    → has_room c.db.limits.lane id.number c.lanes ≡ true
+    → Leads c (Heartbeat id) (Pushed Beat)
+    (record c { lanes = lane.pushed_into c.db.limits.lane id.number Beat c.lanes })
+beat_pushed c id beats room w h =
+    let b = beating (entry_in id.number c.db.feeds) beats in
+    let s = feed_found c w id.number b.0 h b.1 in
     let free =
     ltb-true (length s.0.lane) c.db.limits.lane (ap (takes_more c.db.limits.lane) (sym s.4) ∙ room) in
     let shown =
-    entry_changed c w f (λ g. g) (λ items. items ++ Beat ∷ []) s.0
+    entry_changed c w id.number (λ g. g) (λ items. items ++ Beat ∷ []) s.0
     (pushed s.0 s.0.feed Beat) h s.1 s.3 s.3 refl refl in (
       _,
       (s.0, s.1, ap beat_due s.2 ∙ b.2, refl, (omega (arith, free, lane_limit c w h), refl)),
       rw room
           (subst (λ fs. Shows (record {
             db = record c.db { feeds = fs };
-            lanes = changed f (λ items. items ++ Beat ∷ []) c.lanes;
+            lanes = changed id.number (λ items. items ++ Beat ∷ []) c.lanes;
           })
-          (with_subscription w f (pushed s.0 s.0.feed Beat)))
-          (changed_same f c.db.feeds) shown),
+          (with_subscription w id.number (pushed s.0 s.0.feed Beat)))
+          (changed_same id.number c.db.feeds) shown),
     )
 
-pub beat_full : (c : Core) (f : ℕ) → feeds.is_beat_due (entry_in f c.db.feeds) ≡ true
-    → has_room c.db.limits.lane f c.lanes ≡ false → Leads c (Heartbeat f) Full c
-beat_full c f beats room w h =
-    let b = beating (entry_in f c.db.feeds) beats in
-    let s = feed_found c w f b.0 h b.1 in
+pub beat_full : (c : Core) (id : FeedId) → feeds.is_beat_due (entry_in id.number c.db.feeds) ≡ true
+    → has_room c.db.limits.lane id.number c.lanes ≡ false → Leads c (Heartbeat id) Full c
+beat_full c id beats room w h =
+    let b = beating (entry_in id.number c.db.feeds) beats in
+    let s = feed_found c w id.number b.0 h b.1 in
     let full =
     ltb-false (length s.0.lane) c.db.limits.lane (ap (takes_more c.db.limits.lane) (sym s.4) ∙ room) in
     (w, (s.0, s.1, ap beat_due s.2 ∙ b.2, omega (arith, full, lane_limit c w h), refl), h)
 
-pub beat_nothing : (c : Core) (f : ℕ) → feeds.is_beat_due (entry_in f c.db.feeds) ≡ false
-    → Leads c (Heartbeat f) Nothing c
-beat_nothing c f e w h = from (entry_in f c.db.feeds) refl
+pub beat_nothing : (c : Core) (id : FeedId) → feeds.is_beat_due (entry_in id.number c.db.feeds) ≡ false
+    → Leads c (Heartbeat id) Nothing c
+beat_nothing c id e w h = from (entry_in id.number c.db.feeds) refl
   where
-    from : (o : Option Feed) → entry_in f c.db.feeds ≡ o
-        → (new : World) × Step w (Heartbeat f) Nothing new × Shows c new
-    from None q = (w, (gone_still (subscription w f) (feed_gone c w f h q).0, refl), h)
+    from : (o : Option Feed) → entry_in id.number c.db.feeds ≡ o
+        → (new : World) × Step w (Heartbeat id) Nothing new × Shows c new
+    from None q = (w, (gone_still (subscription w id.number) (feed_gone c w id.number h q).0, refl), h)
     from (Some feed) q =
-        let s = feed_found c w f feed h q in (
+        let s = feed_found c w id.number feed h q in (
           w,
           (
             ap (λ o. feeds.is_beat_due (feed_of o)) s.1
@@ -367,41 +394,45 @@ expire_on f u = from (is_open f.status && waits f.params.mode)
     from true = refl
     from false = u
 
-pub expire_leads : (c : Core) (f : ℕ)
-    → Leads c (Expire f) Nothing (record c { db = with_hosted c.db (feeds.expired (hosted_of c.db) f) })
-expire_leads c f w h = from (entry_in f c.db.feeds) refl
+pub expire_leads : (c : Core) (id : FeedId)
+    → Leads c (Expire id) Nothing
+    (record c { db = with_hosted c.db (feeds.expired (hosted_of c.db) id.number) })
+expire_leads c id w h = from (entry_in id.number c.db.feeds) refl
   where
-    from : (o : Option Feed) → entry_in f c.db.feeds ≡ o
-        → (new : World) × Step w (Expire f) Nothing new
-        × Shows (record c { db = with_hosted c.db (feeds.expired (hosted_of c.db) f) }) new
+    from : (o : Option Feed) → entry_in id.number c.db.feeds ≡ o
+        → (new : World) × Step w (Expire id) Nothing new
+        × Shows (record c { db = with_hosted c.db (feeds.expired (hosted_of c.db) id.number) }) new
     from None q = (
       w,
-      sym (gone_expires c w f h (feed_gone c w f h q).0),
+      sym (gone_expires c w id.number h (feed_gone c w id.number h q).0),
       subst (λ fs. Shows (record { db = record c.db { feeds = fs }; lanes = c.lanes }) w)
-          (sym (changed_absent f expire c.db.feeds q)) h,
+          (sym (changed_absent id.number expire c.db.feeds q)) h,
     )
     from (Some feed) q =
-        let s = feed_found c w f feed h q in
+        let s = feed_found c w id.number feed h q in
         let shown =
-        entry_changed c w f expire (λ items. items) s.0 (record s.0 { feed = expire s.0.feed }) h s.1 s.3
+        entry_changed c w id.number expire (λ items. items) s.0
+        (record s.0 { feed = expire s.0.feed }) h s.1 s.3
         (expire_on s.0.feed s.3) refl refl in (
           _,
-          ap (λ o. expired o f w) (sym s.1),
-          subst (λ ls. Shows (record { db = with_hosted c.db (feeds.expired (hosted_of c.db) f); lanes = ls })
-              (with_subscription w f (record s.0 { feed = expire s.0.feed })))
-              (changed_same f c.lanes) shown,
+          ap (λ o. expired o id.number w) (sym s.1),
+          subst (λ ls. Shows
+              (record { db = with_hosted c.db (feeds.expired (hosted_of c.db) id.number); lanes = ls })
+              (with_subscription w id.number (record s.0 { feed = expire s.0.feed })))
+              (changed_same id.number c.lanes) shown,
         )
 
-pub take_leads : (c : Core) (f : ℕ)
-    → Leads c (Take f) (Took (front f c.lanes)) (record c { lanes = without_front f c.lanes })
-take_leads c f w h = from (entry_in f c.db.feeds) refl
+pub take_leads : (c : Core) (id : FeedId)
+    → Leads c (Take id) (Took (front id.number c.lanes))
+    (record c { lanes = without_front id.number c.lanes })
+take_leads c id w h = from (entry_in id.number c.db.feeds) refl
   where
-    from : (o : Option Feed) → entry_in f c.db.feeds ≡ o
-        → (new : World) × Step w (Take f) (Took (front f c.lanes)) new
-        × Shows (record c { lanes = without_front f c.lanes }) new
+    from : (o : Option Feed) → entry_in id.number c.db.feeds ≡ o
+        → (new : World) × Step w (Take id) (Took (front id.number c.lanes)) new
+        × Shows (record c { lanes = without_front id.number c.lanes }) new
     from None q =
-        let g = feed_gone c w f h q in
-        let t = gone_takes c w f h g.0 in (
+        let g = feed_gone c w id.number h q in
+        let t = gone_takes c w id.number h g.0 in (
           w,
           (
             ap (option_and_then (λ (items : List ChangeItem). slice_get items 0)) g.1
@@ -409,22 +440,23 @@ take_leads c f w h = from (entry_in f c.db.feeds) refl
             sym t.1,
           ),
           subst (λ ls. Shows (record { db = c.db; lanes = ls }) w)
-              (sym (changed_absent f (drop 1) c.lanes g.1)) h,
+              (sym (changed_absent id.number (drop 1) c.lanes g.1)) h,
         )
     from (Some feed) q =
-        let s = feed_found c w f feed h q in
+        let s = feed_found c w id.number feed h q in
         let shown =
-        entry_changed c w f (λ g. g) (drop 1) s.0
+        entry_changed c w id.number (λ g. g) (drop 1) s.0
         (record s.0 { lane = drop 1 s.0.lane }) h s.1 s.3 s.3 refl refl in (
           _,
           (
             ap (option_and_then (λ (items : List ChangeItem). slice_get items 0)) s.4
                 ∙ ap (λ o. slice_get (lane_of o) 0) (sym s.1),
-            ap (λ o. took o f w) (sym s.1),
+            ap (λ o. took o id.number w) (sym s.1),
           ),
-          subst (λ fs. Shows (record { db = record c.db { feeds = fs }; lanes = without_front f c.lanes })
-              (with_subscription w f (record s.0 { lane = drop 1 s.0.lane })))
-              (changed_same f c.db.feeds) shown,
+          subst (λ fs. Shows
+              (record { db = record c.db { feeds = fs }; lanes = without_front id.number c.lanes })
+              (with_subscription w id.number (record s.0 { lane = drop 1 s.0.lane })))
+              (changed_same id.number c.db.feeds) shown,
         )
 
 -- ---- cores that are the same, and that show some world

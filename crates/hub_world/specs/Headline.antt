@@ -1,69 +1,76 @@
 -- What the connection of a feed may rely on, whatever happens (CouchDB API reference, _changes).
-use Rattle.std.specs.Prelude.{◌≡◌, ℕ, ◌<◌, ◌≤◌, List, [], ◌∷◌, ◌++◌, length, slice_get, All, AllPairs}
+use Rattle.std.specs.Prelude.{◌≡◌, ℕ, ◌<◌, ◌≤◌, List, [], ◌∷◌, ◌++◌, length, All, AllPairs}
 use Rattle.std.specs.Prelude.{Contains, IsTrue, Some}
 use Rattle.hub_model.specs.Current.{Current, current}
+use Rattle.hub_model.specs.Feed.{Feed}
 use Rattle.hub_model.specs.Filter.{passes}
+use Rattle.hub_model.specs.Journal.{Edit}
 use Rattle.hub_model.specs.Row.{ChangeRow, IsRow}
 use Rattle.hub_model.specs.RightlyHanded.{ChangeItem, RightlyHanded, rows_of}
 use Rattle.hub_model.specs.RowKind.{change_rows}
 use Rattle.hub_model.specs.declared.feeds.Item.TheVariants.{End}
 use Rattle.hub_world.specs.World.{Limits, World, Subscription, subscription, empty}
-use Rattle.hub_world.specs.Event.{Event, Reply}
-use Rattle.hub_world.specs.Answer.{replies_to, after}
-use Rattle.hub_world.specs.Handed.{handed, handed_by, taken, IsPrefixOf}
+use Rattle.hub_world.specs.Step.{Run, journal_at}
+use Rattle.hub_world.specs.Handed.{IsStepAt, handed, handed_by, taken, IsPrefixOf}
+use Rattle.hub_world.specs.declared.event.Event.{Event}
+use Rattle.hub_world.specs.declared.reply.Reply.{Reply}
 
--- an empty database after these events
-abbrev pub reached : Limits → List Event → World
-reached limits events = after (empty limits) events
-
--- what feed f handed out over these events. Of eight documents a feed after 5 hands the rows 6, 7 and 8,
--- also where its connection takes row 6 alone (proved: `TakesAFront`).
-abbrev pub handed_out : Limits → List Event → ℕ → List ChangeItem
-handed_out limits events f = handed f events (replies_to (empty limits) events)
-
--- what the connection of feed f has taken over these events: in that example row 6 alone
--- (proved: `TakesAFront`)
-abbrev pub taken_off : Limits → List Event → ℕ → List ChangeItem
-taken_off limits events f = taken f events (replies_to (empty limits) events)
-
--- What these replies to these events say of feed f: what was taken off it is a front of what it handed, and
--- that is right and whole; s is the feed after the events. For example a feed of the documents at 1 and 2
--- whose replies say that it handed row 1 and then row 2, and whose connection took row 1, is faithful; one
--- that handed row 2 alone with its place at 2, or row 1 with its place at 0, is not. A normal feed of eight
+-- What these replies to these events say of the feed of this number: what was taken off it is a front of
+-- what it handed, and that is right and whole. `journals` has the journal before the event at each place, and
+-- at the number of the events the one behind the last; `feed` is the feed as it is then. For example a feed
+-- of the documents at 1 and 2 whose replies say that it handed row 1 and then row 2, and whose connection
+-- took row 1, is faithful; one that handed row 2 alone with its place at 2 is not. A normal feed of eight
 -- documents, two of which are written again behind its third row, hands the rows 1, 2, 3, 4, 6, 7 and 8 and
 -- an End at 8 with 2 pending: rows 9 and 10 lie above its bound (proved: `BoundHolds`).
-pub record IsFaithful (limits : Limits) (events : List Event) (replies : List Reply) (f : ℕ)
-    (s : Subscription) : Type 0 where
+pub record IsFaithful (journals : ℕ → List Edit) (events : List Event) (replies : List Reply) (number : ℕ)
+    (feed : Feed) : Type 0 where
   -- what the connection has taken is a prefix of what the feed handed out
-  pub prefix : IsPrefixOf (taken f events replies) (handed f events replies)
+  pub prefix : IsPrefixOf (taken number events replies) (handed number events replies)
   -- rows in strictly rising sequence
-  pub rising : AllPairs (λ (r t : ChangeRow). r.seq < t.seq) (rows_of (handed f events replies))
+  pub rising : AllPairs (λ (row later : ChangeRow). row.seq < later.seq)
+      (rows_of (handed number events replies))
   -- each its document's current row at its step
-  pub at_step : (before later : List Event) (event : Event) (reply : Reply)
-      → events ≡ before ++ event ∷ later → slice_get replies (length before) ≡ Some reply →
-      All (IsRow (reached limits before).journal s.feed.params.style s.feed.params.include_docs)
-      (rows_of (handed_by f event reply))
+  pub at_step : (place : ℕ) (event : Event) (reply : Reply) → IsStepAt events replies place event reply
+      → All (IsRow (journals place) feed.params.style feed.params.include_docs)
+      (rows_of (handed_by number event reply))
   -- each passing the filter
-  pub passing : All (λ (row : ChangeRow). IsTrue (passes s.feed.params.filter row.id))
-      (rows_of (handed f events replies))
+  pub passing : All (λ (row : ChangeRow). IsTrue (passes feed.params.filter row.id))
+      (rows_of (handed number events replies))
   -- none above last_seq
-  pub below : (last_seq pending : ℕ) → Contains (handed f events replies) (End last_seq pending)
-      → All (λ (row : ChangeRow). row.seq ≤ last_seq) (rows_of (handed f events replies))
+  pub below : (last_seq pending : ℕ) → Contains (handed number events replies) (End last_seq pending)
+      → All (λ (row : ChangeRow). row.seq ≤ last_seq) (rows_of (handed number events replies))
   -- nothing after the end
   pub last : (before later : List ChangeItem) (last_seq pending : ℕ)
-      → handed f events replies ≡ before ++ End last_seq pending ∷ later → later ≡ []
+      → handed number events replies ≡ before ++ End last_seq pending ∷ later → later ≡ []
   -- and every current passing row between since and the feed's place among them
-  pub whole : (c : Current) → Contains (current (reached limits events).journal) c
-      → IsTrue (passes s.feed.params.filter c.id) → s.feed.since < c.seq → c.seq ≤ s.feed.place →
-      (row : ChangeRow) × Contains (rows_of (handed f events replies)) row × (row.seq ≡ c.seq)
-      × (row.id ≡ c.id)
-  -- beside the sentence: rows lie above since and not above the place or a bound, `seen` never falls, an End
-  -- names the place, there are no more rows than the limit says, and heartbeats only where one was asked for
-  pub right : RightlyHanded change_rows (reached limits events).journal s.feed (handed f events replies)
+  pub whole : (entry : Current) → Contains (current (journals (length events))) entry
+      → IsTrue (passes feed.params.filter entry.id) → feed.since < entry.seq → entry.seq ≤ feed.place →
+      (row : ChangeRow) × Contains (rows_of (handed number events replies)) row × (row.seq ≡ entry.seq)
+      × (row.id ≡ entry.id)
 
--- over every list of events each feed is faithful
+-- These replies to these events are faithful to each feed of a new database. The journals and the feed are
+-- those of its run, of which there is one (law `answers`), whatever these replies say. So replies that tell
+-- of no row where a row was due are refused, since the feed's place has moved.
+abbrev pub AreFaithful : Limits → List Event → List Reply → Type 0
+AreFaithful limits events replies =
+    (own : List Reply) (world : World) (run : Run (empty limits) events own world)
+    (number : ℕ) (found : Subscription)
+    → subscription world number ≡ Some found →
+    IsFaithful (journal_at (empty limits) events own world run) events replies number found.feed
+
+-- By these replies each feed of a new database handed what is right for it. Beside the sentence this says
+-- that rows lie above since and not above the place or a bound, `seen` never falls, an End names the place,
+-- there are no more rows than the limit says, and heartbeats come only where one was asked for. So replies
+-- that tell of row 1 while the feed's place is 0 may be faithful, and are not right.
+abbrev pub AreRight : Limits → List Event → List Reply → Type 0
+AreRight limits events replies =
+    (own : List Reply) (world : World) → Run (empty limits) events own world
+    → (number : ℕ) (found : Subscription)
+    → subscription world number ≡ Some found →
+    RightlyHanded change_rows world.journal found.feed (handed number events replies)
+
+-- the replies of every run are faithful
 abbrev pub Headline : Type 0
 Headline =
-    (limits : Limits) (events : List Event) (f : ℕ) (s : Subscription)
-    → subscription (reached limits events) f ≡ Some s →
-    IsFaithful limits events (replies_to (empty limits) events) f s
+    (limits : Limits) (events : List Event) (replies : List Reply) (world : World)
+    → Run (empty limits) events replies world → AreFaithful limits events replies

@@ -1,12 +1,10 @@
 pub mod World
-pub mod Event
 pub mod Step
 pub mod Handed
-pub mod Answer
 pub mod Laws
 pub mod Headline
 pub mod Worked
 pub mod Core
 pub mod Lane
-pub mod Meant
+pub mod Applied
 pub mod Growth

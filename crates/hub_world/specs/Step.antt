@@ -1,61 +1,88 @@
 -- What each event may answer and do, and whole runs (own; feeds by CouchDB API reference, _changes).
-use Rattle.std.specs.Prelude.{◌≡◌, ◌≤◌, List, [], ◌∷◌, length, map, true, false, Some, slice_get}
+use Rattle.std.specs.Prelude.{◌≡◌, ◌≤◌, ℕ, zero, suc, List, [], ◌∷◌, length, map, true, false, Some}
+use Rattle.std.specs.Prelude.{slice_get}
+use Rattle.hub_database.specs.Edits.{edit_of, draft_of}
+use Rattle.hub_database.specs.declared.batch.Batch.{Batch}
 use Rattle.hub_feed.specs.Host.{due_of, is_beat_due}
 use Rattle.hub_model.specs.Current.{current}
 use Rattle.hub_model.specs.Feed.{DueNothing, DueGone, after_due, after_nothing, beat_due}
 use Rattle.hub_model.specs.Hand.{due_in, change_due}
+use Rattle.hub_model.specs.Journal.{Edit}
+use Rattle.hub_model.specs.Revision.{Revision}
 use Rattle.hub_model.specs.RightlyHanded.{ChangeItem}
 use Rattle.hub_model.specs.declared.feeds.Item.TheVariants.{Beat}
+use Rattle.hub_model.specs.declared.outcomes.Outcome.{Outcome}
+use Rattle.hub_params.specs.FeedModel.{params_of}
 use Rattle.hub_world.specs.World.{World, Subscription, has_no_room, subscription, with_subscription, feed_of}
 use Rattle.hub_world.specs.World.{lane_of, merged, drafted, with_feed, Pushes, expired, took, finished, ended}
-use Rattle.hub_world.specs.Event.{Event, Write, Interactive, Begin, Hand, Heartbeat, Expire, Take, Finish}
-use Rattle.hub_world.specs.Event.{Delete, Reply, Outcomes, Opened, TooManyFeeds, DatabaseDeleted, Pushed}
-use Rattle.hub_world.specs.Event.{Full, Nothing, Gone, Took, Left}
+use Rattle.hub_world.specs.declared.event.Event.{Event}
+use Rattle.hub_world.specs.declared.event.Event.TheVariants.{Write, Interactive, Begin, Hand, Heartbeat}
+use Rattle.hub_world.specs.declared.event.Event.TheVariants.{Expire, Take, Finish, Delete}
+use Rattle.hub_world.specs.declared.reply.Reply.{Reply}
+use Rattle.hub_world.specs.declared.reply.Reply.TheVariants.{Outcomes, Opened, TooManyFeeds, DatabaseDeleted}
+use Rattle.hub_world.specs.declared.reply.Reply.TheVariants.{Pushed, Full, Nothing, Gone, Took, Left}
+
+-- a batch that did not stop, with these outcomes
+abbrev pub whole_batch : List (Outcome Revision) → Batch
+whole_batch outcomes = record { replies = outcomes; stopped = false }
 
 -- from old, the event may have this reply and lead to new. With three documents and a lane of 2, three Hands
 -- to a new continuous feed have the replies Pushed row 1, Pushed row 2 and Full. After a Take, which has
 -- Took row 1, a Hand has Pushed row 3 (proved: `LaneFills`).
 abbrev pub Step : World → Event → Reply → World → Type 0
-Step old (Write edits) (Outcomes outcomes) new =
-    (outcomes ≡ (merged old edits).outcomes) × (new ≡ record old { journal = (merged old edits).journal })
-Step old (Write edits) _ new = ⊥
-Step old (Interactive drafts) (Outcomes outcomes) new =
-    (outcomes ≡ (drafted old drafts).outcomes) × (new ≡ record old { journal = (drafted old drafts).journal })
-Step old (Interactive drafts) _ new = ⊥
-Step old (Begin params) (Opened f) new =
-    (old.deleted ≡ false) × (has_no_room old ≡ false) × (f ≡ length old.feeds) × (new ≡ with_feed old params)
+Step old (Write docs) (Outcomes batch) new =
+    (batch ≡ whole_batch (merged old (map edit_of docs)).outcomes)
+    × (new ≡ record old { journal = (merged old (map edit_of docs)).journal })
+Step old (Write docs) _ new = ⊥
+Step old (Interactive docs) (Outcomes batch) new =
+    (batch ≡ whole_batch (drafted old (map draft_of docs)).outcomes)
+    × (new ≡ record old { journal = (drafted old (map draft_of docs)).journal })
+Step old (Interactive docs) _ new = ⊥
+Step old (Begin params) (Opened feed) new =
+    (old.deleted ≡ false) × (has_no_room old ≡ false) × (feed.number ≡ length old.feeds)
+    × (new ≡ with_feed old (params_of params))
 Step old (Begin params) DatabaseDeleted new = (old.deleted ≡ true) × (new ≡ old)
 Step old (Begin params) TooManyFeeds new = (old.deleted ≡ false) × (has_no_room old ≡ true) × (new ≡ old)
 Step old (Begin params) _ new = ⊥
-Step old (Hand f) (Pushed item) new =
-    (s : Subscription) × (subscription old f ≡ Some s) × (change_due old.journal s.feed ≡ Some item)
-    × Pushes old f s (after_due s.feed (due_in old.journal s.feed) (length old.journal)) item new
-Step old (Hand f) Full new =
-    (s : Subscription) × (subscription old f ≡ Some s)
-    × ((item : ChangeItem) × (change_due old.journal s.feed ≡ Some item)) × (old.limits.lane ≤ length s.lane)
+Step old (Hand feed) (Pushed item) new =
+    (found : Subscription) × (subscription old feed.number ≡ Some found)
+    × (change_due old.journal found.feed ≡ Some item)
+    × Pushes old feed.number found
+    (after_due found.feed (due_in old.journal found.feed) (length old.journal)) item new
+Step old (Hand feed) Full new =
+    (found : Subscription) × (subscription old feed.number ≡ Some found)
+    × ((item : ChangeItem) × (change_due old.journal found.feed ≡ Some item))
+    × (old.limits.lane ≤ length found.lane)
     × (new ≡ old)
-Step old (Hand f) Nothing new =
-    (s : Subscription) × (subscription old f ≡ Some s) × (due_in old.journal s.feed ≡ DueNothing)
-    × (new ≡ with_subscription old f (record s { feed = after_nothing s.feed (length old.journal) }))
-Step old (Hand f) Gone new =
-    (due_of (current old.journal) (feed_of (subscription old f)) ≡ DueGone) × (new ≡ old)
-Step old (Hand f) _ new = ⊥
-Step old (Heartbeat f) (Pushed item) new =
-    (s : Subscription) × (subscription old f ≡ Some s) × (beat_due s.feed ≡ true) × (item ≡ Beat)
-    × Pushes old f s s.feed item new
-Step old (Heartbeat f) Full new =
-    (s : Subscription) × (subscription old f ≡ Some s) × (beat_due s.feed ≡ true)
-    × (old.limits.lane ≤ length s.lane) × (new ≡ old)
-Step old (Heartbeat f) Nothing new = (is_beat_due (feed_of (subscription old f)) ≡ false) × (new ≡ old)
-Step old (Heartbeat f) _ new = ⊥
-Step old (Expire f) Nothing new = new ≡ expired (subscription old f) f old
-Step old (Expire f) _ new = ⊥
-Step old (Take f) (Took item) new =
-    (item ≡ slice_get (lane_of (subscription old f)) 0) × (new ≡ took (subscription old f) f old)
-Step old (Take f) _ new = ⊥
-Step old (Finish f) (Left items) new =
-    (items ≡ lane_of (subscription old f)) × (new ≡ finished (subscription old f) f old)
-Step old (Finish f) _ new = ⊥
+Step old (Hand feed) Nothing new =
+    (found : Subscription) × (subscription old feed.number ≡ Some found)
+    × (due_in old.journal found.feed ≡ DueNothing)
+    × (new
+    ≡ with_subscription old feed.number
+    (record found { feed = after_nothing found.feed (length old.journal) }))
+Step old (Hand feed) Gone new =
+    (due_of (current old.journal) (feed_of (subscription old feed.number)) ≡ DueGone) × (new ≡ old)
+Step old (Hand feed) _ new = ⊥
+Step old (Heartbeat feed) (Pushed item) new =
+    (found : Subscription) × (subscription old feed.number ≡ Some found) × (beat_due found.feed ≡ true)
+    × (item ≡ Beat)
+    × Pushes old feed.number found found.feed item new
+Step old (Heartbeat feed) Full new =
+    (found : Subscription) × (subscription old feed.number ≡ Some found) × (beat_due found.feed ≡ true)
+    × (old.limits.lane ≤ length found.lane) × (new ≡ old)
+Step old (Heartbeat feed) Nothing new =
+    (is_beat_due (feed_of (subscription old feed.number)) ≡ false) × (new ≡ old)
+Step old (Heartbeat feed) _ new = ⊥
+Step old (Expire feed) Nothing new = new ≡ expired (subscription old feed.number) feed.number old
+Step old (Expire feed) _ new = ⊥
+Step old (Take feed) (Took item) new =
+    (item ≡ slice_get (lane_of (subscription old feed.number)) 0)
+    × (new ≡ took (subscription old feed.number) feed.number old)
+Step old (Take feed) _ new = ⊥
+Step old (Finish feed) (Left items) new =
+    (items ≡ lane_of (subscription old feed.number))
+    × (new ≡ finished (subscription old feed.number) feed.number old)
+Step old (Finish feed) _ new = ⊥
 Step old Delete Nothing new =
     (old.deleted ≡ false) × (new ≡ record old { deleted = true; feeds = map ended old.feeds })
 Step old Delete DatabaseDeleted new = (old.deleted ≡ true) × (new ≡ old)
@@ -70,3 +97,14 @@ Run old (event ∷ events) (reply ∷ replies) new =
     (mid : World) × Step old event reply mid × Run mid events replies new
 Run old [] (reply ∷ replies) new = ⊥
 Run old (event ∷ events) [] new = ⊥
+
+-- The journal of a run before the event at this place, counted from 0; from the place behind the last event
+-- on it is the journal that the run leaves. In a run of Write a, Write b and Hand 0 it is the empty list at
+-- 0, a at 1, and a and b at 2 and 3.
+abbrev pub journal_at : (old : World) (events : List Event) (replies : List Reply) (new : World)
+    → Run old events replies new → ℕ → List Edit
+journal_at old [] replies new run place = old.journal
+journal_at old (event ∷ events) [] new run place = old.journal
+journal_at old (event ∷ events) (reply ∷ replies) new run zero = old.journal
+journal_at old (event ∷ events) (reply ∷ replies) new run (suc place) =
+    journal_at run.0 events replies new run.2 place

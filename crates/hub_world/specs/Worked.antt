@@ -1,7 +1,9 @@
 -- Worked runs over small databases (own).
-use Rattle.std.specs.Prelude.{◌≡◌, ℕ, List, [], ◌∷◌, true, false, Option, Some, None, codes}
-use Rattle.hub_model.specs.Feed.{Params}
-use Rattle.hub_model.specs.Filter.{Filter, Everything, DocIds, Design}
+use Rattle.std.specs.Prelude.{◌≡◌, ℕ, List, [], ◌∷◌, map, true, false, Option, Some, None, codes}
+use Rattle.hub_document.specs.declared.doc.Doc.{Doc}
+use Rattle.hub_feed.specs.declared.host.FeedId.{FeedId}
+use Rattle.hub_filter.specs.declared.filter.Filter.{Filter}
+use Rattle.hub_filter.specs.declared.filter.Filter.TheVariants.{All, DocIds, Design}
 use Rattle.hub_model.specs.Journal.{Edit}
 use Rattle.hub_model.specs.Revision.{Revision}
 use Rattle.hub_model.specs.RightlyHanded.{ChangeItem}
@@ -14,13 +16,37 @@ use Rattle.hub_model.specs.declared.feeds.Since.TheVariants.{Plain, Tagged, Now}
 use Rattle.hub_model.specs.declared.feeds.Style.{Style}
 use Rattle.hub_model.specs.declared.feeds.Style.TheVariants.{MainOnly, AllDocs}
 use Rattle.hub_model.specs.declared.outcomes.Fault.TheVariants.{Deleted, Contradicts, Conflict}
+use Rattle.hub_model.specs.declared.outcomes.Outcome.{Outcome}
 use Rattle.hub_model.specs.declared.outcomes.Outcome.TheVariants.{Stored, Known, Refused}
+use Rattle.hub_params.specs.declared.feed_params.FeedParams.{FeedParams}
 use Rattle.hub_world.specs.World.{Limits, World, empty}
-use Rattle.hub_world.specs.Event.{Event, Write, Interactive, Begin, Hand, Heartbeat, Expire, Take, Finish}
-use Rattle.hub_world.specs.Event.{Delete, Outcomes, Opened, TooManyFeeds, DatabaseDeleted, Pushed, Full}
-use Rattle.hub_world.specs.Event.{Nothing, Gone, Took, Left}
-use Rattle.hub_world.specs.Answer.{replies_to, after}
-use Rattle.hub_world.specs.Headline.{handed_out, taken_off}
+use Rattle.hub_world.specs.Step.{Run, whole_batch}
+use Rattle.hub_world.specs.Handed.{handed, taken}
+use Rattle.hub_world.specs.declared.event.Event.{Event}
+use Rattle.hub_world.specs.declared.event.Event.TheVariants.{Write, Interactive, Begin, Hand, Heartbeat}
+use Rattle.hub_world.specs.declared.event.Event.TheVariants.{Expire, Take, Finish, Delete}
+use Rattle.hub_world.specs.declared.reply.Reply.{Reply}
+use Rattle.hub_world.specs.declared.reply.Reply.TheVariants.{Outcomes, Opened, TooManyFeeds, DatabaseDeleted}
+use Rattle.hub_world.specs.declared.reply.Reply.TheVariants.{Pushed, Full, Nothing, Gone, Took, Left}
+
+-- on a new database the events have a run with these replies; it is the only one (law `answers`)
+pub record HasReplies (limits : Limits) (events : List Event) (replies : List Reply) : Type 0 where
+  pub world : World
+  pub run : Run (empty limits) events replies world
+
+-- in the run of the events the feed of this number hands out these items
+pub record HasHanded (limits : Limits) (events : List Event) (number : ℕ) (items : List ChangeItem) :
+    Type 0 where
+  pub replies : List Reply
+  pub has_replies : HasReplies limits events replies
+  pub items_are : handed number events replies ≡ items
+
+-- and these are taken from it
+pub record HasTaken (limits : Limits) (events : List Event) (number : ℕ) (items : List ChangeItem) :
+    Type 0 where
+  pub replies : List Reply
+  pub has_replies : HasReplies limits events replies
+  pub items_are : taken number events replies ≡ items
 
 -- room for one feed, and for two items in its lane
 abbrev pub narrow : Limits
@@ -30,21 +56,36 @@ narrow = record { journal = 100; feeds = 1; lane = 2 }
 abbrev pub roomy : Limits
 roomy = record { journal = 100; feeds = 10; lane = 64 }
 
--- a database to which these edits were written
-abbrev pub holding : Limits → List Edit → World
-holding limits edits = after (empty limits) (Write edits ∷ [])
+-- the feed of this number
+abbrev pub feed : ℕ → FeedId
+feed number = record { number = number }
+
+-- the document that comes with the history of this edit, and is stored as it
+abbrev pub document : Edit → Doc
+document edit =
+    record { id = edit.id; rev = None; path = Some edit.path; deleted = edit.deleted; body = edit.body }
+
+-- the documents of these edits come
+abbrev pub writing : List Edit → Event
+writing edits = Write (map document edits)
+
+-- the reply to a batch
+abbrev pub outcomes : List (Outcome Revision) → Reply
+outcomes list = Outcomes (whole_batch list)
 
 -- what a feed asks for that shows winners alone, without documents and heartbeats
-abbrev pub asks : Mode → Since → Option ℕ → Filter → Params
+abbrev pub asks : Mode → Since → Option ℕ → Filter → FeedParams
 asks mode since limit filter =
     record {
       mode = mode;
       since = since;
       limit = limit;
+      descending = false;
       style = MainOnly;
       include_docs = false;
       filter = filter;
-      heartbeat = false;
+      heartbeat = None;
+      timeout = 60000;
     }
 
 -- a row that shows this winner, made when there were so many edits
@@ -63,10 +104,12 @@ second id = doc id (rev 2 (codes "b") ∷ rev 1 (codes "a") ∷ [])
 -- a, b, then a again: b at 2, a at 3, and nothing at 1
 abbrev pub AgainIsLater : Type 0
 AgainIsLater =
-    replies_to (holding roomy (first (codes "a") ∷ first (codes "b") ∷ second (codes "a")
-    ∷ [])) (Begin (asks Normal (Plain 0) None Everything) ∷ Hand 0 ∷ Hand 0 ∷ Hand 0 ∷ Hand 0 ∷ [])
-    ≡ Opened 0 ∷ Pushed (row 2 (codes "b") (rev 1 (codes "a")) 3)
-    ∷ Pushed (row 3 (codes "a") (rev 2 (codes "b")) 3) ∷ Pushed (End 3 0) ∷ Gone ∷ []
+    HasReplies roomy (writing (first (codes "a") ∷ first (codes "b") ∷ second (codes "a") ∷ [])
+    ∷ Begin (asks Normal (Plain 0) None All) ∷ Hand (feed 0) ∷ Hand (feed 0) ∷ Hand (feed 0) ∷ Hand (feed 0)
+    ∷ [])
+    (outcomes (Stored (rev 1 (codes "a")) ∷ Stored (rev 1 (codes "a")) ∷ Stored (rev 2 (codes "b")) ∷ [])
+    ∷ Opened (feed 0) ∷ Pushed (row 2 (codes "b") (rev 1 (codes "a")) 3)
+    ∷ Pushed (row 3 (codes "a") (rev 2 (codes "b")) 3) ∷ Pushed (End 3 0) ∷ Gone ∷ [])
 
 -- three leaves of a document, of which 2-b is deleted
 abbrev pub three_leaves : List Edit
@@ -81,19 +124,21 @@ three_leaves =
     ∷ doc (codes "x") (rev 2 (codes "a") ∷ rev 1 (codes "q") ∷ []) ∷ doc (codes "x") (rev 1 (codes "z") ∷ [])
     ∷ []
 
--- what a feed of this style hands out of them, with documents
-abbrev pub shown_as : Style → List ChangeItem
-shown_as style =
-    handed_out roomy (Write three_leaves
+-- a feed of this style hands out two rows of them, with documents
+abbrev pub showing : Style → List Event
+showing style =
+    writing three_leaves
     ∷ Begin (record {
       mode = Continuous;
       since = Plain 0;
       limit = None;
+      descending = false;
       style = style;
       include_docs = true;
-      filter = Everything;
-      heartbeat = false;
-    }) ∷ Hand 0 ∷ Hand 0 ∷ []) 0
+      filter = All;
+      heartbeat = None;
+      timeout = 60000;
+    }) ∷ Hand (feed 0) ∷ Hand (feed 0) ∷ []
 
 -- the row of that document
 abbrev pub shown_row : List Revision → ChangeItem
@@ -110,8 +155,9 @@ shown_row changes =
 -- main_only lists the winner, all_docs every leaf, best first
 abbrev pub StylesList : Type 0
 StylesList =
-    (shown_as MainOnly ≡ shown_row (rev 2 (codes "a") ∷ []) ∷ [])
-    × (shown_as AllDocs ≡ shown_row (rev 2 (codes "a") ∷ rev 1 (codes "z") ∷ rev 2 (codes "b") ∷ []) ∷ [])
+    HasHanded roomy (showing MainOnly) 0 (shown_row (rev 2 (codes "a") ∷ []) ∷ [])
+    × HasHanded roomy (showing AllDocs) 0
+    (shown_row (rev 2 (codes "a") ∷ rev 1 (codes "z") ∷ rev 2 (codes "b") ∷ []) ∷ [])
 
 -- eight documents, whose ids are one byte
 abbrev pub eight : List Edit
@@ -122,123 +168,120 @@ eight =
 -- a normal feed on them; after its third row those at 3 and 5 are written again, and so lie above its bound
 abbrev pub BoundHolds : Type 0
 BoundHolds =
-    handed_out roomy (Write eight ∷ Begin (asks Normal (Plain 0) None Everything) ∷ Hand 0 ∷ Hand 0 ∷ Hand 0
-    ∷ Write (second (3 ∷ []) ∷ second (5 ∷ []) ∷ []) ∷ Hand 0 ∷ Hand 0 ∷ Hand 0 ∷ Hand 0 ∷ Hand 0 ∷ []) 0
-    ≡ row 1 (1 ∷ []) (rev 1 (codes "a")) 8 ∷ row 2 (2 ∷ []) (rev 1 (codes "a")) 8
+    HasHanded roomy (writing eight ∷ Begin (asks Normal (Plain 0) None All) ∷ Hand (feed 0) ∷ Hand (feed 0)
+    ∷ Hand (feed 0) ∷ writing (second (3 ∷ []) ∷ second (5 ∷ []) ∷ []) ∷ Hand (feed 0) ∷ Hand (feed 0)
+    ∷ Hand (feed 0) ∷ Hand (feed 0) ∷ Hand (feed 0) ∷ []) 0
+    (row 1 (1 ∷ []) (rev 1 (codes "a")) 8 ∷ row 2 (2 ∷ []) (rev 1 (codes "a")) 8
     ∷ row 3 (3 ∷ []) (rev 1 (codes "a")) 8
     ∷ row 4 (4 ∷ []) (rev 1 (codes "a")) 10 ∷ row 6 (6 ∷ []) (rev 1 (codes "a")) 10
-    ∷ row 7 (7 ∷ []) (rev 1 (codes "a")) 10 ∷ row 8 (8 ∷ []) (rev 1 (codes "a")) 10 ∷ End 8 2 ∷ []
+    ∷ row 7 (7 ∷ []) (rev 1 (codes "a")) 10 ∷ row 8 (8 ∷ []) (rev 1 (codes "a")) 10 ∷ End 8 2 ∷ [])
 
--- a database of three documents, with a narrow lane
-abbrev pub three : World
-three = holding narrow (first (1 ∷ []) ∷ first (2 ∷ []) ∷ first (3 ∷ []) ∷ [])
+-- on a database of three documents, with a narrow lane, the events behind their write have these replies
+abbrev pub HasThree : List Event → List Reply → Type 0
+HasThree events replies =
+    HasReplies narrow (writing (first (1 ∷ []) ∷ first (2 ∷ []) ∷ first (3 ∷ []) ∷ []) ∷ events)
+    (outcomes (Stored (rev 1 (codes "a")) ∷ Stored (rev 1 (codes "a")) ∷ Stored (rev 1 (codes "a")) ∷ [])
+    ∷ replies)
 
 -- the row of one of them
 abbrev pub third : ℕ → ChangeItem
-third n = row n (n ∷ []) (rev 1 (codes "a")) 3
+third seq = row seq (seq ∷ []) (rev 1 (codes "a")) 3
 
 -- a lane of two takes a third item only once one was taken
 abbrev pub LaneFills : Type 0
 LaneFills =
-    replies_to three (Begin (asks Continuous (Plain 0) None Everything) ∷ Hand 0 ∷ Hand 0 ∷ Hand 0 ∷ Take 0
-    ∷ Hand 0 ∷ [])
-    ≡ Opened 0 ∷ Pushed (third 1) ∷ Pushed (third 2) ∷ Full ∷ Took (Some (third 1)) ∷ Pushed (third 3) ∷ []
+    HasThree (Begin (asks Continuous (Plain 0) None All) ∷ Hand (feed 0) ∷ Hand (feed 0) ∷ Hand (feed 0)
+    ∷ Take (feed 0) ∷ Hand (feed 0) ∷ [])
+    (Opened (feed 0) ∷ Pushed (third 1) ∷ Pushed (third 2) ∷ Full ∷ Took (Some (third 1))
+    ∷ Pushed (third 3) ∷ [])
 
 -- a feed that begins after 2 of the database's life begins with the third row, and after 2 of another life
 -- with the first
 abbrev pub LivesCount : Type 0
 LivesCount =
-    (replies_to three (Begin (asks Normal (Tagged 2 1) None Everything) ∷ Hand 0 ∷ Hand 0 ∷ [])
-    ≡ Opened 0 ∷ Pushed (third 3) ∷ Pushed (End 3 0) ∷ [])
-    × (replies_to three (Begin (asks Normal (Tagged 2 7) None Everything) ∷ Hand 0 ∷ [])
-    ≡ Opened 0 ∷ Pushed (third 1) ∷ [])
+    HasThree (Begin (asks Normal (Tagged 2 1) None All) ∷ Hand (feed 0) ∷ Hand (feed 0) ∷ [])
+    (Opened (feed 0) ∷ Pushed (third 3) ∷ Pushed (End 3 0) ∷ [])
+    × HasThree (Begin (asks Normal (Tagged 2 7) None All) ∷ Hand (feed 0) ∷ [])
+    (Opened (feed 0) ∷ Pushed (third 1) ∷ [])
 
 -- a feed hands out three rows, and is finished when one was taken
 abbrev pub left_early : List Event
 left_early =
-    Write eight ∷ Begin (asks Normal (Plain 5) None Everything) ∷ Hand 0 ∷ Hand 0 ∷ Take 0 ∷ Hand 0 ∷ Finish 0
-    ∷ Take 0 ∷ []
+    writing eight ∷ Begin (asks Normal (Plain 5) None All) ∷ Hand (feed 0) ∷ Hand (feed 0) ∷ Take (feed 0)
+    ∷ Hand (feed 0) ∷ Finish (feed 0) ∷ Take (feed 0) ∷ []
 
 -- what is in the lane of a finished feed is never taken
 abbrev pub TakesAFront : Type 0
 TakesAFront =
-    (handed_out roomy left_early 0
-    ≡ row 6 (6 ∷ []) (rev 1 (codes "a")) 8 ∷ row 7 (7 ∷ []) (rev 1 (codes "a")) 8
+    HasHanded roomy left_early 0
+    (row 6 (6 ∷ []) (rev 1 (codes "a")) 8 ∷ row 7 (7 ∷ []) (rev 1 (codes "a")) 8
     ∷ row 8 (8 ∷ []) (rev 1 (codes "a")) 8 ∷ [])
-    × (taken_off roomy left_early 0 ≡ row 6 (6 ∷ []) (rev 1 (codes "a")) 8 ∷ [])
+    × HasTaken roomy left_early 0 (row 6 (6 ∷ []) (rev 1 (codes "a")) 8 ∷ [])
 
 -- a longpoll feed for design documents waits for one, and then ends
 abbrev pub LongpollWaits : Type 0
 LongpollWaits =
-    replies_to three (Begin (asks Longpoll (Plain 0) None Design) ∷ Hand 0
-    ∷ Write (first (codes "_design/x") ∷ []) ∷ Hand 0 ∷ Hand 0 ∷ Hand 0 ∷ [])
-    ≡ Opened 0 ∷ Nothing ∷ Outcomes (Stored (rev 1 (codes "a")) ∷ [])
-    ∷ Pushed (row 4 (codes "_design/x") (rev 1 (codes "a")) 4) ∷ Pushed (End 4 0) ∷ Gone ∷ []
+    HasThree (Begin (asks Longpoll (Plain 0) None Design) ∷ Hand (feed 0)
+    ∷ writing (first (codes "_design/x") ∷ []) ∷ Hand (feed 0) ∷ Hand (feed 0) ∷ Hand (feed 0) ∷ [])
+    (Opened (feed 0) ∷ Nothing ∷ outcomes (Stored (rev 1 (codes "a")) ∷ [])
+    ∷ Pushed (row 4 (codes "_design/x") (rev 1 (codes "a")) 4) ∷ Pushed (End 4 0) ∷ Gone ∷ [])
 
 -- and where its time is over it ends at its place; a normal feed's time is never over
 abbrev pub TimeEnds : Type 0
 TimeEnds =
-    (replies_to three (Begin (asks Longpoll (Plain 0) None Design) ∷ Hand 0 ∷ Expire 0 ∷ Hand 0 ∷ [])
-    ≡ Opened 0 ∷ Nothing ∷ Nothing ∷ Pushed (End 3 0) ∷ [])
-    × (replies_to three (Begin (asks Normal (Plain 0) None Everything) ∷ Expire 0 ∷ Hand 0 ∷ [])
-    ≡ Opened 0 ∷ Nothing ∷ Pushed (third 1) ∷ [])
+    HasThree (Begin (asks Longpoll (Plain 0) None Design) ∷ Hand (feed 0) ∷ Expire (feed 0) ∷ Hand (feed 0)
+    ∷ []) (Opened (feed 0) ∷ Nothing ∷ Nothing ∷ Pushed (End 3 0) ∷ [])
+    × HasThree (Begin (asks Normal (Plain 0) None All) ∷ Expire (feed 0) ∷ Hand (feed 0) ∷ [])
+    (Opened (feed 0) ∷ Nothing ∷ Pushed (third 1) ∷ [])
 
 -- what is known, what contradicts, and a draft on no leaf change nothing
 abbrev pub WritesAnswer : Type 0
 WritesAnswer =
-    replies_to (empty roomy) (Write (second (codes "b") ∷ []) ∷ Write (second (codes "b") ∷ [])
-    ∷ Write (doc (codes "b") (rev 3 (codes "w") ∷ rev 2 (codes "b") ∷ rev 1 (codes "q") ∷ []) ∷ [])
+    HasReplies roomy (writing (second (codes "b") ∷ []) ∷ writing (second (codes "b") ∷ [])
+    ∷ writing (doc (codes "b") (rev 3 (codes "w") ∷ rev 2 (codes "b") ∷ rev 1 (codes "q") ∷ []) ∷ [])
     ∷ Interactive (record {
       id = codes "b";
       rev = Some (rev 1 (codes "a"));
+      path = None;
       deleted = false;
       body = codes "{}";
-    } ∷ []) ∷ Begin (asks Normal Now None Everything) ∷ Hand 0 ∷ [])
-    ≡ Outcomes (Stored (rev 2 (codes "b")) ∷ []) ∷ Outcomes (Known ∷ [])
-    ∷ Outcomes (Refused Contradicts ∷ []) ∷ Outcomes (Refused Conflict ∷ []) ∷ Opened 0 ∷ Pushed (End 1 0)
-    ∷ []
+    } ∷ []) ∷ Begin (asks Normal Now None All) ∷ Hand (feed 0) ∷ [])
+    (outcomes (Stored (rev 2 (codes "b")) ∷ []) ∷ outcomes (Known ∷ [])
+    ∷ outcomes (Refused Contradicts ∷ []) ∷ outcomes (Refused Conflict ∷ []) ∷ Opened (feed 0)
+    ∷ Pushed (End 1 0) ∷ [])
 
 -- a feed that asks for a heartbeat
-abbrev pub asks_beats : Mode → Params
-asks_beats mode =
-    record {
-      mode = mode;
-      since = Plain 0;
-      limit = None;
-      style = MainOnly;
-      include_docs = false;
-      filter = Everything;
-      heartbeat = true;
-    }
+abbrev pub asks_beats : Mode → FeedParams
+asks_beats mode = record (asks mode (Plain 0) None All) { heartbeat = Some 60000 }
 
 -- a feed that waits hands heartbeats where it asks for them, while its lane has room
 abbrev pub BeatsAreAsked : Type 0
 BeatsAreAsked =
-    (replies_to three (Begin (asks_beats Continuous) ∷ Heartbeat 0 ∷ Heartbeat 0 ∷ Heartbeat 0 ∷ Hand 0
-    ∷ Finish 0 ∷ Take 0 ∷ Hand 0 ∷ [])
-    ≡ Opened 0 ∷ Pushed Beat ∷ Pushed Beat ∷ Full ∷ Full ∷ Left (Beat ∷ Beat ∷ []) ∷ Took None ∷ Gone ∷ [])
-    × (replies_to three (Begin (asks_beats Normal) ∷ Heartbeat 0 ∷ []) ≡ Opened 0 ∷ Nothing ∷ [])
-    × (replies_to three (Begin (asks Continuous (Plain 0) None Everything) ∷ Heartbeat 0 ∷ Heartbeat 7 ∷ [])
-    ≡ Opened 0 ∷ Nothing ∷ Nothing ∷ [])
+    HasThree (Begin (asks_beats Continuous) ∷ Heartbeat (feed 0) ∷ Heartbeat (feed 0) ∷ Heartbeat (feed 0)
+    ∷ Hand (feed 0) ∷ Finish (feed 0) ∷ Take (feed 0) ∷ Hand (feed 0) ∷ [])
+    (Opened (feed 0) ∷ Pushed Beat ∷ Pushed Beat ∷ Full ∷ Full ∷ Left (Beat ∷ Beat ∷ []) ∷ Took None ∷ Gone
+    ∷ [])
+    × HasThree (Begin (asks_beats Normal) ∷ Heartbeat (feed 0) ∷ []) (Opened (feed 0) ∷ Nothing ∷ [])
+    × HasThree (Begin (asks Continuous (Plain 0) None All) ∷ Heartbeat (feed 0) ∷ Heartbeat (feed 7) ∷ [])
+    (Opened (feed 0) ∷ Nothing ∷ Nothing ∷ [])
 
 -- a deleted database ends its feeds, and takes nothing more
 abbrev pub DeletionEnds : Type 0
 DeletionEnds =
-    replies_to three (Begin (asks Continuous (Plain 1) None Everything) ∷ Hand 0 ∷ Delete ∷ Hand 0 ∷ Hand 0
-    ∷ Delete ∷ Begin (asks Normal Now None Everything) ∷ Write (first (codes "a") ∷ []) ∷ [])
-    ≡ Opened 0 ∷ Pushed (third 2) ∷ Nothing ∷ Pushed (End 2 1) ∷ Gone ∷ DatabaseDeleted ∷ DatabaseDeleted
-    ∷ Outcomes (Refused Deleted ∷ []) ∷ []
+    HasThree (Begin (asks Continuous (Plain 1) None All) ∷ Hand (feed 0) ∷ Delete ∷ Hand (feed 0)
+    ∷ Hand (feed 0) ∷ Delete ∷ Begin (asks Normal Now None All) ∷ writing (first (codes "a") ∷ []) ∷ [])
+    (Opened (feed 0) ∷ Pushed (third 2) ∷ Nothing ∷ Pushed (End 2 1) ∷ Gone ∷ DatabaseDeleted
+    ∷ DatabaseDeleted ∷ outcomes (Refused Deleted ∷ []) ∷ [])
 
 -- the limit counts what passes, and 0 acts as 1
 abbrev pub LimitCountsRows : Type 0
 LimitCountsRows =
-    replies_to three (Begin (asks Normal (Plain 0) (Some 0) (DocIds ((3 ∷ []) ∷ (2 ∷ []) ∷ []))) ∷ Hand 0
-    ∷ Hand 0 ∷ []) ≡ Opened 0 ∷ Pushed (third 2) ∷ Pushed (End 2 1) ∷ []
+    HasThree (Begin (asks Normal (Plain 0) (Some 0) (DocIds ((3 ∷ []) ∷ (2 ∷ []) ∷ []))) ∷ Hand (feed 0)
+    ∷ Hand (feed 0) ∷ []) (Opened (feed 0) ∷ Pushed (third 2) ∷ Pushed (End 2 1) ∷ [])
 
 -- one feed more than there may be is refused until one is finished; no number is given twice
 abbrev pub FeedsAreCounted : Type 0
 FeedsAreCounted =
-    replies_to three (Begin (asks Continuous Now None Everything)
-    ∷ Begin (asks Continuous Now None Everything) ∷ Finish 0 ∷ Begin (asks Continuous Now None Everything)
-    ∷ [])
-    ≡ Opened 0 ∷ TooManyFeeds ∷ Left [] ∷ Opened 1 ∷ []
+    HasThree (Begin (asks Continuous Now None All) ∷ Begin (asks Continuous Now None All) ∷ Finish (feed 0)
+    ∷ Begin (asks Continuous Now None All) ∷ [])
+    (Opened (feed 0) ∷ TooManyFeeds ∷ Left [] ∷ Opened (feed 1) ∷ [])

@@ -1,6 +1,6 @@
 //! What may happen to a database with feeds.
 
-use hub_document::Doc;
+use crate::docs::Docs;
 use hub_feed::FeedId;
 use hub_params::FeedParams;
 
@@ -9,15 +9,15 @@ use hub_params::FeedParams;
 pub enum Event {
     /// Documents come with their histories, as a replicator sends them (CouchDB API reference,
     /// `_bulk_docs` with `new_edits=false`).
-    Write(Vec<Doc>),
+    Write(Docs),
     /// Documents come whose revisions are made here (CouchDB API reference, `_bulk_docs`).
-    Interactive(Vec<Doc>),
+    Interactive(Docs),
     /// A subscriber opens a feed (CouchDB API reference, `_changes`). `descending` is not looked at.
     Begin(FeedParams),
     /// A feed is to hand what is due into its lane.
     Hand(FeedId),
     /// It is time for a heartbeat of a feed.
-    Beat(FeedId),
+    Heartbeat(FeedId),
     /// A feed's time without an item is over.
     Expire(FeedId),
     /// The connection of a feed takes the front item of its lane.

@@ -16,7 +16,7 @@ pub fn headline()
     ensures { Headline }
 {}
 
-/// Each event has exactly one answer, and each list of events one run.
+/// From each world each event has exactly one step, and each list of events one run.
 pub fn answers()
     ensures some { IsAnswered }
     ensures only { IsOnlyAnswer }

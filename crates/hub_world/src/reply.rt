@@ -1,12 +1,11 @@
 //! What comes of an event.
 
 ghost use Rattle.std.specs.Prelude.{◌≡◌};
-ghost use Rattle.hub_world.specs.Meant.{is_stopped};
+ghost use Rattle.hub_world.specs.Applied.{is_stopped};
 
-use crate::shared_item::SharedItem;
+use crate::shared_item::{SharedItem, SharedItems};
 use hub_database::Batch;
 use hub_feed::FeedId;
-use std::collections::VecDeque;
 
 /// A reply to an event.
 #[derive(Debug, Drop)]
@@ -30,7 +29,7 @@ pub enum Reply {
     /// This item was the front of the lane; none where it was empty.
     Took(Option<SharedItem>),
     /// What was handed and never taken, the front first.
-    Left(VecDeque<SharedItem>),
+    Left(SharedItems),
 }
 
 impl Reply {

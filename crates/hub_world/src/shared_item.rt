@@ -5,6 +5,7 @@ ghost use Rattle.std.specs.Prelude.{◌≡◌, IfOk};
 use hub_document::ChangeRow;
 use hub_model::Item;
 use std::alloc::{AllocError, Global};
+use std::collections::VecDeque;
 use std::marker::Model;
 use std::sync::Arc;
 
@@ -54,5 +55,36 @@ impl SharedItem {
         ensures { result.now ≡ self.now }
     {
         &self.item
+    }
+}
+
+/// Items that were handed, the front first. Contracts see their list.
+#[derive(Debug, Drop)]
+pub struct SharedItems {
+    items: VecDeque<SharedItem>,
+}
+
+impl Model for SharedItems {
+    ghost use Rattle.std.specs.Prelude.{List};
+    ghost use Rattle.hub_model.specs.RightlyHanded.{ChangeItem};
+
+    ghost Value = { List ChangeItem };
+
+    ghost view = { λ a. a.items.items };
+}
+
+impl SharedItems {
+    /// The items that the queue holds.
+    pub(crate) fn new(items: VecDeque<SharedItem>) -> SharedItems
+        ensures { result ≡ items.items }
+    {
+        SharedItems { items }
+    }
+
+    /// The items. Constant time.
+    pub fn as_deque(&self) -> &VecDeque<SharedItem>
+        ensures { result.now.items ≡ self.now }
+    {
+        &self.items
     }
 }

@@ -1,21 +1,23 @@
 //! A database with its feeds and their lanes, as one machine.
 
-ghost use Rattle.std.specs.Prelude.{◌≡◌, ◌<◌, ℕ, Some, false, length, map, IfOk, OnErr};
-ghost use Rattle.hub_world.specs.Answer.{answer, replies_to};
+ghost use Rattle.std.specs.Prelude.{◌≡◌, ◌<◌, Some, length, IfOk, OnErr};
+ghost use Rattle.hub_world.specs.Applied.{Answers, Applies, CoreStep};
 ghost use Rattle.hub_world.specs.Core.{Shows, limits_of};
 ghost use Rattle.hub_world.specs.Growth.{MayFail};
-ghost use Rattle.hub_world.specs.Headline.{reached, IsFaithful};
-ghost use Rattle.hub_world.specs.Meant.{event_of, reply_of, Answers, Applies};
-ghost use Rattle.hub_world.specs.World.{World as Shown, Subscription, subscription, empty};
+ghost use Rattle.hub_world.specs.Headline.{AreFaithful, AreRight};
+ghost use Rattle.hub_world.specs.Step.{Run};
+ghost use Rattle.hub_world.specs.World.{World as Shown, empty};
 ghost use Rattle.hub_database.specs.Hosting.{hosted_of};
 ghost use Rattle.hub_feed.specs.Host.{item_due};
 
+use crate::docs::Docs;
 use crate::event::Event;
 use crate::lane::{self, Lane};
 use crate::reply::Reply;
+use crate::shared_item::SharedItems;
 use hub_database::DbState;
-use hub_document::{ChangeRow, Doc, Limits};
-use hub_feed::{FeedHost, FeedId, Next};
+use hub_document::{ChangeRow, Limits};
+use hub_feed::{FeedId, Next};
 use hub_model::Item;
 use hub_params::FeedParams;
 use std::alloc::{AllocError, Global};
@@ -73,24 +75,24 @@ impl World {
     }
 
     // Documents come with their histories.
-    fn write(&mut self, docs: Vec<Doc>) -> Result<Reply, AllocError>
+    fn write(&mut self, docs: Docs) -> Result<Reply, AllocError>
         ensures ok { IfOk result (λ reply. Applies self.old (Event.Write docs) reply self.new
             × Answers self.old (Event.Write docs) reply self.new) }
         ensures err { OnErr result ((self.new ≡ self.old) × MayFail self.old (Event.Write docs)) }
     {
-        let Ok(batch) = self.db.write_edits(docs, false) else {
+        let Ok(batch) = self.db.write_edits(docs.into_vec(), false) else {
             return Err(AllocError);
         };
         Ok(Reply::Outcomes(batch))
     }
 
     // Documents come whose revisions are made here.
-    fn make(&mut self, docs: Vec<Doc>) -> Result<Reply, AllocError>
+    fn make(&mut self, docs: Docs) -> Result<Reply, AllocError>
         ensures ok { IfOk result (λ reply. Applies self.old (Event.Interactive docs) reply self.new
             × Answers self.old (Event.Interactive docs) reply self.new) }
         ensures err { OnErr result ((self.new ≡ self.old) × MayFail self.old (Event.Interactive docs)) }
     {
-        let Ok(batch) = self.db.write_edits(docs, true) else {
+        let Ok(batch) = self.db.write_edits(docs.into_vec(), true) else {
             return Err(AllocError);
         };
         Ok(Reply::Outcomes(batch))
@@ -144,8 +146,8 @@ impl World {
 
     // A heartbeat that may be handed goes into the feed's lane.
     fn beat(&mut self, feed: FeedId) -> Result<Reply, AllocError>
-        ensures ok { IfOk result (λ reply. Applies self.old (Event.Beat feed) reply self.new) }
-        ensures err { OnErr result ((self.new ≡ self.old) × MayFail self.old (Event.Beat feed)) }
+        ensures ok { IfOk result (λ reply. Applies self.old (Event.Heartbeat feed) reply self.new) }
+        ensures err { OnErr result ((self.new ≡ self.old) × MayFail self.old (Event.Heartbeat feed)) }
     {
         if !self.db.beat_due(feed) {
             return Ok(Reply::Nothing);
@@ -178,7 +180,8 @@ impl World {
         ensures { Applies self.old (Event.Finish feed) result self.new }
     {
         self.db.finish(feed);
-        Reply::Left(lane::remove(self.alloc, &mut self.lanes, feed.number))
+        let left = lane::remove(self.alloc, &mut self.lanes, feed.number);
+        Reply::Left(SharedItems::new(left))
     }
 
     // The database is deleted, unless it was.
@@ -204,7 +207,7 @@ impl World {
             Event::Interactive(docs) => self.make(docs),
             Event::Begin(params) => self.begin(params),
             Event::Hand(feed) => self.hand(feed),
-            Event::Beat(feed) => self.beat(feed),
+            Event::Heartbeat(feed) => self.beat(feed),
             Event::Expire(feed) => Ok(self.expire(feed)),
             Event::Take(feed) => Ok(self.take(feed)),
             Event::Finish(feed) => Ok(self.finish(feed)),
@@ -214,9 +217,7 @@ impl World {
 
     // Makes one event take place as a whole, or tells that a growth was refused.
     fn apply_whole(&mut self, event: Event) -> Result<Reply, AllocError>
-        ensures { IfOk result (λ reply. (w : Shown) → Shows self.old w
-            → (reply_of reply ≡ (answer w (event_of event)).reply)
-            × Shows self.new (answer w (event_of event)).world) }
+        ensures { IfOk result (λ reply. CoreStep self.old event reply self.new) }
     {
         let reply = self.apply(event)?;
         if reply.is_stopped() {
@@ -229,21 +230,17 @@ impl World {
     /// of events, what a feed's connection has taken is a prefix of what the feed handed out: rows in
     /// strictly rising sequence, each its document's current row at its step, each passing the filter,
     /// none above last_seq, nothing after the end, and every current passing row between since and the
-    /// feed's place among them (`headline`). The replies and the world are those of the definitions,
-    /// where an event has one answer.
+    /// feed's place among them (`headline`). What each feed handed is right besides (`right`). The replies
+    /// and the world are those of the one run that the events have (`run`).
     pub fn run(
         alloc: Global,
         limits: Limits,
         events: Vec<Event>,
     ) -> Result<(World, Vec<Reply>), AllocError>
-        ensures replies { IfOk result
-            (λ r.
-            map reply_of r.1.items ≡ replies_to (empty (limits_of limits)) (map event_of events.items)) }
-        ensures world { IfOk result
-            (λ r. Shows r.0 (reached (limits_of limits) (map event_of events.items))) }
-        ensures headline { IfOk result (λ r. (f : ℕ) (s : Subscription)
-            → subscription (reached (limits_of limits) (map event_of events.items)) f ≡ Some s
-            → IsFaithful (limits_of limits) (map event_of events.items) (map reply_of r.1.items) f s) }
+        ensures headline { IfOk result (λ r. AreFaithful (limits_of limits) events.items r.1.items) }
+        ensures right { IfOk result (λ r. AreRight (limits_of limits) events.items r.1.items) }
+        ensures run { IfOk result (λ r. (world : Shown)
+            × Run (empty (limits_of limits)) events.items r.1.items world × Shows r.0 world) }
         ensures memory { OnErr result (0 < length events.items) }
     {
         let mut world = World::new(alloc, limits);

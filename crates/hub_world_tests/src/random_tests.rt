@@ -8,7 +8,7 @@ use hub_feed::FeedId;
 use hub_filter::{DocIds, Filter};
 use hub_model::{Fault, Item, Mode, Outcome, Since, Style};
 use hub_params::FeedParams;
-use hub_world::{Event, Reply, World};
+use hub_world::{Docs, Event, Reply, World};
 use std::alloc::{AllocError, Global};
 use std::test::Fail;
 
@@ -234,11 +234,11 @@ fn params(alloc: Global, random: &mut Random) -> Result<FeedParams, Fail> {
 fn event(alloc: Global, seen: &Seen, random: &mut Random) -> Result<Event, Fail> {
     match random.below(200) {
         0 => Ok(Event::Delete),
-        1..=30 => Ok(Event::Write(writes(alloc, seen, random)?)),
-        31..=50 => Ok(Event::Interactive(drafts(alloc, seen, random)?)),
+        1..=30 => Ok(Event::Write(Docs::new(writes(alloc, seen, random)?))),
+        31..=50 => Ok(Event::Interactive(Docs::new(drafts(alloc, seen, random)?))),
         51..=72 => Ok(Event::Begin(params(alloc, random)?)),
         73..=142 => Ok(Event::Hand(seen.feed(random))),
-        143..=156 => Ok(Event::Beat(seen.feed(random))),
+        143..=156 => Ok(Event::Heartbeat(seen.feed(random))),
         157..=162 => Ok(Event::Expire(seen.feed(random))),
         163..=192 => Ok(Event::Take(seen.feed(random))),
         _ => Ok(Event::Finish(seen.feed(random))),
@@ -314,7 +314,7 @@ impl Counts {
             Reply::Gone => more(&mut self.gone),
             Reply::Took(Some(_)) => more(&mut self.took),
             Reply::Took(None) => more(&mut self.took_none),
-            Reply::Left(items) if items.is_empty() => more(&mut self.left_none),
+            Reply::Left(items) if items.as_deque().is_empty() => more(&mut self.left_none),
             Reply::Left(_) => more(&mut self.left),
         }
     }
@@ -364,7 +364,7 @@ fn places_in(alloc: Global, event: &Event) -> Result<Vec<usize>, AllocError> {
     let mut places = Vec::new(alloc);
     match event {
         Event::Write(docs) | Event::Interactive(docs) => {
-            for doc in docs {
+            for doc in docs.as_slice() {
                 places.push(place_of(doc.id.as_str()))?;
             }
         }

@@ -12,7 +12,7 @@ use hub_document::{ChangeRow, Doc, Limits, RevId};
 use hub_feed::FeedId;
 use hub_model::{Fault, Item, Outcome};
 use hub_params::FeedParams;
-use hub_world::{Event, Reply, SharedItem, World};
+use hub_world::{Docs, Event, Reply, SharedItem, World};
 use std::alloc::{AllocError, Global};
 use std::process::Abort;
 use std::test::Fail;
@@ -61,6 +61,7 @@ fn write(alloc: Global, texts: &[&str], new_edits: bool) -> Result<Event, AllocE
         };
         docs.push(doc)?;
     }
+    let docs = Docs::new(docs);
     Ok(if new_edits {
         Event::Interactive(docs)
     } else {
@@ -82,7 +83,7 @@ fn event(alloc: Global, step: Step<'_>) -> Result<Event, AllocError> {
         Step::Make(texts) => write(alloc, texts, true),
         Step::Begin(query) => begin(alloc, query),
         Step::Hand(number) => Ok(Event::Hand(FeedId { number })),
-        Step::Beat(number) => Ok(Event::Beat(FeedId { number })),
+        Step::Beat(number) => Ok(Event::Heartbeat(FeedId { number })),
         Step::Expire(number) => Ok(Event::Expire(FeedId { number })),
         Step::Take(number) => Ok(Event::Take(FeedId { number })),
         Step::Finish(number) => Ok(Event::Finish(FeedId { number })),
@@ -312,7 +313,7 @@ fn reply_text(alloc: Global, reply: &Reply) -> Result<String, AllocError> {
             let text = shared_text(alloc, item)?;
             format!(in alloc; "took {}", text.as_str())
         }
-        Reply::Left(items) => format!(in alloc; "left {}", items.len()),
+        Reply::Left(items) => format!(in alloc; "left {}", items.as_deque().len()),
     }
 }
 

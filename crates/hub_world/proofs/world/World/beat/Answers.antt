@@ -1,7 +1,7 @@
 use Rattle.std.proofs.Common.{◌≡◌, ◌∙◌, sym, ap, subst, true, false, ℕ}
 use Rattle.hub_world.specs.Core.{Core}
 use Rattle.hub_model.specs.RightlyHanded.{ChangeItem}
-use Rattle.hub_world.specs.Event as model
+use Rattle.hub_world.specs.declared.reply.Reply.TheVariants as reply
 use Rattle.hub_model.specs.declared.feeds.Item.TheVariants.{Beat}
 use Rattle.hub_world.specs.Lane.{has_room, pushed_into}
 use Rattle.hub_world.proofs.Standing.{lanes_rise}
@@ -17,9 +17,9 @@ pub returns-then-not-beat_due-clause-ok : goal.returns-then-not-beat_due-clause-
 returns-then-not-beat_due-clause-ok c =
     let old : Core = record { db = c.self.inside.db; lanes = c.self.inside.lanes.items } in
     from_same old c.args.self.now c.args.self.now
-    (model.Heartbeat c.args.feed.number) model.Nothing c.self.view_is
-    (to_same old old c.args.self.now (model.Heartbeat c.args.feed.number) model.Nothing c.self.view_is
-    (beat_nothing old c.args.feed.number (sym c.beat_due.ensures ∙ c.if-not-beat_due.true)))
+    (event.Heartbeat c.args.feed) reply.Nothing c.self.view_is
+    (to_same old old c.args.self.now (event.Heartbeat c.args.feed) reply.Nothing c.self.view_is
+    (beat_nothing old c.args.feed (sym c.beat_due.ensures ∙ c.if-not-beat_due.true)))
 
 pub push-requires : goal.push-requires
 push-requires c = record {
@@ -38,17 +38,17 @@ returns-in_default-clause-ok c =
     let lanes : c.push.new.lanes.items ≡ pushed_into old.db.limits.lane f Beat old.lanes =
     c.in_ok-item.ensures.lanes ∙ ap (λ (n : ℕ). pushed_into n f Beat old.lanes) c.self.invariant.0 in
     from_same old c.args.self.now (record old { lanes = c.push.new.lanes.items })
-    (model.Heartbeat c.args.feed.number) model.Full c.self.view_is
+    (event.Heartbeat c.args.feed) reply.Full c.self.view_is
     (to_same old old (record old { lanes = c.push.new.lanes.items })
-    (model.Heartbeat c.args.feed.number) model.Full
+    (event.Heartbeat c.args.feed) reply.Full
     (ap (λ ls. record { db = old.db; lanes = ls })
     (sym (lanes ∙ unpushed old.db.limits.lane f Beat old.lanes room)))
-    (beat_full old f (sym c.beat_due.ensures ∙ c.if-not-beat_due.false) room))
+    (beat_full old c.args.feed (sym c.beat_due.ensures ∙ c.if-not-beat_due.false) room))
 
 -- the step
 leads : (c : In-Some)
     → Leads (record { db = c.self.inside.db; lanes = c.self.inside.lanes.items })
-    (model.Heartbeat c.args.feed.number) (model.Pushed Beat)
+    (event.Heartbeat c.args.feed) (reply.Pushed Beat)
     (record { db = c.self.inside.db; lanes = c.push.new.lanes.items })
 leads c =
     let old : Core = record { db = c.self.inside.db; lanes = c.self.inside.lanes.items } in
@@ -60,16 +60,16 @@ leads c =
     let lanes : c.push.new.lanes.items ≡ pushed_into old.db.limits.lane f Beat old.lanes =
     c.in_ok-item.ensures.lanes ∙ ap (λ (n : ℕ). pushed_into n f Beat old.lanes) c.self.invariant.0 in
     to_same old (record old { lanes = pushed_into old.db.limits.lane f Beat old.lanes })
-    (record old { lanes = c.push.new.lanes.items }) (model.Heartbeat c.args.feed.number) (model.Pushed Beat)
+    (record old { lanes = c.push.new.lanes.items }) (event.Heartbeat c.args.feed) (reply.Pushed Beat)
     (ap (λ ls. record { db = old.db; lanes = ls }) (sym lanes))
-    (beat_pushed old f (sym c.beat_due.ensures ∙ c.if-not-beat_due.false) room)
+    (beat_pushed old c.args.feed (sym c.beat_due.ensures ∙ c.if-not-beat_due.false) room)
 
 pub invariant_of-self-2 : goal.invariant_of-self-2
 invariant_of-self-2 c =
     let old : Core = record { db = c.self.inside.db; lanes = c.self.inside.lanes.items } in (
       c.self.invariant.0,
-      still_shows old (record old { lanes = c.push.new.lanes.items }) (model.Heartbeat c.args.feed.number)
-          (model.Pushed Beat) c.self.invariant.1 (leads c),
+      still_shows old (record old { lanes = c.push.new.lanes.items }) (event.Heartbeat c.args.feed)
+          (reply.Pushed Beat) c.self.invariant.1 (leads c),
     )
 
 pub returns-clause-ok : goal.returns-clause-ok
@@ -79,9 +79,9 @@ returns-clause-ok c =
     rw c.in-Some.is at c.in_ok-item.ensures.pushed in
     let new : Core = record old { lanes = c.push.new.lanes.items } in
     subst (λ (item : ChangeItem).
-    Leads c.args.self.now (model.Heartbeat c.args.feed.number) (model.Pushed item) new) (sym pushed.0)
-    (from_same old c.args.self.now new (model.Heartbeat c.args.feed.number)
-    (model.Pushed Beat) c.self.view_is (leads c))
+    Leads c.args.self.now (event.Heartbeat c.args.feed) (reply.Pushed item) new) (sym pushed.0)
+    (from_same old c.args.self.now new (event.Heartbeat c.args.feed)
+    (reply.Pushed Beat) c.self.view_is (leads c))
 
 pub returns-in_err-item-clause-err : goal.returns-in_err-item-clause-err
 returns-in_err-item-clause-err c =
@@ -93,6 +93,6 @@ returns-in_err-item-clause-err c =
     let same = ap (λ ls. record { db = old.db; lanes = ls }) err.0 ∙ c.self.view_is in
     on_err c.from_residual.result _ (
       same,
-      fails_as old c.args.self.now (event.Beat c.args.feed) c.self.view_is
-          (beat_grows old f (sym c.beat_due.ensures ∙ c.if-not-beat_due.false) room),
+      fails_as old c.args.self.now (event.Heartbeat c.args.feed) c.self.view_is
+          (beat_grows old c.args.feed (sym c.beat_due.ensures ∙ c.if-not-beat_due.false) room),
     )

@@ -1,7 +1,7 @@
-use Rattle.std.proofs.Common.{◌≡◌, ◌∙◌, ◌++◌, ◌∷◌, [], sym, ap, subst, refl, ℕ}
+use Rattle.std.proofs.Common.{◌≡◌, ◌∙◌, ◌++◌, ◌∷◌, [], sym, ap, refl, ℕ}
 use Rattle.hub_database.specs.Database.{Database}
 use Rattle.hub_world.specs.Core.{Core}
-use Rattle.hub_world.specs.Event as model
+use Rattle.hub_world.specs.declared.reply.Reply.TheVariants as reply
 use Rattle.hub_database.specs.Hosting.{hosted_of, with_hosted}
 use Rattle.hub_feed.specs.Host.{opened}
 use Rattle.hub_params.specs.FeedModel.{params_of}
@@ -15,7 +15,7 @@ use Rattle.hub_world.proofs.world.World.begin.Goals.{After-push_reserved}
 -- the step
 leads : (c : After-push_reserved)
     → Leads (record { db = c.self.inside.db; lanes = c.self.inside.lanes.items })
-    (model.Begin (params_of c.args.params)) (model.Opened c.in-Ok.feed.number)
+    (event.Begin c.args.params) (reply.Opened c.in-Ok.feed)
     (record { db = c.open_feed.new.self; lanes = c.push_reserved.new.self.items })
 leads c =
     let old : Core = record { db = c.self.inside.db; lanes = c.self.inside.lanes.items } in
@@ -25,24 +25,22 @@ leads c =
     c.push_reserved.ensures.items
     ∙ (ap (λ ls. ls ++ c.new.result ∷ []) c.in_ok-try_reserve.ensures.items
     ∙ ap (λ l. c.self.inside.lanes.items ++ l ∷ []) (c.new.ensures ∙ ap (λ (n : ℕ). (n, [])) own.0)) in
-    subst (λ (n : ℕ). Leads old (model.Begin (params_of c.args.params)) (model.Opened n)
-    (record { db = c.open_feed.new.self; lanes = c.push_reserved.new.self.items })) (sym own.0)
-    (to_same old
+    to_same old
     (record {
       db = with_hosted old.db (opened (hosted_of old.db) (params_of c.args.params));
       lanes = old.lanes ++ (old.db.next_feed, []) ∷ [];
     })
     (record { db = c.open_feed.new.self; lanes = c.push_reserved.new.self.items })
-    (model.Begin (params_of c.args.params)) (model.Opened old.db.next_feed) (rw (own.2, lanes) refl)
-    (begin_leads old (params_of c.args.params) own.1))
+    (event.Begin c.args.params) (reply.Opened c.in-Ok.feed) (rw (own.2, lanes) refl)
+    (begin_leads old c.args.params c.in-Ok.feed own.0 own.1)
 
 pub invariant_of-self-2 : goal.invariant_of-self-2
 invariant_of-self-2 c =
     let old : Core = record { db = c.self.inside.db; lanes = c.self.inside.lanes.items } in (
       c.self.invariant.0 ∙ sym (ap (λ (db : Database). db.limits.lane) c.in-Ok.ensures.ok.2),
       still_shows old (record { db = c.open_feed.new.self; lanes = c.push_reserved.new.self.items })
-          (model.Begin (params_of c.args.params))
-          (model.Opened c.in-Ok.feed.number) c.self.invariant.1 (leads c),
+          (event.Begin c.args.params)
+          (reply.Opened c.in-Ok.feed) c.self.invariant.1 (leads c),
     )
 
 pub returns-clause-ok : goal.returns-clause-ok
@@ -50,7 +48,7 @@ returns-clause-ok c =
     let old : Core = record { db = c.self.inside.db; lanes = c.self.inside.lanes.items } in
     from_same old c.args.self.now
     (record { db = c.open_feed.new.self; lanes = c.push_reserved.new.self.items })
-    (model.Begin (params_of c.args.params)) (model.Opened c.in-Ok.feed.number) c.self.view_is (leads c)
+    (event.Begin c.args.params) (reply.Opened c.in-Ok.feed) c.self.view_is (leads c)
 
 pub returns-then-feeds_are_full-clause-ok : goal.returns-then-feeds_are_full-clause-ok
 returns-then-feeds_are_full-clause-ok c =
@@ -59,9 +57,9 @@ returns-then-feeds_are_full-clause-ok c =
     refused_full old.db (sym c.is_deleted.ensures ∙ c.if-is_deleted.false)
     (sym c.feeds_are_full.ensures ∙ c.if-feeds_are_full.true) in
     from_same old c.args.self.now c.args.self.now
-    (model.Begin (params_of c.args.params)) model.TooManyFeeds c.self.view_is
-    (to_same old old c.args.self.now (model.Begin (params_of c.args.params)) model.TooManyFeeds c.self.view_is
-    (begin_full old (params_of c.args.params) refused))
+    (event.Begin c.args.params) reply.TooManyFeeds c.self.view_is
+    (to_same old old c.args.self.now (event.Begin c.args.params) reply.TooManyFeeds c.self.view_is
+    (begin_full old c.args.params refused))
 
 pub returns-in_err-try_reserve-clause-err : goal.returns-in_err-try_reserve-clause-err
 returns-in_err-try_reserve-clause-err c =
@@ -73,7 +71,7 @@ returns-in_err-try_reserve-clause-err c =
     on_err c.from_residual.result _ (
       same,
       fails_as old c.args.self.now (event.Begin c.args.params) c.self.view_is
-          (begin_grows old (params_of c.args.params) free),
+          (begin_grows old c.args.params free),
     )
 
 pub returns-in_default-clause-err : goal.returns-in_default-clause-err
@@ -86,5 +84,5 @@ returns-in_default-clause-err c =
     rw (c.in_default.ensures.err.0, c.try_reserve.ensures.items) refl in (
       here ∙ c.self.view_is,
       fails_as old c.args.self.now (event.Begin c.args.params) c.self.view_is
-          (begin_grows old (params_of c.args.params) free),
+          (begin_grows old c.args.params free),
     )

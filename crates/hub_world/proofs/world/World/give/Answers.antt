@@ -3,7 +3,7 @@ use Rattle.std.specs.Prelude.{Some}
 use Rattle.hub_database.specs.Database.{Database}
 use Rattle.hub_world.specs.Core.{Core}
 use Rattle.hub_model.specs.RightlyHanded.{ChangeItem}
-use Rattle.hub_world.specs.Event as model
+use Rattle.hub_world.specs.declared.reply.Reply.TheVariants as reply
 use Rattle.hub_database.specs.Hosting.{hosted_of, with_hosted}
 use Rattle.hub_feed.specs.Host.{handed, item_due}
 use Rattle.hub_world.specs.Lane.{has_room, pushed_into}
@@ -36,17 +36,17 @@ returns-in_default-clause-ok c =
     subst (λ (z : Core). item_due (hosted_of z.db) f ≡ Some c.args.item)
     (sym c.self.view_is) c.requires.due in
     from_same old c.args.self.now (record old { lanes = c.push.new.lanes.items })
-    (model.Hand c.args.feed.number) model.Full c.self.view_is
+    (event.Hand c.args.feed) reply.Full c.self.view_is
     (to_same old old (record old { lanes = c.push.new.lanes.items })
-    (model.Hand c.args.feed.number) model.Full
+    (event.Hand c.args.feed) reply.Full
     (ap (λ ls. record { db = old.db; lanes = ls })
     (sym (lanes ∙ unpushed old.db.limits.lane f c.args.item old.lanes room)))
-    (hand_full old f c.args.item due room))
+    (hand_full old c.args.feed c.args.item due room))
 
 -- the step
 leads : (c : After-accept_marked)
     → Leads (record { db = c.self.inside.db; lanes = c.self.inside.lanes.items })
-    (model.Hand c.args.feed.number) (model.Pushed c.args.item)
+    (event.Hand c.args.feed) (reply.Pushed c.args.item)
     (record { db = c.accept_marked.new.self; lanes = c.push.new.lanes.items })
 leads c =
     let old : Core = record { db = c.self.inside.db; lanes = c.self.inside.lanes.items } in
@@ -65,16 +65,16 @@ leads c =
       db = with_hosted old.db (handed (hosted_of old.db) f);
       lanes = pushed_into old.db.limits.lane f c.args.item old.lanes;
     })
-    (record { db = c.accept_marked.new.self; lanes = c.push.new.lanes.items }) (model.Hand c.args.feed.number)
-    (model.Pushed c.args.item)
-    (rw (c.accept_marked.ensures, lanes) refl) (hand_pushed old f c.args.item due room)
+    (record { db = c.accept_marked.new.self; lanes = c.push.new.lanes.items }) (event.Hand c.args.feed)
+    (reply.Pushed c.args.item)
+    (rw (c.accept_marked.ensures, lanes) refl) (hand_pushed old c.args.feed c.args.item due room)
 
 pub invariant_of-self-2 : goal.invariant_of-self-2
 invariant_of-self-2 c =
     let old : Core = record { db = c.self.inside.db; lanes = c.self.inside.lanes.items } in (
       c.self.invariant.0 ∙ sym (ap (λ (db : Database). db.limits.lane) c.accept_marked.ensures),
       still_shows old (record { db = c.accept_marked.new.self; lanes = c.push.new.lanes.items })
-          (model.Hand c.args.feed.number) (model.Pushed c.args.item) c.self.invariant.1 (leads c),
+          (event.Hand c.args.feed) (reply.Pushed c.args.item) c.self.invariant.1 (leads c),
     )
 
 pub returns-clause-ok : goal.returns-clause-ok
@@ -85,9 +85,9 @@ returns-clause-ok c =
     rw c.in-Some.is at c.in_ok-item.ensures.pushed in
     let new : Core = record { db = c.accept_marked.new.self; lanes = c.push.new.lanes.items } in
     subst (λ (item : ChangeItem).
-    Leads c.args.self.now (model.Hand c.args.feed.number) (model.Pushed item) new) (sym pushed.0)
-    (from_same old c.args.self.now new (model.Hand c.args.feed.number)
-    (model.Pushed c.args.item) c.self.view_is (leads c))
+    Leads c.args.self.now (event.Hand c.args.feed) (reply.Pushed item) new) (sym pushed.0)
+    (from_same old c.args.self.now new (event.Hand c.args.feed)
+    (reply.Pushed c.args.item) c.self.view_is (leads c))
 
 pub returns-in_err-item-clause-err : goal.returns-in_err-item-clause-err
 returns-in_err-item-clause-err c =
@@ -103,5 +103,5 @@ returns-in_err-item-clause-err c =
     on_err c.from_residual.result _ (
       same,
       fails_as old c.args.self.now (event.Hand c.args.feed) c.self.view_is
-          (item_grows old f c.args.item due room),
+          (item_grows old c.args.feed c.args.item due room),
     )

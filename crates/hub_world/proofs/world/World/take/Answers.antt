@@ -1,5 +1,6 @@
 use Rattle.hub_world.specs.Core.{Core}
-use Rattle.hub_world.specs.Event as model
+use Rattle.hub_world.specs.declared.event.Event.TheVariants as event
+use Rattle.hub_world.specs.declared.reply.Reply.TheVariants as reply
 use Rattle.hub_world.proofs.Standing.{lanes_rise}
 use Rattle.hub_world.proofs.Stepping.{take_leads, from_same, still_shows}
 use Rattle.hub_world.proofs.world.World.take.Goals as goal
@@ -16,13 +17,13 @@ invariant_of-self c =
     let old : Core = record { db = c.self.inside.db; lanes = c.self.inside.lanes.items } in (
       c.self.invariant.0,
       still_shows old (record old { lanes = c.take.new.lanes.items })
-          (model.Take c.args.feed.number) (model.Took c.take.result) c.self.invariant.1
-          (rw (c.take.ensures.item, c.take.ensures.lanes) (take_leads old c.args.feed.number)),
+          (event.Take c.args.feed) (reply.Took c.take.result) c.self.invariant.1
+          (rw (c.take.ensures.item, c.take.ensures.lanes) (take_leads old c.args.feed)),
     )
 
 pub returns : goal.returns
 returns c =
     let old : Core = record { db = c.self.inside.db; lanes = c.self.inside.lanes.items } in
     from_same old c.args.self.now (record old { lanes = c.take.new.lanes.items })
-    (model.Take c.args.feed.number) (model.Took c.take.result) c.self.view_is
-    (rw (c.take.ensures.item, c.take.ensures.lanes) (take_leads old c.args.feed.number))
+    (event.Take c.args.feed) (reply.Took c.take.result) c.self.view_is
+    (rw (c.take.ensures.item, c.take.ensures.lanes) (take_leads old c.args.feed))

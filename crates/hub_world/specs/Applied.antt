@@ -1,0 +1,57 @@
+-- What one call of the program does: its event takes place, or, of a batch that stops for memory, a front of
+-- its documents comes (own).
+use Rattle.std.specs.Prelude.{◌≡◌, ◌<◌, List, length, take, Bool, true, false, IsTrue, ⊤}
+use Rattle.hub_database.specs.Edits.{StopsAt}
+use Rattle.hub_document.specs.declared.doc.Doc.{Doc}
+use Rattle.hub_database.specs.declared.batch.Batch.{Batch}
+use Rattle.hub_world.specs.Core.{Core, Shows}
+use Rattle.hub_world.specs.Step.{Step, whole_batch}
+use Rattle.hub_world.specs.World.{World}
+use Rattle.hub_world.specs.declared.event.Event.{Event}
+use Rattle.hub_world.specs.declared.event.Event.TheVariants.{Write, Interactive}
+use Rattle.hub_world.specs.declared.reply.Reply.{Reply}
+use Rattle.hub_world.specs.declared.reply.Reply.TheVariants.{Outcomes}
+
+-- whether the reply is that of a batch that stopped
+abbrev pub is_stopped : Reply → Bool
+is_stopped (Outcomes batch) = batch.stopped
+is_stopped reply = false
+
+-- the event as it took place, given its reply: of a batch that stopped, the write of the documents before
+-- the stop. Of a write of five documents whose batch stopped after three replies it is the write of the
+-- first three.
+abbrev pub happened : Event → Reply → Event
+happened (Write docs) (Outcomes batch) = Write (take (length batch.replies) docs)
+happened (Interactive docs) (Outcomes batch) = Interactive (take (length batch.replies) docs)
+happened event reply = event
+
+-- the reply to what took place: of a batch that stopped, the one that has its outcomes and did not stop
+abbrev pub whole_reply : Reply → Reply
+whole_reply (Outcomes batch) = Outcomes (whole_batch batch.replies)
+whole_reply reply = reply
+
+-- A batch that did not stop answers for each document. One that stopped answers for fewer, and the document
+-- behind those needed room: of five documents with a known one in the middle it may answer for 0, 1, 3 or 4,
+-- and never for 2.
+pub record IsAnsweredFor (new_edits : Bool) (old : Core) (docs : List Doc) (batch : Batch) (new : Core) :
+    Type 0 where
+  pub whole : batch.stopped ≡ false → length batch.replies ≡ length docs
+  pub stopped : IsTrue batch.stopped → length batch.replies < length docs
+  pub stops : IsTrue batch.stopped
+      → StopsAt new_edits old.db.deleted new.db.journal (length batch.replies) docs
+
+-- A reply to a write that led from the old core to the new one answers for its documents as above. Of a
+-- reply to another event nothing is said.
+abbrev pub Answers : Core → Event → Reply → Core → Type 0
+Answers old (Write docs) (Outcomes batch) new = IsAnsweredFor false old docs batch new
+Answers old (Interactive docs) (Outcomes batch) new = IsAnsweredFor true old docs batch new
+Answers old event reply new = ⊤
+
+-- from each world that the old core shows the event leads, with this reply, to one that the new core shows
+abbrev pub CoreStep : Core → Event → Reply → Core → Type 0
+CoreStep old event reply new =
+    (world : World) → Shows old world → (next : World) × Step world event reply next × Shows new next
+
+-- what took place of the event, as its reply tells, leads from the old core to the new one
+abbrev pub Applies : Core → Event → Reply → Core → Type 0
+Applies old event reply new = CoreStep old (happened event reply) (whole_reply reply) new
