@@ -10,6 +10,7 @@ import collections
 import json
 import random
 import resource
+import subprocess
 import threading
 import time
 
@@ -346,9 +347,18 @@ def try_scarce(tools, kind, number, seconds):
         hub.kill()
 
 
+def goes_on(process):
+    """Whether a program does not end by itself within a second. One that cannot begin closes its listener first."""
+    try:
+        process.wait(1)
+    except subprocess.TimeoutExpired:
+        return True
+    return False
+
+
 def starting(hub):
     """What is counted where the hub had no memory to begin with: it ends with 1, or answers nobody."""
-    if hub.process.poll() is None and hub.port is not None:
+    if hub.port is not None and goes_on(hub.process):
         status, wanted = hub.end(), 0
     else:
         status, wanted = ended(hub.process), 1
