@@ -9,7 +9,7 @@ use Rattle.hub_model.specs.Draft.{HasNextRevision}
 use Rattle.hub_model.specs.Journal.{Edit, IsLegal}
 use Rattle.hub_model.specs.Outcome.{Stores, StoresAll, refuses}
 use Rattle.hub_model.specs.Revision.{Revision}
-use Rattle.hub_model.specs.Row.{ChangeRow}
+use Rattle.hub_model.specs.RightlyHanded.{ChangeItem}
 use Rattle.hub_model.specs.declared.outcomes.Fault.{Fault}
 use Rattle.hub_model.specs.declared.outcomes.Outcome.{Outcome}
 use Rattle.hub_model.specs.declared.outcomes.Outcome.TheVariants.{Stored, Known, Refused}
@@ -22,7 +22,8 @@ use Rattle.hub_database.specs.declared.batch.DbFault.{DbFault}
 use Rattle.hub_database.specs.declared.batch.DbFault.TheVariants as db_fault
 use Rattle.hub_shared.specs.Edits.{IsEditAnswer}
 use Rattle.hub_shared.specs.Handles.{HandleState, IsEditedBy, IsFoundBy, IsStoredBy}
-use Rattle.hub_shared.specs.Locked.{AreSendersOf, FeedSender, IsBookOf}
+use Rattle.hub_shared.specs.Label.{Label}
+use Rattle.hub_shared.specs.Locked.{AreSendersOf, IsBookOf}
 use Rattle.hub_shared.specs.Receipts.{ids_of, receipts_from, behind_reply}
 use Rattle.hub_shared.specs.Stored.{Adds, StoresBatch, is_stored, stored_count}
 use Rattle.hub_shared.proofs.Booking.{book_grows}
@@ -149,13 +150,13 @@ stored_by new_edits docs old new batch found stores = record {
       (sym stores.replies) (stores.stops t);
 }
 
--- with edits more the senders are still those of the feeds
-pub senders_added : (count : ℕ) (old new : Database) (senders : List (ℕ × FeedSender ChangeRow))
-    → Adds count old new
-    → AreSendersOf (λ f items. IsFitting old.journal f items) (hosted_of old) senders
-    → AreSendersOf (λ f items. IsFitting new.journal f items) (hosted_of new) senders
-senders_added count old new senders adds are =
-    senders_stay old new senders adds.legal (adds.edits, adds.behind)
+-- with edits more the outboxes are still those of the feeds
+pub senders_added : {K : Type 0} (label : K → Label) (sent : K → List ChangeItem) (count : ℕ)
+    (old new : Database) (senders : List (ℕ × K)) → Adds count old new
+    → AreSendersOf label sent (λ f items. IsFitting old.journal f items) (hosted_of old) senders
+    → AreSendersOf label sent (λ f items. IsFitting new.journal f items) (hosted_of new) senders
+senders_added label sent count old new senders adds are =
+    senders_stay label sent old new senders adds.legal (adds.edits, adds.behind)
     (ap (λ (db : Database). db.feeds) adds.rest) (ap (λ (db : Database). db.next_feed) adds.rest) are
 
 -- and the book is that of the edits

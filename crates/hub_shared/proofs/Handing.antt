@@ -1,4 +1,4 @@
--- What one hand does to a host and the senders of its feeds.
+-- What one hand does to a host and the outboxes of its feeds.
 use Rattle.std.proofs.Common.{◌≡◌, ◌∙◌, ℕ, List, [], ◌∷◌, ◌++◌, refl, sym, subst, Option, Some, None}
 use Rattle.std.specs.Prelude.{IfSome, option_and_then, position, get_or, slice_set}
 use Rattle.std.proofs.lemmas.Option.{same_Some}
@@ -8,8 +8,7 @@ use Rattle.hub_model.specs.Feed.{Feed, Params, Due, DueRow, DueEnd, DueNothing, 
 use Rattle.hub_model.specs.Hand.{item_of}
 use Rattle.hub_model.specs.declared.feeds.Item.{Item}
 use Rattle.hub_model.proofs.Entries.{changed_here, entry_here, stays_here}
-use Rattle.hub_params.specs.FeedModel.{params_in}
-use Rattle.hub_feed.specs.Hand.{HandsTo, MayTake}
+use Rattle.hub_feed.specs.Hand.{HandsTo}
 use Rattle.hub_feed.specs.Host.{Hosted, with_feeds, answer_of, answered, behind_answer, behind_due, handed}
 use Rattle.hub_feed.specs.Host.{item_due, item_for}
 use Rattle.hub_feed.specs.Next.{next_of}
@@ -17,10 +16,10 @@ use Rattle.hub_feed.specs.declared.handed.Handed.{Handed}
 use Rattle.hub_feed.specs.declared.handed.Handed.TheVariants as did
 use Rattle.hub_feed.specs.declared.next.Next.{Next}
 use Rattle.hub_feed.specs.declared.next.Next.TheVariants.{Give, Nothing, Gone}
-use Rattle.hub_lane.specs.Ends.{behind_push}
-use Rattle.hub_shared.specs.Locked.{FeedSender, IsServed, AreSendersOf, Hands, LockedState}
+use Rattle.hub_shared.specs.Label.{Label}
+use Rattle.hub_shared.specs.Locked.{IsServed, AreSendersOf, Hands, LockedState}
 use Rattle.hub_shared.specs.Senders.{sends, MaySend}
-use Rattle.hub_shared.proofs.Sending.{Allows, Serves, may_give, gives, rests}
+use Rattle.hub_shared.proofs.Sending.{Permits, Serves, may_give, gives, rests}
 
 -- what a feed gives is due to it
 given_due : {R : Type 0} (show : Current → R) (rows : List Current) (due : Due) (item : Item R)
@@ -30,12 +29,13 @@ given_due show rows (DueEnd last_seq) item gives = cc
 given_due show rows DueNothing item gives = absurd (cc)
 given_due show rows DueGone item gives = absurd (cc)
 
-given_by : {R : Type 0} (host : Hosted R) (feed : Option Feed) (item : Item R)
+pub given_by : {R : Type 0} (host : Hosted R) (feed : Option Feed) (item : Item R)
     → Give item ≡ answer_of host feed → option_and_then (item_for host) feed ≡ Some item
 given_by host None item gives = absurd (cc)
 given_by host (Some feed) item gives = given_due _ host.current (due host.current feed) item gives
 
-module _ {S R : Type 0} (hosted : S → Hosted R) (with_hosted : S → Hosted R → S)
+module _ {S R K : Type 0} (label : K → Label) (sent : K → List (Item R)) (hosted : S → Hosted R)
+    (with_hosted : S → Hosted R → S)
     (fits : S → Feed → List (Item R) → Type 0) (right : Params → ℕ → List (Item R) → Type 0)
     (hosts : (s : S) (feeds : List (ℕ × Feed)) (next : ℕ)
     → hosted (with_hosted s (with_feeds (hosted s) feeds next)) ≡ with_feeds (hosted s) feeds next)
@@ -45,41 +45,41 @@ module _ {S R : Type 0} (hosted : S → Hosted R) (with_hosted : S → Hosted R 
     (handed_fits : (s : S) (f : Feed) (items : List (Item R)) (item : Item R)
     → item_for (hosted s) f ≡ Some item → fits s f items
     → fits s (behind_due (hosted s) f) (items ++ item ∷ []))
-    (state : S) (id : ℕ) (senders : List (ℕ × FeedSender R))
-    (serve : AreSendersOf (fits state) (hosted state) senders) where
-  -- what a sender's label allows
-  abbrev Sends : FeedSender R → List (Item R) → Type 0
-  Sends sender items = right (params_in sender.label.asked) sender.label.since items
-
-  abbrev Takes : FeedSender R → Item R → Type 0
-  Takes sender item = MayTake Sends (λ sender. sender.sent) sender item
-
-  -- what is due may be sent
-  pub may_take : (sender : FeedSender R) → entry_in id senders ≡ Some sender
-      → IfSome (item_due (hosted state) id) (Takes sender)
-  may_take sender is = from (item_due (hosted state) id) refl
+    (state : S) (id : ℕ) (senders : List (ℕ × K))
+    (serve : AreSendersOf label sent (fits state) (hosted state) senders) where
+  -- what is due may be sent, by an outbox that takes what is right for its feed
+  pub may_take : (Takes : K → Item R → Type 0)
+      → ((k : K) (item : Item R)
+      → Permits label sent hosted with_hosted fits right hosts rightly stays k (sent k ++ item ∷ [])
+      → Takes k item) → (outbox : K) → entry_in id senders ≡ Some outbox
+      → IfSome (item_due (hosted state) id) (Takes outbox)
+  may_take Takes permits outbox is = from (item_due (hosted state) id) refl
     where
       one : (item : Item R)
-          → MaySend (Allows hosted with_hosted fits right hosts rightly stays) senders id item
-          → Takes sender item
+          → MaySend (Permits label sent hosted with_hosted fits right hosts rightly stays) sent senders id
+          item
+          → Takes outbox item
       one item may =
-          subst (λ (own : FeedSender R). Sends own (own.sent ++ item ∷ []))
-          (same_Some may.0 sender (sym may.1 ∙ is)) may.2
+          permits outbox item
+          (subst (λ (own : K).
+          Permits label sent hosted with_hosted fits right hosts rightly stays own (sent own ++ item ∷ []))
+          (same_Some may.0 outbox (sym may.1 ∙ is)) may.2)
 
-      from : (due : Option (Item R)) → item_due (hosted state) id ≡ due → IfSome due (Takes sender)
+      from : (due : Option (Item R)) → item_due (hosted state) id ≡ due → IfSome due (Takes outbox)
       from None none = tt
       from (Some item) some =
           one item
-          (may_give hosted with_hosted fits right hosts rightly stays handed_fits state id senders item serve
-          some)
+          (may_give label sent hosted with_hosted fits right hosts rightly stays handed_fits state id senders
+          item serve some)
 
   -- where there is no sender there is no feed
   pub no_feed : entry_in id senders ≡ None → Gone ≡ answered (hosted state) id
   no_feed none =
       from (entry_in id (hosted state).feeds)
-      (subst (IsServed (fits state) (entry_in id (hosted state).feeds)) none (serve.each id))
+      (subst (IsServed label sent (fits state) (entry_in id (hosted state).feeds)) none (serve.each id))
     where
-      from : (feed : Option Feed) → IsServed (fits state) feed None → Gone ≡ answer_of (hosted state) feed
+      from : (feed : Option Feed) → IsServed label sent (fits state) feed None → Gone ≡ answer_of
+          (hosted state) feed
       from None served = refl
       from (Some feed) served = absurd served
 
@@ -92,37 +92,40 @@ module _ {S R : Type 0} (hosted : S → Hosted R) (with_hosted : S → Hosted R 
   -- of the sender that stands here, after a hand of the host to it
   module _ (waiting_fits : (s : S) (f : Feed) (items : List (Item R)) → due (hosted s).current f ≡ DueNothing
       → fits s f items → fits s (after_nothing f (hosted s).length) items)
-      (refuses : FeedSender R → Item R → Type 0) (at : ℕ) (entry : ℕ × FeedSender R)
+      (behind : K → Item R → K) (label_stays : (k : K) (item : Item R) → label (behind k item) ≡ label k)
+      (sent_adds : (k : K) (item : Item R) → sent (behind k item) ≡ sent k ++ item ∷ [])
+      (refuses : K → Item R → Type 0) (at : ℕ) (entry : ℕ × K)
       (placed : Some at ≡ position (is_of id) senders) (is : entry ≡ get_or senders at entry) (new : S)
-      (sender : FeedSender R) where
-    abbrev after : List (ℕ × FeedSender R)
+      (sender : K) where
+    abbrev after : List (ℕ × K)
     after = slice_set senders at (entry.0, sender)
 
     same : sender ≡ entry.1 → after ≡ senders
     same kept = stays_here id senders at placed entry is sender kept
 
-    sent : (item : Item R) → sender ≡ behind_push entry.1 item → after ≡ sends id item senders
-    sent item pushed =
-        changed_here id senders at placed entry is (λ own. behind_push own item) sender serve.rising pushed
+    put : (item : Item R) → sender ≡ behind entry.1 item → after ≡ sends behind id item senders
+    put item pushed =
+        changed_here id senders at placed entry is (λ own. behind own item) sender serve.rising pushed
 
-    abbrev Serve : S → List (ℕ × FeedSender R) → Type 0
-    Serve host own = Serves hosted with_hosted fits right hosts rightly stays host own
+    abbrev Serve : S → List (ℕ × K) → Type 0
+    Serve host own = Serves label sent hosted with_hosted fits right hosts rightly stays host own
 
-    moved_to : (host : S) (own : List (ℕ × FeedSender R)) → new ≡ host → after ≡ own → Serve host own
+    moved_to : (host : S) (own : List (ℕ × K)) → new ≡ host → after ≡ own → Serve host own
         → Serve new after
     moved_to host own moves sends serve =
         subst (λ z. Serve z after) (sym moves) (subst (λ z. Serve host z) (sym sends) serve)
 
     taken : (item : Item R) → Give item ≡ answered (hosted state) id → new ≡ given
-        → sender ≡ behind_push entry.1 item → Serve new after
+        → sender ≡ behind entry.1 item → Serve new after
     taken item now moves pushed =
-        moved_to given (sends id item senders) moves (sent item pushed)
-        (gives hosted with_hosted fits right hosts rightly stays handed_fits state id senders item serve
-        (given_by (hosted state) (entry_in id (hosted state).feeds) item now))
+        moved_to given (sends behind id item senders) moves (put item pushed)
+        (gives label sent hosted with_hosted fits right hosts rightly stays handed_fits state id senders item
+        serve (given_by (hosted state) (entry_in id (hosted state).feeds) item now) behind label_stays
+        sent_adds)
 
     -- the senders are again those of the feeds
     pub serves_hand : (answer : Next R) → answer ≡ answered (hosted state) id → (answers : Handed)
-        → HandsTo behind_push refuses state given looked entry.1 answer answers new sender → Serve new after
+        → HandsTo behind refuses state given looked entry.1 answer answers new sender → Serve new after
     serves_hand (Give item) now did.Row hands = taken item now hands.1 hands.2
     serves_hand (Give item) now did.End hands = taken item now hands.1 hands.2
     serves_hand (Give item) now did.Full hands = moved_to state senders hands.1 (same hands.2) serve
@@ -130,19 +133,20 @@ module _ {S R : Type 0} (hosted : S → Hosted R) (with_hosted : S → Hosted R 
     serves_hand (Give item) now did.Gone hands = absurd hands
     serves_hand Nothing now answers hands =
         moved_to looked senders hands.1 (same hands.2)
-        (rests hosted with_hosted fits right hosts rightly stays state id senders serve waiting_fits now)
+        (rests label sent hosted with_hosted fits right hosts rightly stays state id senders serve
+        waiting_fits now)
     serves_hand Gone now answers hands = moved_to state senders hands.1 (same hands.2) serve
 
-    abbrev locked : S → List (ℕ × FeedSender R) → ℕ → LockedState S R
+    abbrev locked : S → List (ℕ × K) → ℕ → LockedState S K
     locked host own lane = record { state = host; senders = own; lane = lane }
 
     -- and the hand of the host is one of the host with its senders
     pub hand_in : (lane : ℕ) (answer : Next R) (answers : Handed)
-        → HandsTo behind_push refuses state given looked entry.1 answer answers new sender
-        → Hands hosted with_hosted refuses answer (locked state senders lane) id answers
+        → HandsTo behind refuses state given looked entry.1 answer answers new sender
+        → Hands hosted with_hosted behind refuses answer (locked state senders lane) id answers
         (locked new after lane)
-    hand_in lane (Give item) did.Row hands = (hands.0, λ k. locked (hands.1 k) (sent item hands.2 k) lane)
-    hand_in lane (Give item) did.End hands = (hands.0, λ k. locked (hands.1 k) (sent item hands.2 k) lane)
+    hand_in lane (Give item) did.Row hands = (hands.0, λ k. locked (hands.1 k) (put item hands.2 k) lane)
+    hand_in lane (Give item) did.End hands = (hands.0, λ k. locked (hands.1 k) (put item hands.2 k) lane)
     hand_in lane (Give item) did.Full hands = (
       (entry.1, entry_here id senders at placed entry is, hands.0),
       λ k. locked (hands.1 k) (same hands.2 k) lane,

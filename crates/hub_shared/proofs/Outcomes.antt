@@ -1,5 +1,5 @@
 -- What holds of what a call answers, by what is known of that.
-use Rattle.std.specs.Prelude.{Result, Ok, Err, IfOk, IfErr, OnOk}
+use Rattle.std.specs.Prelude.{Result, Ok, Err, IfOk, IfErr, OnErr, OnOk}
 
 module _ {T E : Type 0} where
   pub ok_by : {P Q : T → Type 0} (r : Result T E) → ((a : T) → P a → Q a) → IfOk r P → IfOk r Q
@@ -9,6 +9,10 @@ module _ {T E : Type 0} where
   pub err_by : {P Q : E → Type 0} (r : Result T E) → ((e : E) → P e → Q e) → IfErr r P → IfErr r Q
   err_by (Ok a) f p = p
   err_by (Err e) f p = f e p
+
+  pub ok_then : {X Y : Type 0} (r : Result T E) → (X → Y) → OnOk r X → OnOk r Y
+  ok_then (Ok a) f x = f x
+  ok_then (Err e) f x = x
 
   -- what follows of either answer
   pub either : {Q : T → Type 0} {W : E → Type 0} {Z : Type 0} (r : Result T E) → IfOk r Q → IfErr r W
@@ -21,3 +25,8 @@ module _ {T E : Type 0} where
       → ((e : E) → W e → Z) → Z
   either_way (Ok a) x w f k = f x
   either_way (Err e) x w f k = k e w
+
+  -- the same of two facts
+  pub on_either : {X W Z : Type 0} (r : Result T E) → OnOk r X → OnErr r W → (X → Z) → (W → Z) → Z
+  on_either (Ok a) x w f k = f x
+  on_either (Err e) x w f k = k w

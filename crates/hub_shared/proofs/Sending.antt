@@ -1,4 +1,4 @@
--- What a sender may send, and what each step of a host with its senders comes to.
+-- What an outbox may be sent, and what each step of a host with its outboxes comes to.
 use Rattle.std.proofs.Common.{◌≡◌, ℕ, ◌+◌, List, [], ◌∷◌, ◌++◌, true, ◌&&◌, ap}
 use Rattle.std.proofs.Common.{refl, sym, ◌∙◌, subst, Option, Some, None, option_map}
 use Rattle.std.specs.Prelude.{option_and_then}
@@ -19,12 +19,12 @@ use Rattle.hub_feed.specs.Host.{Hosted, with_feeds, answer_of, answered, item_fo
 use Rattle.hub_feed.specs.Host.{behind_answer, handed, expired, finished, opened, is_beat_due}
 use Rattle.hub_feed.specs.Next.{next_of}
 use Rattle.hub_feed.specs.declared.next.Next.TheVariants.{Nothing}
-use Rattle.hub_lane.specs.Ends.{LaneId, behind_push, new_sender}
 use Rattle.hub_params.specs.FeedShown.{params_asked}
 use Rattle.hub_shared.specs.Label.{Label, label_of}
-use Rattle.hub_shared.specs.Locked.{FeedSender, IsSenderOf, IsServed, AreSendersOf}
+use Rattle.hub_shared.specs.Locked.{IsSenderOf, IsServed, AreSendersOf}
 use Rattle.hub_shared.specs.Senders.{sends, MaySend}
-use Rattle.hub_shared.proofs.Serving.{sender_of, moves, sender_sends, sender_comes, sender_goes, stays_served}
+use Rattle.hub_shared.proofs.Serving.{sender_of, moves, sender_changes, sender_comes, sender_goes}
+use Rattle.hub_shared.proofs.Serving.{served_still, stays_served}
 
 -- a step keeps what a feed was asked for, and where it began
 step_keeps : (f : Feed) (d : Due) (len : ℕ)
@@ -51,22 +51,52 @@ nothing_due show rows (DueEnd last_seq) e = absurd (cc)
 nothing_due show rows DueNothing e = refl
 nothing_due show rows DueGone e = absurd (cc)
 
--- a feed with its sender, once it changes and its sender sent an item, or it changes alone
-module _ {R : Type 0} (fits : Feed → List (Item R) → Type 0) (change : Feed → Feed) where
-  both_change : (item : Item R) (o : Option Feed) (s : Option (FeedSender R)) (f : Feed) (x : FeedSender R)
-      → o ≡ Some f → s ≡ Some x → IsSenderOf fits (change f) (behind_push x item)
-      → IsServed fits (option_map change o) (option_map (λ s. behind_push s item) s)
-  both_change item o s f x is holds mine = rw (is, holds) mine
+-- Of an outbox that as a sink took what it was sent: behind an item it was sent one more,
+pub adds_item : {I K : Type 0} (sent items : K → List I) (behind : K → I → K) → ((k : K) → sent k ≡ items k)
+    → ((k : K) (item : I) → sent (behind k item) ≡ sent k ++ item ∷ []) → (k : K) (item : I)
+    → items (behind k item) ≡ items k ++ item ∷ []
+adds_item sent items behind same adds k item =
+    sym (same (behind k item)) ∙ (adds k item ∙ ap (λ list. list ++ item ∷ []) (same k))
 
-  one_changes : (o : Option Feed) (s : Option (FeedSender R))
-      → ((f : Feed) (x : FeedSender R) → o ≡ Some f → s ≡ Some x → IsSenderOf fits (change f) x)
-      → IsServed fits o s → IsServed fits (option_map change o) s
+-- and it allows the item that is right behind those
+pub takes_item : {I K : Type 0} (sent items : K → List I) (allows permits : K → List I → Type 0)
+    → ((k : K) → sent k ≡ items k) → ((k : K) (list : List I) → permits k list → allows k list) → (k : K)
+    (item : I) → permits k (items k ++ item ∷ []) → allows k (sent k ++ item ∷ [])
+takes_item sent items allows permits same may k item right =
+    may k (sent k ++ item ∷ [])
+    (subst (λ list. permits k (list ++ item ∷ [])) (sym (same k)) right)
+
+-- an outbox behind an item is of the feed that goes on, where it was of the feed
+pub sender_behind : {R K : Type 0} (label : K → Label) (sent : K → List (Item R)) (behind : K → Item R → K)
+    (stays : (k : K) (item : Item R) → label (behind k item) ≡ label k)
+    (adds : (k : K) (item : Item R) → sent (behind k item) ≡ sent k ++ item ∷ [])
+    (old_fits new_fits : Feed → List (Item R) → Type 0) (f g : Feed) (k : K) (item : Item R)
+    → (g.params ≡ f.params) × (g.since ≡ f.since) → new_fits g (sent k ++ item ∷ [])
+    → IsSenderOf label sent old_fits f k → IsSenderOf label sent new_fits g (behind k item)
+sender_behind label sent behind stays adds old_fits new_fits f g k item same fit is = record {
+  asks = ap (λ (l : Label). params_in l.asked) (stays k item) ∙ (is.asks ∙ sym same.0);
+  begins = ap (λ (l : Label). l.since) (stays k item) ∙ (is.begins ∙ sym same.1);
+  list = subst (λ items. new_fits g items) (sym (adds k item)) fit;
+}
+
+-- a feed with its outbox, once the feed changes, and the outbox with it or not
+module _ {R K : Type 0} (label : K → Label) (sent : K → List (Item R)) (fits : Feed → List (Item R) → Type 0)
+    (change : Feed → Feed) where
+  both_change : (turn : K → K) (o : Option Feed) (s : Option K) (f : Feed) (x : K)
+      → o ≡ Some f → s ≡ Some x → IsSenderOf label sent fits (change f) (turn x)
+      → IsServed label sent fits (option_map change o) (option_map turn s)
+  both_change turn o s f x is holds mine = rw (is, holds) mine
+
+  one_changes : (o : Option Feed) (s : Option K)
+      → ((f : Feed) (x : K) → o ≡ Some f → s ≡ Some x → IsSenderOf label sent fits (change f) x)
+      → IsServed label sent fits o s → IsServed label sent fits (option_map change o) s
   one_changes None None each i = tt
   one_changes None (Some x) each i = absurd i
   one_changes (Some f) None each i = absurd i
   one_changes (Some f) (Some x) each i = each f x refl refl
 
-module _ {S R : Type 0} (hosted : S → Hosted R) (with_hosted : S → Hosted R → S)
+module _ {S R K : Type 0} (label : K → Label) (sent : K → List (Item R)) (hosted : S → Hosted R)
+    (with_hosted : S → Hosted R → S)
     (fits : S → Feed → List (Item R) → Type 0) (right : Params → ℕ → List (Item R) → Type 0)
     (hosts : (s : S) (feeds : List (ℕ × Feed)) (next : ℕ)
     → hosted (with_hosted s (with_feeds (hosted s) feeds next)) ≡ with_feeds (hosted s) feeds next)
@@ -74,27 +104,31 @@ module _ {S R : Type 0} (hosted : S → Hosted R) (with_hosted : S → Hosted R 
     (stays : (s : S) (h : Hosted R) (f : Feed) (items : List (Item R)) → fits s f items
     → fits (with_hosted s h) f items) where
   -- the senders of a host
-  abbrev pub Serves : S → List (ℕ × FeedSender R) → Type 0
-  Serves s senders = AreSendersOf (fits s) (hosted s) senders
+  abbrev pub Serves : S → List (ℕ × K) → Type 0
+  Serves s senders = AreSendersOf label sent (fits s) (hosted s) senders
 
-  -- what the labels allow
+  -- what is right for a feed of this label
   abbrev pub Allows : Label → List (Item R) → Type 0
   Allows l items = right (params_in l.asked) l.since items
+
+  -- and for that of this outbox
+  abbrev pub Permits : K → List (Item R) → Type 0
+  Permits k items = Allows (label k) items
 
   -- with these feeds
   abbrev moved : S → List (ℕ × Feed) → ℕ → S
   moved s feeds next = with_hosted s (with_feeds (hosted s) feeds next)
 
-  seen : (s : S) (feeds : List (ℕ × Feed)) (next : ℕ) (senders : List (ℕ × FeedSender R))
-      → AreSendersOf (fits (moved s feeds next)) (with_feeds (hosted s) feeds next) senders
+  seen : (s : S) (feeds : List (ℕ × Feed)) (next : ℕ) (senders : List (ℕ × K))
+      → AreSendersOf label sent (fits (moved s feeds next)) (with_feeds (hosted s) feeds next) senders
       → Serves (moved s feeds next) senders
   seen s feeds next senders d =
-      subst (λ (h : Hosted R). AreSendersOf (fits (moved s feeds next)) h senders)
+      subst (λ (h : Hosted R). AreSendersOf label sent (fits (moved s feeds next)) h senders)
       (sym (hosts s feeds next)) d
 
   -- what fits the feed behind a step may be sent
-  allowed : (s : S) (f f' : Feed) (x : FeedSender R) (items : List (Item R)) → f'.params ≡ f.params
-      → f'.since ≡ f.since → IsSenderOf (fits s) f x → fits s f' items → Allows x.label items
+  allowed : (s : S) (f f' : Feed) (x : K) (items : List (Item R)) → f'.params ≡ f.params
+      → f'.since ≡ f.since → IsSenderOf label sent (fits s) f x → fits s f' items → Permits x items
   allowed s f f' x items p b i h =
       subst (λ (z : Params × ℕ). right z.0 z.1 items)
       (λ k. ((p ∙ sym i.asks) k, (b ∙ sym i.begins) k)) (rightly s f' items h)
@@ -109,80 +143,86 @@ module _ {S R : Type 0} (hosted : S → Hosted R) (with_hosted : S → Hosted R 
       (handed_fits : (s : S) (f : Feed) (items : List (Item R)) (item : Item R)
       → item_for (hosted s) f ≡ Some item → fits s f items
       → fits s (behind_due (hosted s) f) (items ++ item ∷ []))
-      (s : S) (id : ℕ) (senders : List (ℕ × FeedSender R)) (item : Item R) (d : Serves s senders)
+      (s : S) (id : ℕ) (senders : List (ℕ × K)) (item : Item R) (d : Serves s senders)
       (is : item_due (hosted s) id ≡ Some item) where
-    pub may_give : MaySend Allows senders id item
+    pub may_give : MaySend Permits sent senders id item
     may_give =
         let at = due_feed (hosted s) (entry_in id (hosted s).feeds) item is in
         let f = at.0 in
-        let x = sender_of (fits s) (entry_in id (hosted s).feeds) (entry_in id senders) f at.1 (d.each id) in
+        let x = sender_of label sent (fits s) (entry_in id (hosted s).feeds) (entry_in id senders) f at.1
+        (d.each id) in
         let keeps = step_keeps f (due (hosted s).current f) (hosted s).length in (
           x.0,
           x.1,
-          allowed s f (behind_due (hosted s) f) x.0 (x.0.sent ++ item ∷ []) keeps.0 keeps.1 x.2
-              (handed_fits s f x.0.sent item at.2 x.2.list),
+          allowed s f (behind_due (hosted s) f) x.0 (sent x.0 ++ item ∷ []) keeps.0 keeps.1 x.2
+              (handed_fits s f (sent x.0) item at.2 x.2.list),
         )
 
-    pub gives : Serves (with_hosted s (handed (hosted s) id)) (sends id item senders)
-    gives =
+    pub gives : (behind : K → Item R → K) → ((k : K) (item : Item R) → label (behind k item) ≡ label k)
+        → ((k : K) (item : Item R) → sent (behind k item) ≡ sent k ++ item ∷ [])
+        → Serves (with_hosted s (handed (hosted s) id)) (sends behind id item senders)
+    gives behind label_stays sent_adds =
         let h = hosted s in
         let change : Feed → Feed = behind_due h in
         let feeds = changed id change h.feeds in
         let new = moved s feeds h.next_feed in
         let at = due_feed h (entry_in id h.feeds) item is in
         let f = at.0 in
-        let x = sender_of (fits s) (entry_in id h.feeds) (entry_in id senders) f at.1 (d.each id) in
-        let same = step_keeps f (due h.current f) h.length in
-        let mine : IsSenderOf (fits new) (change f) (behind_push x.0 item) = record {
-          asks = x.2.asks ∙ sym same.0;
-          begins = x.2.begins ∙ sym same.1;
-          list =
-              stays s (with_feeds h feeds h.next_feed) (change f) (x.0.sent ++ item ∷ [])
-              (handed_fits s f x.0.sent item at.2 x.2.list);
-        } in
+        let x =
+        sender_of label sent (fits s) (entry_in id h.feeds) (entry_in id senders) f at.1 (d.each id) in
+        let mine =
+        sender_behind label sent behind label_stays sent_adds (fits s) (fits new) f (change f) x.0 item
+        (step_keeps f (due h.current f) h.length)
+        (stays s (with_feeds h feeds h.next_feed) (change f) (sent x.0 ++ item ∷ [])
+        (handed_fits s f (sent x.0) item at.2 x.2.list)) x.2 in
         let both =
-        both_change (fits new) change item (entry_in id h.feeds) (entry_in id senders) f x.0 at.1 x.1 mine in
-        seen s feeds h.next_feed (sends id item senders)
-        (sender_sends (fits s) (fits new) (stays s (with_feeds h feeds h.next_feed)) id h
-        (with_feeds h feeds h.next_feed) (λ q n. other_changed id change q n h.feeds) senders item refl d
-        (subst (λ o. IsServed (fits new) o (option_map (λ z. behind_push z item) (entry_in id senders)))
+        both_change label sent (fits new) change (λ k. behind k item) (entry_in id h.feeds)
+        (entry_in id senders) f x.0 at.1 x.1 mine in
+        seen s feeds h.next_feed (sends behind id item senders)
+        (sender_changes label sent (fits s) (fits new) (stays s (with_feeds h feeds h.next_feed)) id h
+        (with_feeds h feeds h.next_feed) (λ q n. other_changed id change q n h.feeds) senders
+        (λ k. behind k item) refl d
+        (subst (λ o. IsServed label sent (fits new) o (option_map (λ k. behind k item) (entry_in id senders)))
         (sym (own_changed id change h.feeds)) both))
 
   -- so may a heartbeat
   module _
       (beat_fits : (s : S) (f : Feed) (items : List (Item R)) → beat_due f ≡ true → fits s f items
       → fits s f (items ++ Beat ∷ []))
-      (s : S) (id : ℕ) (senders : List (ℕ × FeedSender R)) (d : Serves s senders)
+      (s : S) (id : ℕ) (senders : List (ℕ × K)) (d : Serves s senders)
       (is : is_beat_due (entry_in id (hosted s).feeds) ≡ true) where
-    pub may_beat : MaySend Allows senders id Beat
+    pub may_beat : MaySend Permits sent senders id Beat
     may_beat =
         let at = beat_feed (entry_in id (hosted s).feeds) is in
         let f = at.0 in
         let x =
-        sender_of (fits s) (entry_in id (hosted s).feeds) (entry_in id senders) f at.1 (d.each id) in (
+        sender_of label sent (fits s) (entry_in id (hosted s).feeds) (entry_in id senders) f at.1
+        (d.each id) in (
           x.0,
           x.1,
-          allowed s f f x.0 (x.0.sent ++ Beat ∷ []) refl refl x.2 (beat_fits s f x.0.sent at.2 x.2.list),
+          allowed s f f x.0 (sent x.0 ++ Beat ∷ []) refl refl x.2 (beat_fits s f (sent x.0) at.2 x.2.list),
         )
 
-    pub beats : Serves s (sends id Beat senders)
-    beats =
+    pub beats : (behind : K → Item R → K) → ((k : K) (item : Item R) → label (behind k item) ≡ label k)
+        → ((k : K) (item : Item R) → sent (behind k item) ≡ sent k ++ item ∷ [])
+        → Serves s (sends behind id Beat senders)
+    beats behind label_stays sent_adds =
         let h = hosted s in
         let at = beat_feed (entry_in id h.feeds) is in
         let f = at.0 in
-        let x = sender_of (fits s) (entry_in id h.feeds) (entry_in id senders) f at.1 (d.each id) in
-        let mine : IsSenderOf (fits s) f (behind_push x.0 Beat) = record {
-          asks = x.2.asks;
-          begins = x.2.begins;
-          list = beat_fits s f x.0.sent at.2 x.2.list;
-        } in
-        sender_sends (fits s) (fits s) (λ g items fit. fit) id h h (λ q n. refl) senders Beat refl d
-        (subst (λ (z : Option Feed × Option (FeedSender R)).
-        IsServed (fits s) z.0 (option_map (λ y. behind_push y Beat) z.1))
+        let x =
+        sender_of label sent (fits s) (entry_in id h.feeds) (entry_in id senders) f at.1 (d.each id) in
+        let mine =
+        sender_behind label sent behind label_stays sent_adds (fits s) (fits s) f f x.0 Beat (refl, refl)
+        (beat_fits s f (sent x.0) at.2 x.2.list) x.2 in
+        sender_changes label sent (fits s) (fits s) (λ g items fit. fit) id h h (λ q n. refl) senders
+        (λ k. behind k Beat) refl d
+        (subst (λ (z : Option Feed × Option K).
+        IsServed label sent (fits s) z.0 (option_map (λ k. behind k Beat) z.1))
         (λ k. (sym at.1 k, sym x.1 k)) mine)
 
   -- a feed changes alone, and what it handed fits it still
-  module _ (s : S) (id : ℕ) (senders : List (ℕ × FeedSender R)) (d : Serves s senders) where
+  module _ (s : S) (id : ℕ) (senders : List (ℕ × K)) (d : Serves s senders) where
     changes : (change : Feed → Feed)
         → ((f : Feed) → ((change f).params ≡ f.params) × ((change f).since ≡ f.since))
         → ((f : Feed) (items : List (Item R)) → entry_in id (hosted s).feeds ≡ Some f → fits s f items
@@ -192,23 +232,25 @@ module _ {S R : Type 0} (hosted : S → Hosted R) (with_hosted : S → Hosted R 
         let h = hosted s in
         let feeds = changed id change h.feeds in
         let new = moved s feeds h.next_feed in
-        let one = one_changes (fits new) change (entry_in id h.feeds) (entry_in id senders)
+        let one = one_changes label sent (fits new) change (entry_in id h.feeds) (entry_in id senders)
         (λ f x is holds. let mine = mine_of f x is holds in record {
           asks = mine.asks ∙ sym (keeps f).0;
           begins = mine.begins ∙ sym (keeps f).1;
-          list = stays s (with_feeds h feeds h.next_feed) (change f) x.sent (fit f x.sent is mine.list);
+          list = stays s (with_feeds h feeds h.next_feed) (change f) (sent x) (fit f (sent x) is mine.list);
         })
-        (stays_served (fits s) (fits new) (stays s (with_feeds h feeds h.next_feed)) (entry_in id h.feeds)
+        (stays_served label sent (fits s) (fits new) (stays s (with_feeds h feeds h.next_feed))
+        (entry_in id h.feeds)
         (entry_in id senders) (d.each id)) in
         seen s feeds h.next_feed senders
-        (moves (fits s) (fits new) (stays s (with_feeds h feeds h.next_feed)) id h
+        (moves label sent (fits s) (fits new) (stays s (with_feeds h feeds h.next_feed)) id h
         (with_feeds h feeds h.next_feed) (λ q n. other_changed id change q n h.feeds) senders refl d
-        (subst (λ o. IsServed (fits new) o (entry_in id senders)) (sym (own_changed id change h.feeds)) one))
+        (subst (λ o. IsServed label sent (fits new) o (entry_in id senders))
+        (sym (own_changed id change h.feeds)) one))
       where
-        mine_of : (f : Feed) (x : FeedSender R) → entry_in id (hosted s).feeds ≡ Some f
-            → entry_in id senders ≡ Some x → IsSenderOf (fits s) f x
+        mine_of : (f : Feed) (x : K) → entry_in id (hosted s).feeds ≡ Some f
+            → entry_in id senders ≡ Some x → IsSenderOf label sent (fits s) f x
         mine_of f x is holds =
-            subst (λ (z : Option Feed × Option (FeedSender R)). IsServed (fits s) z.0 z.1)
+            subst (λ (z : Option Feed × Option (K)). IsServed label sent (fits s) z.0 z.1)
             (λ k. (is k, holds k)) (d.each id)
 
     -- its time is over
@@ -233,7 +275,7 @@ module _ {S R : Type 0} (hosted : S → Hosted R) (with_hosted : S → Hosted R 
         let h = hosted s in
         let feeds = without id h.feeds in
         seen s feeds h.next_feed (without id senders)
-        (sender_goes (fits s) (fits (moved s feeds h.next_feed))
+        (sender_goes label sent (fits s) (fits (moved s feeds h.next_feed))
         (stays s (with_feeds h feeds h.next_feed)) id h (with_feeds h feeds h.next_feed)
         (λ q n. other_without id q n h.feeds) senders refl d (own_without id h.feeds))
 
@@ -244,24 +286,38 @@ module _ {S R : Type 0} (hosted : S → Hosted R) (with_hosted : S → Hosted R 
   nothing_allowed s params begins =
       rightly s (begin (params_of params) (hosted s).length (hosted s).life) [] (begins (params_of params))
 
-  -- it comes, with its sender at the end
-  pub comes : (s : S) (params : FeedParams) (id : LaneId) (lane : ℕ) (senders : List (ℕ × FeedSender R))
+  -- it comes, with its outbox at the end, which was sent nothing
+  pub comes : (s : S) (params : FeedParams) (x : K) (senders : List (ℕ × K))
+      → label x ≡ label_of (params_asked params) (hosted s) → sent x ≡ []
       → ((p : Params) → fits s (begin p (hosted s).length (hosted s).life) [])
       → entry_in (hosted s).next_feed (hosted s).feeds ≡ None → Serves s senders
       → Serves (with_hosted s (opened (hosted s) (params_of params)))
-      (senders ++ ((hosted s).next_feed, new_sender id (label_of (params_asked params) (hosted s)) lane) ∷ [])
-  comes s params id lane senders begins fresh d =
+      (senders ++ ((hosted s).next_feed, x) ∷ [])
+  comes s params x senders labelled nothing begins fresh d =
       let h = hosted s in
       let f = begin (params_of params) h.length h.life in
-      let x : FeedSender R = new_sender id (label_of (params_asked params) h) lane in
       let feeds = h.feeds ++ (h.next_feed, f) ∷ [] in
       let new = moved s feeds (h.next_feed + 1) in
-      let mine : IsSenderOf (fits new) f x = record {
-        asks = refl;
-        begins = refl;
-        list = stays s (with_feeds h feeds (h.next_feed + 1)) f [] (begins (params_of params));
+      let mine : IsSenderOf label sent (fits new) f x = record {
+        asks = ap (λ (l : Label). params_in l.asked) labelled;
+        begins = ap (λ (l : Label). l.since) labelled;
+        list =
+            subst (λ items. fits new f items) (sym nothing)
+            (stays s (with_feeds h feeds (h.next_feed + 1)) f [] (begins (params_of params)));
       } in
       seen s feeds (h.next_feed + 1) (senders ++ (h.next_feed, x) ∷ [])
-      (sender_comes (fits s) (fits new) (stays s (with_feeds h feeds (h.next_feed + 1))) h.next_feed h
-      (with_feeds h feeds (h.next_feed + 1)) (λ q n. other_added h.next_feed f q n h.feeds) senders x refl
-      refl d (subst (λ o. IsServed (fits new) o (Some x)) (sym (own_added h.next_feed f h.feeds fresh)) mine))
+      (sender_comes label sent (fits s) (fits new) (stays s (with_feeds h feeds (h.next_feed + 1)))
+      h.next_feed h (with_feeds h feeds (h.next_feed + 1))
+      (λ q n. other_added h.next_feed f q n h.feeds) senders x refl refl d
+      (subst (λ o. IsServed label sent (fits new) o (Some x)) (sym (own_added h.next_feed f h.feeds fresh))
+      mine))
+
+  -- an outbox changes, of which the label stays and what it was sent
+  pub still : (s : S) (id : ℕ) (senders : List (ℕ × K)) (change : K → K)
+      → ((k : K) → (label (change k) ≡ label k) × (sent (change k) ≡ sent k)) → Serves s senders
+      → Serves s (changed id change senders)
+  still s id senders change same d =
+      sender_changes label sent (fits s) (fits s) (λ g items fit. fit) id (hosted s) (hosted s)
+      (λ q n. refl) senders change refl d
+      (served_still label sent (fits s) change same (entry_in id (hosted s).feeds) (entry_in id senders)
+      (d.each id))

@@ -27,7 +27,8 @@ use Rattle.hub_database.specs.Feeds.{deleted}
 use Rattle.hub_feed.specs.Feeds.{ended}
 use Rattle.hub_database.specs.Handing.{IsFitting}
 use Rattle.hub_database.specs.Hosting.{hosted_of}
-use Rattle.hub_shared.specs.Locked.{FeedSender, IsServed, AreSendersOf}
+use Rattle.hub_shared.specs.Label.{Label}
+use Rattle.hub_shared.specs.Locked.{IsServed, AreSendersOf}
 use Rattle.hub_shared.specs.Receipts.{receipt_if, behind_reply, receipts_from, AreReceipts, AreAdded, ids_of}
 use Rattle.hub_shared.specs.declared.receipt.Receipt.{Receipt}
 use Rattle.hub_shared.proofs.Serving.{stays_served}
@@ -170,26 +171,6 @@ added_longer J K rs a =
 abbrev FitsIn : Database → Feed → List ChangeItem → Type 0
 FitsIn db f items = IsFitting db.journal f items
 
--- more edits came
-pub senders_stay : (old new : Database) (senders : List (ℕ × FeedSender ChangeRow))
-    → IsLegal new.journal → ((es : List Edit) × (new.journal ≡ old.journal ++ es)) → new.feeds ≡ old.feeds
-    → new.next_feed ≡ old.next_feed
-    → AreSendersOf (FitsIn old) (hosted_of old) senders → AreSendersOf (FitsIn new) (hosted_of new) senders
-senders_stay old new senders legal more same next d = record {
-  rising = d.rising;
-  given = subst (λ (n : ℕ). All (λ (p : ℕ × FeedSender ChangeRow). p.0 < n) senders) (sym next) d.given;
-  each = λ n. subst (λ fs. IsServed (FitsIn new) (entry_in n fs) (entry_in n senders)) (sym same)
-      (stays_served (FitsIn old) (FitsIn new) keeps (entry_in n old.feeds) (entry_in n senders) (d.each n));
-}
-  where
-    keeps : (f : Feed) (items : List ChangeItem) → FitsIn old f items → FitsIn new f items
-    keeps f items h = record {
-      legal = legal;
-      fits =
-          subst (λ (J : List Edit). Fits change_rows J f items) (sym more.1)
-          (fits_grows change_rows old.journal more.0 f items h.fits);
-    }
-
 entry_ended : (n : ℕ) (feeds : List (ℕ × Feed))
     → entry_in n (map ended feeds) ≡ option_map end (entry_in n feeds)
 entry_ended n [] = refl
@@ -199,24 +180,51 @@ entry_ended n (p ∷ feeds) =
 end_keeps : (f : Feed) → ((end f).params ≡ f.params) × ((end f).since ≡ f.since)
 end_keeps f = elim (cases_Bool (is_open f.status)) [ inl t ↦ rw t (refl, refl) | inr t ↦ rw t (refl, refl) ]
 
--- every open feed is to end
-pub senders_end : (old : Database) (senders : List (ℕ × FeedSender ChangeRow))
-    → AreSendersOf (FitsIn old) (hosted_of old) senders
-    → AreSendersOf (FitsIn (deleted old)) (hosted_of (deleted old)) senders
-senders_end old senders d = record {
-  rising = d.rising;
-  given = d.given;
-  each = λ n. subst (λ o. IsServed (FitsIn (deleted old)) o (entry_in n senders))
-      (sym (entry_ended n old.feeds)) (ends (entry_in n old.feeds) (entry_in n senders) (d.each n));
-}
-  where
-    ends : (o : Option Feed) (s : Option (FeedSender ChangeRow)) → IsServed (FitsIn old) o s
-        → IsServed (FitsIn (deleted old)) (option_map end o) s
-    ends None None i = tt
-    ends None (Some s) i = absurd i
-    ends (Some f) None i = absurd i
-    ends (Some f) (Some s) i = record {
-      asks = i.asks ∙ sym (end_keeps f).0;
-      begins = i.begins ∙ sym (end_keeps f).1;
-      list = record { legal = i.list.legal; fits = fits_close change_rows old.journal f s.sent i.list.fits };
-    }
+-- of any outboxes
+module _ {K : Type 0} (label : K → Label) (sent : K → List ChangeItem) where
+  -- more edits came
+  pub senders_stay : (old new : Database) (senders : List (ℕ × K))
+      → IsLegal new.journal → ((es : List Edit) × (new.journal ≡ old.journal ++ es)) → new.feeds ≡ old.feeds
+      → new.next_feed ≡ old.next_feed
+      → AreSendersOf label sent (FitsIn old) (hosted_of old) senders → AreSendersOf label sent (FitsIn new)
+      (hosted_of new) senders
+  senders_stay old new senders legal more same next d = record {
+    rising = d.rising;
+    given = subst (λ (n : ℕ). All (λ (p : ℕ × K). p.0 < n) senders) (sym next) d.given;
+    each = λ n. subst (λ fs. IsServed label sent (FitsIn new) (entry_in n fs) (entry_in n senders)) (sym same)
+        (stays_served label sent (FitsIn old) (FitsIn new) keeps (entry_in n old.feeds) (entry_in n senders)
+        (d.each n));
+  }
+    where
+      keeps : (f : Feed) (items : List ChangeItem) → FitsIn old f items → FitsIn new f items
+      keeps f items h = record {
+        legal = legal;
+        fits =
+            subst (λ (J : List Edit). Fits change_rows J f items) (sym more.1)
+            (fits_grows change_rows old.journal more.0 f items h.fits);
+      }
+
+  -- every open feed is to end
+  pub senders_end : (old : Database) (senders : List (ℕ × K))
+      → AreSendersOf label sent (FitsIn old) (hosted_of old) senders
+      → AreSendersOf label sent (FitsIn (deleted old)) (hosted_of (deleted old)) senders
+  senders_end old senders d = record {
+    rising = d.rising;
+    given = d.given;
+    each = λ n. subst (λ o. IsServed label sent (FitsIn (deleted old)) o (entry_in n senders))
+        (sym (entry_ended n old.feeds)) (ends (entry_in n old.feeds) (entry_in n senders) (d.each n));
+  }
+    where
+      ends : (o : Option Feed) (s : Option (K)) → IsServed label sent (FitsIn old) o s
+          → IsServed label sent (FitsIn (deleted old)) (option_map end o) s
+      ends None None i = tt
+      ends None (Some s) i = absurd i
+      ends (Some f) None i = absurd i
+      ends (Some f) (Some s) i = record {
+        asks = i.asks ∙ sym (end_keeps f).0;
+        begins = i.begins ∙ sym (end_keeps f).1;
+        list = record {
+          legal = i.list.legal;
+          fits = fits_close change_rows old.journal f (sent s) i.list.fits;
+        };
+      }

@@ -2,7 +2,7 @@
 use Rattle.std.proofs.Common.{◌≡◌, ℕ, List, Bool, sym, subst}
 use Rattle.std.specs.Prelude.{Result, Ok, Err, IfOk, IfErr}
 use Rattle.hub_model.specs.Journal.{IsLegal}
-use Rattle.hub_model.specs.Row.{ChangeRow}
+use Rattle.hub_model.specs.RightlyHanded.{ChangeItem}
 use Rattle.hub_document.specs.declared.doc.Doc.{Doc}
 use Rattle.hub_database.specs.Database.{Database}
 use Rattle.hub_database.specs.Handing.{IsFitting}
@@ -10,15 +10,12 @@ use Rattle.hub_database.specs.Hosting.{hosted_of}
 use Rattle.hub_database.specs.declared.batch.DbFault.{DbFault}
 use Rattle.hub_database.specs.declared.batch.DbFault.TheVariants.{NoMemory}
 use Rattle.hub_shared.specs.Handles.{HandleState, IsFoundBy, IsWrittenBy}
-use Rattle.hub_shared.specs.Locked.{FeedSender, AreSendersOf}
+use Rattle.hub_shared.specs.Label.{Label}
+use Rattle.hub_shared.specs.Locked.{AreSendersOf}
 use Rattle.hub_shared.specs.Stored.{stored_count}
 use Rattle.hub_shared.specs.Writes.{Stores}
 use Rattle.hub_shared.specs.declared.write.Accepted.{Accepted}
 use Rattle.hub_shared.proofs.Editing.{senders_added, stored_by}
-
--- the senders of a database's feeds
-abbrev Serves : Database → List (ℕ × FeedSender ChangeRow) → Type 0
-Serves db senders = AreSendersOf (λ f items. IsFitting db.journal f items) (hosted_of db) senders
 
 -- what its handle knows of a write that was done
 pub written_by : (counts : Bool) (all_parts : ℕ) (h : HandleState) (new_edits : Bool) (docs : List Doc)
@@ -31,22 +28,28 @@ written_by counts all_parts h new_edits docs db new a found done = record {
   receipts = done.receipts;
 }
 
-module _ (new_edits : Bool) (docs : List Doc) (old new : Database) where
+module _ {K : Type 0} (label : K → Label) (sent : K → List ChangeItem) (new_edits : Bool) (docs : List Doc)
+    (old new : Database) where
+  -- the outboxes of a database's feeds
+  abbrev Serves : Database → List (ℕ × K) → Type 0
+  Serves db senders = AreSendersOf label sent (λ f items. IsFitting db.journal f items) (hosted_of db) senders
+
   -- what was sent goes on fitting
-  pub stored_served : (senders : List (ℕ × FeedSender ChangeRow)) (a : Accepted)
+  pub stored_served : (senders : List (ℕ × K)) (a : Accepted)
       → Stores new_edits docs old a new → Serves old senders → Serves new senders
   stored_served senders a done serves =
-      senders_added (stored_count a.replies) old new senders done.batch.adds serves
+      senders_added label sent (stored_count a.replies) old new senders done.batch.adds serves
 
   -- also where it was not done
-  pub still_served : (senders : List (ℕ × FeedSender ChangeRow)) (r : Result Accepted DbFault)
+  pub still_served : (senders : List (ℕ × K)) (r : Result Accepted DbFault)
       → IfOk r (λ a. Stores new_edits docs old a new) → IfErr r (λ e. (e ≡ NoMemory) × (new ≡ old))
       → Serves old senders → Serves new senders
   still_served senders (Ok a) done err serves = stored_served senders a done serves
   still_served senders (Err e) done err serves =
       subst (λ (db : Database). Serves db senders) (sym err.1) serves
 
-  -- and the journal is legal
+-- the journal of either is legal
+module _ (new_edits : Bool) (docs : List Doc) (old new : Database) where
   pub still_legal : (r : Result Accepted DbFault)
       → IfOk r (λ a. Stores new_edits docs old a new) → IfErr r (λ e. (e ≡ NoMemory) × (new ≡ old))
       → IsLegal old.journal → IsLegal new.journal

@@ -1,4 +1,4 @@
--- What lies under a lock: a host of feeds, and the sender of each of its feeds (own).
+-- What lies under a lock: a host of feeds, and the outbox of each of its feeds (own).
 use Rattle.std.specs.Prelude.{◌≡◌, ℕ, ◌<◌, ◌≤◌, List, All, Bool, true, false, Option, Some, None, ⊤}
 use Rattle.hub_model.specs.Entries.{entry_in, AreRising}
 use Rattle.hub_model.specs.Feed.{Feed}
@@ -20,32 +20,34 @@ use Rattle.hub_shared.specs.Senders.{sends, IsRefused}
 abbrev pub FeedSender : Type 0 → Type 0
 FeedSender R = SenderState Label (Item R)
 
--- a host, and the senders of its feeds that are not finished
-pub record LockedState (S R : Type 0) : Type 0 where
+-- a host, and the outboxes of its feeds that are not finished: where its items for them go
+pub record LockedState (S K : Type 0) : Type 0 where
   pub state : S
-  pub senders : List (ℕ × FeedSender R)  -- by the numbers of their feeds, which rise
+  pub senders : List (ℕ × K)  -- by the numbers of their feeds, which rise
   pub lane : ℕ  -- how many items a feed's lane holds at most
 
-module _ {R : Type 0} (fits : Feed → List (Item R) → Type 0) where
-  -- the sender of a feed: its label is the feed's parameters and since, and what it sent fits the feed
-  pub record IsSenderOf (f : Feed) (s : FeedSender R) : Type 0 where
-    pub asks : params_in s.label.asked ≡ f.params
-    pub begins : s.label.since ≡ f.since
-    pub list : fits f s.sent
+-- where `label` is what an outbox was made for, and `sent` what it was sent
+module _ {R K : Type 0} (label : K → Label) (sent : K → List (Item R)) (fits : Feed → List (Item R) → Type 0)
+  where
+    -- the outbox of a feed: its label is the feed's parameters and since, and what it was sent fits the feed
+    pub record IsSenderOf (f : Feed) (k : K) : Type 0 where
+      pub asks : params_in (label k).asked ≡ f.params
+      pub begins : (label k).since ≡ f.since
+      pub list : fits f (sent k)
 
-  -- a feed has its sender, and where there is no feed there is no sender
-  abbrev pub IsServed : Option Feed → Option (FeedSender R) → Type 0
-  IsServed None None = ⊤
-  IsServed None (Some s) = ⊥
-  IsServed (Some f) None = ⊥
-  IsServed (Some f) (Some s) = IsSenderOf f s
+    -- a feed has its outbox, and where there is no feed there is no outbox
+    abbrev pub IsServed : Option Feed → Option K → Type 0
+    IsServed None None = ⊤
+    IsServed None (Some k) = ⊥
+    IsServed (Some f) None = ⊥
+    IsServed (Some f) (Some k) = IsSenderOf f k
 
-  -- the senders are those of the feeds that are not finished: each has its own, and there are no others
-  -- with feeds 3 and 5 these are a sender of feed 3, with what feed 3 handed, and one of feed 5
-  pub record AreSendersOf (h : Hosted R) (senders : List (ℕ × FeedSender R)) : Type 0 where
-    pub rising : AreRising senders
-    pub given : All (λ (p : ℕ × FeedSender R). p.0 < h.next_feed) senders
-    pub each : (number : ℕ) → IsServed (entry_in number h.feeds) (entry_in number senders)
+    -- the outboxes are those of the feeds that are not finished: each has its own, and there are no others
+    -- with feeds 3 and 5 these are one of feed 3, which was sent what feed 3 handed, and one of feed 5
+    pub record AreSendersOf (h : Hosted R) (senders : List (ℕ × K)) : Type 0 where
+      pub rising : AreRising senders
+      pub given : All (λ (p : ℕ × K). p.0 < h.next_feed) senders
+      pub each : (number : ℕ) → IsServed (entry_in number h.feeds) (entry_in number senders)
 
 -- what the book of a host of so many edits has counted: no more than these, and where there is a count, just
 -- these
@@ -53,43 +55,46 @@ module _ {R : Type 0} (fits : Feed → List (Item R) → Type 0) where
 abbrev pub IsBookOf : (counts : Bool) → (total edits : ℕ) → Type 0
 IsBookOf counts total edits = (total ≤ edits) × (counts ≡ true → total ≡ edits)
 
-module _ {S R : Type 0} (hosted : S → Hosted R) (with_hosted : S → Hosted R → S) where
-  -- a step of the feeds, with no sender
-  abbrev pub stepped : LockedState S R → (Hosted R → Hosted R) → LockedState S R
+module _ {S R K : Type 0} (hosted : S → Hosted R) (with_hosted : S → Hosted R → S) where
+  -- a step of the feeds, with no outbox
+  abbrev pub stepped : LockedState S K → (Hosted R → Hosted R) → LockedState S K
   stepped l step = record l { state = with_hosted l.state (step (hosted l.state)) }
 
-  -- the feed of this number handed the item that was due, and its sender sent that
-  abbrev pub handed_on : LockedState S R → ℕ → Item R → LockedState S R
-  handed_on l number item =
-      record (stepped l (λ h. host.handed h number)) { senders = sends number item l.senders }
+  -- where `behind` says what an outbox is once it was sent an item
+  module _ (behind : K → Item R → K) where
+    -- the feed of this number handed the item that was due, and its outbox was sent that
+    abbrev pub handed_on : LockedState S K → ℕ → Item R → LockedState S K
+    handed_on l number item =
+        record (stepped l (λ h. host.handed h number)) { senders = sends behind number item l.senders }
 
-  -- What one hand does, of the feed of this number that answers so, where `refuses` says what is told of a
-  -- sender whose item was refused. An item that is due is sent, and the feed goes on behind it; or it is
-  -- refused, and nothing changes. A feed that has nothing to hand moves to the length. So where the row at 6
-  -- is due to feed 3, the answer is Row and the feed is at place 6, or it is Full and the feed stays at its
-  -- place.
-  abbrev pub Hands : (FeedSender R → Item R → Type 0) → Next R → LockedState S R → ℕ → Handed
-      → LockedState S R → Type 0
-  Hands refuses (next.Give item) l number handed.Row new =
-      (handed_as item ≡ handed.Row) × (new ≡ handed_on l number item)
-  Hands refuses (next.Give item) l number handed.End new =
-      (handed_as item ≡ handed.End) × (new ≡ handed_on l number item)
-  Hands refuses (next.Give item) l number handed.Full new =
-      IsRefused refuses l.senders number item × (new ≡ l)
-  Hands refuses (next.Give item) l number handed.Nothing new = ⊥
-  Hands refuses (next.Give item) l number handed.Gone new = ⊥
-  Hands refuses next.Nothing l number answer new =
-      (answer ≡ handed.Nothing) × (new ≡ stepped l (λ h. behind_answer h number next.Nothing))
-  Hands refuses next.Gone l number answer new = (answer ≡ handed.Gone) × (new ≡ l)
+    -- What one hand does, of the feed of this number that answers so, where `refuses` says what is told of an
+    -- outbox that gave an item back. An item that is due is sent, and the feed goes on behind it; or it is
+    -- refused, and nothing changes. A feed that has nothing to hand moves to the length. So where the row at
+    -- 6 is due to feed 3, the answer is Row and the feed is at place 6, or it is Full and the feed stays at
+    -- its place.
+    abbrev pub Hands : (K → Item R → Type 0) → Next R → LockedState S K → ℕ → Handed → LockedState S K
+        → Type 0
+    Hands refuses (next.Give item) l number handed.Row new =
+        (handed_as item ≡ handed.Row) × (new ≡ handed_on l number item)
+    Hands refuses (next.Give item) l number handed.End new =
+        (handed_as item ≡ handed.End) × (new ≡ handed_on l number item)
+    Hands refuses (next.Give item) l number handed.Full new =
+        IsRefused refuses l.senders number item × (new ≡ l)
+    Hands refuses (next.Give item) l number handed.Nothing new = ⊥
+    Hands refuses (next.Give item) l number handed.Gone new = ⊥
+    Hands refuses next.Nothing l number answer new =
+        (answer ≡ handed.Nothing) × (new ≡ stepped l (λ h. behind_answer h number next.Nothing))
+    Hands refuses next.Gone l number answer new = (answer ≡ handed.Gone) × (new ≡ l)
 
 -- What one beat does, where one is due or not. One that is due is sent, and the feed stays; or it is
 -- refused, and nothing changes. A beat that is sent is told as Nothing, as one that is not due; one that is
 -- refused is told as Full.
-abbrev pub Beats : {S R : Type 0} → (FeedSender R → Item R → Type 0) → Bool → LockedState S R → ℕ → Handed
-    → LockedState S R → Type 0
-Beats refuses true l number handed.Full new = IsRefused refuses l.senders number Beat × (new ≡ l)
-Beats refuses true l number handed.Nothing new = new ≡ record l { senders = sends number Beat l.senders }
-Beats refuses true l number handed.Row new = ⊥
-Beats refuses true l number handed.End new = ⊥
-Beats refuses true l number handed.Gone new = ⊥
-Beats refuses false l number answer new = (answer ≡ handed.Nothing) × (new ≡ l)
+abbrev pub Beats : {S R K : Type 0} → (K → Item R → K) → (K → Item R → Type 0) → Bool → LockedState S K → ℕ
+    → Handed → LockedState S K → Type 0
+Beats behind refuses true l number handed.Full new = IsRefused refuses l.senders number Beat × (new ≡ l)
+Beats behind refuses true l number handed.Nothing new =
+    new ≡ record l { senders = sends behind number Beat l.senders }
+Beats behind refuses true l number handed.Row new = ⊥
+Beats behind refuses true l number handed.End new = ⊥
+Beats behind refuses true l number handed.Gone new = ⊥
+Beats behind refuses false l number answer new = (answer ≡ handed.Nothing) × (new ≡ l)

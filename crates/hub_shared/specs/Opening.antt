@@ -1,27 +1,32 @@
 -- How a feed is opened under a lock (own).
-use Rattle.std.specs.Prelude.{◌≡◌, ℕ, [], ◌∷◌, ◌++◌}
-use Rattle.hub_model.specs.declared.feeds.Item.{Item}
+use Rattle.std.specs.Prelude.{◌≡◌, ℕ, [], ◌∷◌, ◌++◌, None}
+use Rattle.hub_model.specs.Entries.{entry_in}
 use Rattle.hub_params.specs.FeedModel.{params_of}
 use Rattle.hub_params.specs.FeedShown.{params_asked}
 use Rattle.hub_params.specs.declared.feed_params.FeedParams.{FeedParams}
-use Rattle.hub_feed.specs.Host.{Hosted, opened}
-use Rattle.hub_lane.specs.Ends.{LaneId, ReceiverState, new_sender}
-use Rattle.hub_shared.specs.Feeds.{IsOpened, feed_of}
+use Rattle.hub_feed.specs.Host.{Hosted, opened, refuses}
 use Rattle.hub_shared.specs.Label.{Label, label_of}
 use Rattle.hub_shared.specs.Locked.{LockedState}
 
-module _ {S R : Type 0} (hosted : S → Hosted R) (with_hosted : S → Hosted R → S) where
-  -- with a feed more, the sender of whose lane is the last
-  abbrev pub begun : LockedState S R → LaneId → FeedParams → LockedState S R
-  begun l lane params =
+-- Where `made end label capacity` is the outbox, new, of this label and capacity, whose other end is this,
+-- and `takes end label` is what is seen of such an end.
+module _ {S R K T : Type 0} (hosted : S → Hosted R) (with_hosted : S → Hosted R → S)
+    (made : T → Label → ℕ → K) (takes : T → Label → Type 0) where
+  -- with a feed more, whose outbox is the last, and has this other end
+  abbrev pub begun : LockedState S K → T → FeedParams → LockedState S K
+  begun l end params =
       let h = hosted l.state in
       record l {
         state = with_hosted l.state (opened h (params_of params));
-        senders = l.senders ++ (h.next_feed, new_sender lane (label_of (params_asked params) h) l.lane) ∷ [];
+        senders = l.senders ++ (h.next_feed, made end (label_of (params_asked params) h) l.lane) ∷ [];
       }
 
-  -- a feed of a new number was opened, this is its receiver, and its sender is of the same lane
-  pub record Begins (params : FeedParams) (l : LockedState S R) (number : ℕ)
-      (receiver : ReceiverState Label (Item R)) (new : LockedState S R) : Type 0 where
-    pub opens : IsOpened (hosted l.state) (params_asked params) (feed_of number receiver)
-    pub step : new ≡ begun l receiver.lane_id params
+  -- A feed of a new number was opened, this is the end that takes, and the outbox is the other end. The host
+  -- refused none, no feed of it had the number, and the label tells where a feed begins that is opened then.
+  pub record Begins (params : FeedParams) (l : LockedState S K) (number : ℕ) (end : T)
+      (new : LockedState S K) : Type 0 where
+    pub free : refuses (hosted l.state) ≡ None
+    pub fresh : entry_in number (hosted l.state).feeds ≡ None
+    pub next : number ≡ (hosted l.state).next_feed
+    pub taker : takes end (label_of (params_asked params) (hosted l.state))
+    pub step : new ≡ begun l end params

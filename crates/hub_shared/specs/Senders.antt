@@ -1,19 +1,20 @@
--- The senders of feeds, by the numbers of the feeds (own).
-use Rattle.std.specs.Prelude.{◌≡◌, ℕ, List, [], ◌∷◌, ◌++◌, Some}
+-- The outboxes of feeds, by the numbers of the feeds (own).
+use Rattle.std.specs.Prelude.{◌≡◌, ℕ, List, Some}
 use Rattle.hub_model.specs.Entries.{entry_in, changed}
-use Rattle.hub_lane.specs.Ends.{SenderState, behind_push}
+use Rattle.hub_feed.specs.Hand.{MayTake}
 
-module _ {L I : Type 0} where
-  -- the senders once that of this number sent an item
-  abbrev pub sends : ℕ → I → List (ℕ × SenderState L I) → List (ℕ × SenderState L I)
-  sends number item senders = changed number (λ s. behind_push s item) senders
+module _ {K I : Type 0} where
+  -- The outboxes once that of this number was sent an item, where `behind` says what one is then. Of the
+  -- outboxes of feeds 3 and 5, where 5 is sent an item, that of 3 is as it was.
+  abbrev pub sends : (K → I → K) → ℕ → I → List (ℕ × K) → List (ℕ × K)
+  sends behind number item outboxes = changed number (λ k. behind k item) outboxes
 
-  -- there is a sender of this number, and its label allows the item behind what it sent
-  abbrev pub MaySend : (L → List I → Type 0) → List (ℕ × SenderState L I) → ℕ → I → Type 0
-  MaySend allows senders number item =
-      (s : SenderState L I) × (entry_in number senders ≡ Some s) × allows s.label (s.sent ++ item ∷ [])
+  -- there is an outbox of this number, and it allows the item behind what it was sent
+  abbrev pub MaySend : (K → List I → Type 0) → (K → List I) → List (ℕ × K) → ℕ → I → Type 0
+  MaySend allows sent outboxes number item =
+      (k : K) × (entry_in number outboxes ≡ Some k) × MayTake allows sent k item
 
-  -- there is a sender of this number, and `refuses` holds of it and the item
-  abbrev pub IsRefused : (SenderState L I → I → Type 0) → List (ℕ × SenderState L I) → ℕ → I → Type 0
-  IsRefused refuses senders number item =
-      (s : SenderState L I) × (entry_in number senders ≡ Some s) × refuses s item
+  -- there is an outbox of this number, and `refuses` holds of it and the item
+  abbrev pub IsRefused : (K → I → Type 0) → List (ℕ × K) → ℕ → I → Type 0
+  IsRefused refuses outboxes number item =
+      (k : K) × (entry_in number outboxes ≡ Some k) × refuses k item

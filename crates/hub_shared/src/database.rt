@@ -10,7 +10,6 @@ ghost use Rattle.hub_model.specs.Entries.{entry_in};
 ghost use Rattle.hub_model.specs.Feed.{Feed};
 ghost use Rattle.hub_model.specs.Journal.{IsLegal};
 ghost use Rattle.hub_model.specs.RightlyHanded.{RightlyHanded};
-ghost use Rattle.hub_model.specs.Row.{ChangeRow};
 ghost use Rattle.hub_model.specs.RowKind.{change_rows};
 ghost use Rattle.hub_model.specs.declared.outcomes.Fault.TheVariants.{Deleted};
 ghost use Rattle.hub_params.specs.FeedModel.{params_in};
@@ -18,31 +17,32 @@ ghost use Rattle.hub_params.specs.FeedShown.{params_asked};
 ghost use Rattle.hub_shared.specs.Feeds.{IsOpened, feed_of};
 ghost use Rattle.hub_shared.specs.Handles.{IsBeginningFor, IsFoundBy};
 ghost use Rattle.hub_shared.specs.Locals.{IsLocalFault};
-ghost use Rattle.hub_shared.specs.Locked.{FeedSender};
 ghost use Rattle.hub_shared.specs.Receipts.{IsAudit};
 
 use crate::count::Count;
 use crate::locked::{Locked, OpenedFeed};
+use crate::outbox::Outbox;
 use crate::receipt::{AuditFault, Receipt, audit_of};
+use crate::subscriber::FeedEnd;
 use hub_database::{DbFault, DbState};
 use hub_document::LocalDoc;
 use hub_feed::{FeedHost, OpenFault};
 use hub_params::FeedParams;
 
-impl<C: Count> Locked<DbState, C> {
+impl<C: Count, K: Outbox<DbState>> Locked<DbState, C, K> {
     /// Whenever a database is got from a lock, its journal is legal, and what was sent for each feed
     /// that is not finished is rightly handed for that journal, under the feed's own parameters and
     /// since.
     pub fn feeds_are_right(&self)
         ensures legal { IsLegal self.now.state.journal }
-        ensures asks { (number : ℕ) (f : Feed) (s : FeedSender ChangeRow)
+        ensures asks { (number : ℕ) (f : Feed) (s : K)
             → entry_in number self.now.state.feeds ≡ Some f → entry_in number self.now.senders ≡ Some s
-            → (params_in s.label.asked ≡ f.params) × (s.label.since ≡ f.since) }
-        ensures right { (number : ℕ) (f : Feed) (s : FeedSender ChangeRow)
+            → (params_in (K.label s).asked ≡ f.params) × ((K.label s).since ≡ f.since) }
+        ensures right { (number : ℕ) (f : Feed) (s : K)
             → entry_in number self.now.state.feeds ≡ Some f → entry_in number self.now.senders ≡ Some s
-            → RightlyHanded change_rows self.now.state.journal f s.sent }
+            → RightlyHanded change_rows self.now.state.journal f (K.items s) }
         ensures served { (number : ℕ) (f : Feed) → entry_in number self.now.state.feeds ≡ Some f
-            → (s : FeedSender ChangeRow) × (entry_in number self.now.senders ≡ Some s) }
+            → (s : K) × (entry_in number self.now.senders ≡ Some s) }
     {
         // Only the proof needs this call: it says that the journal is legal.
         let _legal = self.state.update_seq();
@@ -92,27 +92,6 @@ impl<C: Count> Locked<DbState, C> {
         self.state.local_put(doc)
     }
 
-    /// Opens a feed, as `begin`, whose label the share knows.
-    pub(crate) fn open_feed(
-        &mut self,
-        share: &mut C::Share,
-        params: FeedParams,
-    ) -> Result<OpenedFeed<DbState>, OpenFault>
-        ensures asks { IfOk result (λ opened. opened.receiver.label.asked ≡ params_asked params) }
-        ensures begins { IfOk result (λ opened.
-            IsBeginningFor params.since (C.amount share.old) opened.receiver.label) }
-        ensures none { IfOk result (λ opened. opened.receiver.taken ≡ []) }
-        ensures opened { IfOk result (λ opened. IsOpened
-            (hosted_of self.old.state) (params_asked params) (feed_of opened.id.number opened.receiver)) }
-        ensures err { IfErr result (λ e. e ≡ opening_fault (hosted_of self.old.state)) }
-        ensures found { IsFoundBy C.counts C.all_parts
-            (record { parts = C.parts share.old; count = C.amount share.old }) self.old.state }
-        ensures same { (C.amount share.new ≡ C.amount share.old) × (C.parts share.new ≡ C.parts share.old) }
-    {
-        self.audit_share(share);
-        self.begin(params)
-    }
-
     /// Why no feed is opened for which there is no memory: a refusal of the database is told first.
     pub(crate) fn opening_fault(&mut self, share: &mut C::Share) -> OpenFault
         ensures fault { result ≡ opening_fault (hosted_of self.old.state) }
@@ -151,5 +130,28 @@ impl<C: Count> Locked<DbState, C> {
     {
         self.tell();
         self.state.delete()
+    }
+}
+
+impl<C: Count> Locked<DbState, C> {
+    /// Opens a feed, as `begin`, whose label the share knows.
+    pub(crate) fn open_feed(
+        &mut self,
+        share: &mut C::Share,
+        params: FeedParams,
+    ) -> Result<OpenedFeed<FeedEnd<DbState>>, OpenFault>
+        ensures asks { IfOk result (λ opened. opened.taker.receiver.label.asked ≡ params_asked params) }
+        ensures begins { IfOk result (λ opened.
+            IsBeginningFor params.since (C.amount share.old) opened.taker.receiver.label) }
+        ensures none { IfOk result (λ opened. opened.taker.receiver.taken ≡ []) }
+        ensures opened { IfOk result (λ opened. IsOpened (hosted_of self.old.state) (params_asked params)
+            (feed_of opened.id.number opened.taker.receiver)) }
+        ensures err { IfErr result (λ e. e ≡ opening_fault (hosted_of self.old.state)) }
+        ensures found { IsFoundBy C.counts C.all_parts
+            (record { parts = C.parts share.old; count = C.amount share.old }) self.old.state }
+        ensures same { (C.amount share.new ≡ C.amount share.old) × (C.parts share.new ≡ C.parts share.old) }
+    {
+        self.audit_share(share);
+        self.begin(params)
     }
 }

@@ -11,6 +11,7 @@ use crate::host::Host;
 use crate::label::FeedLabel;
 use crate::pumping::{Turn, hold};
 use crate::signals::Signals;
+use crate::subscriber::FeedEnd;
 use hub_database::DbState;
 use hub_document::ChangeRow;
 use hub_feed::{FeedHost, FeedId, Handed};
@@ -68,14 +69,10 @@ impl<S: FeedHost, C: Count> Model for HostFeed<S, C> {
 }
 
 impl<S: FeedHost, C: Count> HostFeed<S, C> {
-    pub(crate) fn new(
-        host: Host<S, C>,
-        id: FeedId,
-        receiver: Receiver<FeedLabel<S>, Item<S::Row>>,
-        signals: Arc<Signals, Global>,
-    ) -> HostFeed<S, C>
-        ensures { result ≡ feed_of id.number receiver }
+    pub(crate) fn new(host: Host<S, C>, id: FeedId, taker: FeedEnd<S>) -> HostFeed<S, C>
+        ensures { result ≡ feed_of id.number taker.receiver }
     {
+        let FeedEnd { receiver, signals } = taker;
         HostFeed {
             host,
             id,
@@ -156,8 +153,8 @@ impl<S: FeedHost + Drop, C: Count> HostFeed<S, C> {
             idle_since: _,
             due: _,
         } = self;
-        let sender = host.locked().lock(rt).finish(id);
-        drop(sender);
+        let outbox = host.locked().lock(rt).finish(id);
+        drop(outbox);
         host.tell();
         signals.ring_room();
         receiver

@@ -216,16 +216,12 @@ impl<C: Count> Handle<C> {
         let Ok(db) = self.db.again() else {
             return Err(self.db.locked().lock(rt).opening_fault(&mut self.share));
         };
-        let OpenedFeed {
-            id,
-            receiver,
-            signals,
-        } = self
+        let OpenedFeed { id, taker } = self
             .db
             .locked()
             .lock(rt)
             .open_feed(&mut self.share, params)?;
-        Ok(HostFeed::new(db, id, receiver, signals))
+        Ok(HostFeed::new(db, id, taker))
     }
 
     /// Deletes the database. Its feeds come to their ends. It takes no memory, and costs the wait for

@@ -1,5 +1,7 @@
 //! What threads share that keeps feeds: a lock, and news.
 
+ghost use Rattle.std.specs.Prelude.{◌≡◌, ◌<◌, [], true};
+
 use crate::count::{Count, Plain};
 use crate::locked::Locked;
 use hub_feed::FeedHost;
@@ -39,8 +41,20 @@ impl<S: FeedHost + Drop, C: Count> Drop for Host<S, C> {
 }
 
 impl<S: FeedHost + Drop, C: Count> Host<S, C> {
-    /// A host of what is to lie under its lock.
-    pub(crate) fn of(alloc: Global, locked: Locked<S, C>) -> Result<Host<S, C>, AllocError> {
+    /// What is to lie under a lock, which has no feed: as `Locked::new`.
+    pub(crate) fn of(
+        alloc: Global,
+        state: S,
+        lane: usize,
+        hold: u64,
+        book: C::Book,
+    ) -> Result<Host<S, C>, AllocError>
+        requires room { 0 < lane }
+        requires no_feed { (S.hosted state).feeds ≡ [] }
+        requires nothing_counted { C.total book ≡ 0 }
+        requires no_edit { C.counts ≡ true → (S.hosted state).length ≡ 0 }
+    {
+        let locked = Locked::new(alloc, state, lane, hold, book);
         let shared = Arc::new(
             alloc,
             Shared {

@@ -1,12 +1,12 @@
-//! A host of feeds and the subscribers of its feeds, as they lie under a lock.
+//! A host of feeds and the outboxes of its feeds, as they lie under a lock.
 
-ghost use Rattle.std.specs.Prelude.{◌≡◌, ◌<◌, [], true, Some, IfErr, IfOk, IfSome, OnErr};
-ghost use Rattle.hub_model.specs.Entries.{entry_in, without};
+ghost use Rattle.std.specs.Prelude.{◌≡◌, ◌<◌, [], true, Some, None, option_and_then};
+ghost use Rattle.std.specs.Prelude.{IfErr, IfNone, IfOk, IfSome, OnErr};
+ghost use Rattle.hub_model.specs.Entries.{entry_in, changed, without};
 ghost use Rattle.hub_model.specs.Feed.{Feed, Params, begin};
 ghost use Rattle.hub_feed.specs.Host.{answered, due_to, expired, finished, is_beat_due};
 ghost use Rattle.hub_feed.specs.Host.{opening_fault};
 ghost use Rattle.hub_feed.specs.Next.{IsRowDue};
-ghost use Rattle.hub_lane.specs.Ends.{new_receiver, new_sender};
 ghost use Rattle.hub_params.specs.FeedShown.{params_asked};
 ghost use Rattle.hub_shared.specs.Label.{label_of};
 ghost use Rattle.hub_shared.specs.Locked.{AreSendersOf, Beats, Hands, IsSenderOf, stepped};
@@ -14,43 +14,36 @@ ghost use Rattle.hub_shared.specs.Opening.{Begins};
 
 use crate::count::{Count, Plain};
 use crate::label::FeedLabel;
+use crate::outbox::{Outbox, Receives, Shelf};
+use crate::outboxes::{outbox_of, remove, send, take};
 use crate::signals::Signals;
-use crate::subscriber::{Subscriber, Through, remove, send, watch};
+use crate::subscriber::{Subscriber, watch};
 use crate::watch::Watch;
-use hub_feed::{FeedHost, FeedId, Handed, OpenFault};
-use hub_lane::{Asks, Lane, Receiver, Sender};
+use hub_feed::{FeedHost, FeedId, Handed, OpenFault, Pushes};
 use hub_model::{Item, place_near, place_of};
 use hub_params::FeedParams;
 use std::alloc::{AllocError, Global};
 use std::marker::Model;
 use std::sync::Arc;
 
-/// The two ends of a feed's lane.
-pub(crate) type Ends<S> = (
-    Sender<FeedLabel<S>, Item<<S as FeedHost>::Row>>,
-    Receiver<FeedLabel<S>, Item<<S as FeedHost>::Row>>,
-);
-
 /// A feed that was opened.
 #[derive(Drop)]
-pub struct OpenedFeed<S: FeedHost> {
+pub struct OpenedFeed<T> {
     /// The number under which its host keeps it.
     pub id: FeedId,
-    /// The end of its lane that takes.
-    pub receiver: Receiver<FeedLabel<S>, Item<S::Row>>,
-    /// What its connection shares with a pump of it.
-    pub signals: Arc<Signals, Global>,
+    /// The end that takes what the host hands.
+    pub taker: T,
 }
 
-/// A host of feeds, with the subscriber of each feed that is not finished, and a book that counts its edits.
-/// Whenever it is got from a lock, what each subscriber's sender has sent fits its feed as the host is then
-/// (`state`), and where there is a count, the book's total is how many edits the host has. Contracts see the
-/// host, the senders and how many items a lane holds.
-pub struct Locked<S: FeedHost, C: Count = Plain> {
+/// A host of feeds, with the outbox of each feed that is not finished, and a book that counts its edits.
+/// Whenever it is got from a lock, what each outbox was sent fits its feed as the host is then (`state`),
+/// and where there is a count, the book's total is how many edits the host has. Contracts see the host, the
+/// outboxes and how many items a lane holds.
+pub struct Locked<S: FeedHost, C: Count = Plain, K: Outbox<S> = Subscriber<S>> {
     pub(crate) state: S,
-    /// The subscribers of the feeds that are not finished, by the numbers of the feeds, which rise.
-    subscribers: Vec<(u64, Subscriber<S>)>,
-    /// Where the subscriber stood that was handed to last. One is looked for there first.
+    /// The outboxes of the feeds that are not finished, by the numbers of the feeds, which rise.
+    subscribers: Vec<(u64, K)>,
+    /// Where the outbox stood that was handed to last. One is looked for there first.
     near: usize,
     /// How many items a feed's lane holds at most.
     lane: usize,
@@ -62,7 +55,7 @@ pub struct Locked<S: FeedHost, C: Count = Plain> {
     pub(crate) alloc: Global,
 }
 
-impl<S: FeedHost + Drop, C: Count> Drop for Locked<S, C> {
+impl<S: FeedHost + Drop, C: Count, K: Outbox<S>> Drop for Locked<S, C, K> {
     fn drop(self) {
         let Self {
             state,
@@ -77,23 +70,43 @@ impl<S: FeedHost + Drop, C: Count> Drop for Locked<S, C> {
     }
 }
 
-impl<S: FeedHost, C: Count> Model for Locked<S, C> {
+impl<S: FeedHost, C: Count, K: Outbox<S>> Model for Locked<S, C, K> {
     ghost use Rattle.std.specs.Prelude.{◌<◌};
     ghost use Rattle.hub_shared.specs.Locked.{LockedState, AreSendersOf, IsBookOf};
 
-    ghost Value = { LockedState S S.Row };
+    ghost Value = { LockedState S K };
 
     ghost view = { λ a. record { state = a.state; senders = a.subscribers.items; lane = a.lane } };
 
     ghost invariant = { λ a. (0 < a.lane)
-        × AreSendersOf (S.fits a.state) (S.hosted a.state) a.subscribers.items
+        × AreSendersOf K.label K.items (S.fits a.state) (S.hosted a.state) a.subscribers.items
         × IsBookOf C.counts (C.total a.book) (S.hosted a.state).length };
 }
 
+/// What only a subscriber has.
 impl<S: FeedHost, C: Count> Locked<S, C> {
+    /// The signals of a feed, if there is one of this number. A binary search.
+    pub(crate) fn signals(&self, feed: FeedId) -> Result<Option<Arc<Signals, Global>>, AllocError> {
+        let Some(at) = place_of(self.subscribers.as_slice(), feed.number) else {
+            return Ok(None);
+        };
+        let entry = &self.subscribers[at];
+        Ok(Some(entry.1.signals()?))
+    }
+
+    /// From here on this watch has news of each change that a feed may wait for, while there is a feed of
+    /// this number. A binary search.
+    pub(crate) fn watch(&mut self, feed: FeedId, news: Arc<Watch, Global>)
+        ensures { self.new ≡ self.old }
+    {
+        watch(&mut self.subscribers, feed.number, news);
+    }
+}
+
+impl<S: FeedHost, C: Count, K: Outbox<S>> Locked<S, C, K> {
     /// A host that has no feed, lanes that are to hold `lane` items each, holdings of `hold` items at most,
     /// and a book that has counted nothing. It takes no memory.
-    pub fn new(alloc: Global, state: S, lane: usize, hold: u64, book: C::Book) -> Locked<S, C>
+    pub fn new(alloc: Global, state: S, lane: usize, hold: u64, book: C::Book) -> Locked<S, C, K>
         requires room { 0 < lane }
         requires no_feed { (S.hosted state).feeds ≡ [] }
         requires nothing_counted { C.total book ≡ 0 }
@@ -112,11 +125,12 @@ impl<S: FeedHost, C: Count> Locked<S, C> {
         }
     }
 
-    /// The host. Each feed of it that is not finished has a sender, whose label is the feed's
-    /// parameters and since, and what that sent fits the feed as the host is now. Constant time.
+    /// The host. Each feed of it that is not finished has an outbox, whose label is the feed's
+    /// parameters and since, and what that was sent fits the feed as the host is now. Constant time.
     pub fn state(&self) -> &S
         ensures state { result.now ≡ self.now.state }
-        ensures senders { AreSendersOf (S.fits self.now.state) (S.hosted self.now.state) self.now.senders }
+        ensures senders { AreSendersOf K.label K.items (S.fits self.now.state) (S.hosted self.now.state)
+            self.now.senders }
     {
         &self.state
     }
@@ -131,23 +145,6 @@ impl<S: FeedHost, C: Count> Locked<S, C> {
         self.hold
     }
 
-    /// The signals of a feed, if there is one of this number. A binary search.
-    pub(crate) fn signals(&self, feed: FeedId) -> Result<Option<Arc<Signals, Global>>, AllocError> {
-        let Some(at) = place_of(self.subscribers.as_slice(), feed.number) else {
-            return Ok(None);
-        };
-        let entry = &self.subscribers[at];
-        Ok(Some(entry.1.signals()?))
-    }
-
-    /// From here on this watch has news of each change that a feed may wait for, while there is a feed of
-    /// this number. A binary search.
-    pub(crate) fn watch(&mut self, feed: FeedId, news: Arc<Watch, Global>)
-        ensures { self.new ≡ self.old }
-    {
-        watch(&mut self.subscribers, feed.number, news);
-    }
-
     /// There is something that feeds may wait for: pumps find another number, and watches have news. It costs
     /// a look at each feed.
     pub(crate) fn tell(&mut self)
@@ -159,11 +156,11 @@ impl<S: FeedHost, C: Count> Locked<S, C> {
         }
     }
 
-    // The ends of a lane for a feed of these parameters that begins now.
-    fn ends_for(&self, params: &FeedParams) -> Result<Ends<S>, AllocError>
-        ensures sender { IfOk result (λ ends. ends.0 ≡ new_sender ends.1.lane_id
+    // An outbox for a feed of these parameters that begins now, and its other end.
+    fn open_outbox(&self, params: &FeedParams) -> Result<(K, K::Taker), AllocError>
+        ensures outbox { IfOk result (λ ends. ends.0 ≡ K.made ends.1
             (label_of (params_asked params.now) (S.hosted self.now.state)) self.now.lane) }
-        ensures receiver { IfOk result (λ ends. ends.1 ≡ new_receiver ends.0.lane_id
+        ensures taker { IfOk result (λ ends. K.takes ends.1
             (label_of (params_asked params.now) (S.hosted self.now.state))) }
         ensures begins { (p : Params) → S.fits self.now.state
             (begin p (S.hosted self.now.state).length (S.hosted self.now.state).life) [] }
@@ -171,26 +168,23 @@ impl<S: FeedHost, C: Count> Locked<S, C> {
         let life = self.state.life();
         let since = params.since.within(self.state.length(), life);
         let label = FeedLabel::new(params.copy(self.alloc)?, since, life);
-        Lane::new(self.alloc, self.lane, label)
+        K::open(self.alloc, self.lane, label, params)
     }
 
-    /// Opens a feed at the host, under a number that no feed had before, and gives the receiver of the
-    /// lane whose sender it keeps, and the signals that it keeps. `descending` is not looked at. Out of
-    /// memory is told only where the host refuses nothing, and any error leaves all as it was. It costs a
-    /// copy of the parameters, a lane, and what `open_feed` does.
-    pub fn begin(&mut self, params: FeedParams) -> Result<OpenedFeed<S>, OpenFault>
-        ensures ok { IfOk result (λ opened. Begins S.hosted S.with_hosted
-            params self.old opened.id.number opened.receiver self.new) }
+    /// Opens a feed at the host, under a number that no feed had before, and gives the end that takes, of
+    /// whose outbox it keeps the other. `descending` is not looked at. Out of memory is told only where the
+    /// host refuses nothing, and any error leaves all as it was. It costs a copy of the parameters, an
+    /// outbox, and what `open_feed` does.
+    pub fn begin(&mut self, params: FeedParams) -> Result<OpenedFeed<K::Taker>, OpenFault>
+        ensures ok { IfOk result (λ opened. Begins S.hosted S.with_hosted K.made K.takes
+            params self.old opened.id.number opened.taker self.new) }
         ensures err { IfErr result (λ e. (self.new ≡ self.old)
             × (e ≡ opening_fault (S.hosted self.old.state))) }
     {
         if let Some(fault) = self.state.refusal() {
             return Err(fault);
         }
-        let Ok((sender, receiver)) = self.ends_for(&params) else {
-            return Err(OpenFault::NoMemory);
-        };
-        let Ok((own, signals)) = Signals::shared(self.alloc, &params) else {
+        let Ok((outbox, taker)) = self.open_outbox(&params) else {
             return Err(OpenFault::NoMemory);
         };
         if let Err(AllocError) = self.subscribers.try_reserve(1) {
@@ -198,30 +192,54 @@ impl<S: FeedHost, C: Count> Locked<S, C> {
         }
         match self.state.open_feed(params) {
             Ok(id) => {
-                self.subscribers
-                    .push_reserved((id.number, Subscriber::new(sender, own)));
-                Ok(OpenedFeed {
-                    id,
-                    receiver,
-                    signals,
-                })
+                self.subscribers.push_reserved((id.number, outbox));
+                Ok(OpenedFeed { id, taker })
             }
             Err(fault) => Err(fault),
         }
     }
 
-    /// Hands the feed's next item to its lane: what is due is sent, and the feed goes on behind it.
-    /// `Full` is answered only where the lane was full at a moment of the call; then nothing
-    /// changes, and the next hand makes the item again. A feed that has nothing to hand goes to the
-    /// length of what it follows. Only a row takes memory, and without it nothing changes. It costs
-    /// what the host's `hand` does, and a push; the subscriber is found in constant time where the last
+    /// A feed's time without an item is over: an open feed that waits is ending. It takes no memory,
+    /// and costs what the host's `expire` does.
+    pub fn expire(&mut self, feed: FeedId)
+        ensures { self.new ≡ stepped S.hosted S.with_hosted self.old (λ h. expired h feed.number) }
+    {
+        self.state.expire(feed);
+    }
+
+    /// Forgets a feed with its outbox, if there is one of this number, and hands the outbox out: no later
+    /// hand sends for it. What it was sent fits the feed that was, as the host was. It takes no memory, and
+    /// costs what the host's `finish` does, a search among the outboxes, and a move of those behind it.
+    pub fn finish(&mut self, feed: FeedId) -> Option<K>
+        ensures sender { result ≡ entry_in feed.number self.old.senders }
+        ensures fits { IfSome result (λ s. (f : Feed)
+            × (entry_in feed.number (S.hosted self.old.state).feeds ≡ Some f)
+            × IsSenderOf K.label K.items (S.fits self.old.state) f s) }
+        ensures step { self.new
+            ≡ record (stepped S.hosted S.with_hosted self.old (λ h. finished h feed.number)) {
+              senders = without feed.number self.old.senders;
+            } }
+    {
+        self.state.finish(feed);
+        self.news = self.news.wrapping_add(1);
+        remove(&mut self.subscribers, feed.number)
+    }
+}
+
+/// What a host hands.
+impl<S: FeedHost, C: Count, K: Receives<S>> Locked<S, C, K> {
+    /// Hands the feed's next item to its outbox: what is due is sent, and the feed goes on behind it.
+    /// `Full` is answered only where the outbox gave the item back, as the lane was full at a moment of the
+    /// call; then nothing changes, and the next hand makes the item again. A feed that has nothing to hand
+    /// goes to the length of what it follows. Only a row takes memory, and without it nothing changes. It
+    /// costs what the host's `hand` does, and a push; the outbox is found in constant time where the last
     /// hand was for the same feed.
-    pub fn hand<R: Asks<FeedLabel<S>, Item<S::Row>>>(
+    pub fn hand<P: Pushes<K, Item<S::Row>>>(
         &mut self,
-        rt: &R,
+        handle: &P,
         feed: FeedId,
     ) -> Result<Handed, AllocError>
-        ensures ok { IfOk result (λ handed. Hands S.hosted S.with_hosted (R.refuses rt.now)
+        ensures ok { IfOk result (λ handed. Hands S.hosted S.with_hosted K.behind (P.refuses handle.now)
             (answered (S.hosted self.old.state) feed.number) self.old feed.number handed self.new) }
         ensures err { OnErr result ((self.new ≡ self.old)
             × IsRowDue (due_to (S.hosted self.old.state) feed.number)) }
@@ -231,16 +249,16 @@ impl<S: FeedHost, C: Count> Locked<S, C> {
         };
         self.near = at;
         let entry = &mut self.subscribers[at];
-        self.state.hand(feed, &Through(rt), &mut entry.1)
+        self.state.hand(feed, handle, &mut entry.1)
     }
 
     // Sends a heartbeat that is due.
-    fn send_beat<R: Asks<FeedLabel<S>, Item<S::Row>>>(&mut self, rt: &R, feed: FeedId) -> Handed
+    fn send_beat<P: Pushes<K, Item<S::Row>>>(&mut self, handle: &P, feed: FeedId) -> Handed
         requires due { is_beat_due (entry_in feed.number (S.hosted self.old.state).feeds) ≡ true }
-        ensures { Beats (R.refuses rt.now) true self.old feed.number result self.new }
+        ensures { Beats K.behind (P.refuses handle.now) true self.old feed.number result self.new }
     {
         match send(
-            rt,
+            handle,
             &mut self.subscribers,
             self.near,
             feed.number,
@@ -252,43 +270,37 @@ impl<S: FeedHost, C: Count> Locked<S, C> {
     }
 
     /// Sends a heartbeat where one is due, and the feed stays where it is: `Nothing`, also where it
-    /// was sent, or `Full`, only where the lane was full at a moment of the call. It takes no memory,
-    /// and costs what `beat_due` does, a search among the subscribers, and a push.
-    pub fn beat<R: Asks<FeedLabel<S>, Item<S::Row>>>(&mut self, rt: &R, feed: FeedId) -> Handed
-        ensures { Beats (R.refuses rt.now)
+    /// was sent, or `Full`, only where the outbox gave it back. It takes no memory, and costs what
+    /// `beat_due` does, a search among the outboxes, and a push.
+    pub fn beat<P: Pushes<K, Item<S::Row>>>(&mut self, handle: &P, feed: FeedId) -> Handed
+        ensures { Beats K.behind (P.refuses handle.now)
             (is_beat_due (entry_in feed.number (S.hosted self.old.state).feeds))
             self.old feed.number result self.new }
     {
         if !self.state.beat_due(feed) {
             return Handed::Nothing;
         }
-        self.send_beat(rt, feed)
+        self.send_beat(handle, feed)
+    }
+}
+
+/// Where the items of feeds lie under the lock with them.
+impl<S: FeedHost, C: Count, K: Shelf<S>> Locked<S, C, K> {
+    /// The outbox of a feed, if there is one of this number. A binary search.
+    pub fn outbox(&self, feed: FeedId) -> Option<&K>
+        ensures found { IfSome result (λ k. entry_in feed.number self.now.senders ≡ Some k.now) }
+        ensures none { IfNone result (entry_in feed.number self.now.senders ≡ None) }
+    {
+        outbox_of(self.subscribers.as_slice(), feed.number)
     }
 
-    /// A feed's time without an item is over: an open feed that waits is ending. It takes no memory,
-    /// and costs what the host's `expire` does.
-    pub fn expire(&mut self, feed: FeedId)
-        ensures { self.new ≡ stepped S.hosted S.with_hosted self.old (λ h. expired h feed.number) }
+    /// Takes the next item of a feed, the first that was handed and not taken. It takes no memory, and costs
+    /// a binary search, and what `Shelf::take` does.
+    pub fn take(&mut self, feed: FeedId) -> Option<Item<S::Row>>
+        ensures item { result ≡ option_and_then K.front (entry_in feed.number self.old.senders) }
+        ensures rest { self.new
+            ≡ record self.old { senders = changed feed.number K.without_front self.old.senders } }
     {
-        self.state.expire(feed);
-    }
-
-    /// Forgets a feed with its subscriber, if there is one of this number, and hands its sender out: no
-    /// later hand sends for it. What it sent fits the feed that was, as the host was. It takes no memory,
-    /// and costs what the host's `finish` does, a search among the subscribers, and a move of those behind
-    /// it.
-    pub fn finish(&mut self, feed: FeedId) -> Option<Sender<FeedLabel<S>, Item<S::Row>>>
-        ensures sender { result ≡ entry_in feed.number self.old.senders }
-        ensures fits { IfSome result (λ s. (f : Feed)
-            × (entry_in feed.number (S.hosted self.old.state).feeds ≡ Some f)
-            × IsSenderOf (S.fits self.old.state) f s) }
-        ensures step { self.new
-            ≡ record (stepped S.hosted S.with_hosted self.old (λ h. finished h feed.number)) {
-              senders = without feed.number self.old.senders;
-            } }
-    {
-        self.state.finish(feed);
-        self.news = self.news.wrapping_add(1);
-        remove(&mut self.subscribers, feed.number)
+        take(&mut self.subscribers, feed.number)
     }
 }

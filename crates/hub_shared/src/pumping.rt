@@ -6,6 +6,7 @@ use crate::host::Host;
 use crate::label::FeedLabel;
 use crate::locked::Locked;
 use crate::signals::Signals;
+use crate::subscriber::Through;
 use crate::times::Due;
 use hub_feed::{FeedHost, FeedId, Handed};
 use hub_lane::Asks;
@@ -50,7 +51,7 @@ where
     R: Asks<FeedLabel<S>, Item<S::Row>>,
 {
     for sent in 0..most {
-        match locked.hand(rt, feed)? {
+        match locked.hand(&Through(rt), feed)? {
             Handed::Row => {}
             Handed::End => return Ok((Handed::End, sent + 1)),
             last => return Ok((last, sent)),
@@ -77,7 +78,7 @@ impl<S: FeedHost, C: Count> Host<S, C> {
         let most = locked.most();
         let (last, sent) = match turn {
             Turn::Hand => hand_on(&mut *locked, rt, feed, most)?,
-            Turn::Beat => (locked.beat(rt, feed), 0),
+            Turn::Beat => (locked.beat(&Through(rt), feed), 0),
             Turn::Expire => {
                 locked.expire(feed);
                 (Handed::Nothing, 0)

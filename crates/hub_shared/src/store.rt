@@ -7,6 +7,7 @@ ghost use Rattle.hub_shared.specs.Stored.{Adds, StoresBatch, stored_count};
 
 use crate::count::Count;
 use crate::locked::Locked;
+use crate::outbox::Outbox;
 use hub_database::{Batch, DbFault, DbState};
 use hub_document::{Doc, RevId};
 
@@ -41,7 +42,7 @@ pub(crate) fn store_batch(
     Ok((batch, edits))
 }
 
-impl<C: Count> Locked<DbState, C> {
+impl<C: Count, K: Outbox<DbState>> Locked<DbState, C, K> {
     /// Stores one edit whose revision is made here, counts it, and gives news of it. Beside the revision
     /// stands by how much the share rose. It takes no memory but what `DbState::write_one` does.
     pub(crate) fn write_one(
@@ -69,15 +70,18 @@ impl<C: Count> Locked<DbState, C> {
         Ok((rev, rise))
     }
 
-    /// Stores documents, counts those that were stored, and gives news of it. Beside what became of them
-    /// stands by how much the share rose.
-    pub(crate) fn store(
+    /// Stores documents, as `DbState::write_edits`, counts those that were stored, and gives news of it.
+    /// Beside what became of them stands by how much the share rose. It costs what `write_edits` does, and a
+    /// look at each feed.
+    pub fn store(
         &mut self,
         share: &mut C::Share,
         docs: Vec<Doc>,
         new_edits: bool,
     ) -> Result<(Batch, u64), DbFault>
         requires part { C.counts ≡ true → 0 < C.parts share.old }
+        ensures batch { IfOk result (λ w.
+            StoresBatch new_edits docs.items self.old.state w.0 self.new.state) }
         ensures stored { IfOk result (λ w. IsStoredBy C.counts C.all_parts
             (record { parts = C.parts share.old; count = C.amount share.old }) new_edits docs.items w.0) }
         ensures adds { IfOk result (λ w. Adds (stored_count w.0.replies) self.old.state self.new.state) }

@@ -1,22 +1,24 @@
-//! The subscribers of feeds, by the numbers of the feeds.
+//! The program's outbox of a feed: the end of a lane that sends, and whom to tell of the feed.
 
-ghost use Rattle.std.specs.Prelude.{◌≡◌, IfErr, OnErr, OnOk};
-ghost use Rattle.hub_model.specs.Entries.{entry_in, without, AreRising};
+ghost use Rattle.std.specs.Prelude.{◌≡◌, ◌<◌, [], IfOk};
+ghost use Rattle.hub_lane.specs.Ends.{new_receiver, new_sender};
+ghost use Rattle.hub_model.specs.Entries.{AreRising};
 ghost use Rattle.hub_params.specs.FeedModel.{params_in};
-ghost use Rattle.hub_shared.specs.Senders.{sends, MaySend, IsRefused};
 
 use crate::label::FeedLabel;
+use crate::outbox::{Outbox, Receives};
 use crate::signals::Signals;
 use crate::watch::Watch;
 use hub_feed::{FeedHost, Pushes, Sink};
-use hub_lane::{Asks, Full, Sender};
-use hub_model::{Item, place_near, place_of};
+use hub_lane::{Asks, Full, Lane, Receiver, Sender};
+use hub_model::{Item, place_of};
+use hub_params::FeedParams;
 use std::alloc::{AllocError, Global};
 use std::marker::Model;
 use std::sync::Arc;
 
 /// The end of a feed's lane that sends, with whom to tell of the feed. Contracts see the sender.
-pub(crate) struct Subscriber<S: FeedHost> {
+pub struct Subscriber<S: FeedHost> {
     sender: Sender<FeedLabel<S>, Item<S::Row>>,
     /// What a pump of the feed and its connection share.
     signals: Arc<Signals, Global>,
@@ -54,9 +56,71 @@ impl<S: FeedHost> Sink<Item<S::Row>> for Subscriber<S> {
     ghost behind = { λ s item. behind_push s item };
 }
 
+/// What the connection of a feed gets as the feed is opened.
+#[derive(Drop)]
+pub struct FeedEnd<S: FeedHost> {
+    /// The end of the feed's lane that takes.
+    pub receiver: Receiver<FeedLabel<S>, Item<S::Row>>,
+    /// What its connection shares with a pump of it.
+    pub signals: Arc<Signals, Global>,
+}
+
+/// By a lane, and signals that both ends share.
+impl<S: FeedHost> Outbox<S> for Subscriber<S> {
+    type Taker = FeedEnd<S>;
+
+    ghost use Rattle.std.proofs.Common.{refl};
+
+    ghost label = { λ s. s.label };
+
+    ghost items = { λ s. s.sent };
+
+    ghost made = { λ end label capacity. new_sender end.receiver.lane_id label capacity };
+
+    ghost takes = { λ end label. end.receiver ≡ new_receiver end.receiver.lane_id label };
+
+    fn open(
+        alloc: Global,
+        capacity: usize,
+        feed: FeedLabel<S>,
+        params: &FeedParams,
+    ) -> Result<(Subscriber<S>, FeedEnd<S>), AllocError>
+        requires room { 0 < capacity }
+        requires allowed { S.right (params_in feed.asked) feed.since [] }
+        ensures outbox { IfOk result (λ ends.
+            ends.0 ≡ new_sender ends.1.receiver.lane_id feed capacity) }
+        ensures taker { IfOk result (λ ends.
+            ends.1.receiver ≡ new_receiver ends.1.receiver.lane_id feed) }
+    {
+        let (sender, receiver) = Lane::new(alloc, capacity, feed)?;
+        let (own, signals) = Signals::shared(alloc, params)?;
+        Ok((Subscriber::new(sender, own), FeedEnd { receiver, signals }))
+    }
+
+    fn tell(&self) {
+        if let Some(watch) = &self.watch {
+            watch.tell();
+        }
+    }
+
+    ghost labelled = { λ end l capacity. refl };
+
+    ghost begins = { λ end l capacity. refl };
+}
+
+impl<S: FeedHost> Receives<S> for Subscriber<S> {
+    ghost use Rattle.std.proofs.Common.{refl};
+
+    ghost same = { λ s. refl };
+
+    ghost stays = { λ s item. refl };
+
+    ghost permits = { λ s list is. is };
+}
+
 impl<S: FeedHost> Subscriber<S> {
-    /// One that nothing watches.
-    pub(crate) fn new(
+    // One that nothing watches.
+    fn new(
         sender: Sender<FeedLabel<S>, Item<S::Row>>,
         signals: Arc<Signals, Global>,
     ) -> Subscriber<S>
@@ -80,30 +144,11 @@ impl<S: FeedHost> Subscriber<S> {
     {
         self.watch = Some(watch);
     }
-
-    /// There is news for its watch, if it has one.
-    pub(crate) fn tell(&self) {
-        if let Some(watch) = &self.watch {
-            watch.tell();
-        }
-    }
-
-    /// The sender alone.
-    pub(crate) fn into_sender(self) -> Sender<FeedLabel<S>, Item<S::Row>>
-        ensures { result ≡ self }
-    {
-        let Subscriber {
-            sender,
-            signals: _,
-            watch: _,
-        } = self;
-        sender
-    }
 }
 
 /// What may wait, as a subscriber is given items through it.
 #[derive(Drop)]
-pub(crate) struct Through<'a, R>(pub(crate) &'a R);
+pub struct Through<'a, R>(pub &'a R);
 
 /// By a push, which is refused only where the lane was full at a moment of the call.
 impl<'a, S: FeedHost, R: Asks<FeedLabel<S>, Item<S::Row>>> Pushes<Subscriber<S>, Item<S::Row>>
@@ -124,34 +169,6 @@ impl<'a, S: FeedHost, R: Asks<FeedLabel<S>, Item<S::Row>>> Pushes<Subscriber<S>,
     }
 }
 
-/// Sends an item for the feed of this number, whose subscriber most likely stands at `near`. It comes
-/// back where the lane was full at a moment of the call. It costs a push, and a binary search where
-/// the subscriber stands elsewhere.
-pub(crate) fn send<S: FeedHost, R: Asks<FeedLabel<S>, Item<S::Row>>>(
-    rt: &R,
-    subscribers: &mut Vec<(u64, Subscriber<S>)>,
-    near: usize,
-    feed: u64,
-    item: Item<S::Row>,
-) -> Result<(), Item<S::Row>>
-    requires rising { AreRising subscribers.old.items }
-    requires may { MaySend (λ l items. S.right (params_in l.asked) l.since items)
-        subscribers.old.items feed item }
-    ensures sent { OnOk result (subscribers.new.items ≡ sends feed item subscribers.old.items) }
-    ensures same { IfErr result
-        (λ back. (back ≡ item) × (subscribers.new.items ≡ subscribers.old.items)) }
-    ensures full { OnErr result (IsRefused (R.refuses rt.now) subscribers.old.items feed item) }
-{
-    let Some(at) = place_near(subscribers.as_slice(), near, feed) else {
-        unreachable!()
-    };
-    let entry = &mut subscribers[at];
-    match Through(rt).push(&mut entry.1, item) {
-        Ok(()) => Ok(()),
-        Err(item) => Err(item),
-    }
-}
-
 /// From here on this watch has the news of the feed of this number, if there is one. It costs a binary
 /// search.
 pub(crate) fn watch<S: FeedHost>(
@@ -167,19 +184,4 @@ pub(crate) fn watch<S: FeedHost>(
     };
     let entry = &mut subscribers[at];
     entry.1.watch(watch);
-}
-
-/// Takes the subscriber of the feed of this number out, if there is one, and hands its sender out. It costs
-/// a binary search, and a move of the subscribers behind it.
-pub(crate) fn remove<S: FeedHost>(
-    subscribers: &mut Vec<(u64, Subscriber<S>)>,
-    feed: u64,
-) -> Option<Sender<FeedLabel<S>, Item<S::Row>>>
-    requires rising { AreRising subscribers.old.items }
-    ensures sender { result ≡ entry_in feed subscribers.old.items }
-    ensures senders { subscribers.new.items ≡ without feed subscribers.old.items }
-{
-    let at = place_of(subscribers.as_slice(), feed)?;
-    let (_, subscriber) = subscribers.remove(at);
-    Some(subscriber.into_sender())
 }

@@ -46,14 +46,13 @@ impl Locked<UpdatesState> {
 impl Host<UpdatesState> {
     /// A log of nothing. Its life is 0, which no database has.
     pub fn of_updates(alloc: Global, limits: Limits) -> Result<Updates, AllocError> {
-        let locked = Locked::new(
+        Host::of(
             alloc,
             UpdatesState::new(alloc, limits, 0),
             limits.lane as usize,
             limits.hold,
             NoCount,
-        );
-        Host::of(alloc, locked)
+        )
     }
 
     /// Adds a notice at the end of the log, or hands it back, as `UpdatesState::note`, and tells the
@@ -80,14 +79,10 @@ impl Host<UpdatesState> {
         let Ok(host) = self.again() else {
             return Err(OpenFault::NoMemory);
         };
-        let OpenedFeed {
-            id,
-            receiver,
-            signals,
-        } = self
+        let OpenedFeed { id, taker } = self
             .locked()
             .lock(rt)
             .begin(UpdatesState::effective(params))?;
-        Ok(HostFeed::new(host, id, receiver, signals))
+        Ok(HostFeed::new(host, id, taker))
     }
 }

@@ -8,6 +8,7 @@ ghost use Rattle.hub_shared.specs.Writes.{Stores};
 
 use crate::count::Count;
 use crate::locked::Locked;
+use crate::outbox::Outbox;
 use crate::receipt::{Receipt, ReceiptRoom};
 use crate::store::store_batch;
 use hub_database::{DbFault, DbState, Replies};
@@ -86,7 +87,7 @@ impl Locked<DbState> {
     }
 }
 
-impl<C: Count> Locked<DbState, C> {
+impl<C: Count, K: Outbox<DbState>> Locked<DbState, C, K> {
     /// Writes into the room that was made for the receipts, counts what was accepted, and gives news of it.
     /// Beside what became of it stands by how much the share rose.
     pub(crate) fn write_counted(

@@ -14,7 +14,8 @@ use hub_lane::Receiver;
 use hub_model::{Fault, Item};
 use hub_params::FeedParams;
 use hub_shared::{
-    AuditFault, ChangeItem, ChangeLabel, Handed, Locked, NoCount, Receipt, ReceiptRoom, audit_of,
+    AuditFault, ChangeItem, ChangeLabel, Handed, Locked, NoCount, Receipt, ReceiptRoom, Through,
+    audit_of,
 };
 use std::alloc::{AllocError, Global};
 use std::sync::Wait;
@@ -179,7 +180,7 @@ fn try_begin(
         return Err(AllocError);
     };
     match database.begin(params) {
-        Ok(opened) => Ok(Ok((opened.id, opened.receiver))),
+        Ok(opened) => Ok(Ok((opened.id, opened.taker.receiver))),
         Err(OpenFault::NoMemory) => Err(AllocError),
         Err(fault) => Ok(Err(fault)),
     }
@@ -215,7 +216,7 @@ fn hands<R: Wait>(
     feed: FeedId,
     wanted: Handed,
 ) -> Result<bool, Fail> {
-    let handed = again_on(database, |database| database.hand(rt, feed))?;
+    let handed = again_on(database, |database| database.hand(&Through(rt), feed))?;
     Ok(handed == wanted)
 }
 
@@ -272,12 +273,12 @@ fn a_feed_comes_to_its_end(rt: HostRuntime) -> Result<(), Fail> {
 // Whether heartbeats come where they are asked for, until the lane is full.
 fn a_feed_beats<R: Wait>(rt: &R, alloc: Global, database: &mut Database) -> Result<bool, Fail> {
     let (feed, mut taker) = open(alloc, database, "feed=continuous&heartbeat=1000")?;
-    let twice = database.beat(rt, feed) == Handed::Nothing
-        && database.beat(rt, feed) == Handed::Nothing;
-    let full = database.beat(rt, feed) == Handed::Full;
+    let twice = database.beat(&Through(rt), feed) == Handed::Nothing
+        && database.beat(&Through(rt), feed) == Handed::Nothing;
+    let full = database.beat(&Through(rt), feed) == Handed::Full;
     let beat = take(rt, &mut taker) == Some(Told::Beat);
     let _sender = database.finish(feed);
-    let gone = database.beat(rt, feed) == Handed::Nothing;
+    let gone = database.beat(&Through(rt), feed) == Handed::Nothing;
     let second = take(rt, &mut taker) == Some(Told::Beat) && take(rt, &mut taker).is_none();
     Ok(twice && full && beat && gone && second)
 }

@@ -9,7 +9,7 @@ use hub_model::{Fault, Item, UpdateKind};
 use hub_params::FeedParams;
 use hub_shared::{
     Answer, Count, Db, Feed, FeedLabel, Gate, Handed, Host, HostFeed, Locked, NoCount, Plain,
-    Point, Question, Turn, Updates, UpdatesFeed, answer_of, hold,
+    Point, Question, Through, Turn, Updates, UpdatesFeed, answer_of, hold,
 };
 use hub_updates::{Notice, UpdatesState};
 use std::alloc::{AllocError, Global};
@@ -72,8 +72,9 @@ fn hands_a_note<R: Wait>(
     let Ok(opened) = log.begin(params(alloc, "")?) else {
         return Err(AllocError);
     };
-    let (feed, mut taker) = (opened.id, opened.receiver);
-    let handed = (log.hand(rt, feed)?, log.hand(rt, feed)?) == (Handed::Row, Handed::End);
+    let (feed, mut taker) = (opened.id, opened.taker.receiver);
+    let handed = (log.hand(&Through(rt), feed)?, log.hand(&Through(rt), feed)?)
+        == (Handed::Row, Handed::End);
     let row = match taker.take(rt) {
         Some(Item::Row(row)) => {
             row.kind == UpdateKind::Created && row.db_name.as_str() == "d" && row.seq == 1

@@ -2,7 +2,6 @@ use Rattle.std.proofs.Common.{◌≡◌, ◌∙◌, ap, sym, subst, ◌∷◌, [
 use Rattle.hub_model.specs.Entries.{entry_in}
 use Rattle.hub_feed.specs.Host.{opened}
 use Rattle.hub_model.specs.Feed.{Params, begin}
-use Rattle.hub_lane.specs.Ends.{ReceiverState, new_receiver, new_sender}
 use Rattle.hub_params.specs.FeedModel.{params_of}
 use Rattle.hub_params.specs.FeedShown.{params_asked}
 use Rattle.hub_shared.specs.Label.{label_of}
@@ -21,28 +20,30 @@ invariant_of-self-in-Ok-open_feed g c =
     let old = c.self.inside.subscribers.items in
     let own = c.in-Ok-open_feed.ensures in
     let next = (h.hosted s).next_feed in
-    let id = c.in-Ok.receiver.lane_id in
-    let senders =
-    old ++ (next, new_sender id (label_of (params_asked c.args.params) (h.hosted s)) c.self.inside.lane)
-    ∷ [] in
-    let sender : c.in-Ok.sender ≡ new_sender id
-    (label_of (params_asked c.args.params) (h.hosted s)) c.self.inside.lane =
-    subst (λ l.
-    c.in-Ok.sender ≡ new_sender id (label_of (params_asked c.args.params) (h.hosted l.state)) l.lane)
-    (sym c.self.view_is) c.in-Ok.ensures.sender in
+    let label = label_of (params_asked c.args.params) (h.hosted s) in
+    let outbox = g.K.Outbox.made c.in-Ok.taker label c.self.inside.lane in
+    let senders = old ++ (next, outbox) ∷ [] in
+    let made : c.in-Ok.outbox ≡ outbox =
+    subst (λ l. c.in-Ok.outbox
+    ≡ g.K.Outbox.made c.in-Ok.taker (label_of (params_asked c.args.params) (h.hosted l.state)) l.lane)
+    (sym c.self.view_is) c.in-Ok.ensures.outbox in
     let items : c.push_reserved.new.self.items ≡ senders =
     c.push_reserved.ensures.items
-    ∙ (λ k. c.try_reserve.ensures.items k ++ (own.number k, (c.new.ensures ∙ sender) k) ∷ []) in
+    ∙ (λ k. c.try_reserve.ensures.items k ++ (own.number k, made k) ∷ []) in
     let begins =
     subst (λ l. (p : Params) → h.fits l.state (begin p (h.hosted l.state).length (h.hosted l.state).life) [])
-    (sym c.self.view_is) c.ends_for.ensures.begins in
+    (sym c.self.view_is) c.open_outbox.ensures.begins in
     let fresh : entry_in next (h.hosted s).feeds ≡ None =
     subst (λ n. entry_in n (h.hosted s).feeds ≡ None) own.number own.new in (
       c.self.invariant.0,
-      subst (λ xs. AreSendersOf (h.fits new) (h.hosted new) xs) (sym items)
-          (subst (λ z. AreSendersOf (h.fits z) (h.hosted z) senders) (sym own.ok)
-          (comes h.hosted h.with_hosted h.fits h.right laws.hosts laws.rightly laws.stays s c.args.params
-          id c.self.inside.lane old begins fresh c.self.invariant.1)),
+      subst (λ xs. AreSendersOf g.K.Outbox.label g.K.Outbox.items (h.fits new) (h.hosted new) xs) (sym items)
+          (subst (λ z. AreSendersOf g.K.Outbox.label g.K.Outbox.items (h.fits z) (h.hosted z) senders)
+          (sym own.ok)
+          (comes g.K.Outbox.label g.K.Outbox.items h.hosted h.with_hosted h.fits h.right laws.hosts
+          laws.rightly
+          laws.stays s c.args.params outbox old
+          (g.met.K.Outbox.labelled c.in-Ok.taker label c.self.inside.lane)
+          (g.met.K.Outbox.begins c.in-Ok.taker label c.self.inside.lane) begins fresh c.self.invariant.1)),
       book_kept h.hosted h.with_hosted laws.hosts g.C.Count.counts (g.C.Count.total c.self.inside.book)
           s new (opened (h.hosted s) (params_of c.args.params)) own.ok c.self.invariant.2,
     )
@@ -52,38 +53,30 @@ returns-in-Ok-open_feed-clause-ok g c =
     let h = g.S.FeedHost in
     let s = c.self.inside.state in
     let own = c.in-Ok-open_feed.ensures in
-    let id = c.in-Ok.receiver.lane_id in
-    let senders =
-    c.self.inside.subscribers.items
-    ++ (
-      (h.hosted s).next_feed,
-      new_sender id (label_of (params_asked c.args.params) (h.hosted s)) c.self.inside.lane,
-    ) ∷ [] in
-    let sender : c.in-Ok.sender ≡ new_sender id
-    (label_of (params_asked c.args.params) (h.hosted s)) c.self.inside.lane =
-    subst (λ l.
-    c.in-Ok.sender ≡ new_sender id (label_of (params_asked c.args.params) (h.hosted l.state)) l.lane)
-    (sym c.self.view_is) c.in-Ok.ensures.sender in
+    let outbox =
+    g.K.Outbox.made c.in-Ok.taker (label_of (params_asked c.args.params) (h.hosted s)) c.self.inside.lane in
+    let senders = c.self.inside.subscribers.items ++ ((h.hosted s).next_feed, outbox) ∷ [] in
+    let made : c.in-Ok.outbox ≡ outbox =
+    subst (λ l. c.in-Ok.outbox
+    ≡ g.K.Outbox.made c.in-Ok.taker (label_of (params_asked c.args.params) (h.hosted l.state)) l.lane)
+    (sym c.self.view_is) c.in-Ok.ensures.outbox in
     let items : c.push_reserved.new.self.items ≡ senders =
     c.push_reserved.ensures.items
-    ∙ (λ k. c.try_reserve.ensures.items k ++ (own.number k, (c.new.ensures ∙ sender) k) ∷ []) in
-    let receives =
-    subst (λ l. c.in-Ok.receiver
-    ≡ new_receiver c.in-Ok.sender.lane_id (label_of (params_asked c.args.params) (h.hosted l.state)))
-    (sym c.self.view_is) c.in-Ok.ensures.receiver in
-    subst (λ l. Begins h.hosted h.with_hosted c.args.params l c.in-Ok-open_feed.id.number c.in-Ok.receiver
+    ∙ (λ k. c.try_reserve.ensures.items k ++ (own.number k, made k) ∷ []) in
+    let taker : g.K.Outbox.takes c.in-Ok.taker (label_of (params_asked c.args.params) (h.hosted s)) =
+    subst (λ l. g.K.Outbox.takes c.in-Ok.taker (label_of (params_asked c.args.params) (h.hosted l.state)))
+    (sym c.self.view_is) c.in-Ok.ensures.taker in
+    subst (λ l. Begins h.hosted h.with_hosted g.K.Outbox.made g.K.Outbox.takes c.args.params l
+    c.in-Ok-open_feed.id.number c.in-Ok.taker
     (record {
       state = c.open_feed.new.self;
       senders = c.push_reserved.new.self.items;
       lane = c.self.inside.lane;
     })) c.self.view_is
     (record {
-      opens = record {
-        free = own.free;
-        fresh = own.new;
-        next = own.number;
-        label = ap (λ (r : ReceiverState _ _). r.label) receives;
-        none = ap (λ (r : ReceiverState _ _). r.taken) receives;
-      };
+      free = own.free;
+      fresh = own.new;
+      next = own.number;
+      taker = taker;
       step = λ k. record { state = own.ok k; senders = items k; lane = c.self.inside.lane };
     })

@@ -13,8 +13,10 @@ invariant_of-self g c =
     let id = c.args.feed.number in
     let senders = c.self.inside.subscribers.items in (
       c.self.invariant.0,
-      subst (λ s. AreSendersOf (h.fits s) (h.hosted s) senders) (sym c.expire.ensures)
-          (expires h.hosted h.with_hosted h.fits h.right laws.hosts laws.rightly laws.stays
+      subst (λ s. AreSendersOf g.K.Outbox.label g.K.Outbox.items (h.fits s) (h.hosted s) senders)
+          (sym c.expire.ensures)
+          (expires g.K.Outbox.label g.K.Outbox.items h.hosted h.with_hosted h.fits h.right laws.hosts
+          laws.rightly laws.stays
           s id senders c.self.invariant.1 laws.expired_fits),
       book_kept h.hosted h.with_hosted laws.hosts g.C.Count.counts (g.C.Count.total c.self.inside.book)
           s c.expire.new.self (expired (h.hosted s) id) c.expire.ensures c.self.invariant.2,

@@ -15,9 +15,12 @@ invariant_of-self g c =
     let senders = c.self.inside.subscribers.items in
     let id = c.args.feed.number in (
       c.self.invariant.0,
-      subst (λ xs. AreSendersOf (h.fits new) (h.hosted new) xs) (sym c.remove.ensures.senders)
-          (subst (λ s. AreSendersOf (h.fits s) (h.hosted s) (without id senders)) (sym c.finish.ensures)
-          (finishes h.hosted h.with_hosted h.fits h.right laws.hosts laws.rightly laws.stays
+      subst (λ xs. AreSendersOf g.K.Outbox.label g.K.Outbox.items (h.fits new) (h.hosted new) xs)
+          (sym c.remove.ensures.others)
+          (subst (λ s. AreSendersOf g.K.Outbox.label g.K.Outbox.items (h.fits s) (h.hosted s)
+          (without id senders)) (sym c.finish.ensures)
+          (finishes g.K.Outbox.label g.K.Outbox.items h.hosted h.with_hosted h.fits h.right laws.hosts
+          laws.rightly laws.stays
           s id senders c.self.invariant.1)),
       book_kept h.hosted h.with_hosted laws.hosts g.C.Count.counts (g.C.Count.total c.self.inside.book)
           s new (finished (h.hosted s) id) c.finish.ensures c.self.invariant.2,

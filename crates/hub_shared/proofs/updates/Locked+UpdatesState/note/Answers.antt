@@ -17,15 +17,17 @@ invariant_of-self c =
       c.self.invariant.0,
       either_way c.note.result c.note.ensures.ok c.note.ensures.err
           (λ ok. subst (λ (log : Updates).
-          AreSendersOf (λ f items. IsFitting log.notes f items) (hosted_of log) senders) (sym ok) (record {
+          AreSendersOf (λ s. s.label) (λ s. s.sent) (λ f items. IsFitting log.notes f items) (hosted_of log)
+          senders) (sym ok) (record {
             rising = d.rising;
             given = d.given;
-            each = λ n. stays_served (λ f items. IsFitting old.notes f items)
+            each = λ n. stays_served (λ s. s.label) (λ s. s.sent) (λ f items. IsFitting old.notes f items)
                 (λ f items. IsFitting (old.notes ++ c.args.notice ∷ []) f items)
                 (fitting_noted old.notes c.args.notice) (entry_in n old.feeds)
                 (entry_in n senders) (d.each n);
           }))
           (λ e err. subst (λ (log : Updates).
-          AreSendersOf (λ f items. IsFitting log.notes f items) (hosted_of log) senders) (sym err.1) d),
+          AreSendersOf (λ s. s.label) (λ s. s.sent) (λ f items. IsFitting log.notes f items) (hosted_of log)
+          senders) (sym err.1) d),
       counts_nothing (length new.notes),
     )

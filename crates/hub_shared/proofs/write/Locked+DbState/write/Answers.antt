@@ -9,7 +9,8 @@ invariant_of-self c =
     let old : Database = c.self.inside.state in
     let new : Database = c.store.new.state in (
       c.self.invariant.0,
-      still_served c.args.new_edits c.args.docs.items old new c.self.inside.subscribers.items c.store.result
+      still_served (λ s. s.label) (λ s. s.sent) c.args.new_edits c.args.docs.items old new
+          c.self.inside.subscribers.items c.store.result
           c.store.ensures.ok c.store.ensures.err c.self.invariant.1,
       counts_nothing (length new.journal),
     )

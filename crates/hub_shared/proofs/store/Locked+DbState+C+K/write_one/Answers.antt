@@ -5,7 +5,7 @@ use Rattle.hub_shared.specs.Edits.{IsEditAnswer}
 use Rattle.hub_shared.specs.Handles.{HandleState, IsEditedBy}
 use Rattle.hub_shared.specs.Stored.{Adds}
 use Rattle.hub_shared.proofs.Editing.{amount_within, book_added, senders_added}
-use Rattle.hub_shared.proofs.store.Locked+DbState+C.write_one.Goals as goal
+use Rattle.hub_shared.proofs.store.Locked+DbState+C+K.write_one.Goals as goal
 
 pub invariant_of-self-2 : goal.invariant_of-self-2
 invariant_of-self-2 g c =
@@ -13,7 +13,8 @@ invariant_of-self-2 g c =
     let new : Database = c.make_one.new.state in
     let counted = c.add-rise.ensures in (
       c.self.invariant.0,
-      senders_added 1 old new c.self.inside.subscribers.items c.in_ok-rev.ensures.adds c.self.invariant.1,
+      senders_added g.K.Outbox.label g.K.Outbox.items 1 old new c.self.inside.subscribers.items
+          c.in_ok-rev.ensures.adds c.self.invariant.1,
       book_added g.C.Count.counts (g.C.Count.total c.self.inside.book) (g.C.Count.total c.add-rise.new.book)
           c.add-rise.result 1 old new c.in_ok-rev.ensures.adds c.self.invariant.2 counted.most counted.counted
           counted.total,

@@ -4,7 +4,7 @@ use Rattle.hub_shared.specs.Locked.{IsBookOf}
 use Rattle.hub_shared.specs.Writes.{Stores}
 use Rattle.hub_shared.proofs.Booking.{book_grows}
 use Rattle.hub_shared.proofs.Writing.{stored_served, written_by}
-use Rattle.hub_shared.proofs.write.Locked+DbState+C.write_counted.Goals as goal
+use Rattle.hub_shared.proofs.write.Locked+DbState+C+K.write_counted.Goals as goal
 
 pub invariant_of-self-2 : goal.invariant_of-self-2
 invariant_of-self-2 g c =
@@ -23,7 +23,8 @@ invariant_of-self-2 g c =
     book_grows counts total rise more (length old.journal) c.self.invariant.2 most
     (λ counted. c.add-rise.ensures.counted counted ∙ count) in (
       c.self.invariant.0,
-      stored_served c.args.new_edits c.args.docs.items old new c.self.inside.subscribers.items a done
+      stored_served g.K.Outbox.label g.K.Outbox.items c.args.new_edits c.args.docs.items old new
+          c.self.inside.subscribers.items a done
           c.self.invariant.1,
       subst (λ (z : ℕ × ℕ). IsBookOf counts z.0 z.1)
           (λ k. (sym c.add-rise.ensures.total k, sym done.longer k)) grown,

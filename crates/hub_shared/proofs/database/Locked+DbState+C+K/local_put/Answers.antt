@@ -4,7 +4,7 @@ use Rattle.hub_database.specs.Handing.{IsFitting}
 use Rattle.hub_database.specs.Hosting.{hosted_of}
 use Rattle.hub_shared.specs.Locked.{AreSendersOf, IsBookOf}
 use Rattle.hub_shared.proofs.Outcomes.{either}
-use Rattle.hub_shared.proofs.database.Locked+DbState+C.local_put.Goals as goal
+use Rattle.hub_shared.proofs.database.Locked+DbState+C+K.local_put.Goals as goal
 
 -- local documents change neither the journal nor the feeds
 pub invariant_of-self : goal.invariant_of-self
@@ -13,7 +13,8 @@ invariant_of-self g c =
     let counts = g.C.Count.counts in
     let total = g.C.Count.total c.self.inside.book in
     let Holds : Database → Type 0 = λ db.
-    AreSendersOf (λ f items. IsFitting db.journal f items) (hosted_of db) senders
+    AreSendersOf g.K.Outbox.label g.K.Outbox.items (λ f items. IsFitting db.journal f items) (hosted_of db)
+    senders
     × IsBookOf counts total (length db.journal) in
     let kept : Holds c.self.inside.state = (c.self.invariant.1, c.self.invariant.2) in
     let holds =

@@ -4,10 +4,10 @@ use Rattle.hub_params.specs.FeedModel.{params_in}
 use Rattle.hub_params.specs.FeedShown.{params_asked}
 use Rattle.hub_shared.specs.Label.{Label, label_of}
 use Rattle.hub_shared.proofs.Sending.{nothing_allowed}
-use Rattle.hub_shared.proofs.locked.Locked.ends_for.Goals as goal
+use Rattle.hub_shared.proofs.locked.Locked.open_outbox.Goals as goal
 
-pub new-requires-clause-allowed : goal.new-requires-clause-allowed
-new-requires-clause-allowed g c =
+pub open-requires-clause-allowed : goal.open-requires-clause-allowed
+open-requires-clause-allowed g c =
     let h = g.S.FeedHost in
     let laws = g.met.S.FeedHost in
     let s = c.self.inside.state in
@@ -21,5 +21,6 @@ new-requires-clause-allowed g c =
       life = c.life-life.ensures k;
     }) in
     subst (λ (l : Label). h.right (params_in l.asked) l.since []) (sym label)
-    (nothing_allowed h.hosted h.with_hosted h.fits h.right laws.hosts laws.rightly laws.stays
+    (nothing_allowed g.K.Outbox.label g.K.Outbox.items h.hosted h.with_hosted h.fits h.right laws.hosts
+    laws.rightly laws.stays
     s c.args.params.now c.length.ensures.begins)

@@ -5,7 +5,7 @@ use Rattle.hub_database.specs.Hosting.{hosted_of}
 use Rattle.hub_shared.specs.Locked.{AreSendersOf, IsBookOf}
 use Rattle.hub_shared.proofs.Outcomes.{either_way}
 use Rattle.hub_shared.proofs.Storing.{senders_end}
-use Rattle.hub_shared.proofs.database.Locked+DbState+C.delete.Goals as goal
+use Rattle.hub_shared.proofs.database.Locked+DbState+C+K.delete.Goals as goal
 
 pub invariant_of-self : goal.invariant_of-self
 invariant_of-self g c =
@@ -18,10 +18,12 @@ invariant_of-self g c =
       c.self.invariant.0,
       either_way c.delete.result c.delete.ensures.ok c.delete.ensures.err
           (λ ok. subst (λ (db : Database).
-          AreSendersOf (λ f items. IsFitting db.journal f items) (hosted_of db) senders)
-          (sym ok.1) (senders_end old senders d))
+          AreSendersOf g.K.Outbox.label g.K.Outbox.items (λ f items. IsFitting db.journal f items)
+          (hosted_of db) senders)
+          (sym ok.1) (senders_end g.K.Outbox.label g.K.Outbox.items old senders d))
           (λ e err. subst (λ (db : Database).
-          AreSendersOf (λ f items. IsFitting db.journal f items) (hosted_of db) senders) (sym err.2) d),
+          AreSendersOf g.K.Outbox.label g.K.Outbox.items (λ f items. IsFitting db.journal f items)
+          (hosted_of db) senders) (sym err.2) d),
       either_way c.delete.result c.delete.ensures.ok c.delete.ensures.err
           (λ ok. subst (λ (db : Database). IsBookOf counts total (length db.journal)) (sym ok.1) book)
           (λ e err. subst (λ (db : Database). IsBookOf counts total (length db.journal)) (sym err.2) book),
