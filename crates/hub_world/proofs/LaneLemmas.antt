@@ -1,31 +1,37 @@
--- What is put into a lane, and taken from its front.
-use Rattle.std.proofs.Common.{◌≡◌, ℕ, ◌<◌, ◌≤◌, List, [], ◌∷◌, ◌++◌, length}
-use Rattle.std.proofs.Common.{drop, true, false, ap, refl, sym, arith}
-use Rattle.std.specs.Prelude.{Option, Some, None, slice_get}
-use Rattle.std.specs.Option.{option_to_list}
-use Rattle.std.proofs.lemmas.Bool.{lt-ltb, le-ltb}
-use Rattle.hub_model.specs.RightlyHanded.{ChangeItem}
+-- An item behind those of a lane.
+use Rattle.std.proofs.Common.{◌≡◌, ◌∙◌, ℕ, ◌+◌, ◌-◌, List, [], ◌∷◌, ◌++◌, length, refl, sym, ap, arith}
+use Rattle.std.specs.Prelude.{Option, Some, option_map, option_and_then, slice_get, unwrap_or}
+use Rattle.std.proofs.lemmas.List.{length_push}
+use Rattle.std.proofs.lemmas.Option.{slice_get_read}
+use Rattle.std.proofs.Math.Seq.{get_or-append_seam}
 use Rattle.hub_model.specs.Entries.{entry_in, changed}
-use Rattle.hub_world.specs.Lane.{Lanes, has_room, pushed_into}
+use Rattle.hub_model.specs.RightlyHanded.{ChangeItem}
+use Rattle.hub_model.proofs.Entries.{own_changed}
+use Rattle.hub_world.specs.Lane.{Lanes, back, held}
 
--- what is pushed into the lane of this number, and what is not
-module _ (limit number : ℕ) (item : ChangeItem) (lanes : Lanes) where
-  pub no_lane : entry_in number lanes ≡ None
-      → (false ≡ has_room limit number lanes) × (lanes ≡ pushed_into limit number item lanes)
-  no_lane none = rw none (refl, refl)
+-- it is the last
+last_is : (items : List ChangeItem) (item : ChangeItem)
+    → slice_get (items ++ item ∷ []) (length (items ++ item ∷ []) - 1) ≡ Some item
+last_is items item =
+    let long : length (items ++ item ∷ []) ≡ length items + 1 = length_push items item in
+    let at : length (items ++ item ∷ []) - 1 ≡ length items = omega (arith, long) in
+    ap (slice_get (items ++ item ∷ [])) at
+    ∙ slice_get_read (items ++ item ∷ []) (length (items ++ item ∷ [])) (length items) item refl
+    (omega (arith, long)) (sym (get_or-append_seam items item [] item))
 
-  pub is_full : (items : List ChangeItem) → entry_in number lanes ≡ Some items → limit ≤ length items
-      → (false ≡ has_room limit number lanes) × (lanes ≡ pushed_into limit number item lanes)
-  is_full items holds full = rw (holds, le-ltb (length items) limit full) (refl, refl)
-
-  pub has_place : (items : List ChangeItem) → entry_in number lanes ≡ Some items → length items < limit
-      → (true ≡ has_room limit number lanes)
-      × (changed number (λ items. items ++ item ∷ []) lanes ≡ pushed_into limit number item lanes)
-  has_place items holds less = rw (holds, lt-ltb (length items) limit less) (refl, refl)
-
--- what stands at the front, where it is taken
-pub front_of : {X : Type 0} (old new : List X) (taken : Option X) → old ≡ option_to_list taken ++ new
-    → new ≡ drop 1 old → taken ≡ slice_get old 0
-front_of {X = X} old new (Some x) e rest = ap (λ (xs : List X). slice_get xs 0) (sym e)
-front_of [] new None e rest = refl
-front_of (x ∷ old) new None e rest = absurd (omega (arith, ap length e, ap length rest))
+pub pushed_back : (number : ℕ) (item : ChangeItem) (lanes : Lanes) (items : List ChangeItem)
+    → entry_in number lanes ≡ Some items
+    → (back number (changed number (λ (xs : List ChangeItem). xs ++ item ∷ []) lanes) ≡ Some item)
+    × (length (held number (changed number (λ (xs : List ChangeItem). xs ++ item ∷ []) lanes))
+    ≡ length (held number lanes) + 1)
+pushed_back number item lanes items is =
+    let entry : entry_in number (changed number (λ (xs : List ChangeItem). xs ++ item ∷ []) lanes)
+    ≡ Some (items ++ item ∷ []) =
+    own_changed number (λ (xs : List ChangeItem). xs ++ item ∷ []) lanes
+    ∙ ap (option_map (λ (xs : List ChangeItem). xs ++ item ∷ [])) is in (
+      ap (option_and_then (λ (xs : List ChangeItem). slice_get xs (length xs - 1))) entry ∙ last_is items
+          item,
+      ap (λ (o : Option (List ChangeItem)). length (unwrap_or o [])) entry
+          ∙ (length_push items item
+          ∙ ap (λ (o : Option (List ChangeItem)). length (unwrap_or o []) + 1) (sym is)),
+    )

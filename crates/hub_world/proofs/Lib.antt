@@ -9,5 +9,7 @@ pub mod LaneLemmas
 pub mod StandingLists
 pub mod Standing
 pub mod Stepping
+pub mod Held
 pub mod Growing
+pub mod Programs
 pub mod Running

@@ -1,9 +1,8 @@
 -- Each change of a core is a step of the worlds that it shows.
-use Rattle.std.proofs.Common.{◌≡◌, ◌∙◌, ℕ, List, [], ◌∷◌, ◌++◌, true, false}
+use Rattle.std.proofs.Common.{◌≡◌, ◌∙◌, ℕ, ◌<◌, ◌≤◌, List, [], ◌∷◌, ◌++◌, true, false}
 use Rattle.std.proofs.Common.{map, length, refl, sym, ap, subst, arith}
 use Rattle.std.specs.Prelude.{Option, Some, None, Bool, ◌&&◌, nat_le, slice_get}
 use Rattle.std.specs.Prelude.{drop, unwrap_or, option_and_then, if◌then◌else◌}
-use Rattle.std.proofs.lemmas.Bool.{ltb-true, ltb-false}
 use Rattle.std.proofs.lemmas.Option.{none-some}
 use Rattle.hub_model.specs.Current.{Current, current}
 use Rattle.hub_model.specs.Feed.{Feed, Status, Open, Ending, Ended, Finished, Due}
@@ -41,8 +40,7 @@ use Rattle.hub_world.specs.declared.event.Event.TheVariants.{Expire, Take, Finis
 use Rattle.hub_world.specs.declared.reply.Reply.{Reply}
 use Rattle.hub_world.specs.declared.reply.Reply.TheVariants.{Outcomes, Opened, TooManyFeeds}
 use Rattle.hub_world.specs.declared.reply.Reply.TheVariants.{Pushed, Full, Nothing, Gone, Took, Left}
-use Rattle.hub_world.specs.Lane.{has_room, takes_more, front, without_front, held}
-use Rattle.hub_world.specs.Lane as lane
+use Rattle.hub_world.specs.Lane.{front, without_front, held}
 use Rattle.hub_world.specs.Step.{Step, whole_batch}
 use Rattle.hub_world.specs.World.{World, Limits, Subscription, subscription, with_subscription}
 use Rattle.hub_world.specs.World.{is_finished, feed_of, lane_of, merged, drafted, pushed, expired, took}
@@ -178,17 +176,18 @@ goes_on f DueNothing len u = u
 goes_on f DueGone len u = u
 
 -- the feed that has something due
-due_feed : (J : List Edit) (o : Option Feed) (item : ChangeItem)
+pub due_feed : (J : List Edit) (o : Option Feed) (item : ChangeItem)
     → option_and_then (change_due J) o ≡ Some item → (f : Feed) × (o ≡ Some f) × (change_due J f ≡ Some item)
 due_feed J None item e = absurd (none-some item e)
 due_feed J (Some f) item e = (f, refl, e)
 
 module _ (c : Core) (f : ℕ) (item : ChangeItem) (ready : feeds.item_due (hosted_of c.db) f ≡ Some item)
     (w : World) (h : Shows c w) where
-  found : (feed : Feed) × (entry_in f c.db.feeds ≡ Some feed) × (change_due c.db.journal feed ≡ Some item)
+  abbrev pub found : (feed : Feed) × (entry_in f c.db.feeds ≡ Some feed) ×
+      (change_due c.db.journal feed ≡ Some item)
   found = due_feed c.db.journal (entry_in f c.db.feeds) item ready
 
-  abbrev at : (s : Subscription) × (subscription w f ≡ Some s) × (s.feed ≡ found.0)
+  abbrev pub at : (s : Subscription) × (subscription w f ≡ Some s) × (s.feed ≡ found.0)
       × (is_finished s.feed.status ≡ false) × (entry_in f c.lanes ≡ Some s.lane)
   at = feed_found c w f found.0 h found.1
 
@@ -196,42 +195,68 @@ module _ (c : Core) (f : ℕ) (item : ChangeItem) (ready : feeds.item_due (hoste
   due_here =
       ap (λ (J : List Edit). change_due J at.0.feed) h.journal ∙ (ap (change_due c.db.journal) at.2 ∙ found.2)
 
-  room_here : takes_more c.db.limits.lane (Some at.0.lane) ≡ has_room c.db.limits.lane f c.lanes
-  room_here = ap (takes_more c.db.limits.lane) (sym at.4)
-
 lane_limit : (c : Core) (w : World) → Shows c w → w.limits.lane ≡ c.db.limits.lane
 lane_limit c w h = ap (λ (l : Limits). l.lane) h.limits
 
+-- the lane to whose feed it is due
+pub due_lane : (c : Core) (f : ℕ) (item : ChangeItem) → feeds.item_due (hosted_of c.db) f ≡ Some item
+    → (w : World) → Shows c w → (items : List ChangeItem) × (entry_in f c.lanes ≡ Some items)
+due_lane c f item ready w h = let s = at c f item ready w h in (s.0.lane, s.4)
+
+-- what a lane holds that is found
+held_is : (c : Core) (f : ℕ) (items : List ChangeItem) → entry_in f c.lanes ≡ Some items
+    → length (held f c.lanes) ≡ length items
+held_is c f items is = ap (λ (o : Option (List ChangeItem)). length (unwrap_or o [])) is
+
+-- a feed with its lane once the item that was due to it was handed
+abbrev pub handed_over : World → Subscription → ChangeItem → Subscription
+handed_over w s item = pushed s (after_due s.feed (due_in w.journal s.feed) (length w.journal)) item
+
+-- the world once an item was handed
+pub hand_shows : (c : Core) (id : FeedId) (item : ChangeItem)
+    (ready : feeds.item_due (hosted_of c.db) id.number ≡ Some item) (w : World) (h : Shows c w)
+    → Shows (record {
+      db = with_hosted c.db (feeds.handed (hosted_of c.db) id.number);
+      lanes = changed id.number (λ items. items ++ item ∷ []) c.lanes;
+    }) (with_subscription w id.number (handed_over w (at c id.number item ready w h).0 item))
+hand_shows c id item ready w h =
+    let s = at c id.number item ready w h in
+    entry_changed c w id.number
+    (λ g. after_due g (due_in c.db.journal g) (length c.db.journal)) (λ items. items ++ item ∷ []) s.0
+    (handed_over w s.0 item) h s.1 s.3
+    (goes_on s.0.feed (due_in w.journal s.0.feed) (length w.journal) s.3)
+    (ap (λ (J : List Edit). after_due s.0.feed (due_in J s.0.feed) (length J)) (sym h.journal)) refl
+
 pub hand_pushed : (c : Core) (id : FeedId) (item : ChangeItem)
     → feeds.item_due (hosted_of c.db) id.number ≡ Some item
-    → has_room c.db.limits.lane id.number c.lanes ≡ true
+    → length (held id.number c.lanes) < c.db.limits.lane
     → Leads c (Hand id) (Pushed item)
     (record {
       db = with_hosted c.db (feeds.handed (hosted_of c.db) id.number);
-      lanes = lane.pushed_into c.db.limits.lane id.number item c.lanes;
+      lanes = changed id.number (λ items. items ++ item ∷ []) c.lanes;
     })
 hand_pushed c id item ready room w h =
     let s = at c id.number item ready w h in
-    let free = ltb-true (length s.0.lane) c.db.limits.lane (room_here c id.number item ready w h ∙ room) in
-    let shown =
-    entry_changed c w id.number
-    (λ g. after_due g (due_in c.db.journal g) (length c.db.journal)) (λ items. items ++ item ∷ []) s.0
-    (pushed s.0 (after_due s.0.feed (due_in w.journal s.0.feed) (length w.journal)) item) h s.1 s.3
-    (goes_on s.0.feed (due_in w.journal s.0.feed) (length w.journal) s.3)
-    (ap (λ (J : List Edit). after_due s.0.feed (due_in J s.0.feed) (length J)) (sym h.journal)) refl in (
+    let holds = held_is c id.number s.0.lane s.4 in (
       _,
-      (s.0, s.1, due_here c id.number item ready w h, (omega (arith, free, lane_limit c w h), refl)),
-      rw room shown,
+      (s.0, s.1, due_here c id.number item ready w h, (omega (arith, room, holds, lane_limit c w h), refl)),
+      hand_shows c id item ready w h,
     )
 
 pub hand_full : (c : Core) (id : FeedId) (item : ChangeItem)
     → feeds.item_due (hosted_of c.db) id.number ≡ Some item
-    → has_room c.db.limits.lane id.number c.lanes ≡ false → Leads c (Hand id) Full c
-hand_full c id item ready room w h =
+    → c.db.limits.lane ≤ length (held id.number c.lanes) → Leads c (Hand id) Full c
+hand_full c id item ready full w h =
     let s = at c id.number item ready w h in
-    let full = ltb-false (length s.0.lane) c.db.limits.lane (room_here c id.number item ready w h ∙ room) in (
+    let holds = held_is c id.number s.0.lane s.4 in (
       w,
-      (s.0, s.1, (item, due_here c id.number item ready w h), omega (arith, full, lane_limit c w h), refl),
+      (
+        s.0,
+        s.1,
+        (item, due_here c id.number item ready w h),
+        omega (arith, full, holds, lane_limit c w h),
+        refl,
+      ),
       h,
     )
 
@@ -331,41 +356,65 @@ hand_gone c id e w h = from (entry_in id.number c.db.feeds) refl
 
 -- ---- heartbeats
 
-beating : (o : Option Feed) → feeds.is_beat_due o ≡ true → (f : Feed) × (o ≡ Some f) × (beat_due f ≡ true)
+pub beating : (o : Option Feed) → feeds.is_beat_due o ≡ true → (f : Feed) × (o ≡ Some f) × (beat_due f ≡ true)
 beating None e = absurd (cc)
 beating (Some f) e = (f, refl, e)
 
-pub beat_pushed : (c : Core) (id : FeedId) → feeds.is_beat_due (entry_in id.number c.db.feeds) ≡ true
-    → has_room c.db.limits.lane id.number c.lanes ≡ true
-    → Leads c (Heartbeat id) (Pushed Beat)
-    (record c { lanes = lane.pushed_into c.db.limits.lane id.number Beat c.lanes })
-beat_pushed c id beats room w h =
-    let b = beating (entry_in id.number c.db.feeds) beats in
-    let s = feed_found c w id.number b.0 h b.1 in
-    let free =
-    ltb-true (length s.0.lane) c.db.limits.lane (ap (takes_more c.db.limits.lane) (sym s.4) ∙ room) in
+-- the lane of its feed
+pub beat_lane : (c : Core) (f : ℕ) → feeds.is_beat_due (entry_in f c.db.feeds) ≡ true → (w : World)
+    → Shows c w → (items : List ChangeItem) × (entry_in f c.lanes ≡ Some items)
+beat_lane c f beats w h =
+    let b = beating (entry_in f c.db.feeds) beats in
+    let s = feed_found c w f b.0 h b.1 in
+    (s.0.lane, s.4)
+
+-- the feed that it is due to
+abbrev pub beaten : (c : Core) (f : ℕ) → feeds.is_beat_due (entry_in f c.db.feeds) ≡ true → (w : World)
+    → Shows c w
+    → (s : Subscription) × (subscription w f ≡ Some s) × (beat_due s.feed ≡ true)
+    × (is_finished s.feed.status ≡ false) × (entry_in f c.lanes ≡ Some s.lane)
+beaten c f beats w h =
+    let b = beating (entry_in f c.db.feeds) beats in
+    let s = feed_found c w f b.0 h b.1 in
+    (s.0, s.1, ap beat_due s.2 ∙ b.2, s.3, s.4)
+
+-- the world once it was handed
+pub beat_shows : (c : Core) (id : FeedId) (beats : feeds.is_beat_due (entry_in id.number c.db.feeds) ≡ true)
+    (w : World) (h : Shows c w)
+    → Shows (record c { lanes = changed id.number (λ items. items ++ Beat ∷ []) c.lanes })
+    (with_subscription w id.number
+    (pushed (beaten c id.number beats w h).0 (beaten c id.number beats w h).0.feed Beat))
+beat_shows c id beats w h =
+    let s = beaten c id.number beats w h in
     let shown =
     entry_changed c w id.number (λ g. g) (λ items. items ++ Beat ∷ []) s.0
-    (pushed s.0 s.0.feed Beat) h s.1 s.3 s.3 refl refl in (
+    (pushed s.0 s.0.feed Beat) h s.1 s.3 s.3 refl refl in
+    subst (λ fs. Shows (record {
+      db = record c.db { feeds = fs };
+      lanes = changed id.number (λ items. items ++ Beat ∷ []) c.lanes;
+    })
+    (with_subscription w id.number (pushed s.0 s.0.feed Beat)))
+    (changed_same id.number c.db.feeds) shown
+
+pub beat_pushed : (c : Core) (id : FeedId) → feeds.is_beat_due (entry_in id.number c.db.feeds) ≡ true
+    → length (held id.number c.lanes) < c.db.limits.lane
+    → Leads c (Heartbeat id) (Pushed Beat)
+    (record c { lanes = changed id.number (λ items. items ++ Beat ∷ []) c.lanes })
+beat_pushed c id beats room w h =
+    let s = beaten c id.number beats w h in
+    let holds = held_is c id.number s.0.lane s.4 in (
       _,
-      (s.0, s.1, ap beat_due s.2 ∙ b.2, refl, (omega (arith, free, lane_limit c w h), refl)),
-      rw room
-          (subst (λ fs. Shows (record {
-            db = record c.db { feeds = fs };
-            lanes = changed id.number (λ items. items ++ Beat ∷ []) c.lanes;
-          })
-          (with_subscription w id.number (pushed s.0 s.0.feed Beat)))
-          (changed_same id.number c.db.feeds) shown),
+      (s.0, s.1, s.2, refl, (omega (arith, room, holds, lane_limit c w h), refl)),
+      beat_shows c id beats w h,
     )
 
 pub beat_full : (c : Core) (id : FeedId) → feeds.is_beat_due (entry_in id.number c.db.feeds) ≡ true
-    → has_room c.db.limits.lane id.number c.lanes ≡ false → Leads c (Heartbeat id) Full c
-beat_full c id beats room w h =
+    → c.db.limits.lane ≤ length (held id.number c.lanes) → Leads c (Heartbeat id) Full c
+beat_full c id beats full w h =
     let b = beating (entry_in id.number c.db.feeds) beats in
     let s = feed_found c w id.number b.0 h b.1 in
-    let full =
-    ltb-false (length s.0.lane) c.db.limits.lane (ap (takes_more c.db.limits.lane) (sym s.4) ∙ room) in
-    (w, (s.0, s.1, ap beat_due s.2 ∙ b.2, omega (arith, full, lane_limit c w h), refl), h)
+    let holds = held_is c id.number s.0.lane s.4 in
+    (w, (s.0, s.1, ap beat_due s.2 ∙ b.2, omega (arith, full, holds, lane_limit c w h), refl), h)
 
 pub beat_nothing : (c : Core) (id : FeedId) → feeds.is_beat_due (entry_in id.number c.db.feeds) ≡ false
     → Leads c (Heartbeat id) Nothing c
@@ -472,8 +521,3 @@ to_same old new now event reply e l = subst (λ c. Leads old event reply c) e l
 pub still_shows : (old new : Core) (event : Event) (reply : Reply) → (w : World) × Shows old w
     → Leads old event reply new → (w : World) × Shows new w
 still_shows old new event reply x l = let s = l x.0 x.1 in (s.0, s.2)
-
--- a lane without room stays
-pub unpushed : (limit f : ℕ) (item : ChangeItem) (lanes : lane.Lanes) → has_room limit f lanes ≡ false
-    → lane.pushed_into limit f item lanes ≡ lanes
-unpushed limit f item lanes e = rw e refl

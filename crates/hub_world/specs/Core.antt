@@ -1,16 +1,26 @@
--- The core as a program keeps it, and the world that it shows: its finished feeds are dropped, and stay in
--- the world (own).
+-- The core of what a program keeps under a lock, and the world that it shows: its finished feeds are dropped,
+-- and stay in the world (own).
 use Rattle.std.specs.Prelude.{◌≡◌, ℕ, ◌+◌, List, [], ◌∷◌, length, map, true, All, if◌then◌else◌}
 use Rattle.hub_document.specs.declared.limits.Limits as hub
 use Rattle.hub_database.specs.Database.{Database}
 use Rattle.hub_model.specs.Feed.{Feed}
 use Rattle.hub_model.specs.RightlyHanded.{ChangeItem}
+use Rattle.hub_shared.specs.Locked.{LockedState}
+use Rattle.hub_world.specs.PlainList.{ListState}
 use Rattle.hub_world.specs.World.{World, Limits, Subscription, is_finished}
 
 -- a database, and the lanes of its feeds by their numbers
 pub record Core : Type 0 where
   pub db : Database
   pub lanes : List (ℕ × List ChangeItem)
+
+-- the lane that a numbered outbox is, with its number
+abbrev pub held_entry : ℕ × ListState → ℕ × List ChangeItem
+held_entry p = (p.0, p.1.held)
+
+-- the core of what lies under a lock
+abbrev pub core_of : LockedState Database ListState → Core
+core_of l = record { db = l.state; lanes = map held_entry l.senders }
 
 -- the limits that count here
 abbrev pub limits_of : hub.Limits → Limits
@@ -50,3 +60,10 @@ pub record Shows (c : Core) (w : World) : Type 0 where
   pub feeds : map feed_entry (standing w) ≡ c.db.feeds
   pub lanes : map lane_entry (standing w) ≡ c.lanes
   pub emptied : All IsEmptied w.feeds
+
+-- What lies under a lock shows some world, and each of its lanes holds as many items as its limits say. With
+-- a limit of 64 that is the capacity of each lane, and of those that come.
+pub record IsWorld (l : LockedState Database ListState) : Type 0 where
+  pub lane : l.lane ≡ l.state.limits.lane
+  pub room : All (λ (p : ℕ × ListState). p.1.capacity ≡ l.lane) l.senders
+  pub shown : (w : World) × Shows (core_of l) w

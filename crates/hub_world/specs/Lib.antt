@@ -6,5 +6,6 @@ pub mod Headline
 pub mod Worked
 pub mod Core
 pub mod Lane
+pub mod PlainList
 pub mod Applied
 pub mod Growth

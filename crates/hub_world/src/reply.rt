@@ -3,12 +3,14 @@
 ghost use Rattle.std.specs.Prelude.{◌≡◌};
 ghost use Rattle.hub_world.specs.Applied.{is_stopped};
 
-use crate::shared_item::{SharedItem, SharedItems};
+use crate::items::{Items, ToldItem};
 use hub_database::Batch;
+use hub_document::ChangeRow;
 use hub_feed::FeedId;
+use hub_model::Item;
 
 /// A reply to an event.
-#[derive(Debug, Drop)]
+#[derive(Drop)]
 pub enum Reply {
     /// What became of each document, in order; where the batch stopped, of those before the stop.
     Outcomes(Batch),
@@ -18,8 +20,8 @@ pub enum Reply {
     TooManyFeeds,
     /// The database was deleted before.
     DatabaseDeleted,
-    /// This item is now the last of the lane.
-    Pushed(SharedItem),
+    /// This item is now the last of the lane. Contracts know it, and who takes it sees it.
+    Pushed(ToldItem),
     /// The lane has no room for what is due.
     Full,
     /// There was nothing to do, or nothing to tell.
@@ -27,9 +29,9 @@ pub enum Reply {
     /// The feed will hand nothing more.
     Gone,
     /// This item was the front of the lane; none where it was empty.
-    Took(Option<SharedItem>),
+    Took(Option<Item<ChangeRow>>),
     /// What was handed and never taken, the front first.
-    Left(SharedItems),
+    Left(Items),
 }
 
 impl Reply {

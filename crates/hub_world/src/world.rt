@@ -1,64 +1,63 @@
-//! A database with its feeds and their lanes, as one machine.
+//! A database with its feeds and their lanes, as one machine: what the program keeps under a lock, in one
+//! thread.
 
-ghost use Rattle.std.specs.Prelude.{◌≡◌, ◌<◌, Some, length, IfOk, OnErr};
+ghost use Rattle.std.specs.Prelude.{◌≡◌, ◌<◌, ◌≤◌, Some, IsSome, length, IfOk, OnErr};
 ghost use Rattle.hub_world.specs.Applied.{Answers, Applies, CoreStep};
 ghost use Rattle.hub_world.specs.Core.{Shows, limits_of};
 ghost use Rattle.hub_world.specs.Growth.{MayFail};
 ghost use Rattle.hub_world.specs.Headline.{AreFaithful, AreRight};
+ghost use Rattle.hub_world.specs.Lane.{back, held};
+ghost use Rattle.hub_world.specs.PlainList.{held_of};
 ghost use Rattle.hub_world.specs.Step.{Run};
 ghost use Rattle.hub_world.specs.World.{World as Shown, empty};
-ghost use Rattle.hub_database.specs.Hosting.{hosted_of};
-ghost use Rattle.hub_feed.specs.Host.{item_due};
 
 use crate::docs::Docs;
 use crate::event::Event;
-use crate::lane::{self, Lane};
+use crate::items::{Items, ToldItem};
+use crate::plain_list::{Directly, PlainList};
 use crate::reply::Reply;
-use crate::shared_item::SharedItems;
 use hub_database::DbState;
 use hub_document::{ChangeRow, Limits};
-use hub_feed::{FeedId, Next};
+use hub_feed::{FeedId, OpenFault};
 use hub_model::Item;
 use hub_params::FeedParams;
+use hub_shared::{Handed, Locked, NoCount, Plain};
 use std::alloc::{AllocError, Global};
+use std::collections::VecDeque;
 use std::marker::Model;
 
-/// A database with its feeds and their lanes. Every event is one call, so that a list of events is
-/// an interleaving of whatever makes them.
-#[derive(Debug)]
+/// A database with its feeds and their lanes: the very `Locked` of the program, over lanes that are plain
+/// lists. Every event is one call of it, so that a list of events is an interleaving of whatever makes
+/// them.
 pub struct World {
-    db: DbState,
-    /// The lanes of the feeds that are not finished.
-    lanes: Vec<Lane>,
-    /// How many items a lane holds at most.
-    lane: u64,
+    locked: Locked<DbState, Plain, PlainList>,
     alloc: Global,
 }
 
 impl Drop for World {
     fn drop(self) {
-        let Self {
-            db,
-            lanes,
-            lane,
-            alloc,
-        } = self;
+        let Self { locked, alloc } = self;
     }
 }
 
 impl Model for World {
-    ghost use Rattle.hub_world.specs.Core.{Core};
+    ghost use Rattle.hub_world.specs.Core.{Core, core_of, IsWorld};
 
     ghost Value = { Core };
 
-    ghost use Rattle.std.specs.Prelude.{◌≡◌};
-    ghost use Rattle.hub_world.specs.Core.{Shows};
-    ghost use Rattle.hub_world.specs.World.{World as Shown};
+    ghost view = { λ a. core_of a.locked };
 
-    ghost view = { λ a. record { db = a.db; lanes = a.lanes.items } };
+    ghost invariant = { λ a. IsWorld a.locked };
+}
 
-    ghost invariant = { λ a.
-        (a.lane ≡ a.db.limits.lane) × ((w : Shown) × Shows (record { db = a.db; lanes = a.lanes.items }) w) };
+// What a list holds, if there is one.
+fn items_left(alloc: Global, list: Option<PlainList>) -> VecDeque<Item<ChangeRow>>
+    ensures { result.items ≡ held_of list }
+{
+    match list {
+        Some(list) => list.into_items(),
+        None => VecDeque::new(alloc),
+    }
 }
 
 impl World {
@@ -66,10 +65,9 @@ impl World {
     pub fn new(alloc: Global, limits: Limits) -> World
         ensures { Shows result (empty (limits_of limits)) }
     {
+        let state = DbState::new(alloc, limits, 1);
         World {
-            db: DbState::new(alloc, limits, 1),
-            lanes: Vec::new(alloc),
-            lane: limits.lane,
+            locked: Locked::new(alloc, state, limits.lane as usize, limits.hold, NoCount),
             alloc,
         }
     }
@@ -80,7 +78,7 @@ impl World {
             × Answers self.old (Event.Write docs) reply self.new) }
         ensures err { OnErr result ((self.new ≡ self.old) × MayFail self.old (Event.Write docs)) }
     {
-        let Ok(batch) = self.db.write_edits(docs.into_vec(), false) else {
+        let Ok((batch, _)) = self.locked.store(&mut NoCount, docs.into_vec(), false) else {
             return Err(AllocError);
         };
         Ok(Reply::Outcomes(batch))
@@ -92,7 +90,7 @@ impl World {
             × Answers self.old (Event.Interactive docs) reply self.new) }
         ensures err { OnErr result ((self.new ≡ self.old) × MayFail self.old (Event.Interactive docs)) }
     {
-        let Ok(batch) = self.db.write_edits(docs.into_vec(), true) else {
+        let Ok((batch, _)) = self.locked.store(&mut NoCount, docs.into_vec(), true) else {
             return Err(AllocError);
         };
         Ok(Reply::Outcomes(batch))
@@ -103,33 +101,29 @@ impl World {
         ensures ok { IfOk result (λ reply. Applies self.old (Event.Begin params) reply self.new) }
         ensures err { OnErr result ((self.new ≡ self.old) × MayFail self.old (Event.Begin params)) }
     {
-        if self.db.is_deleted() {
-            return Ok(Reply::DatabaseDeleted);
+        match self.locked.begin(params) {
+            Ok(opened) => Ok(Reply::Opened(opened.id)),
+            Err(fault) => match fault {
+                OpenFault::Deleted => Ok(Reply::DatabaseDeleted),
+                OpenFault::TooManyFeeds => Ok(Reply::TooManyFeeds),
+                OpenFault::NoMemory => Err(AllocError),
+            },
         }
-        if self.db.feeds_are_full() {
-            return Ok(Reply::TooManyFeeds);
-        }
-        self.lanes.try_reserve(1)?;
-        let Ok(feed) = self.db.open_feed(params) else {
-            return Err(AllocError);
-        };
-        self.lanes.push_reserved(Lane::new(self.alloc, feed.number));
-        Ok(Reply::Opened(feed))
     }
 
-    // The item that is due to a feed goes into its lane, and only then the feed goes on.
-    fn give(&mut self, feed: FeedId, item: Item<ChangeRow>) -> Result<Reply, AllocError>
-        requires due { item_due (hosted_of self.old.db) feed.number ≡ Some item }
-        ensures ok { IfOk result (λ reply. Applies self.old (Event.Hand feed) reply self.new) }
-        ensures err { OnErr result ((self.new ≡ self.old) × MayFail self.old (Event.Hand feed)) }
+    // The item that is the last of a feed's lane.
+    fn last_item(&self, feed: FeedId) -> ToldItem
+        requires { IsSome (back feed.number self.now.lanes) }
+        ensures item { back feed.number self.now.lanes ≡ Some result }
+        ensures within { length (held feed.number self.now.lanes) ≤ self.now.db.limits.lane }
     {
-        let mark = DbState::mark(&item);
-        let Some(item) = lane::push(self.alloc, &mut self.lanes, self.lane, feed.number, item)?
-        else {
-            return Ok(Reply::Full);
+        let Some(list) = self.locked.outbox(feed) else {
+            unreachable!()
         };
-        self.db.accept_marked(feed, mark);
-        Ok(Reply::Pushed(item))
+        let Some(item) = list.last() else {
+            unreachable!()
+        };
+        ToldItem::of(item)
     }
 
     // What is due to a feed goes into its lane.
@@ -137,34 +131,34 @@ impl World {
         ensures ok { IfOk result (λ reply. Applies self.old (Event.Hand feed) reply self.new) }
         ensures err { OnErr result ((self.new ≡ self.old) × MayFail self.old (Event.Hand feed)) }
     {
-        match self.db.next_item(feed)? {
-            Next::Give(item) => self.give(feed, item),
-            Next::Nothing => Ok(Reply::Nothing),
-            Next::Gone => Ok(Reply::Gone),
+        match self.locked.hand(&Directly, feed)? {
+            Handed::Row | Handed::End => Ok(Reply::Pushed(self.last_item(feed))),
+            Handed::Full => Ok(Reply::Full),
+            Handed::Nothing => Ok(Reply::Nothing),
+            Handed::Gone => Ok(Reply::Gone),
         }
     }
 
-    // A heartbeat that may be handed goes into the feed's lane.
-    fn beat(&mut self, feed: FeedId) -> Result<Reply, AllocError>
-        ensures ok { IfOk result (λ reply. Applies self.old (Event.Heartbeat feed) reply self.new) }
-        ensures err { OnErr result ((self.new ≡ self.old) × MayFail self.old (Event.Heartbeat feed)) }
+    // A heartbeat that may be handed goes into the feed's lane. `Locked::beat` tells one that went there as
+    // it tells that none was due, so it is asked before.
+    fn beat(&mut self, feed: FeedId) -> Reply
+        ensures { Applies self.old (Event.Heartbeat feed) result self.new }
     {
-        if !self.db.beat_due(feed) {
-            return Ok(Reply::Nothing);
+        if !self.locked.state().beat_due(feed) {
+            return Reply::Nothing;
         }
-        let beat = Item::Beat;
-        let Some(item) = lane::push(self.alloc, &mut self.lanes, self.lane, feed.number, beat)?
-        else {
-            return Ok(Reply::Full);
-        };
-        Ok(Reply::Pushed(item))
+        match self.locked.beat(&Directly, feed) {
+            Handed::Full => Reply::Full,
+            Handed::Nothing => Reply::Pushed(self.last_item(feed)),
+            Handed::Row | Handed::End | Handed::Gone => unreachable!(),
+        }
     }
 
     // A feed's time is over.
     fn expire(&mut self, feed: FeedId) -> Reply
         ensures { Applies self.old (Event.Expire feed) result self.new }
     {
-        self.db.expire(feed);
+        self.locked.expire(feed);
         Reply::Nothing
     }
 
@@ -172,23 +166,22 @@ impl World {
     fn take(&mut self, feed: FeedId) -> Reply
         ensures { Applies self.old (Event.Take feed) result self.new }
     {
-        Reply::Took(lane::take(&mut self.lanes, feed.number))
+        Reply::Took(self.locked.take(feed))
     }
 
     // A feed's subscriber is gone.
     fn finish(&mut self, feed: FeedId) -> Reply
         ensures { Applies self.old (Event.Finish feed) result self.new }
     {
-        self.db.finish(feed);
-        let left = lane::remove(self.alloc, &mut self.lanes, feed.number);
-        Reply::Left(SharedItems::new(left))
+        let list = self.locked.finish(feed);
+        Reply::Left(Items::new(items_left(self.alloc, list)))
     }
 
     // The database is deleted, unless it was.
     fn delete(&mut self) -> Reply
         ensures { Applies self.old Event.Delete result self.new }
     {
-        let Ok(()) = self.db.delete() else {
+        let Ok(()) = self.locked.delete() else {
             return Reply::DatabaseDeleted;
         };
         Reply::Nothing
@@ -196,7 +189,7 @@ impl World {
 
     /// Makes one event take place. Where a growth is refused all stays as it was, but for a batch: the
     /// documents before the one that found no memory stay stored, and the reply says that it stopped.
-    /// It costs what the call of `DbState` does, and a search among the lanes. No row is copied.
+    /// It costs what the call of `Locked` does. No row is copied.
     pub fn apply(&mut self, event: Event) -> Result<Reply, AllocError>
         ensures step { IfOk result (λ reply. Applies self.old event reply self.new) }
         ensures batch { IfOk result (λ reply. Answers self.old event reply self.new) }
@@ -207,7 +200,7 @@ impl World {
             Event::Interactive(docs) => self.make(docs),
             Event::Begin(params) => self.begin(params),
             Event::Hand(feed) => self.hand(feed),
-            Event::Heartbeat(feed) => self.beat(feed),
+            Event::Heartbeat(feed) => Ok(self.beat(feed)),
             Event::Expire(feed) => Ok(self.expire(feed)),
             Event::Take(feed) => Ok(self.take(feed)),
             Event::Finish(feed) => Ok(self.finish(feed)),

@@ -5,3 +5,5 @@
 mod random_tests;
 #[cfg(test)]
 mod tests;
+#[cfg(test)]
+mod texts;

@@ -257,6 +257,7 @@ struct Counts {
     opened: u64,
     too_many: u64,
     database_deleted: u64,
+    pushed: u64,
     row: u64,
     beat: u64,
     end: u64,
@@ -288,7 +289,7 @@ impl Counts {
         }
     }
 
-    // Counts an item that was pushed.
+    // Counts an item that was taken.
     fn count_item(&mut self, item: &Item<ChangeRow>) {
         match item {
             Item::Row(_) => more(&mut self.row),
@@ -308,11 +309,14 @@ impl Counts {
             Reply::Opened(_) => more(&mut self.opened),
             Reply::TooManyFeeds => more(&mut self.too_many),
             Reply::DatabaseDeleted => more(&mut self.database_deleted),
-            Reply::Pushed(item) => self.count_item(item.item()),
+            Reply::Pushed(_) => more(&mut self.pushed),
             Reply::Full => more(&mut self.full),
             Reply::Nothing => more(&mut self.nothing),
             Reply::Gone => more(&mut self.gone),
-            Reply::Took(Some(_)) => more(&mut self.took),
+            Reply::Took(Some(item)) => {
+                more(&mut self.took);
+                self.count_item(item);
+            }
             Reply::Took(None) => more(&mut self.took_none),
             Reply::Left(items) if items.as_deque().is_empty() => more(&mut self.left_none),
             Reply::Left(_) => more(&mut self.left),
@@ -320,7 +324,7 @@ impl Counts {
     }
 
     // Each count with its name.
-    fn named(&self) -> [(&'static str, u64); 19] {
+    fn named(&self) -> [(&'static str, u64); 20] {
         [
             ("stored", self.stored),
             ("known", self.known),
@@ -331,6 +335,7 @@ impl Counts {
             ("opened", self.opened),
             ("too many feeds", self.too_many),
             ("database deleted", self.database_deleted),
+            ("pushed", self.pushed),
             ("row", self.row),
             ("beat", self.beat),
             ("end", self.end),
@@ -459,14 +464,14 @@ impl Run {
 
     // The next row of the feed, none at its end: its sequence, and which document it is of.
     fn next_row(&mut self, feed: FeedId) -> Result<Option<(u64, usize)>, Fail> {
-        let Reply::Pushed(pushed) = self.world.apply(Event::Hand(feed))? else {
+        let Reply::Pushed(_) = self.world.apply(Event::Hand(feed))? else {
             return Err(Fail::new("nothing was handed"));
         };
-        match pushed.item() {
-            Item::Row(row) => {
-                self.world.apply(Event::Take(feed))?;
-                Ok(Some((row.seq, place_of(row.id.as_str()))))
-            }
+        let Reply::Took(Some(item)) = self.world.apply(Event::Take(feed))? else {
+            return Err(Fail::new("nothing was taken"));
+        };
+        match &item {
+            Item::Row(row) => Ok(Some((row.seq, place_of(row.id.as_str())))),
             Item::End { .. } => Ok(None),
             Item::Beat => Err(Fail::new("no item")),
         }

@@ -7,12 +7,11 @@
 
 ghost use Rattle.std.specs.Prelude.{◌≤◌};
 
-use hub_database::Batch;
-use hub_document::{ChangeRow, Doc, Limits, RevId};
+use crate::texts::{WROTE, outcomes_text, reply_text};
+use hub_document::{Doc, Limits};
 use hub_feed::FeedId;
-use hub_model::{Fault, Item, Outcome};
 use hub_params::FeedParams;
-use hub_world::{Docs, Event, Reply, SharedItem, World};
+use hub_world::{Docs, Event, Reply, World};
 use std::alloc::{AllocError, Global};
 use std::process::Abort;
 use std::test::Fail;
@@ -174,9 +173,6 @@ fn replies(alloc: Global, world: &mut World, step: Step<'_>, wanted: &str) -> bo
     false
 }
 
-// The word that the reply to documents begins with.
-const WROTE: &str = "wrote";
-
 // Whether a step has this reply.
 fn holds(alloc: Global, world: &mut World, step: Step<'_>, wanted: &str) -> bool {
     let (texts, new_edits) = match step {
@@ -222,101 +218,6 @@ fn is_told(
     Ok(())
 }
 
-// The text of a revision.
-fn rev_text(alloc: Global, rev: &RevId) -> Result<String, AllocError> {
-    let mut text = Vec::new(alloc);
-    rev.print(&mut text)?;
-    Ok(String::from_utf8_lossy(alloc, text.as_slice())?)
-}
-
-// What a row shows.
-fn row_text(alloc: Global, row: &ChangeRow) -> Result<String, AllocError> {
-    let mut text = format!(in alloc; "row {} {}", row.seq, row.id.as_str())?;
-    for at in 0..row.changes.len() {
-        if let Some(rev) = row.changes.get(at) {
-            text.push_str(" ")?;
-            text.push_str(rev_text(alloc, &rev)?.as_str())?;
-        }
-    }
-    if row.deleted {
-        text.push_str(" deleted")?;
-    }
-    if row.doc.is_some() {
-        text.push_str(" with its document")?;
-    }
-    Ok(text)
-}
-
-fn item_text(alloc: Global, item: &Item<ChangeRow>) -> Result<String, AllocError> {
-    match item {
-        Item::Row(row) => row_text(alloc, row),
-        Item::Beat => String::from_str(alloc, "beat"),
-        Item::End { last_seq, pending } => { format!(in alloc; "end {last_seq} pending {pending}") }
-    }
-}
-
-// The same of an item that a lane may have too.
-fn shared_text(alloc: Global, item: &SharedItem) -> Result<String, AllocError> {
-    item_text(alloc, item.item())
-}
-
-fn fault_text(fault: Fault) -> &'static str {
-    match fault {
-        Fault::Deleted => "deleted",
-        Fault::Contradicts => "contradicts",
-        Fault::Conflict => "conflict",
-        Fault::GenerationLimit => "generation limit",
-        Fault::SequenceFull => "sequence full",
-    }
-}
-
-fn outcome_text(alloc: Global, outcome: &Outcome<RevId>) -> Result<String, AllocError> {
-    match outcome {
-        Outcome::Stored(rev) => rev_text(alloc, rev),
-        Outcome::Known => String::from_str(alloc, "known"),
-        Outcome::Refused(fault) => String::from_str(alloc, fault_text(*fault)),
-    }
-}
-
-// The outcomes of a batch, each behind a blank.
-fn outcomes_text(alloc: Global, batch: &Batch) -> Result<String, AllocError> {
-    let mut text = String::new(alloc);
-    for outcome in batch.replies.as_slice() {
-        text.push_str(" ")?;
-        text.push_str(outcome_text(alloc, outcome)?.as_str())?;
-    }
-    Ok(text)
-}
-
-// The same of a batch that did not stop; an error where it did, since a document found no memory.
-fn batch_text(alloc: Global, batch: &Batch) -> Result<String, AllocError> {
-    if batch.stopped {
-        return Err(AllocError);
-    }
-    let mut text = String::from_str(alloc, WROTE)?;
-    text.push_str(outcomes_text(alloc, batch)?.as_str())?;
-    Ok(text)
-}
-
-fn reply_text(alloc: Global, reply: &Reply) -> Result<String, AllocError> {
-    match reply {
-        Reply::Outcomes(batch) => batch_text(alloc, batch),
-        Reply::Opened(feed) => format!(in alloc; "opened {}", feed.number),
-        Reply::TooManyFeeds => String::from_str(alloc, "too many feeds"),
-        Reply::DatabaseDeleted => String::from_str(alloc, "database deleted"),
-        Reply::Pushed(item) => shared_text(alloc, item),
-        Reply::Full => String::from_str(alloc, "full"),
-        Reply::Nothing => String::from_str(alloc, "nothing"),
-        Reply::Gone => String::from_str(alloc, "gone"),
-        Reply::Took(None) => String::from_str(alloc, "took none"),
-        Reply::Took(Some(item)) => {
-            let text = shared_text(alloc, item)?;
-            format!(in alloc; "took {}", text.as_str())
-        }
-        Reply::Left(items) => format!(in alloc; "left {}", items.as_deque().len()),
-    }
-}
-
 // The limits with this room for feeds and in lanes.
 fn limits(feeds: u64, lane: u64) -> Limits
     requires feeds_some { 1 ≤ feeds }
@@ -351,12 +252,14 @@ fn a_since_above_the_end_is_the_end(rt: HostRuntime) -> Result<(), Fail> {
         &[
             (Step::Write(&[A, B, C]), "wrote 1-a 1-b 1-c"),
             (Step::Begin("since=99"), "opened 0"),
-            (Step::Hand(0), "end 3 pending 0"),
+            (Step::Hand(0), "pushed"),
+            (Step::Take(0), "took end 3 pending 0"),
             (Step::Hand(0), "gone"),
             (Step::Begin("feed=continuous&since=99"), "opened 1"),
             (Step::Hand(1), "nothing"),
             (Step::Write(&[D]), "wrote 1-d"),
-            (Step::Hand(1), "row 4 d 1-d"),
+            (Step::Hand(1), "pushed"),
+            (Step::Take(1), "took row 4 d 1-d"),
         ],
     )
 }
@@ -370,12 +273,16 @@ fn a_since_of_another_life_is_the_beginning(rt: HostRuntime) -> Result<(), Fail>
         &[
             (Step::Write(&[A, B, C]), "wrote 1-a 1-b 1-c"),
             (Step::Begin("since=2-1"), "opened 0"),
-            (Step::Hand(0), "row 3 c 1-c"),
-            (Step::Hand(0), "end 3 pending 0"),
+            (Step::Hand(0), "pushed"),
+            (Step::Take(0), "took row 3 c 1-c"),
+            (Step::Hand(0), "pushed"),
+            (Step::Take(0), "took end 3 pending 0"),
             (Step::Begin("since=2-7"), "opened 1"),
-            (Step::Hand(1), "row 1 a 1-a"),
+            (Step::Hand(1), "pushed"),
+            (Step::Take(1), "took row 1 a 1-a"),
             (Step::Begin("since=%2299-1%22"), "opened 2"),
-            (Step::Hand(2), "end 3 pending 0"),
+            (Step::Hand(2), "pushed"),
+            (Step::Take(2), "took end 3 pending 0"),
         ],
     )
 }
@@ -407,15 +314,23 @@ fn rows_beyond_the_bound_are_left_for_later(rt: HostRuntime) -> Result<(), Fail>
         &[
             (Step::Write(&EIGHT), "wrote 1-a 1-a 1-a 1-a 1-a 1-a 1-a 1-a"),
             (Step::Begin(""), "opened 0"),
-            (Step::Hand(0), "row 1 1 1-a"),
-            (Step::Hand(0), "row 2 2 1-a"),
-            (Step::Hand(0), "row 3 3 1-a"),
+            (Step::Hand(0), "pushed"),
+            (Step::Take(0), "took row 1 1 1-a"),
+            (Step::Hand(0), "pushed"),
+            (Step::Take(0), "took row 2 2 1-a"),
+            (Step::Hand(0), "pushed"),
+            (Step::Take(0), "took row 3 3 1-a"),
             (Step::Write(&LATER), "wrote 2-b 2-b"),
-            (Step::Hand(0), "row 4 4 1-a"),
-            (Step::Hand(0), "row 6 6 1-a"),
-            (Step::Hand(0), "row 7 7 1-a"),
-            (Step::Hand(0), "row 8 8 1-a"),
-            (Step::Hand(0), "end 8 pending 2"),
+            (Step::Hand(0), "pushed"),
+            (Step::Take(0), "took row 4 4 1-a"),
+            (Step::Hand(0), "pushed"),
+            (Step::Take(0), "took row 6 6 1-a"),
+            (Step::Hand(0), "pushed"),
+            (Step::Take(0), "took row 7 7 1-a"),
+            (Step::Hand(0), "pushed"),
+            (Step::Take(0), "took row 8 8 1-a"),
+            (Step::Hand(0), "pushed"),
+            (Step::Take(0), "took end 8 pending 2"),
             (Step::Hand(0), "gone"),
         ],
     )
@@ -430,11 +345,11 @@ fn a_full_lane_keeps_the_row_for_later(rt: HostRuntime) -> Result<(), Fail> {
         &[
             (Step::Write(&[A, B, C]), "wrote 1-a 1-b 1-c"),
             (Step::Begin("feed=continuous"), "opened 0"),
-            (Step::Hand(0), "row 1 a 1-a"),
-            (Step::Hand(0), "row 2 b 1-b"),
+            (Step::Hand(0), "pushed"),
+            (Step::Hand(0), "pushed"),
             (Step::Hand(0), "full"),
             (Step::Take(0), "took row 1 a 1-a"),
-            (Step::Hand(0), "row 3 c 1-c"),
+            (Step::Hand(0), "pushed"),
             (Step::Take(0), "took row 2 b 1-b"),
             (Step::Take(0), "took row 3 c 1-c"),
             (Step::Take(0), "took none"),
@@ -454,8 +369,10 @@ fn a_longpoll_feed_waits_for_a_row_that_passes(rt: HostRuntime) -> Result<(), Fa
             (Step::Begin("feed=longpoll&filter=_design"), "opened 0"),
             (Step::Hand(0), "nothing"),
             (Step::Write(&[DESIGN]), "wrote 1-x"),
-            (Step::Hand(0), "row 6 _design/x 1-x"),
-            (Step::Hand(0), "end 6 pending 0"),
+            (Step::Hand(0), "pushed"),
+            (Step::Take(0), "took row 6 _design/x 1-x"),
+            (Step::Hand(0), "pushed"),
+            (Step::Take(0), "took end 6 pending 0"),
             (Step::Hand(0), "gone"),
         ],
     )
@@ -472,7 +389,8 @@ fn a_longpoll_feed_ends_without_a_row_once_its_time_is_over(rt: HostRuntime) -> 
             (Step::Begin("feed=longpoll&filter=_design"), "opened 0"),
             (Step::Hand(0), "nothing"),
             (Step::Expire(0), "nothing"),
-            (Step::Hand(0), "end 5 pending 0"),
+            (Step::Hand(0), "pushed"),
+            (Step::Take(0), "took end 5 pending 0"),
             (Step::Hand(0), "gone"),
         ],
     )
@@ -487,10 +405,13 @@ fn a_longpoll_feed_is_bound_at_its_first_row(rt: HostRuntime) -> Result<(), Fail
         &[
             (Step::Begin("feed=longpoll"), "opened 0"),
             (Step::Write(&[A, B]), "wrote 1-a 1-b"),
-            (Step::Hand(0), "row 1 a 1-a"),
+            (Step::Hand(0), "pushed"),
+            (Step::Take(0), "took row 1 a 1-a"),
             (Step::Write(&[C]), "wrote 1-c"),
-            (Step::Hand(0), "row 2 b 1-b"),
-            (Step::Hand(0), "end 2 pending 1"),
+            (Step::Hand(0), "pushed"),
+            (Step::Take(0), "took row 2 b 1-b"),
+            (Step::Hand(0), "pushed"),
+            (Step::Take(0), "took end 2 pending 1"),
             (Step::Hand(0), "gone"),
         ],
     )
@@ -510,14 +431,16 @@ fn heartbeats_are_handed_where_they_are_asked_for(rt: HostRuntime) -> Result<(),
             (Step::Begin("feed=longpoll&heartbeat=1000"), "opened 3"),
             (Step::Beat(0), "nothing"),
             (Step::Beat(1), "nothing"),
-            (Step::Beat(2), "beat"),
-            (Step::Beat(3), "beat"),
+            (Step::Beat(2), "pushed"),
+            (Step::Beat(3), "pushed"),
             (Step::Beat(4), "nothing"),
-            (Step::Hand(2), "row 1 a 1-a"),
+            (Step::Hand(2), "pushed"),
             (Step::Beat(2), "full"),
             (Step::Take(2), "took beat"),
-            (Step::Beat(2), "beat"),
+            (Step::Beat(2), "pushed"),
             (Step::Take(2), "took row 1 a 1-a"),
+            (Step::Take(2), "took beat"),
+            (Step::Take(3), "took beat"),
             (Step::Expire(3), "nothing"),
             (Step::Beat(3), "nothing"),
         ],
@@ -533,9 +456,11 @@ fn deletion_ends_feeds_and_refuses_the_rest(rt: HostRuntime) -> Result<(), Fail>
         &[
             (Step::Write(&[A, B]), "wrote 1-a 1-b"),
             (Step::Begin("feed=continuous"), "opened 0"),
-            (Step::Hand(0), "row 1 a 1-a"),
+            (Step::Hand(0), "pushed"),
+            (Step::Take(0), "took row 1 a 1-a"),
             (Step::Delete, "nothing"),
-            (Step::Hand(0), "end 1 pending 1"),
+            (Step::Hand(0), "pushed"),
+            (Step::Take(0), "took end 1 pending 1"),
             (Step::Hand(0), "gone"),
             (Step::Delete, "database deleted"),
             (
@@ -559,15 +484,16 @@ fn a_finished_feed_makes_room_for_another(rt: HostRuntime) -> Result<(), Fail> {
             (Step::Write(&[A, B]), "wrote 1-a 1-b"),
             (Step::Begin("style=all_docs&include_docs=true"), "opened 0"),
             (Step::Begin(""), "too many feeds"),
-            (Step::Hand(0), "row 1 a 1-a with its document"),
-            (Step::Hand(0), "row 2 b 1-b with its document"),
+            (Step::Hand(0), "pushed"),
+            (Step::Hand(0), "pushed"),
             (Step::Take(0), "took row 1 a 1-a with its document"),
-            (Step::Finish(0), "left 1"),
+            (Step::Finish(0), "left 1, row 2 b 1-b with its document"),
             (Step::Take(0), "took none"),
             (Step::Hand(0), "gone"),
             (Step::Finish(0), "left 0"),
             (Step::Begin("since=now"), "opened 1"),
-            (Step::Hand(1), "end 2 pending 0"),
+            (Step::Hand(1), "pushed"),
+            (Step::Take(1), "took end 2 pending 0"),
         ],
     )
 }
@@ -592,8 +518,10 @@ fn writes_answer_for_each_document(rt: HostRuntime) -> Result<(), Fail> {
             ),
             (Step::Write(&[FOURTH]), "wrote contradicts"),
             (Step::Begin("style=all_docs"), "opened 0"),
-            (Step::Hand(0), "row 2 a 3-c 1-a"),
-            (Step::Hand(0), "end 2 pending 0"),
+            (Step::Hand(0), "pushed"),
+            (Step::Take(0), "took row 2 a 3-c 1-a"),
+            (Step::Hand(0), "pushed"),
+            (Step::Take(0), "took end 2 pending 0"),
         ],
     )
 }

@@ -1,19 +1,31 @@
-use Rattle.hub_world.specs.Core.{Core}
+use Rattle.std.proofs.Common.{◌≡◌, ap, subst, sym, refl}
+use Rattle.hub_world.specs.Core.{core_of}
 use Rattle.hub_world.specs.declared.event.Event.TheVariants as event
 use Rattle.hub_world.specs.declared.reply.Reply.TheVariants as reply
-use Rattle.hub_world.proofs.Stepping.{expire_leads, from_same, still_shows}
+use Rattle.hub_world.proofs.Programs.{Program, kept_lists, leads_world}
+use Rattle.hub_world.proofs.Stepping.{Leads, expire_leads, from_same}
 use Rattle.hub_world.proofs.world.World.expire.Goals as goal
+use Rattle.hub_world.proofs.world.World.expire.Goals.{After-expire}
+
+-- the step
+leads : (c : After-expire)
+    → Leads (core_of c.self.inside.locked) (event.Expire c.args.feed) reply.Nothing
+    (core_of c.expire.new.self)
+leads c =
+    let old = c.self.inside.locked in
+    subst (λ (p : Program). Leads (core_of old) (event.Expire c.args.feed) reply.Nothing (core_of p))
+    (sym c.expire.ensures) (expire_leads (core_of old) c.args.feed)
 
 pub invariant_of-self : goal.invariant_of-self
 invariant_of-self c =
-    let old : Core = record { db = c.self.inside.db; lanes = c.self.inside.lanes.items } in (
-      rw c.expire.ensures c.self.invariant.0,
-      still_shows old (record old { db = c.expire.new.self }) (event.Expire c.args.feed) reply.Nothing
-          c.self.invariant.1 (rw c.expire.ensures (expire_leads old c.args.feed)),
-    )
+    let old = c.self.inside.locked in
+    let step = c.expire.ensures in
+    leads_world old c.expire.new.self (event.Expire c.args.feed) reply.Nothing c.self.invariant (leads c)
+    (kept_lists old c.expire.new.self c.self.invariant
+    (subst (λ (p : Program). p ≡ record old { state = p.state }) (sym step) refl)
+    (ap (λ (p : Program). p.state.limits.lane) step))
 
 pub returns : goal.returns
 returns c =
-    let old : Core = record { db = c.self.inside.db; lanes = c.self.inside.lanes.items } in
-    from_same old c.args.self.now (record old { db = c.expire.new.self }) (event.Expire c.args.feed)
-    reply.Nothing c.self.view_is (rw c.expire.ensures (expire_leads old c.args.feed))
+    from_same (core_of c.self.inside.locked) c.args.self.now (core_of c.expire.new.self)
+    (event.Expire c.args.feed) reply.Nothing c.self.view_is (leads c)

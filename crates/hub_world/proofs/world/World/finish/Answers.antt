@@ -1,33 +1,30 @@
-use Rattle.hub_world.specs.Core.{Core}
+use Rattle.std.proofs.Common.{◌∙◌, ap}
+use Rattle.hub_world.specs.Core.{core_of}
+use Rattle.hub_world.specs.PlainList.{held_of}
 use Rattle.hub_world.specs.declared.event.Event.TheVariants as event
 use Rattle.hub_world.specs.declared.reply.Reply.TheVariants as reply
-use Rattle.hub_world.proofs.Standing.{lanes_rise}
-use Rattle.hub_world.proofs.Stepping.{finish_leads, from_same, still_shows}
+use Rattle.hub_world.proofs.Programs.{leads_world, left_leads, left_lists}
+use Rattle.hub_world.proofs.Stepping.{Leads, from_same}
 use Rattle.hub_world.proofs.world.World.finish.Goals as goal
+use Rattle.hub_world.proofs.world.World.finish.Goals.{After-new}
 
-pub remove-left-requires : goal.remove-left-requires
-remove-left-requires c = record {
-  rising =
-      lanes_rise (record { db = c.self.inside.db; lanes = c.self.inside.lanes.items })
-      c.self.invariant.1.0 c.self.invariant.1.1;
-}
+-- the step
+leads : (c : After-new)
+    → Leads (core_of c.self.inside.locked) (event.Finish c.args.feed) (reply.Left c.new.result)
+    (core_of c.finish-list.new.self)
+leads c =
+    left_leads c.self.inside.locked c.finish-list.new.self c.args.feed c.self.invariant
+    c.finish-list.ensures.step c.new.result
+    (c.new.ensures ∙ (c.items_left.ensures ∙ ap held_of c.finish-list.ensures.sender))
 
 pub invariant_of-self : goal.invariant_of-self
 invariant_of-self c =
-    let old : Core = record { db = c.self.inside.db; lanes = c.self.inside.lanes.items } in
-    let new : Core = record { db = c.finish.new.self; lanes = c.remove-left.new.lanes.items } in (
-      rw c.finish.ensures c.self.invariant.0,
-      still_shows old new
-          (event.Finish c.args.feed) (reply.Left c.new.result) c.self.invariant.1
-          (rw (c.finish.ensures, c.new.ensures, c.remove-left.ensures.items, c.remove-left.ensures.lanes)
-          (finish_leads old c.args.feed)),
-    )
+    leads_world c.self.inside.locked c.finish-list.new.self (event.Finish c.args.feed)
+    (reply.Left c.new.result) c.self.invariant (leads c)
+    (left_lists c.self.inside.locked c.finish-list.new.self c.args.feed c.self.invariant
+    c.finish-list.ensures.step)
 
 pub returns : goal.returns
 returns c =
-    let old : Core = record { db = c.self.inside.db; lanes = c.self.inside.lanes.items } in
-    let new : Core = record { db = c.finish.new.self; lanes = c.remove-left.new.lanes.items } in
-    from_same old c.args.self.now new
-    (event.Finish c.args.feed) (reply.Left c.new.result) c.self.view_is
-    (rw (c.finish.ensures, c.new.ensures, c.remove-left.ensures.items, c.remove-left.ensures.lanes)
-    (finish_leads old c.args.feed))
+    from_same (core_of c.self.inside.locked) c.args.self.now (core_of c.finish-list.new.self)
+    (event.Finish c.args.feed) (reply.Left c.new.result) c.self.view_is (leads c)

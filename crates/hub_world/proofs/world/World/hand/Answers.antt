@@ -1,62 +1,88 @@
-use Rattle.std.proofs.Common.{◌∙◌, sym, ap}
-use Rattle.hub_database.specs.Database.{Database}
-use Rattle.hub_world.specs.Core.{Core}
-use Rattle.hub_world.specs.declared.reply.Reply.TheVariants as reply
-use Rattle.hub_database.specs.Hosting.{hosted_of, with_hosted}
-use Rattle.hub_feed.specs.Host.{behind_answer}
-use Rattle.hub_feed.specs.declared.next.Next.TheVariants as next
-use Rattle.hub_world.proofs.Stepping.{Leads, hand_nothing, hand_gone, from_same, to_same, still_shows}
+use Rattle.std.proofs.Common.{◌∙◌, sym, ap, subst}
 use Rattle.hub_database.proofs.StoreLemmas.{on_err}
+use Rattle.hub_model.specs.RightlyHanded.{ChangeItem}
+use Rattle.hub_world.specs.Core.{core_of}
 use Rattle.hub_world.specs.declared.event.Event.TheVariants as event
+use Rattle.hub_world.specs.declared.reply.Reply.TheVariants as reply
 use Rattle.hub_world.proofs.Growing.{row_grows, fails_as}
+use Rattle.hub_world.proofs.Programs.{IsGiven, Program, full_leads, given, given_back, given_leads}
+use Rattle.hub_world.proofs.Programs.{given_world}
+use Rattle.hub_world.proofs.Programs.{gone_leads, has_handed, leads_world, nothing_leads, some_there, told_as}
+use Rattle.hub_world.proofs.Stepping.{Leads, from_same}
 use Rattle.hub_world.proofs.world.World.hand.Goals as goal
 
--- the step
-leads : (c : goal.In-Nothing)
-    → Leads (record { db = c.self.inside.db; lanes = c.self.inside.lanes.items })
-    (event.Hand c.args.feed) reply.Nothing
-    (record { db = c.next_item.new.self; lanes = c.self.inside.lanes.items })
-leads c =
-    let old : Core = record { db = c.self.inside.db; lanes = c.self.inside.lanes.items } in
-    let f = c.args.feed.number in
-    let own = rw c.in-Nothing.is at c.in_ok-item.ensures.ok in
-    to_same old (record old { db = with_hosted old.db (behind_answer (hosted_of old.db) f next.Nothing) })
-    (record old { db = c.next_item.new.self }) (event.Hand c.args.feed) reply.Nothing
-    (ap (λ (db : Database). record { db = db; lanes = old.lanes }) (sym own.1))
-    (hand_nothing old c.args.feed own.0)
+pub returns-in_err-hand-clause-err : goal.returns-in_err-hand-clause-err
+returns-in_err-hand-clause-err c =
+    let err = c.in_err-hand.ensures.err in
+    on_err c.from_residual.result _ (
+      ap core_of err.0 ∙ c.self.view_is,
+      fails_as (core_of c.self.inside.locked) c.args.self.now (event.Hand c.args.feed) c.self.view_is
+          (row_grows (core_of c.self.inside.locked) c.args.feed err.1),
+    )
+
+-- the item that was handed
+item : (c : goal.In-Row)
+    → (item : ChangeItem) × IsGiven c.self.inside.locked c.hand.new.self c.args.feed c.self.invariant item
+item c =
+    given c.self.inside.locked c.hand.new.self c.args.feed c.self.invariant c.in_ok-hand.field-0
+    (has_handed c.in_ok-hand.field-0 c.in-Row.is) c.in_ok-hand.ensures.ok
+
+pub invariant_of-self-in-Row : goal.invariant_of-self-in-Row
+invariant_of-self-in-Row c =
+    let gives = item c in
+    given_world c.self.inside.locked c.hand.new.self c.args.feed c.self.invariant gives.0 gives.1
+
+pub last_item-requires : goal.last_item-requires
+last_item-requires c =
+    let gives = item c in
+    some_there (given_back c.self.inside.locked c.hand.new.self c.args.feed c.self.invariant gives.0 gives.1)
+
+pub returns-in-Row-clause-ok : goal.returns-in-Row-clause-ok
+returns-in-Row-clause-ok c =
+    let gives =
+    given c.self.inside.locked c.hand.new.self c.args.feed c.self.invariant c.in_ok-hand.field-0
+    (has_handed c.in_ok-hand.field-0 c.in-Row.is) c.in_ok-hand.ensures.ok in
+    from_same (core_of c.self.inside.locked) c.args.self.now (core_of c.hand.new.self)
+    (event.Hand c.args.feed) (reply.Pushed c.last_item.result) c.self.view_is
+    (given_leads c.self.inside.locked c.hand.new.self c.args.feed c.self.invariant gives.0 gives.1
+    c.last_item.result c.last_item.ensures.item c.last_item.ensures.within)
+
+pub returns-in-Full-clause-ok : goal.returns-in-Full-clause-ok
+returns-in-Full-clause-ok c =
+    let full =
+    full_leads c.self.inside.locked c.hand.new.self c.args.feed c.self.invariant
+    (subst (λ answers. told_as c.self.inside.locked c.hand.new.self c.args.feed c.self.invariant answers)
+    c.in-Full.is c.in_ok-hand.ensures.ok) in
+    from_same (core_of c.self.inside.locked) c.args.self.now (core_of c.hand.new.self)
+    (event.Hand c.args.feed) reply.Full c.self.view_is
+    (subst (λ (p : Program). Leads (core_of c.self.inside.locked) (event.Hand c.args.feed) reply.Full
+    (core_of p)) (sym full.0) full.1)
 
 pub invariant_of-self-in-Nothing : goal.invariant_of-self-in-Nothing
 invariant_of-self-in-Nothing c =
-    let old : Core = record { db = c.self.inside.db; lanes = c.self.inside.lanes.items } in (
-      c.self.invariant.0 ∙ sym (ap (λ (db : Database). db.limits.lane) c.in_ok-item.ensures.ok.1),
-      still_shows old (record old { db = c.next_item.new.self })
-          (event.Hand c.args.feed) reply.Nothing c.self.invariant.1 (leads c),
-    )
+    let nothing =
+    nothing_leads c.self.inside.locked c.hand.new.self c.args.feed c.self.invariant
+    (subst (λ answers. told_as c.self.inside.locked c.hand.new.self c.args.feed c.self.invariant answers)
+    c.in-Nothing.is c.in_ok-hand.ensures.ok) in
+    leads_world c.self.inside.locked c.hand.new.self (event.Hand c.args.feed) reply.Nothing
+    c.self.invariant nothing.1 nothing.0
 
 pub returns-in-Nothing-clause-ok : goal.returns-in-Nothing-clause-ok
 returns-in-Nothing-clause-ok c =
-    let old : Core = record { db = c.self.inside.db; lanes = c.self.inside.lanes.items } in
-    from_same old c.args.self.now (record old { db = c.next_item.new.self })
-    (event.Hand c.args.feed) reply.Nothing c.self.view_is (leads c)
+    let nothing =
+    nothing_leads c.self.inside.locked c.hand.new.self c.args.feed c.self.invariant
+    (subst (λ answers. told_as c.self.inside.locked c.hand.new.self c.args.feed c.self.invariant answers)
+    c.in-Nothing.is c.in_ok-hand.ensures.ok) in
+    from_same (core_of c.self.inside.locked) c.args.self.now (core_of c.hand.new.self)
+    (event.Hand c.args.feed) reply.Nothing c.self.view_is nothing.1
 
 pub returns-in-Gone-clause-ok : goal.returns-in-Gone-clause-ok
 returns-in-Gone-clause-ok c =
-    let old : Core = record { db = c.self.inside.db; lanes = c.self.inside.lanes.items } in
-    let f = c.args.feed.number in
-    let own = rw c.in-Gone.is at c.in_ok-item.ensures.ok in
-    from_same old c.args.self.now (record old { db = c.next_item.new.self })
+    let gone =
+    gone_leads c.self.inside.locked c.hand.new.self c.args.feed c.self.invariant
+    (subst (λ answers. told_as c.self.inside.locked c.hand.new.self c.args.feed c.self.invariant answers)
+    c.in-Gone.is c.in_ok-hand.ensures.ok) in
+    from_same (core_of c.self.inside.locked) c.args.self.now (core_of c.hand.new.self)
     (event.Hand c.args.feed) reply.Gone c.self.view_is
-    (to_same old old (record old { db = c.next_item.new.self }) (event.Hand c.args.feed) reply.Gone
-    (ap (λ (db : Database). record { db = db; lanes = old.lanes }) (sym own.1))
-    (hand_gone old c.args.feed own.0))
-
-pub returns-in_err-item-clause-err : goal.returns-in_err-item-clause-err
-returns-in_err-item-clause-err c =
-    let old : Core = record { db = c.self.inside.db; lanes = c.self.inside.lanes.items } in
-    let err = c.in_err-item.ensures.err in
-    let same = ap (λ (db : Database). record { db = db; lanes = old.lanes }) err.0 ∙ c.self.view_is in
-    on_err c.from_residual.result _ (
-      same,
-      fails_as old c.args.self.now (event.Hand c.args.feed) c.self.view_is
-          (row_grows old c.args.feed err.1),
-    )
+    (subst (λ (p : Program). Leads (core_of c.self.inside.locked) (event.Hand c.args.feed) reply.Gone
+    (core_of p)) (sym gone.0) gone.1)

@@ -1,64 +1,64 @@
-use Rattle.std.proofs.Common.{◌∙◌, sym, ap, subst, List, length, arith, true}
+use Rattle.std.proofs.Common.{◌≡◌, ◌∙◌, sym, ap, subst, List, length, map, arith, true}
 use Rattle.std.specs.Prelude.{take}
 use Rattle.hub_database.specs.Database.{Database}
-use Rattle.hub_world.specs.Core.{Core}
-use Rattle.hub_world.specs.Step.{whole_batch}
-use Rattle.hub_world.specs.declared.event.Event.TheVariants as event
-use Rattle.hub_world.specs.declared.reply.Reply.TheVariants as reply
 use Rattle.hub_database.specs.Edits.{StopsAt}
 use Rattle.hub_document.specs.declared.doc.Doc.{Doc}
 use Rattle.hub_world.specs.Applied.{Answers, Applies}
-use Rattle.hub_world.proofs.Stepping.{Leads, make_leads, from_same, to_same, still_shows}
+use Rattle.hub_world.specs.Core.{Core, core_of, held_entry}
+use Rattle.hub_world.specs.Step.{whole_batch}
+use Rattle.hub_world.specs.declared.event.Event.TheVariants as event
+use Rattle.hub_world.specs.declared.reply.Reply.TheVariants as reply
+use Rattle.hub_world.proofs.Programs.{kept_lists, leads_world}
+use Rattle.hub_world.proofs.Stepping.{Leads, make_leads, from_same}
 use Rattle.hub_world.proofs.world.World.make.Goals as goal
 
 -- the step
 leads : (c : goal.In-Ok)
-    → Leads (record { db = c.self.inside.db; lanes = c.self.inside.lanes.items })
+    → Leads (core_of c.self.inside.locked)
     (event.Interactive (take (length c.in-Ok.batch.replies) c.into_vec.result.items))
-    (reply.Outcomes (whole_batch c.in-Ok.batch.replies))
-    (record { db = c.write_edits.new.self; lanes = c.self.inside.lanes.items })
+    (reply.Outcomes (whole_batch c.in-Ok.batch.replies)) (core_of c.store.new.self)
 leads c =
-    let old : Core = record { db = c.self.inside.db; lanes = c.self.inside.lanes.items } in
-    to_same old (record old { db = record old.db { journal = c.write_edits.new.self.journal } })
-    (record old { db = c.write_edits.new.self })
+    let old = c.self.inside.locked in
+    let did = c.in-Ok.ensures.batch in
+    let core : core_of c.store.new.self
+    ≡ record (core_of old) { db = record old.state { journal = c.store.new.self.state.journal } } =
+    ap core_of c.store.ensures.rest
+    ∙ ap (λ (db : Database). record { db = db; lanes = map held_entry old.senders }) did.adds.rest in
+    subst (λ z. Leads (core_of old)
     (event.Interactive (take (length c.in-Ok.batch.replies) c.into_vec.result.items))
-    (reply.Outcomes (whole_batch c.in-Ok.batch.replies))
-    (ap (λ (db : Database). record { db = db; lanes = c.self.inside.lanes.items }) (sym c.in-Ok.ensures.rest))
-    (make_leads old (take (length c.in-Ok.batch.replies) c.into_vec.result.items) c.in-Ok.batch.replies
-    c.write_edits.new.self.journal c.in-Ok.ensures.ok)
+    (reply.Outcomes (whole_batch c.in-Ok.batch.replies)) z) (sym core)
+    (make_leads (core_of old) (take (length c.in-Ok.batch.replies) c.into_vec.result.items)
+    c.in-Ok.batch.replies c.store.new.self.state.journal did.replies)
 
 pub invariant_of-self-2 : goal.invariant_of-self-2
 invariant_of-self-2 c =
-    let old : Core = record { db = c.self.inside.db; lanes = c.self.inside.lanes.items } in (
-      c.self.invariant.0 ∙ sym (ap (λ (db : Database). db.limits.lane) c.in-Ok.ensures.rest),
-      still_shows old (record old { db = c.write_edits.new.self })
-          (event.Interactive (take (length c.in-Ok.batch.replies) c.into_vec.result.items))
-          (reply.Outcomes (whole_batch c.in-Ok.batch.replies)) c.self.invariant.1 (leads c),
-    )
+    leads_world c.self.inside.locked c.store.new.self
+    (event.Interactive (take (length c.in-Ok.batch.replies) c.into_vec.result.items))
+    (reply.Outcomes (whole_batch c.in-Ok.batch.replies)) c.self.invariant (leads c)
+    (kept_lists c.self.inside.locked c.store.new.self c.self.invariant c.store.ensures.rest
+    (ap (λ (db : Database). db.limits.lane) c.in-Ok.ensures.batch.adds.rest))
 
 pub returns-clause-ok : goal.returns-clause-ok
 returns-clause-ok c =
-    let old : Core = record { db = c.self.inside.db; lanes = c.self.inside.lanes.items } in
-    let new : Core = record old { db = c.write_edits.new.self } in
+    let old = core_of c.self.inside.locked in
+    let new = core_of c.store.new.self in
     let r = reply.Outcomes c.in-Ok.batch in
+    let did = c.in-Ok.ensures.batch in
     subst (λ (docs : List Doc). Applies c.args.self.now (event.Interactive docs) r new
     × Answers c.args.self.now (event.Interactive docs) r new) c.into_vec.ensures (
       from_same old c.args.self.now new
           (event.Interactive (take (length c.in-Ok.batch.replies) c.into_vec.result.items))
           (reply.Outcomes (whole_batch c.in-Ok.batch.replies)) c.self.view_is (leads c),
       record {
-        whole = c.in-Ok.ensures.whole;
-        stopped = c.in-Ok.ensures.stopped;
-        stops = λ stopped. subst (λ (z : Core). StopsAt true z.db.deleted c.write_edits.new.self.journal
+        whole = did.whole;
+        stopped = did.stopped;
+        stops = λ stopped. subst (λ (z : Core). StopsAt true z.db.deleted new.db.journal
             (length c.in-Ok.batch.replies) c.into_vec.result.items)
-            c.self.view_is (c.in-Ok.ensures.stops stopped);
+            c.self.view_is (did.stops stopped);
       },
     )
 
 pub returns-in_default-clause-err : goal.returns-in_default-clause-err
 returns-in_default-clause-err c =
-    let old : Core = record { db = c.self.inside.db; lanes = c.self.inside.lanes.items } in
-    let same =
-    ap (λ (db : Database). record { db = db; lanes = old.lanes }) c.in_default.ensures.err.1
-    ∙ c.self.view_is in
-    (same, λ w h. omega (arith, c.in_default.ensures.memory, ap length c.into_vec.ensures))
+    let err = c.in_default.ensures.err in
+    (ap core_of err.1 ∙ c.self.view_is, λ w h. omega (arith, err.3, ap length c.into_vec.ensures))

@@ -1,0 +1,42 @@
+-- A plain list as a feed's outbox (own).
+use Rattle.std.specs.Prelude.{ℕ, List, [], ◌∷◌, ◌++◌, drop, Option, Some, None, slice_get, length, ◌-◌}
+use Rattle.hub_model.specs.RightlyHanded.{ChangeItem}
+use Rattle.hub_shared.specs.Label.{Label}
+use Rattle.hub_world.specs.declared.plain_list.Sent.{Sent, Nothing, Behind'}
+
+-- what a list was sent, the first item first
+abbrev pub items_of : {T : Type 0} → Sent T → List T
+items_of Nothing = []
+items_of (Behind' marker before item) = items_of before ++ item.value ∷ []
+
+-- a list, as it is seen
+pub record ListState : Type 0 where
+  pub label : Label  -- what its feed was asked for, and where that began
+  pub held : List ChangeItem  -- what was sent and not taken, the front first
+  pub sent : List ChangeItem  -- all that was sent
+  pub capacity : ℕ  -- how many items it holds at most
+
+-- a list that was sent nothing
+abbrev pub new_list : Label → ℕ → ListState
+new_list label capacity = record { label = label; held = []; sent = []; capacity = capacity }
+
+-- the list behind an item: x and y are x, y and z behind z
+abbrev pub behind : ListState → ChangeItem → ListState
+behind k item = record k { held = k.held ++ item ∷ []; sent = k.sent ++ item ∷ [] }
+
+-- what a list holds; nothing where there is no list
+abbrev pub held_of : Option ListState → List ChangeItem
+held_of None = []
+held_of (Some k) = k.held
+
+-- its front: of x and y it is x
+abbrev pub front : ListState → Option ChangeItem
+front k = slice_get k.held 0
+
+-- the list, its front taken: of x and y there y stays
+abbrev pub without_front : ListState → ListState
+without_front k = record k { held = drop 1 k.held }
+
+-- its last item: of x and y it is y
+abbrev pub last : ListState → Option ChangeItem
+last k = slice_get k.held (length k.held - 1)

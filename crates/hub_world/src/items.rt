@@ -1,0 +1,67 @@
+//! Items in replies.
+
+ghost use Rattle.std.specs.Prelude.{◌≡◌};
+
+use hub_document::ChangeRow;
+use hub_model::Item;
+use std::collections::VecDeque;
+use std::fmt;
+use std::marker::Model;
+use std::snapshot::Snapshot;
+
+/// An item that lies in a lane, as only contracts know it. It has no bytes: who wants to see the item
+/// takes it.
+#[derive(Drop)]
+pub struct ToldItem {
+    item: Snapshot<Item<ChangeRow>>,
+}
+
+impl Model for ToldItem {
+    ghost use Rattle.hub_model.specs.RightlyHanded.{ChangeItem};
+
+    ghost Value = { ChangeItem };
+
+    ghost view = { λ a. a.item.value };
+}
+
+impl ToldItem {
+    /// This item.
+    pub(crate) fn of(item: &Item<ChangeRow>) -> ToldItem
+        ensures { result ≡ item.now }
+    {
+        ToldItem {
+            item: Snapshot::of(item),
+        }
+    }
+}
+
+/// Items that were handed, the front first. Contracts see their list.
+#[derive(Debug, Drop)]
+pub struct Items {
+    items: VecDeque<Item<ChangeRow>>,
+}
+
+impl Model for Items {
+    ghost use Rattle.std.specs.Prelude.{List};
+    ghost use Rattle.hub_model.specs.RightlyHanded.{ChangeItem};
+
+    ghost Value = { List ChangeItem };
+
+    ghost view = { λ a. a.items.items };
+}
+
+impl Items {
+    /// The items that the queue holds.
+    pub(crate) fn new(items: VecDeque<Item<ChangeRow>>) -> Items
+        ensures { result ≡ items.items }
+    {
+        Items { items }
+    }
+
+    /// The items. Constant time.
+    pub fn as_deque(&self) -> &VecDeque<Item<ChangeRow>>
+        ensures { result.now.items ≡ self.now }
+    {
+        &self.items
+    }
+}

@@ -1,0 +1,186 @@
+//! A plain list as a feed's outbox: what the feed handed lies in it until it is taken.
+
+ghost use Rattle.std.specs.Prelude.{◌≡◌, ◌≤◌, length, Some, None, IfOk, IfSome, IfNone, ⊤};
+ghost use Rattle.hub_world.specs.PlainList.{last, new_list};
+
+use hub_database::DbState;
+use hub_document::ChangeRow;
+use hub_feed::{Pushes, Sink};
+use hub_model::Item;
+use hub_params::FeedParams;
+use hub_shared::{FeedLabel, Outbox, Receives, Shelf};
+use std::alloc::{AllocError, Global};
+use std::collections::VecDeque;
+use std::marker::Model;
+use std::mem;
+use std::snapshot::Snapshot;
+
+/// What a list was sent, as only contracts know it: a snapshot of it has no bytes.
+#[derive(Drop)]
+pub(crate) enum Sent<T> {
+    /// Nothing yet.
+    Nothing,
+    /// An item, behind what was sent before it.
+    Behind(Snapshot<Sent<T>>, Snapshot<T>),
+}
+
+/// What a feed handed and its connection has not taken, the front first. It has the memory for as many
+/// items as it may hold from its beginning. Contracts see the label of the feed, the items, what else it was
+/// sent, and how many it holds at most.
+#[derive(Drop)]
+pub(crate) struct PlainList {
+    label: FeedLabel<DbState>,
+    held: VecDeque<Item<ChangeRow>>,
+    sent: Snapshot<Sent<Item<ChangeRow>>>,
+    /// How many items it holds at most.
+    capacity: usize,
+}
+
+impl Model for PlainList {
+    ghost use Rattle.std.specs.Prelude.{◌≤◌, length};
+    ghost use Rattle.std.specs.VecDeque.{deque_capacity};
+    ghost use Rattle.hub_world.specs.PlainList.{ListState, items_of};
+
+    ghost Value = { ListState };
+
+    ghost view = { λ a. record {
+      label = a.label;
+      held = a.held.items;
+      sent = items_of a.sent.value;
+      capacity = a.capacity;
+    } };
+
+    ghost invariant = { λ a.
+        (a.capacity ≤ deque_capacity a.held) × (length a.held.items ≤ a.capacity) };
+}
+
+/// It takes any item.
+impl Sink<Item<ChangeRow>> for PlainList {
+    ghost use Rattle.std.specs.Prelude.{⊤};
+    ghost use Rattle.hub_world.specs.PlainList.{behind};
+
+    ghost allows = { λ k items. ⊤ };
+
+    ghost sent = { λ k. k.sent };
+
+    ghost behind = { λ k item. behind k item };
+}
+
+/// Nobody watches it.
+impl Outbox<DbState> for PlainList {
+    type Taker = ();
+
+    ghost use Rattle.std.proofs.Common.{refl};
+    ghost use Rattle.std.specs.Prelude.{⊤};
+    ghost use Rattle.hub_world.specs.PlainList.{new_list};
+
+    ghost label = { λ k. k.label };
+
+    ghost items = { λ k. k.sent };
+
+    ghost made = { λ end label capacity. new_list label capacity };
+
+    ghost takes = { λ end label. ⊤ };
+
+    fn open(
+        alloc: Global,
+        capacity: usize,
+        feed: FeedLabel<DbState>,
+        _params: &FeedParams,
+    ) -> Result<(PlainList, ()), AllocError>
+        ensures outbox { IfOk result (λ ends. ends.0 ≡ new_list feed capacity) }
+        ensures taker { IfOk result (λ ends. ⊤) }
+    {
+        let held = VecDeque::with_capacity(alloc, capacity)?;
+        let list = PlainList {
+            label: feed,
+            held,
+            sent: Snapshot::of(&Sent::Nothing),
+            capacity,
+        };
+        Ok((list, ()))
+    }
+
+    fn tell(&self) {}
+
+    ghost labelled = { λ end l capacity. refl };
+
+    ghost begins = { λ end l capacity. refl };
+}
+
+/// What it took is what it was sent.
+impl Receives<DbState> for PlainList {
+    ghost use Rattle.std.proofs.Common.{refl};
+
+    ghost same = { λ k. refl };
+
+    ghost stays = { λ k item. refl };
+
+    ghost permits = { λ k items is. tt };
+}
+
+/// The front is taken first.
+impl Shelf<DbState> for PlainList {
+    ghost use Rattle.std.proofs.Common.{refl};
+    ghost use Rattle.hub_world.specs.PlainList.{front, without_front};
+
+    ghost front = { λ k. front k };
+
+    ghost without_front = { λ k. without_front k };
+
+    fn take(&mut self) -> Option<Item<ChangeRow>> {
+        self.held.pop_front()
+    }
+
+    ghost keeps = { λ k. (refl, refl) };
+}
+
+impl PlainList {
+    /// The item that it was sent last, where it holds that still. Constant time.
+    pub(crate) fn last(&self) -> Option<&Item<ChangeRow>>
+        ensures some { IfSome result (λ item. last self.now ≡ Some item.now) }
+        ensures none { IfNone result (last self.now ≡ None) }
+        ensures within { length self.now.held ≤ self.now.capacity }
+    {
+        self.held.back()
+    }
+
+    /// The items that it holds, the front first. Constant time.
+    pub(crate) fn into_items(self) -> VecDeque<Item<ChangeRow>>
+        ensures { result.items ≡ self.held }
+    {
+        let PlainList {
+            label: _,
+            held,
+            sent: _,
+            capacity: _,
+        } = self;
+        held
+    }
+}
+
+/// The handle of plain lists: nothing is to be asked or waited for.
+#[derive(Drop)]
+pub(crate) struct Directly;
+
+/// A push is refused just where the list holds as many items as it may.
+impl Pushes<PlainList, Item<ChangeRow>> for Directly {
+    ghost use Rattle.std.proofs.Common.{refl};
+    ghost use Rattle.std.specs.Prelude.{◌≤◌, length};
+
+    ghost refuses = { λ h k item. k.capacity ≤ length k.held };
+
+    ghost sends = { λ k item. refl };
+
+    ghost keeps = { λ k item items allowed. tt };
+
+    fn push(&self, sink: &mut PlainList, item: Item<ChangeRow>) -> Result<(), Item<ChangeRow>> {
+        if sink.held.len() >= sink.capacity {
+            return Err(item);
+        }
+        let before = mem::replace(&mut sink.sent, Snapshot::of(&Sent::Nothing));
+        sink.sent = Snapshot::of(&Sent::Behind(before, Snapshot::of(&item)));
+        sink.held.push_back_reserved(item);
+        Ok(())
+    }
+}
