@@ -69,10 +69,10 @@ fn hands_a_note<R: Wait>(
         notice.lapse();
         return Err(AllocError);
     }
-    let Ok(opened) = log.begin(params(alloc, "")?) else {
-        return Err(AllocError);
+    let (feed, mut taker) = match log.begin(params(alloc, "")?) {
+        Ok(opened) => (opened.id, opened.taker.receiver),
+        Err(_) => return Err(AllocError),
     };
-    let (feed, mut taker) = (opened.id, opened.taker.receiver);
     let handed = (log.hand(&Through(rt), feed)?, log.hand(&Through(rt), feed)?)
         == (Handed::Row, Handed::End);
     let row = match taker.take(rt) {
